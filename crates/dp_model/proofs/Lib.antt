@@ -1,0 +1,5 @@
+pub mod Members
+pub mod Paths
+pub mod Sizes
+pub mod Solutions
+pub mod Walks
