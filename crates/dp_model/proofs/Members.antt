@@ -1,5 +1,5 @@
 -- What is an element of a list.
-use Rattle.std.proofs.Common.{◌≡◌, ℕ, zero, suc, ◌+◌, ◌<◌, List, [], ◌∷◌, ◌++◌, map, filter, Bool, true, false, cond, IsTrue, ◌⊎◌, inl, inr, refl, sym, ◌∙◌, ap, subst, arith}
+use Rattle.std.proofs.Common.{◌≡◌, ℕ, zero, suc, ◌<◌, List, [], ◌∷◌, ◌++◌, map, filter, Bool, true, false, cond, IsTrue, ◌⊎◌, inl, inr, refl, sym, ◌∙◌, ap, subst, arith}
 use Rattle.std.specs.List.{flat_map}
 use Rattle.dp_model.specs.Decisions.{below}
 use Rattle.dp_model.specs.Lists.{OneOf, Each}
@@ -86,3 +86,15 @@ Has-below-from (suc n) d h = elim (Has-append-cases d (below n) (n ∷ []) h) as
   | inl a ↦ (let less = Has-below-from n d a in omega arith)
   | inr b ↦ elim b as (λ _. d < suc n) [ inl same ↦ omega arith | inr never ↦ absurd never ]
 ]
+
+pub Each-append : {X : Type 0} (P : X → Type 0) (xs ys : List X) → Each P xs → Each P ys → Each P (xs ++ ys)
+Each-append P [] ys a b = b
+Each-append P (x ∷ xs) ys a b = (a.0, Each-append P xs ys a.1 b)
+
+pub Each-map : {X Y : Type 0} (f : X → Y) (P : Y → Type 0) (xs : List X) → Each (λ x. P (f x)) xs → Each P (map f xs)
+Each-map f P [] a = tt
+Each-map f P (x ∷ xs) a = (a.0, Each-map f P xs a.1)
+
+pub Each-then : {X : Type 0} (P Q : X → Type 0) (xs : List X) → ((x : X) → P x → Q x) → Each P xs → Each Q xs
+Each-then P Q [] f a = tt
+Each-then P Q (x ∷ xs) f a = (f x a.0, Each-then P Q xs f a.1)

@@ -1,10 +1,10 @@
 -- Paths one after another.
-use Rattle.std.proofs.Common.{◌≡◌, ℕ, ◌+◌, ◌<◌, ◌≤◌, ℤ, pos, ◌+ℤ◌, ◌≤ℤ◌, List, [], ◌∷◌, ◌++◌, length, length-append, refl, sym, ◌∙◌, ap, subst, add-zero, zero-add, IsTrue, arith}
+use Rattle.std.proofs.Common.{◌≡◌, ℕ, ◌+◌, ◌<◌, ◌≤◌, ℤ, ◌+ℤ◌, List, [], ◌∷◌, ◌++◌, length, length-append, refl, sym, ◌∙◌, ap, subst, add-zero, zero-add, arith}
 use Rattle.std.proofs.lemmas.Int.{ints}
 use Rattle.dp_model.specs.Dp.{Dp, IsAllowed}
 use Rattle.dp_model.specs.Gaps.{IsStateOf}
-use Rattle.dp_model.specs.Laws.{StepsAreStates, IsLawful}
-use Rattle.dp_model.specs.Prefixes.{IsPath, end_of, gain_of, IsPrefix, state_of, value_of, IsSolution, IsCompletion, IsContinuation}
+use Rattle.dp_model.specs.Laws.{StepsAreStates}
+use Rattle.dp_model.specs.Prefixes.{IsPath, end_of, gain_of, IsPrefix, state_of, value_of, IsCompletion, IsContinuation}
 
 pub IsPath-append : (dp : Dp) (k : ℕ) (s : List ℤ) (p q : List ℕ) → IsPath dp k s p → IsPath dp (k + length p) (end_of dp k s p) q → IsPath dp k s (p ++ q)
 IsPath-append dp k s [] q here there = subst (λ n. IsPath dp n s q) (add-zero k) there

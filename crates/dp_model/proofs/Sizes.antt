@@ -1,10 +1,10 @@
 -- How large values get.
-use Rattle.std.proofs.Common.{◌≡◌, ℕ, ◌+◌, ◌*◌, ◌^◌, ◌<◌, ◌≤◌, ℤ, pos, neg_ℤ, ◌+ℤ◌, ◌≤ℤ◌, List, [], ◌∷◌, length, refl, sym, ◌∙◌, ap, subst, zero-add, arith}
+use Rattle.std.proofs.Common.{ℕ, ◌+◌, ◌*◌, ◌^◌, ◌<◌, ℤ, pos, neg_ℤ, ◌≤ℤ◌, List, [], ◌∷◌, length, arith}
 use Rattle.std.proofs.lemmas.Int.{ints}
-use Rattle.dp_model.specs.Dp.{Dp, IsAllowed}
+use Rattle.dp_model.specs.Dp.{Dp}
 use Rattle.dp_model.specs.Gaps.{IsStateOf}
 use Rattle.dp_model.specs.Laws.{IsLawful}
-use Rattle.dp_model.specs.Numbers.{IsSmall, IsFar}
+use Rattle.dp_model.specs.Numbers.{IsFar}
 use Rattle.dp_model.specs.Prefixes.{IsPath, gain_of, IsPrefix, value_of}
 use Rattle.dp_model.proofs.Paths.{IsPrefix-length}
 

@@ -1,14 +1,12 @@
 -- The list of feasible solutions, and the greatest value among them.
-use Rattle.std.proofs.Common.{◌≡◌, ℕ, zero, suc, ◌+◌, ◌<◌, ◌≤◌, ℤ, pos, ◌+ℤ◌, ◌≤ℤ◌, int_lt, List, [], ◌∷◌, ◌++◌, length, map, filter, Bool, true, false, cond, IsTrue, Option, Some, None, ◌⊎◌, inl, inr, refl, sym, ◌∙◌, ap, subst, add-zero, zero-add, arith}
-use Rattle.std.specs.List.{flat_map}
+use Rattle.std.proofs.Common.{◌≡◌, ℕ, zero, suc, ◌+◌, ℤ, ◌≤ℤ◌, int_lt, List, [], ◌∷◌, length, map, filter, true, false, cond, Option, Some, None, inl, inr, refl, ap, subst, zero-add, arith}
 use Rattle.std.proofs.lemmas.Int.{ints}
 use Rattle.dp_model.specs.Dp.{Dp, IsAllowed}
 use Rattle.dp_model.specs.Decisions.{below}
 use Rattle.dp_model.specs.Numbers.{greatest, greatest_from}
-use Rattle.dp_model.specs.Lists.{OneOf, Each}
-use Rattle.dp_model.specs.Prefixes.{IsPath, IsPrefix, IsSolution, value_of}
-use Rattle.dp_model.specs.Best.{paths_of, solutions, best, IsGreatest, IsBest}
-use Rattle.dp_model.proofs.Members.{Has, Has-append-left, Has-append-right, Has-append-cases, Has-map, Has-map-from, Has-filter, Has-filter-from, Has-flat_map, Has-flat_map-from, Has-below, Has-below-from}
+use Rattle.dp_model.specs.Prefixes.{IsPath, IsSolution, value_of}
+use Rattle.dp_model.specs.Best.{paths_of, solutions, best, IsBest}
+use Rattle.dp_model.proofs.Members.{Has, Has-map, Has-map-from, Has-filter, Has-filter-from, Has-flat_map, Has-flat_map-from, Has-below, Has-below-from}
 
 -- each list of paths_of is a path of that many decisions
 pub paths_of-are : (dp : Dp) (n k : ℕ) (s : List ℤ) → k + n ≡ dp.vars → (x : List ℕ) → Has x (paths_of dp n k s) → IsPath dp k s x × (length x ≡ n)

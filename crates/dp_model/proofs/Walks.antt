@@ -1,5 +1,5 @@
 -- Following decisions one after another.
-use Rattle.std.proofs.Common.{◌≡◌, ℕ, ◌+◌, ◌^◌, ◌<◌, ◌≤◌, ℤ, pos, ◌+ℤ◌, ◌≤ℤ◌, List, [], ◌∷◌, ◌++◌, length, take, get_or, Bool, true, false, refl, sym, ◌∙◌, ap, subst, arith, FitsSigned, w64, IsTrue}
+use Rattle.std.proofs.Common.{◌≡◌, ℕ, ◌+◌, ◌<◌, ◌≤◌, ℤ, ◌+ℤ◌, List, [], ◌∷◌, length, take, get_or, refl, sym, ◌∙◌, ap, subst, arith, FitsSigned, w64, IsTrue}
 use Rattle.std.proofs.lemmas.Int.{ints}
 use Rattle.std.proofs.lemmas.List.{take_more, length-take-le, take-append-drop}
 use Rattle.dp_model.specs.Dp.{Dp, IsAllowed}
@@ -7,8 +7,8 @@ use Rattle.dp_model.specs.Gaps.{IsStateOf}
 use Rattle.dp_model.specs.Laws.{IsLawful}
 use Rattle.dp_model.specs.Prefixes.{IsPath, IsPrefix, state_of, value_of}
 use Rattle.dp_model.specs.Walked.{IsWalked}
-use Rattle.dp_model.proofs.Paths.{IsPrefix-then, state_of-then, value_of-then, IsPrefix-front, IsPrefix-back, state_of-state, IsPrefix-length}
-use Rattle.dp_model.proofs.Sizes.{value_of-size, gain_of-size}
+use Rattle.dp_model.proofs.Paths.{IsPrefix-then, state_of-then, value_of-then, IsPrefix-front, IsPrefix-back, state_of-state}
+use Rattle.dp_model.proofs.Sizes.{value_of-size}
 
 -- what was walked of the decisions so far
 pub record IsWalkedTo (dp : Dp) (ds : List ℕ) (k : ℕ) (s : List ℤ) (v : ℤ) : Type 0 where

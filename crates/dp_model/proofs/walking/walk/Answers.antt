@@ -1,9 +1,9 @@
-use Rattle.std.proofs.Common.{rules, ◌≡◌, length, ℕ, ◌+◌, ◌<◌, ◌≤◌, List, [], ◌∷◌, ◌++◌, get_or, IsTrue, true, false, ℤ, pos, ◌+ℤ◌, ◌≤ℤ◌, FitsSigned, to_z, of_z, w64, sym, ◌∙◌, ap, subst, refl, arith}
+use Rattle.std.proofs.Common.{◌≡◌, length, ℕ, ◌+◌, ◌<◌, ◌≤◌, List, get_or, true, ℤ, ◌+ℤ◌, FitsSigned, to_z, of_z, w64, sym, ◌∙◌, ap, subst, arith}
 use Rattle.std.proofs.lemmas.Int.{ints, to_z-of_z}
 use Rattle.std.proofs.lemmas.List.{take_all}
 use Rattle.dp_model.specs.Dp.{Dp, IsAllowed}
 use Rattle.dp_model.specs.Laws.{IsLawful}
-use Rattle.dp_model.specs.Walked.{WalkGives, IsWalked}
+use Rattle.dp_model.specs.Walked.{IsWalked}
 use Rattle.dp_model.proofs.Paths.{IsPrefix-length}
 use Rattle.dp_model.proofs.Walks.{IsWalkedTo, walked_none, walked_state, walked_state_of, walked_fits, walked_more, walked_allowed}
 use Rattle.dp_model.proofs.walking.walk.Given as given
