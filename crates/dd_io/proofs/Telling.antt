@@ -1,9 +1,8 @@
 -- What reads and writes in a row do to bytes that are told.
-use Rattle.std.proofs.Common.{◌≡◌, ℕ, ◌+◌, ◌-◌, ◌≤◌, List, [], ◌++◌, length, take, drop, Option, None, Some, refl, ap, sym, append_assoc, arith, length-append}
+use Rattle.std.proofs.Common.{◌≡◌, ℕ, ◌+◌, ◌-◌, ◌≤◌, List, ◌++◌, length, take, drop, Option, None, Some, refl, ap, append_assoc, arith, length-append}
 use Rattle.std.proofs.Math.Seq.{drop-append-add, take-add}
-use Rattle.std.proofs.lemmas.Grind.{common_steps}
-use Rattle.std.specs.Io.KnownBytes.{append_known, prepend_known, IsAtEnd}
-use Rattle.dd_io.specs.Told.{IsAllOf, Ends, Skips}
+use Rattle.std.specs.Io.KnownBytes.{append_known, prepend_known}
+use Rattle.dd_io.specs.Told.{Skips}
 use Rattle.dd_io.specs.ReadErrors.{IsReadCount}
 use Rattle.dd_io.specs.declared.reading.ReadError.{ReadError}
 use Rattle.dd_io.specs.declared.reading.ReadError.TheVariants.{Fault, TooLong, OutOfMemory}
@@ -11,28 +10,6 @@ use Rattle.dd_io.specs.declared.reading.ReadError.TheVariants.{Fault, TooLong, O
 pub append_known-append : (known : Option (List ℕ)) (xs ys : List ℕ) → append_known (append_known known xs) ys ≡ append_known known (xs ++ ys)
 append_known-append None xs ys = refl
 append_known-append (Some bytes) xs ys = ap Some (append_assoc bytes xs ys)
-
-pub prepend_known-append : (xs ys : List ℕ) (known : Option (List ℕ)) → prepend_known xs (prepend_known ys known) ≡ prepend_known (xs ++ ys) known
-prepend_known-append xs ys None = refl
-prepend_known-append xs ys (Some bytes) = ap Some (sym (append_assoc xs ys bytes))
-
-pub prepend_known-nil : (known : Option (List ℕ)) → prepend_known [] known ≡ known
-prepend_known-nil None = refl
-prepend_known-nil (Some bytes) = refl
-
--- two reads in a row
-pub prepend_known-again : (before between now : Option (List ℕ)) (xs ys : List ℕ) → before ≡ prepend_known xs between → between ≡ prepend_known ys now → before ≡ prepend_known (xs ++ ys) now
-prepend_known-again before between now xs ys first second = let e = prepend_known-append xs ys now in cc
-
--- what was read up to the end is all that was left
-pub IsAllOf-prepend_known : (bytes : List ℕ) (now : Option (List ℕ)) → IsAtEnd now → IsAllOf (prepend_known bytes now) bytes
-IsAllOf-prepend_known bytes None end = tt
-IsAllOf-prepend_known bytes (Some rest) end = grind (arith, common_steps)
-
--- and then the source is at its end
-pub Ends-prepend_known : (bytes : List ℕ) (now : Option (List ℕ)) → IsAtEnd now → Ends (prepend_known bytes now) now
-Ends-prepend_known bytes None end = refl
-Ends-prepend_known bytes (Some rest) end = ap Some end
 
 -- bytes that were read and then bytes that are gone
 pub Skips-prepend_known : (bytes : List ℕ) (between now : Option (List ℕ)) (n : ℕ) → Skips between now n → Skips (prepend_known bytes between) now (length bytes + n)

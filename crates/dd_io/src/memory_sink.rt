@@ -81,9 +81,15 @@ impl Sink for MemSink {
             ⊎ (self.old.room < length self.old.taken + length piece.now)) }
         ensures count { IfOk result (λ n. n ≡ length piece.now) }
         ensures ok { OnOk result (self.new ≡ record self.old {
-            taken = self.old.taken ++ piece.now; room = self.new.room; calls = next_count self.old.calls }) }
+          taken = self.old.taken ++ piece.now;
+          room = self.new.room;
+          calls = next_count self.old.calls;
+        }) }
         ensures err { OnErr result (self.new ≡ record self.old {
-            room = self.new.room; calls = next_count self.old.calls; faults = next_count self.old.faults }) }
+          room = self.new.room;
+          calls = next_count self.old.calls;
+          faults = next_count self.old.faults;
+        }) }
         ensures faults { Counts (is_err result) self.old.faults self.new.faults }
     {
         let number = self.calls;
