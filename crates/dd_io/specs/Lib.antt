@@ -1,7 +1,7 @@
+pub mod Adapters
 pub mod Counts
-pub mod MemorySource
 pub mod MemorySink
+pub mod MemorySource
 pub mod ReadErrors
-pub mod StandardSink
 pub mod Told
 pub mod WriteErrors

@@ -30,8 +30,8 @@ impl Model for MemSink {
 }
 
 impl MemSink {
-    /// An empty sink. The calls whose numbers are listed fail, and those for whose piece there is no memory, and no others: the first call
-    /// of `write` is number 0.
+    /// An empty sink. The calls whose numbers are listed fail, and those for whose piece there is no memory, and no
+    /// others: the first call of `write` is number 0.
     pub fn new(alloc: Global, failing: Vec<u64>) -> MemSink
         ensures taken { result.taken ≡ [] }
         ensures calls { result.calls ≡ 0 }

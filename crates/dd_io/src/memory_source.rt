@@ -32,7 +32,8 @@ impl Model for MemSource {
 }
 
 impl MemSource {
-    /// A source of these bytes. The calls whose numbers are listed fail, and no others: the first call of `read` is number 0.
+    /// A source of these bytes. The calls whose numbers are listed fail, and no others: the first call of `read` is
+    /// number 0.
     pub fn new(bytes: Vec<u8>, failing: Vec<u64>) -> MemSource
         ensures left { result.left ≡ bytes.items }
         ensures calls { result.calls ≡ 0 }

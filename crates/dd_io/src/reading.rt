@@ -57,7 +57,9 @@ pub fn read_all<S: Source>(
     ensures end { OnOk result (Ends (S.left source.old) (S.left source.new)) }
     ensures short { IfOk result (λ v. vec_len v ≤ limit) }
 
-    ensures err { IfErr result (λ e. (n : ℕ) × IsReadCount e limit n × Skips (S.left source.old) (S.left source.new) n) }
+    // How many bytes were read before an error, and that they are gone.
+    ensures err { IfErr result (λ e. (n : ℕ) × IsReadCount e limit n
+        × Skips (S.left source.old) (S.left source.new) n) }
     ensures faults { Counts (is_fault result) (S.faults source.old) (S.faults source.new) }
 {
     let mut piece = new_piece(alloc)?;
@@ -90,7 +92,8 @@ fn read_piece<S: Source>(
     ensures short { IfOk result (λ n. vec_len bytes.new ≤ limit) }
     ensures bytes { IfOk result (λ n. S.left source.old ≡ prepend_known (take n piece.new) (S.left source.new)) }
     ensures end { IfOk result (λ n. n ≡ 0 → IsAtEnd (S.left source.new)) }
-    ensures err { IfErr result (λ e. (n : ℕ) × IsReadCount e (limit - vec_len bytes.old) n × Skips (S.left source.old) (S.left source.new) n) }
+    ensures err { IfErr result (λ e. (n : ℕ) × IsReadCount e (limit - vec_len bytes.old) n
+        × Skips (S.left source.old) (S.left source.new) n) }
     ensures faults { Counts (is_fault result) (S.faults source.old) (S.faults source.new) }
 {
     let room = limit - bytes.len();

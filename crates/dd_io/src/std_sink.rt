@@ -1,4 +1,7 @@
-ghost use Rattle.std.specs.Prelude.{◌≡◌, ◌≤◌, length, None, IfOk};
+ghost use Rattle.std.specs.Prelude.{◌≡◌, ◌≤◌, length, None, IfOk, is_err};
+ghost use Rattle.std.specs.Io.KnownBytes.{WriteAppends};
+ghost use Rattle.dd_io.specs.Counts.{Counts};
+ghost use Rattle.dd_io.specs.WriteErrors.{is_idle};
 
 use super::{Failed, Sink};
 use std::io;
@@ -7,8 +10,9 @@ use std::marker::Model;
 
 /// A sink over a writer of the real outside, as standard output. It tells no bytes.
 ///
-/// It counts each error of the writer, and each write that takes nothing of a nonempty piece, both up to `u64::MAX`. A write that a
-/// signal interrupts is tried again, as std's own writers do, and is no error. It never flushes the writer.
+/// It counts each error of the writer, and each write that takes nothing of a nonempty piece, both up to `u64::MAX`.
+/// A write that a signal interrupts is tried again, as std's `write_all` does, and is no error; one that would block
+/// is an error. It never flushes the writer.
 #[derive(Debug, Drop)]
 pub struct StdSink<W> {
     writer: W,
@@ -17,16 +21,17 @@ pub struct StdSink<W> {
 }
 
 impl<W> Model for StdSink<W> {
-    ghost use Rattle.dd_io.specs.StandardSink.{SinkCounts};
+    ghost use Rattle.dd_io.specs.Adapters.{Writing};
 
-    ghost Value = { SinkCounts };
+    ghost Value = { Writing W };
 
-    ghost view = { λ s. record { faults = s.faults; idle = s.idle } };
+    ghost view = { λ s. record { writer = s.writer; faults = s.faults; idle = s.idle } };
 }
 
 impl<W> StdSink<W> {
     /// A sink that writes to `writer`, of which no call has failed or taken nothing.
     pub fn new(writer: W) -> StdSink<W>
+        ensures writer { result.writer ≡ writer }
         ensures faults { result.faults ≡ 0 }
         ensures idle { result.idle ≡ 0 }
     {
@@ -59,7 +64,15 @@ impl<W: Write> Sink for StdSink<W> {
 
     ghost idle = { λ s. s.idle };
 
-    fn write(&mut self, piece: &[u8]) -> Result<usize, Failed> {
+    fn write(&mut self, piece: &[u8]) -> Result<usize, Failed>
+        ensures bound { IfOk result (λ n. n ≤ length piece.now) }
+        ensures faults { Counts (is_err result) self.old.faults self.new.faults }
+        ensures idle { Counts (is_idle result piece.now) self.old.idle self.new.idle }
+
+        // The writer took the bytes, where it tells them.
+        ensures bytes { WriteAppends (W.contents self.old.writer) (W.contents self.new.writer)
+            result piece.now }
+    {
         match write_again(&mut self.writer, piece) {
             Ok(n) => {
                 if n == 0 && !piece.is_empty() {
@@ -74,7 +87,8 @@ impl<W: Write> Sink for StdSink<W> {
 
 /// One write, tried again where a signal interrupts it.
 fn write_again<W: Write>(writer: &mut W, piece: &[u8]) -> io::Result<usize>
-    ensures { IfOk result (λ n. n ≤ length piece.now) }
+    ensures bound { IfOk result (λ n. n ≤ length piece.now) }
+    ensures bytes { WriteAppends (W.contents writer.old) (W.contents writer.new) result piece.now }
 {
     for _ in 0..u64::MAX {
         match writer.write(piece) {

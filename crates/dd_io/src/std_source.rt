@@ -1,4 +1,6 @@
-ghost use Rattle.std.specs.Prelude.{◌≡◌, ◌≤◌, length, None, IfOk};
+ghost use Rattle.std.specs.Prelude.{◌≡◌, ◌≤◌, length, None, IfOk, is_err};
+ghost use Rattle.std.specs.Io.KnownBytes.{ReadConsumes};
+ghost use Rattle.dd_io.specs.Counts.{Counts};
 
 use super::{Failed, Source};
 use std::io;
@@ -7,8 +9,8 @@ use std::marker::Model;
 
 /// A source over a reader of the real outside, as standard input. It tells no bytes.
 ///
-/// It counts each error of the reader, up to `u64::MAX`. A read that a signal interrupts is tried again, as std's own readers do,
-/// and is no error.
+/// It counts each error of the reader, up to `u64::MAX`. A read that a signal interrupts is tried again, as std's
+/// `read_to_end` does, and is no error; one that would block is an error.
 #[derive(Debug, Drop)]
 pub struct StdSource<R> {
     reader: R,
@@ -16,24 +18,25 @@ pub struct StdSource<R> {
 }
 
 impl<R> Model for StdSource<R> {
-    ghost use Rattle.std.specs.Prelude.{ℕ};
+    ghost use Rattle.dd_io.specs.Adapters.{Reading};
 
-    ghost Value = { ℕ };
+    ghost Value = { Reading R };
 
-    ghost view = { λ s. s.faults };
+    ghost view = { λ s. record { reader = s.reader; faults = s.faults } };
 }
 
 impl<R> StdSource<R> {
     /// A source that reads from `reader`, of which no call has failed.
     pub fn new(reader: R) -> StdSource<R>
-        ensures { result ≡ 0 }
+        ensures reader { result.reader ≡ reader }
+        ensures faults { result.faults ≡ 0 }
     {
         StdSource { reader, faults: 0 }
     }
 
     /// How many calls have failed, at most `u64::MAX`.
     pub fn faults(&self) -> u64
-        ensures { result ≡ self.now }
+        ensures { result ≡ self.now.faults }
     {
         self.faults
     }
@@ -42,9 +45,16 @@ impl<R> StdSource<R> {
 impl<R: Read> Source for StdSource<R> {
     ghost left = { λ _. None };
 
-    ghost faults = { λ s. s };
+    ghost faults = { λ s. s.faults };
 
-    fn read(&mut self, into: &mut [u8]) -> Result<usize, Failed> {
+    fn read(&mut self, into: &mut [u8]) -> Result<usize, Failed>
+        ensures bound { IfOk result (λ n. n ≤ length into.new) }
+        ensures faults { Counts (is_err result) self.old.faults self.new.faults }
+
+        // The bytes are the reader's, where it tells them.
+        ensures bytes { ReadConsumes (R.remaining self.old.reader) (R.remaining self.new.reader)
+            result into.new }
+    {
         match read_again(&mut self.reader, into) {
             Ok(n) => Ok(n),
             Err(_) => Err(Failed::counted(&mut self.faults)),
@@ -54,7 +64,8 @@ impl<R: Read> Source for StdSource<R> {
 
 /// One read, tried again where a signal interrupts it.
 fn read_again<R: Read>(reader: &mut R, into: &mut [u8]) -> io::Result<usize>
-    ensures { IfOk result (λ n. n ≤ length into.new) }
+    ensures bound { IfOk result (λ n. n ≤ length into.new) }
+    ensures bytes { ReadConsumes (R.remaining reader.old) (R.remaining reader.new) result into.new }
 {
     for _ in 0..u64::MAX {
         match reader.read(into) {

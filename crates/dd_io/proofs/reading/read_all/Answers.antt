@@ -7,4 +7,5 @@ pub returns-in_err-read_piece-clause-err : goal.returns-in_err-read_piece-clause
 returns-in_err-read_piece-clause-err g c =
     let given = err_from_is_err_and c.from_residual-in_err-read_piece.result c.from_residual-in_err-read_piece.ensures.1 in
     rw (given.1, given.2)
-    (gone_more _ _ _ c.loop-bytes.bytes.items _ _ _ c.loop-bytes.invariant.bytes c.loop-bytes.bytes.ok.0 c.loop-bytes.invariant.short c.in_err-read_piece.ensures.err)
+    (gone_more _ _ _ c.loop-bytes.bytes.items _ _ _
+    c.loop-bytes.invariant.bytes c.loop-bytes.bytes.ok.0 c.loop-bytes.invariant.short c.in_err-read_piece.ensures.err)
