@@ -1,0 +1,29 @@
+//! Sources that are read and sinks that are written, each of which counts its faults.
+//!
+//! A program that is generic over `Source` and `Sink` runs over the real outside (`StdSource`, `StdSink`) and over memory
+//! (`MemSource`, `MemSink`), where a test lists the calls that fail. `read_all` reads a source to its end and `write_all`
+//! writes all of some bytes. Each says a fault exactly where one was counted, and what was read or written, where the source
+//! or the sink tells its bytes. The crate stands on std alone.
+#![tactic(auto)]
+
+mod failed;
+mod memory_sink;
+mod memory_source;
+mod reading;
+mod sink;
+mod source;
+mod std_sink;
+mod std_source;
+#[cfg(test)]
+mod tests;
+mod writing;
+
+pub use failed::Failed;
+pub use memory_sink::MemSink;
+pub use memory_source::MemSource;
+pub use reading::{ReadError, read_all};
+pub use sink::Sink;
+pub use source::Source;
+pub use std_sink::StdSink;
+pub use std_source::StdSource;
+pub use writing::{WriteError, write_all};
