@@ -1,0 +1,4 @@
+pub mod Text
+pub mod Decimal
+pub mod Grammar
+pub mod Printed
