@@ -1,2 +1,3 @@
-pub mod Printing
 pub mod Chains
+pub mod Printing
+pub mod Values

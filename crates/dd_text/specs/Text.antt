@@ -1,6 +1,5 @@
 -- Texts of tokens: where reading stands, the next token, and what it is read as.
-use Rattle.std.specs.Prelude.{ℕ, ◌+◌, ◌-◌, ◌*◌, List, [], ◌∷◌, length, drop, Bool, true, false, not, ◌&&◌, ◌||◌, ◌==◌, nat_le, if◌then◌else◌, Option, Some, None, option_map, Result, Ok, Err, ⊤, ℤ, pos, neg_ℤ, int_le, take_while}
-use Rattle.std.specs.List.{prefix_len}
+use Rattle.std.specs.Prelude.{ℕ, ◌+◌, ◌-◌, ◌*◌, ◌^◌, ◌≤◌, List, [], ◌∷◌, length, drop, Bool, true, false, not, ◌&&◌, ◌||◌, ◌==◌, nat_le, if◌then◌else◌, Option, Some, None, option_map, Result, Ok, Err, ⊤, ℤ, pos, neg_ℤ, int_le, take_while}
 use Rattle.std.specs.Str.{all_ascii_digits}
 pub use Rattle.dd_text.specs.declared.place.Place.{Place}
 pub use Rattle.dd_text.specs.declared.comment.Comment.{Comment}
@@ -14,6 +13,12 @@ pub record TextState : Type 0 where
   pub place : Place
   pub fresh : Bool
   pub comment : Comment
+
+-- so few bytes are left that line and column stay countable to the end
+pub record IsCountable (place : Place) (bytes : List ℕ) : Type 0 where
+  pub line_from_one : 1 ≤ place.line
+  pub lines : place.line + length bytes ≤ 2 ^ 32 - 1
+  pub columns : place.column + length bytes ≤ 2 ^ 32 - 1
 
 -- the beginning of a text
 abbrev pub text_start : Comment → List ℕ → TextState
@@ -95,10 +100,15 @@ abbrev pub natural_of : List ℕ → Option ℕ
 natural_of [] = None
 natural_of (d ∷ ds) = if all_ascii_digits (d ∷ ds) then Some (value_after 0 (d ∷ ds)) else None
 
+-- the number of a size, behind a minus or not
+abbrev pub signed_of : Bool → ℕ → ℤ
+signed_of true n = neg_ℤ (pos n)
+signed_of false n = pos n
+
 -- the number that a token writes: an optional minus and one or more digits
 unfoldable pub number_of : List ℕ → Option ℤ
 number_of [] = None
-number_of (b ∷ bs) = if b == 45 then option_map (λ n. neg_ℤ (pos n)) (natural_of bs) else option_map pos (natural_of (b ∷ bs))
+number_of (b ∷ bs) = option_map (signed_of (b == 45)) (natural_of (if b == 45 then bs else b ∷ bs))
 
 -- a number within a range, or its fault
 abbrev pub within : ℤ → ℤ → Place → Option ℤ → Result ℤ TextError

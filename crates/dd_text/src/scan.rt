@@ -1,9 +1,184 @@
-ghost use Rattle.std.specs.Prelude.{◌≡◌};
-ghost use Rattle.dd_text.specs.Text.{is_blank};
+ghost use Rattle.std.specs.Prelude.{◌≡◌, ℕ, ◌+◌, ◌-◌, ◌^◌, ◌<◌, ◌≤◌, min, length, false, option_map, SomeIff, pos, neg_ℤ, FitsSigned};
+ghost use Rattle.std.specs.List.{prefix_len};
+ghost use Rattle.std.specs.Int.{w64};
+ghost use Rattle.dd_text.specs.Text.{is_blank, is_solid, opens_comment, is_passed, is_inside_after, place_after, skip, IsCountable, natural_of, signed_of, number_in, is_blank_line};
 
-/// Whether a byte is space, tab, CR or LF.
-pub(crate) fn is_blank_byte(b: u8) -> bool
+use crate::comment::Comment;
+use crate::place::Place;
+use crate::text_error::TextError;
+
+/// Where a token begins, or the end of the text.
+#[derive(Clone, Copy)]
+pub(crate) struct Spot<'a> {
+    pub(crate) rest: &'a [u8],
+    pub(crate) place: Place,
+    pub(crate) fresh: bool,
+}
+
+#[inline]
+fn is_blank_byte(b: u8) -> bool
     ensures { result ≡ is_blank b }
 {
     b == b' ' || b == b'\t' || b == b'\r' || b == b'\n'
+}
+
+#[inline]
+fn opens_comment_line(comment: Comment, b: u8) -> bool
+    ensures { result ≡ opens_comment comment b }
+{
+    match comment {
+        Comment::Never => false,
+        Comment::Hash => b == b'#',
+        Comment::LetterC => b == b'c',
+    }
+}
+
+#[inline]
+fn is_passed_over(comment: Comment, inside: bool, fresh: bool, b: u8) -> bool
+    ensures { result ≡ is_passed comment inside fresh b }
+{
+    inside || is_blank_byte(b) || (fresh && opens_comment_line(comment, b))
+}
+
+#[inline]
+fn stays_inside(inside: bool, b: u8) -> bool
+    ensures { result ≡ is_inside_after inside b }
+{
+    b != b'\n' && (inside || !is_blank_byte(b))
+}
+
+#[inline]
+fn place_behind(b: u8, place: Place) -> Place
+    requires line { place.line < 2 ^ 32 - 1 }
+    requires column { place.column < 2 ^ 32 - 1 }
+    ensures { result ≡ place_after b place }
+{
+    if b == b'\n' {
+        Place {
+            line: place.line + 1,
+            column: 1,
+        }
+    } else {
+        Place {
+            line: place.line,
+            column: place.column + 1,
+        }
+    }
+}
+
+/// Passes over blanks and comment lines.
+pub(crate) fn skip_to_token<'a>(
+    comment: Comment,
+    from_fresh: bool,
+    from: Place,
+    bytes: &'a [u8],
+) -> Spot<'a>
+    requires { IsCountable from bytes.now }
+    ensures found { skip comment false from_fresh from bytes.now ≡ record { rest = result.rest.now; place = result.place; fresh = result.fresh; comment = comment } }
+    ensures countable { IsCountable result.place result.rest.now }
+{
+    let mut rest = bytes;
+    let mut place = from;
+    let mut fresh = from_fresh;
+    let mut inside = false;
+    while let [first, after @ ..] = rest {
+        let b = *first;
+        if !is_passed_over(comment, inside, fresh, b) {
+            break;
+        }
+        inside = stays_inside(inside, b);
+        fresh = fresh || b == b'\n';
+        place = place_behind(b, place);
+        rest = after;
+    }
+    Spot { rest, place, fresh }
+}
+
+/// How many bytes stand before the first blank.
+pub(crate) fn token_len(bytes: &[u8]) -> usize
+    ensures { result ≡ prefix_len is_solid bytes.now }
+{
+    let mut len = 0;
+    let mut rest = bytes;
+    while let [first, after @ ..] = rest {
+        if is_blank_byte(*first) {
+            break;
+        }
+        len += 1;
+        rest = after;
+    }
+    len
+}
+
+/// The number that the digits write, or 2^64 - 1 where it is greater.
+pub(crate) fn magnitude(digits: &[u8]) -> Option<u64>
+    ensures { result ≡ option_map (λ n. min n (2 ^ 64 - 1)) (natural_of digits.now) }
+{
+    if digits.is_empty() {
+        return None;
+    }
+    let mut total = 0u64;
+    let mut rest = digits;
+    while let [digit, after @ ..] = rest {
+        if !digit.is_ascii_digit() {
+            return None;
+        }
+        total = total.saturating_mul(10).saturating_add(u64::from(*digit - b'0'));
+        rest = after;
+    }
+    Some(total)
+}
+
+/// The number, where it fits 64 bits with a sign.
+fn signed(is_negative: bool, magnitude: u64) -> Option<i64>
+    ensures { SomeIff result (FitsSigned w64 (signed_of is_negative magnitude)) (signed_of is_negative magnitude) }
+{
+    if is_negative {
+        0i64.checked_sub_unsigned(magnitude)
+    } else {
+        0i64.checked_add_unsigned(magnitude)
+    }
+}
+
+/// Reads a token as a number from `least` to `greatest`.
+pub(crate) fn number_of_token(
+    token: &[u8],
+    place: Place,
+    least: i64,
+    greatest: i64,
+) -> Result<i64, TextError>
+    ensures { result ≡ number_in least greatest place token.now }
+{
+    let [first, after @ ..] = token else {
+        return Err(TextError::EndOfText(place));
+    };
+    if *first >= 128 {
+        return Err(TextError::NotAscii(place));
+    }
+    let is_negative = *first == b'-';
+    let digits = if is_negative { after } else { token };
+    let Some(size) = magnitude(digits) else {
+        return Err(TextError::NotNumber(place));
+    };
+    match signed(is_negative, size) {
+        Some(number) if least <= number && number <= greatest => Ok(number),
+        _ => Err(TextError::OutOfRange(place)),
+    }
+}
+
+/// Whether only blanks stand before the line's end.
+pub(crate) fn is_line_blank(bytes: &[u8]) -> bool
+    ensures { result ≡ is_blank_line bytes.now }
+{
+    let mut rest = bytes;
+    while let [first, after @ ..] = rest {
+        if *first == b'\n' {
+            return true;
+        }
+        if !is_blank_byte(*first) {
+            return false;
+        }
+        rest = after;
+    }
+    true
 }

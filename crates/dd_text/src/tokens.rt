@@ -1,9 +1,10 @@
 ghost use Rattle.std.specs.Prelude.{◌≡◌, ◌+◌, ◌-◌, ◌^◌, ◌<◌, ◌≤◌, length, OnOk, OnErr, MatchResult, Ok, Err};
-ghost use Rattle.dd_text.specs.Text.{text_start, token, place_of, ends_line, is_at_end, number_at, word_at, after_token, finish_at};
+ghost use Rattle.dd_text.specs.Text.{text_start, at_token, IsCountable, token, place_of, ends_line, is_at_end, number_at, word_at, after_token, finish_at};
 
 use crate::comment::Comment;
 use crate::place::Place;
 use crate::text_error::TextError;
+use crate::scan::{Spot, is_line_blank, number_of_token, skip_to_token, token_len};
 use std::marker::Model;
 
 /// The tokens of a text, one after another.
@@ -16,14 +17,13 @@ pub struct Tokens<'a> {
 }
 
 impl<'a> Model for Tokens<'a> {
-    ghost use Rattle.std.specs.Prelude.{◌+◌, ◌-◌, ◌^◌, ◌<◌, ◌≤◌, length};
-    ghost use Rattle.dd_text.specs.Text.{TextState};
+    ghost use Rattle.dd_text.specs.Text.{TextState, IsCountable};
 
     ghost Value = { TextState };
 
     ghost view = { λ t. record { rest = t.rest.now; place = t.place; fresh = t.fresh; comment = t.comment } };
 
-    ghost invariant = { λ t. (1 ≤ t.place.line) × (t.place.line + length t.rest.now ≤ 2 ^ 32 - 1) × (t.place.column + length t.rest.now ≤ 2 ^ 32 - 1) };
+    ghost invariant = { λ t. IsCountable t.place t.rest.now };
 }
 
 impl<'a> Tokens<'a> {
@@ -40,32 +40,54 @@ impl<'a> Tokens<'a> {
         }
     }
 
+    fn spot(&self) -> Spot<'a>
+        ensures found { at_token self.now ≡ record { rest = result.rest.now; place = result.place; fresh = result.fresh; comment = self.now.comment } }
+        ensures countable { IsCountable result.place result.rest.now }
+    {
+        skip_to_token(self.comment, self.fresh, self.place, self.rest)
+    }
+
     /// Where the next token begins, or the end of the text.
     pub fn place(&self) -> Place
         ensures { result ≡ place_of self.now }
     {
-        self.place
+        self.spot().place
     }
 
     /// Whether only blanks stand before the line's end, or before the end of the text.
     pub fn at_line_end(&self) -> bool
         ensures { result ≡ ends_line self.now }
     {
-        self.fresh
+        is_line_blank(self.rest)
     }
 
     /// Whether no token is left.
     pub fn at_end(&self) -> bool
         ensures { result ≡ is_at_end self.now }
     {
-        self.fresh
+        self.spot().rest.is_empty()
     }
 
     /// The next token, which stays; empty at the end of the text.
     pub fn peek_word(&self) -> &'a [u8]
         ensures { result.now ≡ token self.now }
     {
-        self.rest
+        let spot = self.spot();
+        &spot.rest[..token_len(spot.rest)]
+    }
+
+    fn pass(&mut self, spot: Spot<'a>, len: usize)
+        requires found { at_token self.old ≡ record { rest = spot.rest.now; place = spot.place; fresh = spot.fresh; comment = self.old.comment } }
+        requires countable { IsCountable spot.place spot.rest.now }
+        requires len { len ≡ length (token self.old) }
+        ensures { self.new ≡ after_token self.old }
+    {
+        self.rest = &spot.rest[len..];
+        self.place = Place {
+            line: spot.place.line,
+            column: spot.place.column + len as u32,
+        };
+        self.fresh = false;
     }
 
     /// Reads the next token as a number from `least` to `greatest`: an optional minus and one or more
@@ -79,7 +101,11 @@ impl<'a> Tokens<'a> {
         ensures ok { OnOk result (self.new ≡ after_token self.old) }
         ensures err { OnErr result (self.new ≡ self.old) }
     {
-        Err(TextError::EndOfText(self.place))
+        let spot = self.spot();
+        let len = token_len(spot.rest);
+        let number = number_of_token(&spot.rest[..len], spot.place, least, greatest)?;
+        self.pass(spot, len);
+        Ok(number)
     }
 
     /// Reads the next token as it stands.
@@ -91,7 +117,17 @@ impl<'a> Tokens<'a> {
         ensures ok { OnOk result (self.new ≡ after_token self.old) }
         ensures err { OnErr result (self.new ≡ self.old) }
     {
-        Err(TextError::EndOfText(self.place))
+        let spot = self.spot();
+        let len = token_len(spot.rest);
+        let word = &spot.rest[..len];
+        let [first, ..] = word else {
+            return Err(TextError::EndOfText(spot.place));
+        };
+        if *first >= 128 {
+            return Err(TextError::NotAscii(spot.place));
+        }
+        self.pass(spot, len);
+        Ok(word)
     }
 
     /// Tests that no token is left.
@@ -101,6 +137,11 @@ impl<'a> Tokens<'a> {
     pub fn finish(&self) -> Result<(), TextError>
         ensures { result ≡ finish_at self.now }
     {
-        Ok(())
+        let spot = self.spot();
+        match spot.rest {
+            [] => Ok(()),
+            [first, ..] if *first >= 128 => Err(TextError::NotAscii(spot.place)),
+            [_, ..] => Err(TextError::Trailing(spot.place)),
+        }
     }
 }
