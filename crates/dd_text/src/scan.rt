@@ -1,7 +1,7 @@
-ghost use Rattle.std.specs.Prelude.{◌≡◌, ℕ, ◌+◌, ◌-◌, ◌^◌, ◌<◌, ◌≤◌, min, length, false, option_map, SomeIff, pos, neg_ℤ, FitsSigned};
+ghost use Rattle.std.specs.Prelude.{◌≡◌, ℕ, ◌+◌, ◌-◌, ◌*◌, ◌^◌, ◌<◌, ◌≤◌, min, length, false, option_map, SomeIff, pos, neg_ℤ, FitsSigned};
 ghost use Rattle.std.specs.List.{prefix_len};
 ghost use Rattle.std.specs.Int.{w64};
-ghost use Rattle.dd_text.specs.Text.{is_blank, is_solid, opens_comment, is_passed, is_inside_after, place_after, skip, IsCountable, natural_of, signed_of, number_in, is_blank_line};
+ghost use Rattle.dd_text.specs.Text.{is_blank, is_solid, opens_comment, is_passed, is_inside_after, place_after, skip, IsCountable, natural_of, signed_of, within, number_in, is_blank_line};
 
 use crate::comment::Comment;
 use crate::place::Place;
@@ -110,8 +110,18 @@ pub(crate) fn token_len(bytes: &[u8]) -> usize
     len
 }
 
+/// The number behind one more digit, or 2^64 - 1 where it is greater.
+#[inline]
+fn capped_behind(total: u64, digit: u8) -> u64
+    requires { 48 ≤ digit }
+    ensures { result ≡ min (10 * total + (digit - 48)) (2 ^ 64 - 1) }
+{
+    total.saturating_mul(10).saturating_add(u64::from(digit - b'0'))
+}
+
 /// The number that the digits write, or 2^64 - 1 where it is greater.
-pub(crate) fn magnitude(digits: &[u8]) -> Option<u64>
+#[tactic(auto, using(crate::proofs::Values::capped_value_after))]
+fn magnitude(digits: &[u8]) -> Option<u64>
     ensures { result ≡ option_map (λ n. min n (2 ^ 64 - 1)) (natural_of digits.now) }
 {
     if digits.is_empty() {
@@ -120,27 +130,49 @@ pub(crate) fn magnitude(digits: &[u8]) -> Option<u64>
     let mut total = 0u64;
     let mut rest = digits;
     while let [digit, after @ ..] = rest {
+        let digit = *digit;
         if !digit.is_ascii_digit() {
             return None;
         }
-        total = total.saturating_mul(10).saturating_add(u64::from(*digit - b'0'));
+        total = capped_behind(total, digit);
         rest = after;
     }
     Some(total)
 }
 
 /// The number, where it fits 64 bits with a sign.
-fn signed(is_negative: bool, magnitude: u64) -> Option<i64>
-    ensures { SomeIff result (FitsSigned w64 (signed_of is_negative magnitude)) (signed_of is_negative magnitude) }
+#[inline]
+fn signed(is_negative: bool, size: u64) -> Option<i64>
+    ensures { SomeIff result (FitsSigned w64 (signed_of is_negative size)) (signed_of is_negative size) }
 {
     if is_negative {
-        0i64.checked_sub_unsigned(magnitude)
+        0i64.checked_sub_unsigned(size)
     } else {
-        0i64.checked_add_unsigned(magnitude)
+        0i64.checked_add_unsigned(size)
+    }
+}
+
+/// Reads digits, behind a minus or not, as a number from `least` to `greatest`.
+fn number_within(
+    is_negative: bool,
+    digits: &[u8],
+    place: Place,
+    least: i64,
+    greatest: i64,
+) -> Result<i64, TextError>
+    ensures { result ≡ within least greatest place (option_map (signed_of is_negative) (natural_of digits.now)) }
+{
+    let Some(size) = magnitude(digits) else {
+        return Err(TextError::NotNumber(place));
+    };
+    match signed(is_negative, size) {
+        Some(number) if least <= number && number <= greatest => Ok(number),
+        _ => Err(TextError::OutOfRange(place)),
     }
 }
 
 /// Reads a token as a number from `least` to `greatest`.
+#[tactic(auto, unfolding(crate::specs::Text::number_of))]
 pub(crate) fn number_of_token(
     token: &[u8],
     place: Place,
@@ -149,20 +181,11 @@ pub(crate) fn number_of_token(
 ) -> Result<i64, TextError>
     ensures { result ≡ number_in least greatest place token.now }
 {
-    let [first, after @ ..] = token else {
-        return Err(TextError::EndOfText(place));
-    };
-    if *first >= 128 {
-        return Err(TextError::NotAscii(place));
-    }
-    let is_negative = *first == b'-';
-    let digits = if is_negative { after } else { token };
-    let Some(size) = magnitude(digits) else {
-        return Err(TextError::NotNumber(place));
-    };
-    match signed(is_negative, size) {
-        Some(number) if least <= number && number <= greatest => Ok(number),
-        _ => Err(TextError::OutOfRange(place)),
+    match token {
+        [] => Err(TextError::EndOfText(place)),
+        [first, ..] if *first >= 128 => Err(TextError::NotAscii(place)),
+        [b'-', digits @ ..] => number_within(true, digits, place, least, greatest),
+        [_, ..] => number_within(false, token, place, least, greatest),
     }
 }
 
