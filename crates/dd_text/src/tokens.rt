@@ -40,6 +40,7 @@ impl<'a> Tokens<'a> {
         }
     }
 
+    #[tactic(auto, unfolding(crate::specs::Text::at_token))]
     fn spot(&self) -> Spot<'a>
         ensures found { at_token self.now ≡ record { rest = result.rest.now; place = result.place; fresh = result.fresh; comment = self.now.comment } }
         ensures countable { IsCountable result.place result.rest.now }
@@ -48,6 +49,7 @@ impl<'a> Tokens<'a> {
     }
 
     /// Where the next token begins, or the end of the text.
+    #[tactic(auto, unfolding(crate::specs::Text::place_of))]
     pub fn place(&self) -> Place
         ensures { result ≡ place_of self.now }
     {
@@ -55,6 +57,7 @@ impl<'a> Tokens<'a> {
     }
 
     /// Whether only blanks stand before the line's end, or before the end of the text.
+    #[tactic(auto, unfolding(crate::specs::Text::ends_line))]
     pub fn at_line_end(&self) -> bool
         ensures { result ≡ ends_line self.now }
     {
@@ -62,6 +65,7 @@ impl<'a> Tokens<'a> {
     }
 
     /// Whether no token is left.
+    #[tactic(auto, unfolding(crate::specs::Text::is_at_end))]
     pub fn at_end(&self) -> bool
         ensures { result ≡ is_at_end self.now }
     {
@@ -69,6 +73,7 @@ impl<'a> Tokens<'a> {
     }
 
     /// The next token, which stays; empty at the end of the text.
+    #[tactic(auto, unfolding(crate::specs::Text::token))]
     pub fn peek_word(&self) -> &'a [u8]
         ensures { result.now ≡ token self.now }
     {
@@ -76,6 +81,7 @@ impl<'a> Tokens<'a> {
         &spot.rest[..token_len(spot.rest)]
     }
 
+    #[tactic(auto, unfolding(crate::specs::Text::token, crate::specs::Text::after_token))]
     fn pass(&mut self, spot: Spot<'a>, len: usize)
         requires found { at_token self.old ≡ record { rest = spot.rest.now; place = spot.place; fresh = spot.fresh; comment = self.old.comment } }
         requires countable { IsCountable spot.place spot.rest.now }
@@ -96,6 +102,7 @@ impl<'a> Tokens<'a> {
     /// `EndOfText` where no token is left, `NotAscii` where its first byte is not ASCII, `NotNumber`
     /// where it is otherwise no number, `OutOfRange` where the number is outside the range, each at
     /// the token's first byte. After an error the token is still the next.
+    #[tactic(auto, unfolding(crate::specs::Text::token, crate::specs::Text::place_of, crate::specs::Text::number_at))]
     pub fn next_number(&mut self, least: i64, greatest: i64) -> Result<i64, TextError>
         ensures value { result ≡ number_at least greatest self.old }
         ensures ok { OnOk result (self.new ≡ after_token self.old) }
@@ -112,6 +119,7 @@ impl<'a> Tokens<'a> {
     ///
     /// `EndOfText` where no token is left, `NotAscii` where its first byte is not ASCII, each at the
     /// token's first byte. After an error the token is still the next.
+    #[tactic(auto, unfolding(crate::specs::Text::token, crate::specs::Text::place_of, crate::specs::Text::word_at))]
     pub fn next_word(&mut self) -> Result<&'a [u8], TextError>
         ensures value { MatchResult result (λ w. word_at self.old ≡ Ok w.now) (λ e. word_at self.old ≡ Err e) }
         ensures ok { OnOk result (self.new ≡ after_token self.old) }
@@ -134,14 +142,17 @@ impl<'a> Tokens<'a> {
     ///
     /// `NotAscii` where a token is left whose first byte is not ASCII, else `Trailing` where one is
     /// left, each at the token's first byte.
+    #[tactic(auto, unfolding(crate::specs::Text::token, crate::specs::Text::place_of, crate::specs::Text::finish_at))]
     pub fn finish(&self) -> Result<(), TextError>
         ensures { result ≡ finish_at self.now }
     {
         let spot = self.spot();
-        match spot.rest {
-            [] => Ok(()),
-            [first, ..] if *first >= 128 => Err(TextError::NotAscii(spot.place)),
-            [_, ..] => Err(TextError::Trailing(spot.place)),
+        let [first, ..] = &spot.rest[..token_len(spot.rest)] else {
+            return Ok(());
+        };
+        if *first >= 128 {
+            return Err(TextError::NotAscii(spot.place));
         }
+        Err(TextError::Trailing(spot.place))
     }
 }
