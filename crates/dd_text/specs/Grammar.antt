@@ -1,5 +1,5 @@
 -- Grammars of instances, as chains: a token, and what is read behind it.
-use Rattle.std.specs.Prelude.{◌≡◌, ℕ, List, ℤ, Result, Ok, Err}
+use Rattle.std.specs.Prelude.{◌≡◌, ℕ, zero, suc, List, ℤ, Result, Ok, Err}
 use Rattle.dd_text.specs.Text.{TextState, TextError, number_at, word_at, finish_at, after_token}
 use Rattle.dd_text.specs.declared.text_error.TextError.TheVariants.{NotNumber, OutOfRange, EndOfText, Trailing, NotAscii}
 use Rattle.dd_text.specs.declared.instance_error.InstanceFault.TheVariants as faults
@@ -32,6 +32,16 @@ word_then s more = read_then (word_at s) (λ w. more w (after_token s))
 -- the end of the text
 abbrev pub end_then : {B : Type 0} → TextState → Result B InstanceError → Result B InstanceError
 end_then s outcome = read_then (finish_at s) (λ _. outcome)
+
+-- a part of the text, with where reading stands behind it, and what is read behind it
+abbrev pub part_then : {A B : Type 0} → Result (A × TextState) InstanceError → (A → TextState → Result B InstanceError) → Result B InstanceError
+part_then (Ok (x, s)) more = more x s
+part_then (Err e) more = Err e
+
+-- a part that stands so many times, each read with what was made of those before it
+unfoldable pub times : {A : Type 0} → (A → TextState → Result (A × TextState) InstanceError) → ℕ → A → TextState → Result (A × TextState) InstanceError
+times step zero made s = Ok (made, s)
+times step (suc n) made s = part_then (step made s) (λ more t. times step n more t)
 
 -- what a reader answers is what the grammar gives, but for want of memory
 abbrev pub Reads : {X Y : Type 0} → (X → Y) → Result X ReadModelError → Result Y InstanceError → Type 0

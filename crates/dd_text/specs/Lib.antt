@@ -2,3 +2,4 @@ pub mod Text
 pub mod Decimal
 pub mod Grammar
 pub mod Printed
+pub mod Example

@@ -32,3 +32,6 @@ pub use read_model_error::ReadModelError;
 pub use text_error::TextError;
 pub use tokens::Tokens;
 pub use std::alloc::AllocError as OutOfMemory;
+
+#[cfg(test)]
+mod tests;

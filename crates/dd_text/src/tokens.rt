@@ -1,4 +1,4 @@
-ghost use Rattle.std.specs.Prelude.{◌≡◌, ◌+◌, ◌-◌, ◌^◌, ◌<◌, ◌≤◌, length, OnOk, OnErr, MatchResult, Ok, Err};
+ghost use Rattle.std.specs.Prelude.{◌≡◌, ◌+◌, ◌-◌, ◌^◌, ◌<◌, ◌≤◌, length, ◌≤ℤ◌, OnOk, OnErr, IfOk, MatchResult, Ok, Err};
 ghost use Rattle.dd_text.specs.Text.{text_start, at_token, IsCountable, token, place_of, ends_line, is_at_end, number_at, word_at, after_token, finish_at};
 
 use crate::comment::Comment;
@@ -102,9 +102,10 @@ impl<'a> Tokens<'a> {
     /// `EndOfText` where no token is left, `NotAscii` where its first byte is not ASCII, `NotNumber`
     /// where it is otherwise no number, `OutOfRange` where the number is outside the range, each at
     /// the token's first byte. After an error the token is still the next.
-    #[tactic(auto, unfolding(crate::specs::Text::token, crate::specs::Text::place_of, crate::specs::Text::number_at))]
+    #[tactic(auto, unfolding(crate::specs::Text::token, crate::specs::Text::place_of, crate::specs::Text::number_at), using(crate::proofs::Ranges::number_at_range))]
     pub fn next_number(&mut self, least: i64, greatest: i64) -> Result<i64, TextError>
         ensures value { result ≡ number_at least greatest self.old }
+        ensures range { IfOk result (λ z. (least ≤ℤ z) × (z ≤ℤ greatest)) }
         ensures ok { OnOk result (self.new ≡ after_token self.old) }
         ensures err { OnErr result (self.new ≡ self.old) }
     {
