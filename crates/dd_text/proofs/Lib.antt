@@ -1,4 +1,5 @@
 pub mod Chains
+pub mod Digits
 pub mod Printing
 pub mod Ranges
 pub mod Values

@@ -47,7 +47,7 @@ is_passed comment inside fresh b = inside || is_blank b || (fresh && opens_comme
 
 -- whether a comment goes on behind a byte that was passed over
 abbrev pub is_inside_after : Bool → ℕ → Bool
-is_inside_after inside b = not (b == 10) && (inside || is_solid b)
+is_inside_after inside b = (inside || is_solid b) && not (b == 10)
 
 -- past blanks and comment lines, from inside a comment or outside
 abbrev pub skip : Comment → Bool → Bool → Place → List ℕ → TextState

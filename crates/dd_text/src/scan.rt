@@ -44,7 +44,7 @@ fn is_passed_over(comment: Comment, inside: bool, fresh: bool, b: u8) -> bool
 fn stays_inside(inside: bool, b: u8) -> bool
     ensures { result ≡ is_inside_after inside b }
 {
-    b != b'\n' && (inside || !is_blank_byte(b))
+    (inside || !is_blank_byte(b)) && b != b'\n'
 }
 
 #[inline]
