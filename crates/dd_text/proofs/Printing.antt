@@ -55,7 +55,7 @@ unfolding at_token
 at_word w bytes s solid plain before =
     let skips = skips_blanks s.comment s.fresh s.place before.blanks (w ∷ bytes) before.are_blank in
     let found : skip s.comment false s.fresh s.place s.rest ≡ record { rest = w ∷ bytes; place = skips.to_place; fresh = skips.to_fresh; comment = s.comment } =
-        ap (skip s.comment false s.fresh s.place) before.rest_is ∙ skips.is ∙ skip_stops s.comment skips.to_fresh skips.to_place w bytes solid plain in
+    ap (skip s.comment false s.fresh s.place) before.rest_is ∙ skips.is ∙ skip_stops s.comment skips.to_fresh skips.to_place w bytes solid plain in
     record { rest_is = ap (λ (t : TextState). t.rest) found; comment_is = ap (λ (t : TextState). t.comment) found }
 
 at_nothing : (s : TextState) → IsBefore [] s → IsAt [] s
@@ -63,7 +63,7 @@ unfolding at_token
 at_nothing s before =
     let skips = skips_blanks s.comment s.fresh s.place before.blanks [] before.are_blank in
     let found : skip s.comment false s.fresh s.place s.rest ≡ record { rest = []; place = skips.to_place; fresh = skips.to_fresh; comment = s.comment } =
-        ap (skip s.comment false s.fresh s.place) before.rest_is ∙ skips.is in
+    ap (skip s.comment false s.fresh s.place) before.rest_is ∙ skips.is in
     record { rest_is = ap (λ (t : TextState). t.rest) found; comment_is = ap (λ (t : TextState). t.comment) found }
 
 -- a token ends at the first blank
@@ -89,7 +89,7 @@ next_is w ws b more s solid plain blank before =
     record {
       token_is = word;
       rest_is = rw (word, at.rest_is) (drop-append_seam (w ∷ ws) (b ∷ more));
-      comment_is = at.comment_is
+      comment_is = at.comment_is;
     }
 
 -- reading begins before the text
@@ -124,7 +124,7 @@ reads_number z least greatest b more s small low high blank before =
     record {
       value = ap (number_in least greatest (place_of s)) next.token_is ∙ number_in_word least greatest z (place_of s) p.first p.others p.ascii written low high;
       rest_is = next.rest_is;
-      comment_is = next.comment_is
+      comment_is = next.comment_is;
     }
 
 -- a word that lies ahead is read: it has no blank, begins with an ASCII byte and opens no comment line
@@ -136,7 +136,7 @@ reads_word w ws b more s solid ascii plain blank before =
     record {
       value = ap (word_in (place_of s)) next.token_is ∙ rw no_high refl;
       rest_is = next.rest_is;
-      comment_is = next.comment_is
+      comment_is = next.comment_is;
     }
 
 -- no token is left behind the last blanks

@@ -54,8 +54,8 @@ abbrev pub skip : Comment → Bool → Bool → Place → List ℕ → TextState
 skip comment inside fresh place [] = record { rest = []; place = place; fresh = fresh; comment = comment }
 skip comment inside fresh place (b ∷ bs) =
     elim (is_passed comment inside fresh b) [
-      true ↦ skip comment (is_inside_after inside b) (fresh || b == 10) (place_after b place) bs
-    | false ↦ record { rest = b ∷ bs; place = place; fresh = fresh; comment = comment }
+      | true ↦ skip comment (is_inside_after inside b) (fresh || b == 10) (place_after b place) bs
+      | false ↦ record { rest = b ∷ bs; place = place; fresh = fresh; comment = comment }
     ]
 
 -- at the next token's first byte, or at the end of the text

@@ -14,8 +14,8 @@ fn read_pair(bytes: &[u8]) -> Result<(i64, i64), ReadModelError>
     requires { length bytes.now < 2 ^ 32 - 1 }
     ensures { Reads (λ p. p) result
         (number_then (pos 0) (pos 1000) (text_start Hash bytes.now) (λ count t.
-            number_then (pos 1) (pos 9) t (λ size u.
-                end_then u (Ok (count, size))))) }
+        number_then (pos 1) (pos 9) t (λ size u.
+        end_then u (Ok (count, size))))) }
 {
     let mut tokens = Tokens::new(bytes, Comment::Hash);
     let count = tokens.next_number(0, 1000)?;
