@@ -1,0 +1,4 @@
+pub mod Instance
+pub mod Order
+pub mod OwnWords
+pub mod Greedy

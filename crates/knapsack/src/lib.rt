@@ -1,0 +1,6 @@
+//! The bounded knapsack.
+#![tactic(auto)]
+
+mod item;
+
+pub use item::Item;
