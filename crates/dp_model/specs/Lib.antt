@@ -1,0 +1,14 @@
+pub mod Numbers
+pub mod Lists
+pub mod Dp
+pub mod Prefixes
+pub mod Best
+pub mod Cover
+pub mod Counts
+pub mod Gaps
+pub mod Laws
+pub mod Rows
+pub mod Decisions
+pub mod Subproblem
+pub mod Walked
+pub mod ModelNames

@@ -1,0 +1,22 @@
+//! Discrete maximisation problems as dynamic programs: what every problem of the solver offers, and the laws that it is
+//! proved to meet.
+//!
+//! It stands on std alone. Its definitions (prefix, state and value, feasible solution, completion, continuation, frontier
+//! cover, bounds, counts) speak of lists of decisions only; every other crate speaks in their words.
+//! `DpModel` is the interface of a problem, `walk` follows decisions from the root, and `Sub` is a subproblem in memory.
+#![tactic(auto)]
+
+mod found;
+mod model;
+mod names;
+mod sub;
+mod theory;
+mod walking;
+
+pub use found::Found;
+pub use model::DpModel;
+pub use names::{CutKind, ModelName};
+pub use std::alloc::AllocError as OutOfMemory;
+pub use sub::Sub;
+pub use theory::{best_is_best, best_is_unique};
+pub use walking::walk;

@@ -1,0 +1,100 @@
+ghost use Rattle.std.specs.Prelude.{◌≡◌, ℕ, ◌+◌, ◌<◌, ◌≤◌, ℤ, List, length, IsTrue};
+ghost use Rattle.dp_model.specs.Dp.{Dp, IsAllowed};
+ghost use Rattle.dp_model.specs.Laws.{IsLawful, IsChained};
+ghost use Rattle.dp_model.specs.Gaps.{IsStateOf};
+
+/// A problem that is given as a dynamic program.
+///
+/// There are `vars` variables, and layer `k` decides variable `k`. A state is a row of `words` numbers, and a decision at
+/// layer `k` is a number below `choices(k)`. The value of a prefix is the root value plus its gains. No call takes memory.
+///
+/// The type is a problem with its instance: the meaning of each call is that of the program that the instance's list of
+/// numbers spells, and this program meets the laws.
+pub trait DpModel: Send + Sync + Drop {
+    /// The whole numbers of the instance.
+    ghost numbers: { Self → List ℤ };
+
+    /// The dynamic program that such numbers spell.
+    ghost meaning: { List ℤ → Dp };
+
+    /// The number of variables.
+    fn vars(&self) -> usize
+        ensures { result ≡ (meaning (numbers self.now)).vars };
+
+    /// The number of cells of a state.
+    fn words(&self) -> usize
+        ensures { result ≡ (meaning (numbers self.now)).words };
+
+    /// The number of decisions at the layer, of which some may not be allowed.
+    fn choices(&self, k: usize) -> u32
+        requires { k < (meaning (numbers self.now)).vars }
+        ensures { result ≡ (meaning (numbers self.now)).choices k };
+
+    /// Writes the root state.
+    fn root(&self, out: &mut [i64])
+        requires { length out.old ≡ (meaning (numbers self.now)).words }
+        ensures { out.new ≡ (meaning (numbers self.now)).root };
+
+    /// The value of the empty prefix.
+    fn root_value(&self) -> i64
+        ensures { result ≡ (meaning (numbers self.now)).root_value };
+
+    /// Whether the decision may be taken in the state.
+    fn allowed(&self, k: usize, s: &[i64], d: u32) -> bool
+        requires layer { k < (meaning (numbers self.now)).vars }
+        requires choice { d < (meaning (numbers self.now)).choices k }
+        requires state { IsTrue ((meaning (numbers self.now)).is_state k s.now) }
+        ensures { result ≡ (meaning (numbers self.now)).allowed k s.now d };
+
+    /// Writes the state that the decision leads to.
+    fn step(&self, k: usize, s: &[i64], d: u32, out: &mut [i64])
+        requires state { IsTrue ((meaning (numbers self.now)).is_state k s.now) }
+        requires allowed { IsAllowed (meaning (numbers self.now)) k s.now d }
+        requires cells { length out.old ≡ (meaning (numbers self.now)).words }
+        ensures { out.new ≡ (meaning (numbers self.now)).step k s.now d };
+
+    /// What the decision adds to the value.
+    fn gain(&self, k: usize, s: &[i64], d: u32) -> i64
+        requires state { IsTrue ((meaning (numbers self.now)).is_state k s.now) }
+        requires allowed { IsAllowed (meaning (numbers self.now)) k s.now d }
+        ensures { result ≡ (meaning (numbers self.now)).gain k s.now d };
+
+    /// Makes `acc` a state that covers all that the old `acc` or `s` covers.
+    fn merge_into(&self, k: usize, acc: &mut [i64], s: &[i64])
+        requires kept { IsStateOf (meaning (numbers self.now)) k acc.old }
+        requires state { IsStateOf (meaning (numbers self.now)) k s.now }
+        ensures { acc.new ≡ (meaning (numbers self.now)).merged k acc.old s.now };
+
+    /// By how much at most a continuation of `s` gains more than the best one of `a`, or none where `a` does not cover `s`.
+    fn gap(&self, k: usize, a: &[i64], s: &[i64]) -> Option<i64>
+        requires covering { IsStateOf (meaning (numbers self.now)) k a.now }
+        requires state { IsStateOf (meaning (numbers self.now)) k s.now }
+        ensures { result ≡ (meaning (numbers self.now)).gap k a.now s.now };
+
+    /// A bound on what a continuation of the state gains, or none where the state is known to have none.
+    fn rough(&self, k: usize, s: &[i64]) -> Option<i64>
+        requires { IsStateOf (meaning (numbers self.now)) k s.now }
+        ensures { result ≡ (meaning (numbers self.now)).rough k s.now };
+
+    /// The second number in the order by which layers are reduced: the greater comes first.
+    fn rank(&self, k: usize, s: &[i64]) -> i64
+        requires { IsStateOf (meaning (numbers self.now)) k s.now }
+        ensures { result ≡ (meaning (numbers self.now)).rank k s.now };
+
+    /// Only states of one bucket are compared for dominance.
+    fn bucket(&self, k: usize, s: &[i64]) -> u64
+        requires { IsStateOf (meaning (numbers self.now)) k s.now }
+        ensures { result ≡ (meaning (numbers self.now)).bucket k s.now };
+
+    /// Whether the row is a state of the layer.
+    fn is_state(&self, k: usize, s: &[i64]) -> bool
+        requires layer { k ≤ (meaning (numbers self.now)).vars }
+        requires cells { length s.now ≡ (meaning (numbers self.now)).words }
+        ensures { result ≡ (meaning (numbers self.now)).is_state k s.now };
+
+    /// The six laws.
+    ghost lawful: { (m : Self) → IsLawful (meaning (numbers m)) };
+
+    /// Gaps add up along a chain.
+    ghost chained: { (m : Self) → IsChained (meaning (numbers m)) };
+}

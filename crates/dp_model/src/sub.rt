@@ -1,0 +1,58 @@
+ghost use Rattle.std.specs.Prelude.{◌≡◌, ℕ, pos, ◌≤◌, [], length, replicate, IfOk};
+
+use std::alloc::{AllocError, Global};
+use std::marker::Model;
+
+/// A subproblem: a prefix of decisions with its state, its value and a bound on its completions.
+#[derive(Debug, Drop)]
+pub struct Sub {
+    pub decisions: Vec<u32>,
+    pub row: Vec<i64>,
+    pub value: i64,
+    pub bound: i64,
+}
+
+impl Model for Sub {
+    ghost use Rattle.std.specs.Prelude.{vec_capacity};
+    ghost use Rattle.dp_model.specs.Subproblem.{Roomy};
+
+    ghost Value = { Roomy };
+
+    ghost view = { λ s. record {
+      subproblem = record { decisions = s.decisions.items; row = s.row.items; value = s.value; bound = s.bound };
+      room = vec_capacity s.decisions;
+    } };
+}
+
+impl Sub {
+    /// A subproblem without decisions, its state all zeros, with room for the decisions of all variables.
+    pub fn blank(alloc: Global, vars: usize, words: usize) -> Result<Sub, AllocError>
+        ensures room { IfOk result (λ s. s.room ≡ vars) }
+        ensures decisions { IfOk result (λ s. s.subproblem.decisions ≡ []) }
+        ensures row { IfOk result (λ s. s.subproblem.row ≡ replicate words (pos 0)) }
+        ensures numbers { IfOk result (λ s. (s.subproblem.value ≡ pos 0) × (s.subproblem.bound ≡ pos 0)) }
+    {
+        let decisions = Vec::with_capacity(alloc, vars)?;
+        let row = vec![in alloc; 0i64; words]?;
+        Ok(Sub {
+            decisions,
+            row,
+            value: 0,
+            bound: 0,
+        })
+    }
+
+    /// Becomes a copy of the other, in its own memory. It takes no memory.
+    pub fn copy_from(&mut self, other: &Sub)
+        requires room { length other.now.subproblem.decisions ≤ self.old.room }
+        requires cells { length other.now.subproblem.row ≡ length self.old.subproblem.row }
+        ensures copied { self.new.subproblem ≡ other.now.subproblem }
+        ensures room { self.old.room ≤ self.new.room }
+    {
+        self.decisions.clear();
+        let _ = self.decisions.extend_from_slice(other.decisions.as_slice());
+        self.row.copy_from_slice(other.row.as_slice());
+        self.value = other.value;
+        self.bound = other.bound;
+    }
+}
