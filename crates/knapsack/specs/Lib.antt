@@ -2,3 +2,5 @@ pub mod Instance
 pub mod Order
 pub mod OwnWords
 pub mod Greedy
+pub mod Program
+pub mod ProgramLaws
