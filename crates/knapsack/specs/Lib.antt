@@ -1,6 +1,11 @@
 pub mod Instance
+pub mod Limits
 pub mod Order
 pub mod OwnWords
 pub mod Greedy
 pub mod Program
 pub mod ProgramLaws
+pub mod ModelLaws
+pub mod Placed
+pub mod Shown
+pub mod Solutions

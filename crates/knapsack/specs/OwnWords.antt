@@ -1,5 +1,5 @@
 -- A solution in the problem's own words: copies of each item, within the capacity.
-use Rattle.std.specs.Prelude.{ℕ, ◌+◌, ◌*◌, ℤ, pos, Bool, true, false, ◌&&◌, cond, nat_le, List, [], ◌∷◌, Option, Some, None}
+use Rattle.std.specs.Prelude.{◌≡◌, ℕ, ◌+◌, ◌*◌, ◌^◌, ◌<◌, ℤ, pos, Bool, true, false, ◌&&◌, cond, nat_le, List, [], ◌∷◌, Option, Some, None}
 use Rattle.knapsack.specs.declared.item.Item.{Item}
 use Rattle.knapsack.specs.Instance.{Instance}
 
@@ -23,3 +23,10 @@ total_profit _ _ = 0
 abbrev pub packed_value : Instance → List ℕ → Option ℤ
 packed_value i ds =
     cond (has_copies i.items ds && nat_le (total_weight i.items ds) i.capacity) (Some (pos (total_profit i.items ds))) None
+
+-- copies of the items, with what they weigh and what they are worth in all
+pub record IsTotal (items : List Item) (ds : List ℕ) (weight profit : ℕ) : Type 0 where
+  pub copies : has_copies items ds ≡ true
+  pub weighs : weight ≡ total_weight items ds
+  pub is_worth : profit ≡ total_profit items ds
+  pub small : profit < 2 ^ 63

@@ -18,6 +18,7 @@ use Rattle.dp_model.specs.Numbers.{AtMost, IsSmall as IsSmallNumber}
 use Rattle.dp_model.specs.Laws.{StepsAreStates, GapsAreSound, RoughBounds, SizesHold, IsLawful, IsChained}
 use Rattle.knapsack.specs.declared.item.Item.{Item}
 use Rattle.knapsack.specs.Instance.{Instance, instance_of, numbers_of, item_numbers, items_of, size_of, is_small, is_small_item}
+use Rattle.knapsack.specs.Limits.{IsSmallItem, is_small_item-is, IsSmallInstance, is_small-is}
 use Rattle.knapsack.specs.Order.{in_order, fill}
 use Rattle.knapsack.specs.OwnWords.{has_copies, total_weight, total_profit}
 use Rattle.knapsack.specs.Greedy.{packing-le-fill, worth, worth-in_order, fill-le-worth}
@@ -27,6 +28,8 @@ use Rattle.knapsack.specs.Program.{left, is_left, item_at, rough_from, program_o
 pub items_of-item_numbers : (xs : List Item) → items_of (item_numbers xs) ≡ xs
 items_of-item_numbers [] = refl
 items_of-item_numbers (x ∷ xs) = ap (λ (l : List Item). x ∷ l) (items_of-item_numbers xs)
+
+pub ruleset round_trip = (items_of-item_numbers)
 
 -- the numbers of an instance spell it
 pub instance_of-numbers_of : (i : Instance) → instance_of (numbers_of i) ≡ i
@@ -189,30 +192,6 @@ rough_holds i = record {
 }
 
 -- The sizes.
-
--- an item within the limits
-pub record IsSmallItem (x : Item) : Type 0 where
-  pub profit : x.profit ≤ 1000000000
-  pub weight : x.weight ≤ 1000000000
-  pub copies : x.copies ≤ 1000
-
-pub is_small_item-is : (x : Item) → is_small_item x ≡ true → IsSmallItem x
-is_small_item-is x h =
-    let parts = and_parts _ _ h in
-    let two = and_parts _ _ parts.0 in
-    record { profit = leb-true _ _ two.0; weight = leb-true _ _ two.1; copies = leb-true _ _ parts.1 }
-
--- an instance within the limits
-pub record IsSmallInstance (i : Instance) : Type 0 where
-  pub capacity : i.capacity ≤ 2 ^ 40
-  pub count : length i.items ≤ 1000
-  pub items : list_all is_small_item i.items ≡ true
-
-pub is_small-is : (i : Instance) → is_small i ≡ true → IsSmallInstance i
-is_small-is i h =
-    let parts = and_parts _ _ h in
-    let two = and_parts _ _ parts.0 in
-    record { capacity = leb-true _ _ two.0; count = leb-true _ _ two.1; items = parts.1 }
 
 small_number : (n : ℕ) → n ≤ 2 ^ 50 → IsSmallNumber (pos n)
 small_number n h = record { low = omega (arith, ints); high = omega (arith, ints) }

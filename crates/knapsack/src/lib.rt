@@ -1,6 +1,14 @@
-//! The bounded knapsack.
+//! The bounded knapsack: items with a profit, a weight and a number of copies, and a capacity.
 #![tactic(auto)]
 
+mod filling;
 mod item;
+mod model;
+mod ordering;
+mod packing;
+mod placed;
+mod problem;
 
 pub use item::Item;
+pub use packing::value_of;
+pub use problem::Knapsack;
