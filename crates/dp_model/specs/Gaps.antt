@@ -1,7 +1,6 @@
 -- When one state covers another, and what a rough bound bounds.
 use Rattle.std.specs.Prelude.{◌≡◌, ℕ, ◌≤◌, ℤ, ◌+ℤ◌, ◌≤ℤ◌, Bool, true, false, int_le, List, Option, Some, None, IsTrue}
 use Rattle.dp_model.specs.Dp.{Dp}
-use Rattle.dp_model.specs.Numbers.{AtMost}
 use Rattle.dp_model.specs.Prefixes.{IsContinuation, gain_of}
 
 -- the state is one of the layer

@@ -1,5 +1,5 @@
 -- The laws that every problem is proved to meet.
-use Rattle.std.specs.Prelude.{◌≡◌, ℕ, ◌+◌, ◌<◌, ◌≤◌, ℤ, pos, ◌+ℤ◌, ◌≤ℤ◌, List, length, Option, Some, IsTrue}
+use Rattle.std.specs.Prelude.{◌≡◌, ℕ, ◌+◌, ◌<◌, ◌≤◌, ℤ, pos, ◌+ℤ◌, ◌≤ℤ◌, List, length, Some, IsTrue}
 use Rattle.dp_model.specs.Dp.{Dp, IsAllowed}
 use Rattle.dp_model.specs.Gaps.{IsStateOf, IsSoundGap, HasGap, HasGapWithin}
 use Rattle.dp_model.specs.Lists.{Each}

@@ -9,6 +9,7 @@ pub mod Gaps
 pub mod Laws
 pub mod Rows
 pub mod Decisions
+pub mod Reached
 pub mod Subproblem
 pub mod Walked
 pub mod ModelNames

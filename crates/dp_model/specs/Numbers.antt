@@ -1,5 +1,5 @@
 -- Numbers beside an option, where none is less than every number, and the size that every number of an instance keeps.
-use Rattle.std.specs.Prelude.{◌≡◌, ◌^◌, ℤ, pos, ◌+ℤ◌, ◌≤ℤ◌, int_lt, int_le, Bool, true, false, cond, ◌&&◌, List, [], ◌∷◌, Option, Some, None}
+use Rattle.std.specs.Prelude.{◌^◌, ℤ, pos, ◌+ℤ◌, ◌≤ℤ◌, int_lt, int_le, Bool, true, cond, ◌&&◌, List, [], ◌∷◌, Option, Some, None}
 use lib.IntN.{neg_ℤ}
 
 -- the number is at most the option

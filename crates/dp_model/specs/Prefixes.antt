@@ -1,5 +1,5 @@
 -- Prefixes, their states and values, feasible solutions, completions and continuations.
-use Rattle.std.specs.Prelude.{◌≡◌, ℕ, ◌+◌, ℤ, pos, ◌+ℤ◌, ◌≤ℤ◌, List, [], ◌∷◌, ◌++◌, length, ◌≤◌}
+use Rattle.std.specs.Prelude.{◌≡◌, ℕ, ◌+◌, ℤ, pos, ◌+ℤ◌, ◌≤ℤ◌, List, [], ◌∷◌, ◌++◌, length}
 use Rattle.dp_model.specs.Dp.{Dp, IsAllowed}
 
 -- the decisions are allowed one after another from the state at the layer

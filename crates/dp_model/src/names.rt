@@ -32,3 +32,23 @@ impl ModelName {
         }
     }
 }
+
+#[cfg(test)]
+mod tests {
+    use super::*;
+    use std::test::Fail;
+
+    #[test]
+    fn words_of_the_problems(rt: HostRuntime) -> Result<(), Fail> {
+        let cases = [
+            (ModelName::Knapsack, "knapsack"),
+            (ModelName::MaxCut, "maxcut"),
+            (ModelName::MaxTwoSat, "max2sat"),
+            (ModelName::TspWindows, "tsptw"),
+        ];
+        for (name, text) in cases {
+            assert_eq!(rt; name.text(), text);
+        }
+        Ok(())
+    }
+}

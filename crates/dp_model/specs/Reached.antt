@@ -1,0 +1,12 @@
+-- A prefix with the state that it reaches and its value.
+use Rattle.std.specs.Prelude.{ℕ, ℤ, List}
+use Rattle.dp_model.specs.Dp.{Dp}
+use Rattle.dp_model.specs.Prefixes.{state_of, value_of}
+
+pub record Reached : Type 0 where
+  pub decisions : List ℕ
+  pub row : List ℤ
+  pub value : ℤ
+
+abbrev pub reached : Dp → List ℕ → Reached
+reached dp p = record { decisions = p; row = state_of dp p; value = value_of dp p }
