@@ -1,0 +1,4 @@
+pub mod Chains
+pub mod Printing
+pub mod Ranges
+pub mod Values

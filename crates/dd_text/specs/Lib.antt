@@ -1,0 +1,5 @@
+pub mod Text
+pub mod Decimal
+pub mod Grammar
+pub mod Printed
+pub mod Example

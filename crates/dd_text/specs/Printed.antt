@@ -1,0 +1,23 @@
+-- Printed texts: what is read of them.
+use Rattle.std.specs.Prelude.{◌≡◌, ℕ, ◌+◌, List, [], ◌∷◌, ◌++◌, Bool, true, false, ◌&&◌, Result, Ok, Err, ⊤, ℤ, ◌≤ℤ◌, refl}
+use Rattle.std.specs.List.{list_all}
+use Rattle.dd_text.specs.Text.{TextState, Comment, is_blank, is_solid, opens_comment, number_at, word_at, finish_at, ends_line, is_at_end, after_token}
+use Rattle.dd_text.specs.Decimal.{decimal_of}
+
+-- reading stands before these bytes, perhaps with blanks in between
+pub record IsBefore (bytes : List ℕ) (s : TextState) : Type 0 where
+  pub blanks : List ℕ
+  pub are_blank : list_all is_blank blanks ≡ true
+  pub rest_is : s.rest ≡ blanks ++ bytes
+
+-- a printed number is read, and reading stands right behind it
+pub record ReadsNumber (z : ℤ) (least greatest : ℤ) (behind : List ℕ) (s : TextState) : Type 0 where
+  pub value : number_at least greatest s ≡ Ok z
+  pub rest_is : (after_token s).rest ≡ behind
+  pub comment_is : (after_token s).comment ≡ s.comment
+
+-- a printed word is read, and reading stands right behind it
+pub record ReadsWord (word : List ℕ) (behind : List ℕ) (s : TextState) : Type 0 where
+  pub value : word_at s ≡ Ok word
+  pub rest_is : (after_token s).rest ≡ behind
+  pub comment_is : (after_token s).comment ≡ s.comment

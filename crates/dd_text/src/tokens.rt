@@ -1,0 +1,159 @@
+ghost use Rattle.std.specs.Prelude.{◌≡◌, ◌+◌, ◌-◌, ◌^◌, ◌<◌, ◌≤◌, length, ◌≤ℤ◌, OnOk, OnErr, IfOk, MatchResult, Ok, Err};
+ghost use Rattle.dd_text.specs.Text.{text_start, at_token, IsCountable, token, place_of, ends_line, is_at_end, number_at, word_at, after_token, finish_at};
+
+use crate::comment::Comment;
+use crate::place::Place;
+use crate::text_error::TextError;
+use crate::scan::{Spot, is_line_blank, number_of_token, skip_to_token, token_len};
+use std::marker::Model;
+
+/// The tokens of a text, one after another.
+#[derive(Drop)]
+pub struct Tokens<'a> {
+    rest: &'a [u8],
+    place: Place,
+    fresh: bool,
+    comment: Comment,
+}
+
+impl<'a> Model for Tokens<'a> {
+    ghost use Rattle.dd_text.specs.Text.{TextState, IsCountable};
+
+    ghost Value = { TextState };
+
+    ghost view = { λ t. record { rest = t.rest.now; place = t.place; fresh = t.fresh; comment = t.comment } };
+
+    ghost invariant = { λ t. IsCountable t.place t.rest.now };
+}
+
+impl<'a> Tokens<'a> {
+    /// The tokens of a text, in which the lines that `comment` names are passed over.
+    pub fn new(bytes: &'a [u8], comment: Comment) -> Tokens<'a>
+        requires { length bytes.now < 2 ^ 32 - 1 }
+        ensures { result ≡ text_start comment bytes.now }
+    {
+        Tokens {
+            rest: bytes,
+            place: Place { line: 1, column: 1 },
+            fresh: true,
+            comment,
+        }
+    }
+
+    #[tactic(auto, unfolding(crate::specs::Text::at_token))]
+    fn spot(&self) -> Spot<'a>
+        ensures found { at_token self.now ≡ record { rest = result.rest.now; place = result.place; fresh = result.fresh; comment = self.now.comment } }
+        ensures countable { IsCountable result.place result.rest.now }
+    {
+        skip_to_token(self.comment, self.fresh, self.place, self.rest)
+    }
+
+    /// Where the next token begins, or the end of the text.
+    #[tactic(auto, unfolding(crate::specs::Text::place_of))]
+    pub fn place(&self) -> Place
+        ensures { result ≡ place_of self.now }
+    {
+        self.spot().place
+    }
+
+    /// Whether only blanks stand before the line's end, or before the end of the text.
+    #[tactic(auto, unfolding(crate::specs::Text::ends_line))]
+    pub fn at_line_end(&self) -> bool
+        ensures { result ≡ ends_line self.now }
+    {
+        is_line_blank(self.rest)
+    }
+
+    /// Whether no token is left.
+    #[tactic(auto, unfolding(crate::specs::Text::is_at_end))]
+    pub fn at_end(&self) -> bool
+        ensures { result ≡ is_at_end self.now }
+    {
+        self.spot().rest.is_empty()
+    }
+
+    /// The next token, which stays; empty at the end of the text.
+    #[tactic(auto, unfolding(crate::specs::Text::token))]
+    pub fn peek_word(&self) -> &'a [u8]
+        ensures { result.now ≡ token self.now }
+    {
+        let spot = self.spot();
+        &spot.rest[..token_len(spot.rest)]
+    }
+
+    #[tactic(auto, unfolding(crate::specs::Text::token, crate::specs::Text::after_token))]
+    fn pass(&mut self, spot: Spot<'a>, len: usize)
+        requires found { at_token self.old ≡ record { rest = spot.rest.now; place = spot.place; fresh = spot.fresh; comment = self.old.comment } }
+        requires countable { IsCountable spot.place spot.rest.now }
+        requires len { len ≡ length (token self.old) }
+        ensures { self.new ≡ after_token self.old }
+    {
+        self.rest = &spot.rest[len..];
+        self.place = Place {
+            line: spot.place.line,
+            column: spot.place.column + len as u32,
+        };
+        self.fresh = false;
+    }
+
+    /// Reads the next token as a number from `least` to `greatest`: an optional minus and one or more
+    /// digits, of any length.
+    ///
+    /// `EndOfText` where no token is left, `NotAscii` where its first byte is not ASCII, `NotNumber`
+    /// where it is otherwise no number, `OutOfRange` where the number is outside the range, each at
+    /// the token's first byte. After an error the token is still the next.
+    #[tactic(auto, unfolding(crate::specs::Text::token, crate::specs::Text::place_of, crate::specs::Text::number_at), using(crate::proofs::Ranges::number_at_range))]
+    pub fn next_number(&mut self, least: i64, greatest: i64) -> Result<i64, TextError>
+        ensures value { result ≡ number_at least greatest self.old }
+        ensures range { IfOk result (λ z. (least ≤ℤ z) × (z ≤ℤ greatest)) }
+        ensures ok { OnOk result (self.new ≡ after_token self.old) }
+        ensures err { OnErr result (self.new ≡ self.old) }
+    {
+        let spot = self.spot();
+        let len = token_len(spot.rest);
+        let number = number_of_token(&spot.rest[..len], spot.place, least, greatest)?;
+        self.pass(spot, len);
+        Ok(number)
+    }
+
+    /// Reads the next token as it stands.
+    ///
+    /// `EndOfText` where no token is left, `NotAscii` where its first byte is not ASCII, each at the
+    /// token's first byte. After an error the token is still the next.
+    #[tactic(auto, unfolding(crate::specs::Text::token, crate::specs::Text::place_of, crate::specs::Text::word_at))]
+    pub fn next_word(&mut self) -> Result<&'a [u8], TextError>
+        ensures value { MatchResult result (λ w. word_at self.old ≡ Ok w.now) (λ e. word_at self.old ≡ Err e) }
+        ensures ok { OnOk result (self.new ≡ after_token self.old) }
+        ensures err { OnErr result (self.new ≡ self.old) }
+    {
+        let spot = self.spot();
+        let len = token_len(spot.rest);
+        let word = &spot.rest[..len];
+        let [first, ..] = word else {
+            return Err(TextError::EndOfText(spot.place));
+        };
+        if *first >= 128 {
+            return Err(TextError::NotAscii(spot.place));
+        }
+        self.pass(spot, len);
+        Ok(word)
+    }
+
+    /// Tests that no token is left.
+    ///
+    /// `NotAscii` where a token is left whose first byte is not ASCII, else `Trailing` where one is
+    /// left, each at the token's first byte.
+    #[tactic(auto, unfolding(crate::specs::Text::token, crate::specs::Text::place_of, crate::specs::Text::finish_at))]
+    pub fn finish(&self) -> Result<(), TextError>
+        ensures { result ≡ finish_at self.now }
+    {
+        let spot = self.spot();
+        let [first, ..] = &spot.rest[..token_len(spot.rest)] else {
+            return Ok(());
+        };
+        if *first >= 128 {
+            return Err(TextError::NotAscii(spot.place));
+        }
+        Err(TextError::Trailing(spot.place))
+    }
+}
