@@ -9,3 +9,5 @@ pub mod ModelLaws
 pub mod Placed
 pub mod Shown
 pub mod Solutions
+pub mod Reading
+pub mod Printing

@@ -1,7 +1,7 @@
 -- The dynamic program of an instance within the limits meets the laws.
 use Rattle.std.proofs.Common.{◌≡◌, ℕ, ◌+◌, ◌-◌, ◌*◌, ◌/◌, ◌<◌, ◌≤◌, ◌^◌, ℤ, pos, ◌+ℤ◌, ◌≤ℤ◌, min, max, Bool, true, false, not, ◌&&◌, ◌||◌, cond, List, [], ◌∷◌, length, drop, Option, Some, None, refl, sym, ap, ◌∙◌, subst, arith, eqb, ltb, leb, get_or}
 use Rattle.std.specs.Prelude.{IsTrue}
-use Rattle.std.proofs.lemmas.Bool.{and_parts, leb-true, eqb-true, le-leb, and_from}
+use Rattle.std.proofs.lemmas.Bool.{and_parts, leb-true, eqb-true, le-leb, leb-false, false≢true, and_from}
 use Rattle.std.proofs.lemmas.Bool.Decides.{nat_tests}
 use Rattle.std.proofs.lemmas.Int.{ints}
 use Rattle.std.proofs.lemmas.List.{drop_more, drop_all, length-drop}
@@ -20,7 +20,8 @@ use Rattle.knapsack.specs.declared.item.Item.{Item}
 use Rattle.knapsack.specs.Instance.{Instance, instance_of, numbers_of, item_numbers, items_of, size_of, is_small, is_small_item}
 use Rattle.knapsack.specs.Limits.{IsSmallItem, is_small_item-is, IsSmallInstance, is_small-is}
 use Rattle.knapsack.specs.Order.{in_order, fill}
-use Rattle.knapsack.specs.OwnWords.{has_copies, total_weight, total_profit}
+use Rattle.knapsack.specs.OwnWords.{has_copies, total_weight, total_profit, packed_value}
+use Rattle.knapsack.specs.Solutions.{IsWorth, SolutionGives}
 use Rattle.knapsack.specs.Greedy.{packing-le-fill, worth, worth-in_order, fill-le-worth}
 use Rattle.knapsack.specs.Program.{left, is_left, item_at, rough_from, program_of, program}
 
@@ -89,6 +90,14 @@ copies_all [] [] h = refl
 copies_all [] (d ∷ ds) h = absurd (grind arith)
 copies_all (x ∷ xs) [] h = absurd (grind arith)
 copies_all (x ∷ xs) (d ∷ ds) h = let rest : length ds ≡ length xs = copies_all xs ds (and_parts _ _ h).1 in omega arith
+
+-- where there are more or fewer numbers than items, they are no copies of them
+pub has_copies-other_length : (items : List Item) (ds : List ℕ) → (length ds ≡ length items → ⊥) → has_copies items ds ≡ false
+has_copies-other_length items ds other =
+    elim (has_copies items ds) as (λ b. has_copies items ds ≡ b → b ≡ false) [
+        true ↦ λ e. absurd (other (copies_all items ds e))
+      | false ↦ λ _. refl
+      ] refl
 
 -- a packing of an item and of those behind it
 record PacksFirst (x : Item) (xs : List Item) (rest d : ℕ) (ds : List ℕ) : Type 0 where
@@ -266,3 +275,32 @@ lawful_program i h = record { states = states_hold i; gaps = gaps_hold i; rough 
 
 pub chained_program : (i : Instance) → IsChained (program_of i)
 chained_program i = chained_holds i
+
+-- A feasible solution is a packing, and the other way round.
+
+pub record IsPacked (i : Instance) (ds : List ℕ) : Type 0 where
+  pub copies : has_copies i.items ds ≡ true
+  pub fits : total_weight i.items ds ≤ i.capacity
+  pub worth : value_of (program_of i) ds ≡ pos (total_profit i.items ds)
+
+pub solution_packs : (i : Instance) (ds : List ℕ) → IsSolution (program_of i) ds → IsPacked i ds
+solution_packs i ds solution =
+    let p = path_packs i 0 (pos i.capacity ∷ []) ds solution.prefix (let whole = solution.whole in omega arith) in
+    record { copies = p.copies; fits = p.fits; worth = let w = p.worth in omega (arith, ints) }
+
+pub packing_solves : (i : Instance) (ds : List ℕ) → has_copies i.items ds ≡ true → total_weight i.items ds ≤ i.capacity → IsWorth (program_of i) ds (pos (total_profit i.items ds))
+packing_solves i ds copies fits =
+    let solution : IsSolution (program_of i) ds = record { prefix = packing_paths i 0 (pos i.capacity ∷ []) ds copies fits; whole = copies_all i.items ds copies } in
+    record { solution = solution; value = sym (solution_packs i ds solution).worth }
+
+-- the value in the problem's own words is that of the feasible solution, and none where there is none
+pub own_words_solve : (i : Instance) (ds : List ℕ) → SolutionGives (program_of i) ds (packed_value i ds)
+own_words_solve i ds =
+    elim (has_copies i.items ds) as (λ b. has_copies i.items ds ≡ b → SolutionGives (program_of i) ds (cond (b && leb (total_weight i.items ds) i.capacity) (Some (pos (total_profit i.items ds))) None)) [
+        true ↦ λ copies.
+          elim (leb (total_weight i.items ds) i.capacity) as (λ b. leb (total_weight i.items ds) i.capacity ≡ b → SolutionGives (program_of i) ds (cond b (Some (pos (total_profit i.items ds))) None)) [
+              true ↦ λ fits. packing_solves i ds copies (leb-true _ _ fits)
+            | false ↦ λ heavy. λ solution. let p = (solution_packs i ds solution).fits in absurd (omega (arith, leb-false _ _ heavy, p))
+            ] refl
+      | false ↦ λ few. λ solution. false≢true (sym few ∙ (solution_packs i ds solution).copies)
+      ] refl

@@ -7,8 +7,12 @@ mod model;
 mod ordering;
 mod packing;
 mod placed;
+mod printing;
 mod problem;
+mod reading;
 
 pub use item::Item;
 pub use packing::value_of;
+pub use printing::print;
 pub use problem::Knapsack;
+pub use reading::read;

@@ -35,15 +35,22 @@ fn total_of(items: &[Item], copies: &[u32]) -> Option<Total>
     Some(Total { weight, profit })
 }
 
+/// The total profit of copies within the capacity.
+fn packed(model: &Knapsack, copies: &[u32]) -> Option<i64>
+    ensures { result ≡ packed_value (instance_in model.now) copies.now }
+{
+    let total = total_of(&model.items, copies)?;
+    if total.weight > model.capacity {
+        return None;
+    }
+    Some(total.profit as i64)
+}
+
 /// The total profit of the copies, where the decisions give each item a number of copies that it has and the copies weigh
 /// no more than the capacity. `None` exactly where they do not: then the list is no solution.
 pub fn value_of(model: &Knapsack, decisions: &[u32]) -> Option<i64>
     ensures own_words { result ≡ packed_value (instance_in model.now) decisions.now }
     ensures solution { SolutionGives (program_in model.now) decisions.now result }
 {
-    let total = total_of(&model.items, decisions)?;
-    if total.weight > model.capacity {
-        return None;
-    }
-    Some(total.profit as i64)
+    packed(model, decisions)
 }
