@@ -1,46 +1,54 @@
 -- A chain of tokens, step by step: what it gives where a token was read, and where there was a fault.
-use Rattle.std.proofs.Common.{◌≡◌, ℕ, suc, ◌+◌, ◌-◌, ◌<◌, ◌≤◌, List, ℤ, ap, ◌∙◌, refl, arith}
+use Rattle.std.proofs.Common.{◌≡◌, ℕ, suc, ◌+◌, ◌-◌, ◌<◌, ◌≤◌, List, ℤ, ap, ◌∙◌, sym, refl, arith}
 use Rattle.std.specs.Prelude.{Result, Ok, Err, ⊤}
 use Rattle.dd_text.specs.Text.{TextState, TextError, number_at, word_at, finish_at, after_token}
-use Rattle.dd_text.specs.Grammar.{InstanceError, of_text, read_then, number_then, word_then, end_then, part_then, times}
+use Rattle.dd_text.specs.Grammar.{InstanceError, of_text, read_then, number_then, word_then, end_then, part_then, times, Fails, ReadModelError}
+use Rattle.dd_text.specs.declared.read_model_error.ReadModelError.TheVariants as errors
 
 -- behind a number the chain goes on
-pub number_then-ok : {B : Type 0} (least greatest z : ℤ) (s : TextState) (more : ℤ → TextState → Result B InstanceError) → Ok z ≡ number_at least greatest s → number_then least greatest s more ≡ more z (after_token s)
-number_then-ok least greatest z s more e = rw (← e) refl
+pub number_then_ok : {B : Type 0} (least greatest z : ℤ) (s : TextState) (more : ℤ → TextState → Result B InstanceError) → Ok z ≡ number_at least greatest s → number_then least greatest s more ≡ more z (after_token s)
+number_then_ok least greatest z s more e = rw (← e) refl
 
 -- at a fault the chain ends
-pub number_then-err : {B : Type 0} (least greatest : ℤ) (fault : TextError) (s : TextState) (more : ℤ → TextState → Result B InstanceError) → Err fault ≡ number_at least greatest s → number_then least greatest s more ≡ Err (of_text fault)
-number_then-err least greatest fault s more e = rw (← e) refl
+pub number_then_err : {B : Type 0} (least greatest : ℤ) (fault : TextError) (s : TextState) (more : ℤ → TextState → Result B InstanceError) → Err fault ≡ number_at least greatest s → number_then least greatest s more ≡ Err (of_text fault)
+number_then_err least greatest fault s more e = rw (← e) refl
 
-pub word_then-ok : {B : Type 0} (word : List ℕ) (s : TextState) (more : List ℕ → TextState → Result B InstanceError) → word_at s ≡ Ok word → word_then s more ≡ more word (after_token s)
-word_then-ok word s more e = rw e refl
+pub word_then_ok : {B : Type 0} (word : List ℕ) (s : TextState) (more : List ℕ → TextState → Result B InstanceError) → word_at s ≡ Ok word → word_then s more ≡ more word (after_token s)
+word_then_ok word s more e = rw e refl
 
-pub word_then-err : {B : Type 0} (fault : TextError) (s : TextState) (more : List ℕ → TextState → Result B InstanceError) → word_at s ≡ Err fault → word_then s more ≡ Err (of_text fault)
-word_then-err fault s more e = rw e refl
+pub word_then_err : {B : Type 0} (fault : TextError) (s : TextState) (more : List ℕ → TextState → Result B InstanceError) → word_at s ≡ Err fault → word_then s more ≡ Err (of_text fault)
+word_then_err fault s more e = rw e refl
 
-pub end_then-ok : {B : Type 0} (s : TextState) (outcome : Result B InstanceError) → Ok tt ≡ finish_at s → end_then s outcome ≡ outcome
-end_then-ok s outcome e = rw (← e) refl
+pub end_then_ok : {B : Type 0} (s : TextState) (outcome : Result B InstanceError) → Ok tt ≡ finish_at s → end_then s outcome ≡ outcome
+end_then_ok s outcome e = rw (← e) refl
 
-pub end_then-err : {B : Type 0} (fault : TextError) (s : TextState) (outcome : Result B InstanceError) → Err fault ≡ finish_at s → end_then s outcome ≡ Err (of_text fault)
-end_then-err fault s outcome e = rw (← e) refl
+pub end_then_err : {B : Type 0} (fault : TextError) (s : TextState) (outcome : Result B InstanceError) → Err fault ≡ finish_at s → end_then s outcome ≡ Err (of_text fault)
+end_then_err fault s outcome e = rw (← e) refl
 
 -- of count times, the one after i is read
-pub times-more : {A : Type 0} (step : A → TextState → Result (A × TextState) InstanceError) (count i : ℕ) (made next : A) (s t : TextState) → i < count → step made s ≡ Ok (next, t) → times step (count - i) made s ≡ times step (count - (i + 1)) next t
+pub times_more : {A : Type 0} (step : A → TextState → Result (A × TextState) InstanceError) (count i : ℕ) (made next : A) (s t : TextState) → i < count → step made s ≡ Ok (next, t) → times step (count - i) made s ≡ times step (count - (i + 1)) next t
 unfolding times
-times-more step count i made next s t below read =
+times_more step count i made next s t below read =
     let left : count - i ≡ suc (count - (i + 1)) = omega arith in
     rw (left, read) refl
 
--- it has a fault
-pub times-err : {A : Type 0} (step : A → TextState → Result (A × TextState) InstanceError) (count i : ℕ) (made : A) (s : TextState) (e : InstanceError) → i < count → step made s ≡ Err e → times step (count - i) made s ≡ Err e
+-- it has a fault, which is the fault of all
+pub times_fails : {A : Type 0} (e : ReadModelError) (step : A → TextState → Result (A × TextState) InstanceError) (count i : ℕ) (made : A) (s : TextState) (total : Result (A × TextState) InstanceError) → i < count → Fails e (step made s) → times step (count - i) made s ≡ total → Fails e total
 unfolding times
-times-err step count i made s e below read =
+times_fails errors.OutOfMemory step count i made s total below fails so_far = tt
+times_fails (errors.Text fault) step count i made s total below fails so_far =
     let left : count - i ≡ suc (count - (i + 1)) = omega arith in
-    rw (left, read) refl
+    let ends : times step (count - i) made s ≡ Err fault = rw (left, fails) refl in
+    sym so_far ∙ ends
+
+-- a fault of a part is the fault of the whole
+pub part_fails : {A B : Type 0} (e : ReadModelError) (part : Result (A × TextState) InstanceError) (more : A → TextState → Result B InstanceError) → Fails e part → Fails e (part_then part more)
+part_fails errors.OutOfMemory part more fails = tt
+part_fails (errors.Text fault) part more fails = rw fails refl
 
 -- none is left
-pub times-done : {A : Type 0} (step : A → TextState → Result (A × TextState) InstanceError) (count i : ℕ) (made : A) (s : TextState) → count ≤ i → times step (count - i) made s ≡ Ok (made, s)
+pub times_done : {A : Type 0} (step : A → TextState → Result (A × TextState) InstanceError) (count i : ℕ) (made : A) (s : TextState) → count ≤ i → times step (count - i) made s ≡ Ok (made, s)
 unfolding times
-times-done step count i made s all =
+times_done step count i made s all =
     let left : count - i ≡ 0 = omega arith in
     rw left refl

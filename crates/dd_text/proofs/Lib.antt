@@ -1,4 +1,6 @@
 pub mod Chains
+pub mod Digits
 pub mod Printing
 pub mod Ranges
+pub mod Repeats
 pub mod Values

@@ -11,5 +11,5 @@ digit_at digits s = number_then (pos 0) (pos 9) s (λ z t. Ok (digits ++ z ∷ [
 unfoldable pub digits_at : TextState → Result (List ℤ) InstanceError
 digits_at s =
     number_then (pos 0) (pos 1000) s (λ count t.
-        part_then (times digit_at (nat_abs count) [] t) (λ digits u.
-            end_then u (Ok digits)))
+    part_then (times digit_at (nat_abs count) [] t) (λ digits u.
+    end_then u (Ok digits)))

@@ -43,8 +43,12 @@ unfoldable pub times : {A : Type 0} → (A → TextState → Result (A × TextSt
 times step zero made s = Ok (made, s)
 times step (suc n) made s = part_then (step made s) (λ more t. times step n more t)
 
+-- an error is the fault that the grammar gives; want of memory may come anywhere
+abbrev pub Fails : {Y : Type 0} → ReadModelError → Result Y InstanceError → Type 0
+Fails (errors.Text e) read = read ≡ Err e
+Fails errors.OutOfMemory read = Unit {0}
+
 -- what a reader answers is what the grammar gives, but for want of memory
 abbrev pub Reads : {X Y : Type 0} → (X → Y) → Result X ReadModelError → Result Y InstanceError → Type 0
 Reads view (Ok x) read = read ≡ Ok (view x)
-Reads view (Err (errors.Text e)) read = read ≡ Err e
-Reads view (Err errors.OutOfMemory) read = Unit {0}
+Reads view (Err e) read = Fails e read

@@ -1,8 +1,9 @@
 -- Printed texts: what is read of them.
-use Rattle.std.specs.Prelude.{◌≡◌, ℕ, ◌+◌, List, [], ◌∷◌, ◌++◌, Bool, true, false, ◌&&◌, Result, Ok, Err, ⊤, ℤ, ◌≤ℤ◌, refl}
+use Rattle.std.specs.Prelude.{◌≡◌, ℕ, List, ◌++◌, true, Result, Ok, ℤ}
 use Rattle.std.specs.List.{list_all}
-use Rattle.dd_text.specs.Text.{TextState, Comment, is_blank, is_solid, opens_comment, number_at, word_at, finish_at, ends_line, is_at_end, after_token}
+use Rattle.dd_text.specs.Text.{TextState, is_blank, number_at, word_at, after_token}
 use Rattle.dd_text.specs.Decimal.{decimal_of}
+use Rattle.dd_text.specs.Grammar.{InstanceError}
 
 -- reading stands before these bytes, perhaps with blanks in between
 pub record IsBefore (bytes : List ℕ) (s : TextState) : Type 0 where
@@ -21,3 +22,10 @@ pub record ReadsWord (word : List ℕ) (behind : List ℕ) (s : TextState) : Typ
   pub value : word_at s ≡ Ok word
   pub rest_is : (after_token s).rest ≡ behind
   pub comment_is : (after_token s).comment ≡ s.comment
+
+-- a printed part is read, and reading stands before what was printed behind it
+pub record ReadsPart {A : Type 0} (part : A → TextState → Result (A × TextState) InstanceError) (made next : A) (tail : List ℕ) (s : TextState) : Type 0 where
+  pub behind : TextState
+  pub read : part made s ≡ Ok (next, behind)
+  pub before : IsBefore tail behind
+  pub comment_is : behind.comment ≡ s.comment

@@ -47,15 +47,15 @@ is_passed comment inside fresh b = inside || is_blank b || (fresh && opens_comme
 
 -- whether a comment goes on behind a byte that was passed over
 abbrev pub is_inside_after : Bool → ℕ → Bool
-is_inside_after inside b = not (b == 10) && (inside || is_solid b)
+is_inside_after inside b = (inside || is_solid b) && not (b == 10)
 
 -- past blanks and comment lines, from inside a comment or outside
 abbrev pub skip : Comment → Bool → Bool → Place → List ℕ → TextState
 skip comment inside fresh place [] = record { rest = []; place = place; fresh = fresh; comment = comment }
 skip comment inside fresh place (b ∷ bs) =
     elim (is_passed comment inside fresh b) [
-      true ↦ skip comment (is_inside_after inside b) (fresh || b == 10) (place_after b place) bs
-    | false ↦ record { rest = b ∷ bs; place = place; fresh = fresh; comment = comment }
+      | true ↦ skip comment (is_inside_after inside b) (fresh || b == 10) (place_after b place) bs
+      | false ↦ record { rest = b ∷ bs; place = place; fresh = fresh; comment = comment }
     ]
 
 -- at the next token's first byte, or at the end of the text

@@ -23,15 +23,13 @@ mod text_error;
 mod tokens;
 
 pub use comment::Comment;
-pub use instance_error::InstanceError;
-pub use instance_error::InstanceFault;
+pub use instance_error::{InstanceError, InstanceFault};
 pub use place::Place;
-pub use push::push_number;
-pub use push::push_text;
+pub use push::{push_number, push_text};
 pub use read_model_error::ReadModelError;
+pub use std::alloc::AllocError as OutOfMemory;
 pub use text_error::TextError;
 pub use tokens::Tokens;
-pub use std::alloc::AllocError as OutOfMemory;
 
 #[cfg(test)]
 mod tests;

@@ -44,7 +44,7 @@ fn is_passed_over(comment: Comment, inside: bool, fresh: bool, b: u8) -> bool
 fn stays_inside(inside: bool, b: u8) -> bool
     ensures { result ≡ is_inside_after inside b }
 {
-    b != b'\n' && (inside || !is_blank_byte(b))
+    (inside || !is_blank_byte(b)) && b != b'\n'
 }
 
 #[inline]
@@ -116,7 +116,9 @@ fn capped_behind(total: u64, digit: u8) -> u64
     requires { 48 ≤ digit }
     ensures { result ≡ min (10 * total + (digit - 48)) (2 ^ 64 - 1) }
 {
-    total.saturating_mul(10).saturating_add(u64::from(digit - b'0'))
+    total
+        .saturating_mul(10)
+        .saturating_add(u64::from(digit - b'0'))
 }
 
 /// The number that the digits write, or 2^64 - 1 where it is greater.

@@ -1,7 +1,7 @@
 ghost use Rattle.std.specs.Prelude.{◌≡◌, ◌-◌, ◌^◌, ◌<◌, length, Ok, pos};
 ghost use Rattle.dd_text.specs.Text.{text_start};
 ghost use Rattle.dd_text.specs.declared.comment.Comment.TheVariants.{Hash};
-ghost use Rattle.dd_text.specs.Grammar.{number_then, end_then, Reads};
+ghost use Rattle.dd_text.specs.Grammar.{number_then, end_then, times, Reads};
 ghost use Rattle.dd_text.specs.Example.{digit_at, digits_at};
 ghost use Rattle.dd_text.specs.declared.comment.Comment.TheVariants.{Never};
 
@@ -14,8 +14,8 @@ fn read_pair(bytes: &[u8]) -> Result<(i64, i64), ReadModelError>
     requires { length bytes.now < 2 ^ 32 - 1 }
     ensures { Reads (λ p. p) result
         (number_then (pos 0) (pos 1000) (text_start Hash bytes.now) (λ count t.
-            number_then (pos 1) (pos 9) t (λ size u.
-                end_then u (Ok (count, size))))) }
+        number_then (pos 1) (pos 9) t (λ size u.
+        end_then u (Ok (count, size))))) }
 {
     let mut tokens = Tokens::new(bytes, Comment::Hash);
     let count = tokens.next_number(0, 1000)?;
@@ -33,6 +33,17 @@ fn read_digit(tokens: &mut Tokens, digits: &mut Vec<i64>) -> Result<(), ReadMode
     Ok(())
 }
 
+#[tactic(auto, using(crate::proofs::Chains::times_more, crate::proofs::Chains::times_done))]
+fn read_all(count: u64, tokens: &mut Tokens, digits: &mut Vec<i64>) -> Result<(), ReadModelError>
+    ensures { Reads (λ _. (digits.new.items, tokens.new)) result (times digit_at count digits.old.items tokens.old) }
+{
+    for _ in 0..count {
+        read_digit(tokens, digits)?;
+    }
+    Ok(())
+}
+
+#[tactic(auto, unfolding(crate::specs::Example::digits_at), using(crate::proofs::Chains::part_fails))]
 fn read_digits(alloc: Global, bytes: &[u8]) -> Result<Vec<i64>, ReadModelError>
     requires { length bytes.now < 2 ^ 32 - 1 }
     ensures { Reads (λ v. v.items) result (digits_at (text_start Never bytes.now)) }
@@ -40,9 +51,7 @@ fn read_digits(alloc: Global, bytes: &[u8]) -> Result<Vec<i64>, ReadModelError>
     let mut tokens = Tokens::new(bytes, Comment::Never);
     let count = tokens.next_number(0, 1000)?;
     let mut digits = Vec::new(alloc);
-    for _ in 0..count as u64 {
-        read_digit(&mut tokens, &mut digits)?;
-    }
+    read_all(count as u64, &mut tokens, &mut digits)?;
     tokens.finish()?;
     Ok(digits)
 }

@@ -3,8 +3,8 @@ ghost use Rattle.dd_text.specs.Text.{text_start, at_token, IsCountable, token, p
 
 use crate::comment::Comment;
 use crate::place::Place;
-use crate::text_error::TextError;
 use crate::scan::{Spot, is_line_blank, number_of_token, skip_to_token, token_len};
+use crate::text_error::TextError;
 use std::marker::Model;
 
 /// The tokens of a text, one after another.

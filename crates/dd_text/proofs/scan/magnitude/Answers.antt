@@ -8,5 +8,5 @@ loop-rest-preserved c =
     record {
       digits = digits_behind xs c.in-len1-up.len_at_least (cc) ∙ c.loop-rest.invariant.digits;
       value = rw c.capped_behind-total.ensures (value_behind (2 ^ 64 - 1) c.loop-rest.total xs c.in-len1-up.len_at_least ∙ c.loop-rest.invariant.value);
-      fits = omega arith
+      fits = omega arith;
     }

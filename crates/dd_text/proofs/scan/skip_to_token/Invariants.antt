@@ -5,7 +5,7 @@ use Rattle.dd_text.proofs.scan.skip_to_token.Given as goal
 abbrev pub invariant-loop-rest : goal.invariant-loop-rest
 invariant-loop-rest l = record {
   found : skip l.comment l.inside l.fresh l.place l.rest ≡ skip l.comment false l.fn.from_fresh l.fn.from l.fn.bytes;
-  countable : IsCountable l.place l.rest
+  countable : IsCountable l.place l.rest;
 }
 
 abbrev pub decreases-loop-rest : goal.decreases-loop-rest
