@@ -23,6 +23,7 @@ fn next_size(tokens: &mut Tokens, greatest: u64) -> Result<u64, TextError>
 }
 
 /// Reads the copies of an item, which are one where the line ends.
+#[tactic(auto, unfolding(crate::specs::Reading::copies_at))]
 fn next_copies(tokens: &mut Tokens) -> Result<u32, ReadModelError>
     ensures reads { Reads (λ c. (c, tokens.new)) result (copies_at tokens.old) }
     ensures within { IfOk result (λ c. c ≤ 1000) }
@@ -40,6 +41,7 @@ fn next_copies(tokens: &mut Tokens) -> Result<u32, ReadModelError>
 }
 
 /// Reads an item behind others.
+#[tactic(auto, unfolding(crate::specs::Reading::item_behind), using(dd_text::proofs::Chains::part_fails))]
 fn next_item(tokens: &mut Tokens, items: &mut Vec<Item>) -> Result<(), ReadModelError>
     requires { list_all is_small_item items.old.items ≡ true }
     ensures reads { Reads (λ _. (items.new.items, tokens.new)) result (item_behind items.old.items tokens.old) }
@@ -58,6 +60,7 @@ fn next_item(tokens: &mut Tokens, items: &mut Vec<Item>) -> Result<(), ReadModel
 }
 
 /// Reads so many items behind others.
+#[tactic(auto, using(dd_text::proofs::Chains::times_more, dd_text::proofs::Chains::times_done))]
 fn next_items(count: u64, tokens: &mut Tokens, items: &mut Vec<Item>) -> Result<(), ReadModelError>
     requires { list_all is_small_item items.old.items ≡ true }
     ensures reads { Reads (λ _. (items.new.items, tokens.new)) result (times item_behind count items.old.items tokens.old) }
@@ -76,6 +79,7 @@ fn next_items(count: u64, tokens: &mut Tokens, items: &mut Vec<Item>) -> Result<
 /// The first fault in reading order is answered, with its place: `EndOfText` where a number is missing, `NotAscii` and
 /// `NotNumber` for a token that is none, `OutOfRange` for a number outside the limits, `Trailing` for a further token on
 /// the line of the copies, and `Trailing` or `NotAscii` for one behind the last item. `OutOfMemory` where there was none.
+#[tactic(auto, unfolding(crate::specs::Reading::instance_at), using(dd_text::proofs::Chains::part_fails))]
 pub fn read(alloc: Global, bytes: &[u8]) -> Result<Knapsack, ReadModelError>
     requires { length bytes.now < 2 ^ 32 - 1 }
     ensures { Reads instance_in result (instance_text bytes.now) }
