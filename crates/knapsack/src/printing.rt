@@ -1,6 +1,8 @@
-ghost use Rattle.std.specs.Prelude.{◌≡◌, ◌++◌, IfOk, OnOk};
+ghost use Rattle.std.specs.Prelude.{◌≡◌, ◌++◌, ◌≤◌, ◌^◌, length, Ok, IfOk, OnOk};
 ghost use Rattle.knapsack.specs.Shown.{instance_in};
-ghost use Rattle.knapsack.specs.Printing.{copies_text, line_of, lines_of, text_of};
+ghost use Rattle.knapsack.specs.Printing.{copies_text, line_of, text_of};
+ghost use Rattle.knapsack.specs.Reading.{instance_text};
+ghost use Rattle.std.specs.List.{flat_map};
 
 use crate::item::Item;
 use crate::problem::Knapsack;
@@ -31,7 +33,7 @@ fn push_item(out: &mut Vec<u8>, item: Item) -> Result<(), AllocError>
 
 /// Appends the lines of the items.
 fn push_items(out: &mut Vec<u8>, items: &[Item]) -> Result<(), AllocError>
-    ensures { OnOk result (out.new.items ≡ out.old.items ++ lines_of items.now) }
+    ensures { OnOk result (out.new.items ≡ out.old.items ++ flat_map line_of items.now) }
 {
     for item in items {
         push_item(out, *item)?;
@@ -43,6 +45,15 @@ fn push_items(out: &mut Vec<u8>, items: &[Item]) -> Result<(), AllocError>
 /// and, where they are not one, its copies. Read again, it gives the same instance.
 pub fn print(alloc: Global, model: &Knapsack) -> Result<Vec<u8>, AllocError>
     ensures text { IfOk result (λ text. text.items ≡ text_of (instance_in model.now)) }
+    ensures short { IfOk result (λ text. length text.items ≤ 2 ^ 30) }
+    ensures reads_back { IfOk result (λ text. instance_text text.items ≡ Ok (instance_in model.now)) }
+{
+    printed(alloc, model)
+}
+
+/// Makes the canonical text.
+fn printed(alloc: Global, model: &Knapsack) -> Result<Vec<u8>, AllocError>
+    ensures { IfOk result (λ text. text.items ≡ text_of (instance_in model.now)) }
 {
     let mut out = Vec::new(alloc);
     push_number(&mut out, model.items.len() as i64)?;
