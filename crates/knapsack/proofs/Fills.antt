@@ -19,9 +19,9 @@ use Rattle.knapsack.specs.Placed.{kept_from, HasSmallItems}
 some_weight : (c w rest : ℕ) → rest < c * w → 0 < w
 some_weight c w rest h =
     elim (eqb w 0) as (λ b. eqb w 0 ≡ b → 0 < w) [
-        true ↦ λ e. let none : w ≡ 0 = grind (arith, nat_tests) in absurd (omega (arith, ap (λ (n : ℕ). c * n) none))
+      | true ↦ λ e. let none : w ≡ 0 = grind (arith, nat_tests) in absurd (omega (arith, ap (λ (n : ℕ). c * n) none))
       | false ↦ λ e. grind (arith, nat_tests)
-      ] refl
+    ] refl
 
 pub weighs : (x : Item) (rest : ℕ) → rest < x.copies * x.weight → 0 < x.weight
 weighs x rest h = some_weight x.copies x.weight rest h
@@ -30,9 +30,9 @@ weighs x rest h = some_weight x.copies x.weight rest h
 fitting-whole : (x : Item) (rest : ℕ) → x.copies * x.weight ≤ rest → fitting x rest ≡ x.copies
 fitting-whole x rest h =
     elim (eqb x.weight 0) as (λ b. eqb x.weight 0 ≡ b → fitting x rest ≡ x.copies) [
-        true ↦ λ e. rw e refl
+      | true ↦ λ e. rw e refl
       | false ↦ λ e. let some : 0 < x.weight = grind (arith, nat_tests) in let few : x.copies ≤ rest / x.weight = le-div x.copies rest x.weight some h in rw e (omega arith)
-      ] refl
+    ] refl
 
 -- fewer fit where they weigh more
 pub few_fit : (x : Item) (rest : ℕ) → rest < x.copies * x.weight → rest / x.weight < x.copies
@@ -48,25 +48,25 @@ pub fill-whole : (x : Item) (xs : List Item) (rest : ℕ) → x.copies * x.weigh
     → fill (x ∷ xs) rest ≡ x.copies * x.profit + fill xs (rest - x.copies * x.weight)
 fill-whole x xs rest h =
     ap (λ (q : ℕ). cond (ltb q x.copies) (q * x.profit + (rest - q * x.weight) * x.profit / x.weight) (q * x.profit + fill xs (rest - q * x.weight))) (fitting-whole x rest h)
-      ∙ ap (λ (b : Bool). cond b (x.copies * x.profit + (rest - x.copies * x.weight) * x.profit / x.weight) (x.copies * x.profit + fill xs (rest - x.copies * x.weight))) (le-ltb x.copies x.copies (omega arith))
+    ∙ ap (λ (b : Bool). cond b (x.copies * x.profit + (rest - x.copies * x.weight) * x.profit / x.weight) (x.copies * x.profit + fill xs (rest - x.copies * x.weight))) (le-ltb x.copies x.copies (omega arith))
 
 pub fill-part : (x : Item) (xs : List Item) (rest : ℕ) → rest < x.copies * x.weight
     → fill (x ∷ xs) rest ≡ rest / x.weight * x.profit + (rest - rest / x.weight * x.weight) * x.profit / x.weight
 fill-part x xs rest h =
     let q = rest / x.weight in
     ap (λ (q : ℕ). cond (ltb q x.copies) (q * x.profit + (rest - q * x.weight) * x.profit / x.weight) (q * x.profit + fill xs (rest - q * x.weight))) (fitting-part x rest h)
-      ∙ ap (λ (b : Bool). cond b (q * x.profit + (rest - q * x.weight) * x.profit / x.weight) (q * x.profit + fill xs (rest - q * x.weight))) (lt-ltb q x.copies (few_fit x rest h))
+    ∙ ap (λ (b : Bool). cond b (q * x.profit + (rest - q * x.weight) * x.profit / x.weight) (q * x.profit + fill xs (rest - q * x.weight))) (lt-ltb q x.copies (few_fit x rest h))
 
 -- an item before the layer is passed over, and another one is next
 pub passes : (k : ℕ) (ps : List Placed) (i : ℕ) (d : Placed) → i < length ps → (get_or ps i d).number < k → kept_from k (drop i ps) ≡ kept_from k (drop (i + 1) ps)
 passes k ps i d h before =
     ap (kept_from k) (drop_more ps i d h)
-      ∙ ap (λ (b : Bool). cond b (kept_from k (drop (i + 1) ps)) ((get_or ps i d).item ∷ kept_from k (drop (i + 1) ps))) (lt-ltb _ _ before)
+    ∙ ap (λ (b : Bool). cond b (kept_from k (drop (i + 1) ps)) ((get_or ps i d).item ∷ kept_from k (drop (i + 1) ps))) (lt-ltb _ _ before)
 
 pub takes : (k : ℕ) (ps : List Placed) (i : ℕ) (d : Placed) → i < length ps → k ≤ (get_or ps i d).number → kept_from k (drop i ps) ≡ (get_or ps i d).item ∷ kept_from k (drop (i + 1) ps)
 takes k ps i d h from =
     ap (kept_from k) (drop_more ps i d h)
-      ∙ ap (λ (b : Bool). cond b (kept_from k (drop (i + 1) ps)) ((get_or ps i d).item ∷ kept_from k (drop (i + 1) ps))) (le-ltb _ _ from)
+    ∙ ap (λ (b : Bool). cond b (kept_from k (drop (i + 1) ps)) ((get_or ps i d).item ∷ kept_from k (drop (i + 1) ps))) (le-ltb _ _ from)
 
 -- each of the items is within the limits
 pub small_at : (ps : List Placed) (i : ℕ) (d : Placed) → HasSmallItems ps → i < length ps → IsSmallItem (get_or ps i d).item

@@ -45,7 +45,7 @@ copies_left_out c tail s one at =
       behind = s;
       read = rw ends (ap (λ (n : ℕ). let r : Result (ℕ × TextState) InstanceError = Ok (n, s) in r) (sym one));
       before = before_behind 10 tail s refl at;
-      comment_is = refl
+      comment_is = refl;
     }
 
 copies_there : (c : ℕ) (tail : List ℕ) (s : TextState) → c ≤ 1000 → s.rest ≡ 32 ∷ (decimal_of (pos c) ++ (10 ∷ tail)) → ReadsCopies c tail s
@@ -58,15 +58,15 @@ copies_there c tail s few at =
       behind = after_token s;
       read = rw (goes, number.value, ends) refl;
       before = before_behind 10 tail (after_token s) refl number.rest_is;
-      comment_is = number.comment_is
+      comment_is = number.comment_is;
     }
 
 reads_copies : (c : ℕ) (tail : List ℕ) (s : TextState) → c ≤ 1000 → s.rest ≡ copies_text c ++ (10 ∷ tail) → ReadsCopies c tail s
 reads_copies c tail s few at =
     elim (eqb c 1) as (λ b. eqb c 1 ≡ b → s.rest ≡ cond b [] (32 ∷ decimal_of (pos c)) ++ (10 ∷ tail) → ReadsCopies c tail s) [
-        true ↦ λ e here. copies_left_out c tail s (eqb-true _ _ e) here
+      | true ↦ λ e here. copies_left_out c tail s (eqb-true _ _ e) here
       | false ↦ λ e here. copies_there c tail s few here
-      ] refl at
+    ] refl at
 
 -- a blank stands behind the weight
 record BlankNext (bytes : List ℕ) : Type 0 where
@@ -78,9 +78,9 @@ record BlankNext (bytes : List ℕ) : Type 0 where
 blank_behind_weight : (c : ℕ) (tail : List ℕ) → BlankNext (copies_text c ++ (10 ∷ tail))
 blank_behind_weight c tail =
     elim (eqb c 1) as (λ b. BlankNext (cond b [] (32 ∷ decimal_of (pos c)) ++ (10 ∷ tail))) [
-        true ↦ record { blank = 10; more = tail; is = refl; is_blank = refl }
+      | true ↦ record { blank = 10; more = tail; is = refl; is_blank = refl }
       | false ↦ record { blank = 32; more = decimal_of (pos c) ++ (10 ∷ tail); is = refl; is_blank = refl }
-      ]
+    ]
 
 line_before : (x : Item) (tail : List ℕ) → line_of x ++ tail ≡ decimal_of (pos x.profit) ++ (32 ∷ (decimal_of (pos x.weight) ++ (copies_text x.copies ++ (10 ∷ tail))))
 line_before x tail = simp append_assoc
@@ -101,7 +101,7 @@ reads_item x made tail s small before =
       behind = copies.behind;
       read = rw (profit.value, weight.value, copies.read) refl;
       before = copies.before;
-      comment_is = copies.comment_is ∙ (weight.comment_is ∙ profit.comment_is)
+      comment_is = copies.comment_is ∙ (weight.comment_is ∙ profit.comment_is);
     }
 
 -- items that are put behind one another are the list of them
@@ -116,8 +116,8 @@ AllSmall made xs = list_all is_small_item xs ≡ true
 reads_items : (xs : List Item) (s : TextState) → list_all is_small_item xs ≡ true → IsBefore (flat_map line_of xs ++ []) s → ReadsPart (times item_behind (length xs)) [] (fold (λ items x. items ++ (x ∷ [])) [] xs) [] s
 reads_items xs s small before =
     times_reads item_behind line_of (λ items x. items ++ (x ∷ [])) s.comment AllSmall
-      (λ x rest made tail t held same ahead. let parts = and_parts _ _ held in (reads_item x made tail t (is_small_item-is x parts.0) ahead, parts.1))
-      xs [] [] s small refl before
+    (λ x rest made tail t held same ahead. let parts = and_parts _ _ held in (reads_item x made tail t (is_small_item-is x parts.0) ahead, parts.1))
+    xs [] [] s small refl before
 
 -- the canonical text is read as the instance
 pub reads_back : (i : Instance) → is_small i ≡ true → instance_text (text_of i) ≡ Ok i
@@ -134,7 +134,7 @@ reads_back i h =
     let items = reads_items i.items u small.items ahead in
     let ends = finishes items.behind items.before in
     rw (count.value, capacity.value, items.read, ends)
-      (ap (λ (l : List Item). let r : Result Instance InstanceError = Ok (record { capacity = i.capacity; items = l }) in r) (pushed_all i.items []))
+    (ap (λ (l : List Item). let r : Result Instance InstanceError = Ok (record { capacity = i.capacity; items = l }) in r) (pushed_all i.items []))
 
 -- The canonical text is short.
 
@@ -144,9 +144,9 @@ digits_short n k some few small = length-decimal-le k n some few small
 copies_short : (c : ℕ) → c ≤ 1000 → length (copies_text c) ≤ 5
 copies_short c few =
     elim (eqb c 1) as (λ b. length (cond b [] (32 ∷ decimal_of (pos c))) ≤ 5) [
-        true ↦ omega arith
+      | true ↦ omega arith
       | false ↦ let digits = digits_short c 4 (omega arith) (omega arith) (omega arith) in omega (arith, digits)
-      ]
+    ]
 
 line_short : (x : Item) → IsSmallItem x → length (line_of x) ≤ 32
 line_short x small =

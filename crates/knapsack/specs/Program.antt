@@ -39,7 +39,7 @@ program_of i = record {
   gap = λ k a s. cond (nat_le (left s) (left a)) (Some (pos 0)) None;
   rough = λ k s. Some (pos (rough_from i.items k (left s)));
   rank = λ k s. pos (left s);
-  bucket = λ k s. 0
+  bucket = λ k s. 0;
 }
 
 -- the dynamic program that the numbers of an instance spell

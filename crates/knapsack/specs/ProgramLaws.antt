@@ -68,7 +68,7 @@ packs_more : (x : Item) (xs : List Item) (rest d : ℕ) (ds : List ℕ) (gain : 
 packs_more x xs rest d ds gain few fits p = record {
   copies = and_from _ _ (le-leb _ _ few) p.copies;
   fits = let more = p.fits in omega arith;
-  worth = ap (λ (z : ℤ). pos (d * x.profit) +ℤ z) p.worth
+  worth = ap (λ (z : ℤ). pos (d * x.profit) +ℤ z) p.worth;
 }
 
 -- a path to the last layer packs the items from its layer on
@@ -82,7 +82,7 @@ path_packs i k s (d ∷ ds) path whole =
     let fits : d * x.weight ≤ left s = leb-true _ _ here.test in
     let rest = path_packs i (k + 1) (pos (left s - d * x.weight) ∷ []) ds path.1 (omega arith) in
     subst (λ (l : List Item). Packs l (left s) (d ∷ ds) (gain_of (program_of i) k s (d ∷ ds))) (sym (from_layer i.items k here.layer))
-      (packs_more x (drop (k + 1) i.items) (left s) d ds _ few fits rest)
+    (packs_more x (drop (k + 1) i.items) (left s) d ds _ few fits rest)
 
 -- copies of each of the items from a layer on are as many as there are layers left
 copies_all : (items : List Item) (ds : List ℕ) → has_copies items ds ≡ true → length ds ≡ length items
@@ -95,9 +95,9 @@ copies_all (x ∷ xs) (d ∷ ds) h = let rest : length ds ≡ length xs = copies
 pub has_copies-other_length : (items : List Item) (ds : List ℕ) → (length ds ≡ length items → ⊥) → has_copies items ds ≡ false
 has_copies-other_length items ds other =
     elim (has_copies items ds) as (λ b. has_copies items ds ≡ b → b ≡ false) [
-        true ↦ λ e. absurd (other (copies_all items ds e))
+      | true ↦ λ e. absurd (other (copies_all items ds e))
       | false ↦ λ _. refl
-      ] refl
+    ] refl
 
 -- a packing of an item and of those behind it
 record PacksFirst (x : Item) (xs : List Item) (rest d : ℕ) (ds : List ℕ) : Type 0 where
@@ -122,11 +122,12 @@ packing_paths i k s (d ∷ ds) copies fits =
     let here : k < length i.items = omega arith in
     let x = item_at i.items k in
     let p = packs_first x (drop (k + 1) i.items) (left s) d ds
-        (subst (λ (l : List Item). has_copies l (d ∷ ds) ≡ true) (from_layer i.items k here) copies)
-        (subst (λ (l : List Item). total_weight l (d ∷ ds) ≤ left s) (from_layer i.items k here) fits) in
-    let few : d < x.copies + 1 = let f = p.few in omega arith in
-    (record { layer = here; choice = few; test = le-leb _ _ p.fits },
-      packing_paths i (k + 1) (pos (left s - d * x.weight) ∷ []) ds p.copies p.others)
+    (subst (λ (l : List Item). has_copies l (d ∷ ds) ≡ true) (from_layer i.items k here) copies)
+    (subst (λ (l : List Item). total_weight l (d ∷ ds) ≤ left s) (from_layer i.items k here) fits) in
+    let few : d < x.copies + 1 = let f = p.few in omega arith in (
+      record { layer = here; choice = few; test = le-leb _ _ p.fits },
+      packing_paths i (k + 1) (pos (left s - d * x.weight) ∷ []) ds p.copies p.others,
+    )
 
 -- a state with more left allows the same decisions
 path_wider : (i : Instance) (k : ℕ) (s a : List ℤ) (ds : List ℕ) → left s ≤ left a → IsPath (program_of i) k s ds → IsPath (program_of i) k a ds
@@ -148,9 +149,9 @@ states_hold i = record {
   root = is_left-from i.capacity i.capacity (omega arith);
   step = λ k s d state allowed. let within : left s ≤ i.capacity = (is_left-is _ _ state.test).within in is_left-from i.capacity _ (omega arith);
   merged = λ k a s kept state.
-    let one : left a ≤ i.capacity = (is_left-is _ _ kept.test).within in
-    let other : left s ≤ i.capacity = (is_left-is _ _ state.test).within in
-    is_left-from i.capacity _ (omega arith)
+      let one : left a ≤ i.capacity = (is_left-is _ _ kept.test).within in
+      let other : left s ≤ i.capacity = (is_left-is _ _ state.test).within in
+      is_left-from i.capacity _ (omega arith);
 }
 
 -- a gap is there exactly where no less is left, and it is 0
@@ -167,17 +168,17 @@ gap-from r q h = ap (λ (b : Bool). let o : Option ℤ = cond b (Some (pos 0)) N
 gaps_hold : (i : Instance) → GapsAreSound (program_of i)
 gaps_hold i = record {
   sound = λ k a s g kept state is c run.
-    let gap = gap-is (left a) (left s) g is in
-    record {
-      by = c;
-      continuation = record { path = path_wider i k s a c gap.more run.path; whole = run.whole };
-      enough = let same = gain_same i k s a c in let zero = gap.zero in omega (arith, ints)
-    };
+      let gap = gap-is (left a) (left s) g is in
+      record {
+        by = c;
+        continuation = record { path = path_wider i k s a c gap.more run.path; whole = run.whole };
+        enough = let same = gain_same i k s a c in let zero = gap.zero in omega (arith, ints);
+      };
   own = λ k s state. gap-from (left s) (left s) (omega arith);
   merge_new = λ k a s kept state. record { gap = pos 0; is = gap-from _ _ (omega arith) };
   merge_old = λ k a s u kept state other has.
-    let more = (gap-is (left a) (left u) has.gap has.is).more in
-    record { gap = pos 0; is = gap-from _ _ (omega arith) }
+      let more = (gap-is (left a) (left u) has.gap has.is).more in
+      record { gap = pos 0; is = gap-from _ _ (omega arith) };
 }
 
 chained_holds : (i : Instance) → IsChained (program_of i)
@@ -187,17 +188,17 @@ chained_holds i k a b c g h one two three first second =
     record {
       gap = pos 0;
       is = gap-from _ _ (let m = p.more in let n = q.more in omega arith);
-      within = let m = p.zero in let n = q.zero in omega (arith, ints)
+      within = let m = p.zero in let n = q.zero in omega (arith, ints);
     }
 
 rough_holds : (i : Instance) → RoughBounds (program_of i)
 rough_holds i = record {
   bounds = λ k s c state run.
-    let p = path_packs i k s c run.path run.whole in
-    let worth = p.worth in
-    let less = packing-le-fill (drop k i.items) c (left s) p.copies p.fits in
-    omega (arith, ints);
-  last = λ s state. ap (λ (l : List Item). Some (pos (fill (in_order l) (left s)))) (drop-length i.items)
+      let p = path_packs i k s c run.path run.whole in
+      let worth = p.worth in
+      let less = packing-le-fill (drop k i.items) c (left s) p.copies p.fits in
+      omega (arith, ints);
+  last = λ s state. ap (λ (l : List Item). Some (pos (fill (in_order l) (left s)))) (drop-length i.items);
 }
 
 -- The sizes.
@@ -250,23 +251,23 @@ sizes_hold i h =
       root_value = small_number 0 (omega arith);
       cells = λ k s state. ap (λ (l : List ℤ). length l) (is_left-is _ _ state.test).row;
       state = λ k s state.
-        let is = is_left-is _ _ state.test in
-        let within : left s ≤ i.capacity = is.within in
-        let most : i.capacity ≤ 2 ^ 40 = small.capacity in
-        subst (λ (l : List ℤ). Each IsSmallNumber l) (sym is.row) (small_number (left s) (omega arith), tt);
+          let is = is_left-is _ _ state.test in
+          let within : left s ≤ i.capacity = is.within in
+          let most : i.capacity ≤ 2 ^ 40 = small.capacity in
+          subst (λ (l : List ℤ). Each IsSmallNumber l) (sym is.row) (small_number (left s) (omega arith), tt);
       gain = λ k s d state allowed.
-        let x = small_item_at i.items k small.items allowed.layer in
-        let few : (item_at i.items k).copies ≤ 1000 = x.copies in
-        let choice : d < (item_at i.items k).copies + 1 = allowed.choice in
-        let worth : d * (item_at i.items k).profit ≤ 1000000000000 = worth_small d (item_at i.items k).profit (omega arith) x.profit in
-        small_number _ (omega arith);
+          let x = small_item_at i.items k small.items allowed.layer in
+          let few : (item_at i.items k).copies ≤ 1000 = x.copies in
+          let choice : d < (item_at i.items k).copies + 1 = allowed.choice in
+          let worth : d * (item_at i.items k).profit ≤ 1000000000000 = worth_small d (item_at i.items k).profit (omega arith) x.profit in
+          small_number _ (omega arith);
       gap = λ k a s g kept state is.
-        let zero : g ≡ pos 0 = (gap-is (left a) (left s) g is).zero in
-        (subst (λ (z : ℤ). pos 0 ≤ℤ z) (sym zero) (omega (arith, ints)), subst IsSmallNumber (sym zero) (small_number 0 (omega arith)));
+          let zero : g ≡ pos 0 = (gap-is (left a) (left s) g is).zero in
+          (subst (λ (z : ℤ). pos 0 ≤ℤ z) (sym zero) (omega (arith, ints)), subst IsSmallNumber (sym zero) (small_number 0 (omega arith)));
       rough = λ k s r state is.
-        let same : pos (rough_from i.items k (left s)) ≡ r = some-inj is in
-        let most : rough_from i.items k (left s) ≤ 1000000000000000 = rough_small i.items k (left s) small.items small.count in
-        subst IsSmallNumber same (small_number _ (omega arith))
+          let same : pos (rough_from i.items k (left s)) ≡ r = some-inj is in
+          let most : rough_from i.items k (left s) ≤ 1000000000000000 = rough_small i.items k (left s) small.items small.count in
+          subst IsSmallNumber same (small_number _ (omega arith));
     }
 
 -- the dynamic program of an instance within the limits meets the laws
@@ -297,10 +298,10 @@ packing_solves i ds copies fits =
 pub own_words_solve : (i : Instance) (ds : List ℕ) → SolutionGives (program_of i) ds (packed_value i ds)
 own_words_solve i ds =
     elim (has_copies i.items ds) as (λ b. has_copies i.items ds ≡ b → SolutionGives (program_of i) ds (cond (b && leb (total_weight i.items ds) i.capacity) (Some (pos (total_profit i.items ds))) None)) [
-        true ↦ λ copies.
+      | true ↦ λ copies.
           elim (leb (total_weight i.items ds) i.capacity) as (λ b. leb (total_weight i.items ds) i.capacity ≡ b → SolutionGives (program_of i) ds (cond b (Some (pos (total_profit i.items ds))) None)) [
-              true ↦ λ fits. packing_solves i ds copies (leb-true _ _ fits)
+            | true ↦ λ fits. packing_solves i ds copies (leb-true _ _ fits)
             | false ↦ λ heavy. λ solution. let p = (solution_packs i ds solution).fits in absurd (omega (arith, leb-false _ _ heavy, p))
-            ] refl
+          ] refl
       | false ↦ λ few. λ solution. false≢true (sym few ∙ (solution_packs i ds solution).copies)
-      ] refl
+    ] refl

@@ -24,17 +24,17 @@ copies_at s = if ends_line s then Ok (1, s) else size_then 1000 s (λ c t. line_
 unfoldable pub item_behind : List Item → TextState → Result (List Item × TextState) InstanceError
 item_behind items s =
     size_then 1000000000 s (λ p t.
-        size_then 1000000000 t (λ w u.
-            part_then (copies_at u) (λ c v.
-                Ok (items ++ record { profit = p; weight = w; copies = c } ∷ [], v))))
+    size_then 1000000000 t (λ w u.
+    part_then (copies_at u) (λ c v.
+    Ok (items ++ record { profit = p; weight = w; copies = c } ∷ [], v))))
 
 -- the whole text: how many items, the capacity, and the items
 unfoldable pub instance_at : TextState → Result Instance InstanceError
 instance_at s =
     size_then 1000 s (λ count t.
-        size_then (2 ^ 40) t (λ capacity u.
-            part_then (times item_behind count [] u) (λ items v.
-                end_then v (Ok (record { capacity = capacity; items = items })))))
+    size_then (2 ^ 40) t (λ capacity u.
+    part_then (times item_behind count [] u) (λ items v.
+    end_then v (Ok (record { capacity = capacity; items = items })))))
 
 -- the instance that the bytes spell, or the first fault with its place
 abbrev pub instance_text : List ℕ → Result Instance InstanceError

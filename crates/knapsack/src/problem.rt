@@ -20,7 +20,11 @@ pub struct Knapsack {
 
 impl Knapsack {
     /// A problem with its items in order.
-    pub(crate) fn new(alloc: Global, capacity: u64, items: Vec<Item>) -> Result<Knapsack, AllocError>
+    pub(crate) fn new(
+        alloc: Global,
+        capacity: u64,
+        items: Vec<Item>,
+    ) -> Result<Knapsack, AllocError>
         requires { IsTrue (is_small (record { capacity = capacity; items = items.items })) }
         ensures capacity { IfOk result (λ m. m.capacity ≡ capacity) }
         ensures items { IfOk result (λ m. m.items.items ≡ items.items) }

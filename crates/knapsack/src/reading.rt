@@ -32,12 +32,12 @@ fn next_copies(tokens: &mut Tokens) -> Result<u32, ReadModelError>
         return Ok(1);
     }
     let copies = next_size(tokens, 1_000)?;
-    if tokens.at_line_end() {
-        return Ok(copies as u32);
+    if !tokens.at_line_end() {
+        let place = tokens.place();
+        let fault = InstanceFault::Trailing;
+        return Err(ReadModelError::Text(InstanceError { fault, place }));
     }
-    let place = tokens.place();
-    let fault = InstanceFault::Trailing;
-    Err(ReadModelError::Text(InstanceError { fault, place }))
+    Ok(copies as u32)
 }
 
 /// Reads an item behind others.

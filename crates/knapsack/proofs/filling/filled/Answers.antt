@@ -14,7 +14,7 @@ adds_whole k room rest total weight profit ps i d here from w p fits e =
     let x = (get_or ps i d).item in
     let xs = kept_from k (drop (i + 1) ps) in
     let next : fill (kept_from k (drop i ps)) rest ≡ x.copies * x.profit + fill xs (rest - x.copies * x.weight) =
-        ap (λ (l : List _). fill l rest) (takes k ps i d here from) ∙ fill-whole x xs rest (omega arith) in
+    ap (λ (l : List _). fill l rest) (takes k ps i d here from) ∙ fill-whole x xs rest (omega arith) in
     let left : fill xs (rest - x.copies * x.weight) ≡ fill xs (rest - weight) = ap (λ (n : ℕ). fill xs (rest - n)) (sym w) in
     omega arith
 
@@ -37,5 +37,5 @@ returns-then-rest-weight c =
 pub loop-placed-preserved : goal.loop-placed-preserved
 loop-placed-preserved c = record {
   whole = adds_whole _ _ _ _ _ _ _ _ _ c.loop-placed-test.true c.if-placed-layer.false c.whole_weight-weight.ensures c.whole_profit-total.ensures.value c.if-rest-weight.false c.loop-placed.invariant.whole;
-  small = omega arith
+  small = omega arith;
 }

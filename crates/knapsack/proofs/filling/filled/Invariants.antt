@@ -7,5 +7,5 @@ use Rattle.knapsack.proofs.filling.filled.Given as goal
 abbrev pub invariant-loop-placed : goal.invariant-loop-placed
 invariant-loop-placed l = record {
   whole : fill (kept_from l.layer l.order) l.room ≡ l.total + fill (kept_from l.layer (drop l.placed-index l.order)) l.rest;
-  small : l.total ≤ l.placed-index * 1000000000000
+  small : l.total ≤ l.placed-index * 1000000000000;
 }

@@ -9,5 +9,5 @@ invariant-items l = record {
   weighs : total_weight l.items l.copies ≡ l.weight + total_weight (drop l.number l.items) (drop l.number l.copies);
   is_worth : total_profit l.items l.copies ≡ l.profit + total_profit (drop l.number l.items) (drop l.number l.copies);
   small_weight : l.weight ≤ l.number * 1000000000000;
-  small_profit : l.profit ≤ l.number * 1000000000000
+  small_profit : l.profit ≤ l.number * 1000000000000;
 }

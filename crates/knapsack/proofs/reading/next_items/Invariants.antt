@@ -10,5 +10,5 @@ abbrev pub invariant-loop : goal.invariant-loop
 invariant-loop l = record {
   reads : times item_behind (l.count - l.counter) l.items.items l.tokens ≡ times item_behind l.count l.initial.items.items l.initial.tokens;
   many : length l.items.items ≡ length l.initial.items.items + l.counter;
-  small : list_all is_small_item l.items.items ≡ true
+  small : list_all is_small_item l.items.items ≡ true;
 }
