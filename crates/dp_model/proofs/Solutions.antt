@@ -6,6 +6,7 @@ use Rattle.dp_model.specs.Decisions.{below}
 use Rattle.dp_model.specs.Numbers.{greatest, greatest_from}
 use Rattle.dp_model.specs.Prefixes.{IsPath, IsSolution, value_of}
 use Rattle.dp_model.specs.Best.{paths_of, solutions, best, IsBest}
+use Rattle.dp_model.specs.Worth.{IsWorth, SolutionGives}
 use Rattle.dp_model.proofs.Members.{Has, Has-map, Has-map-from, Has-filter, Has-filter-from, Has-flat_map, Has-flat_map-from, Has-below, Has-below-from}
 
 -- each list of paths_of is a path of that many decisions
@@ -92,3 +93,12 @@ IsBest-unique dp (Some v) (Some w) h k =
     let up = h.most k.by k.solution in let down = k.most h.by h.solution in
     let mine = h.value in let other = k.value in
     ap Some (omega (arith, ints))
+
+-- the value of a feasible solution is given, and where there is none nothing is
+pub given_value : (dp : Dp) (x : List ℕ) (given : Option ℤ) → SolutionGives dp x given → IsSolution dp x → given ≡ Some (value_of dp x)
+given_value dp x None gives h = absurd (gives h)
+given_value dp x (Some v) gives h = ap Some gives.value
+
+pub given_none : (dp : Dp) (x : List ℕ) (given : Option ℤ) → SolutionGives dp x given → (IsSolution dp x → ⊥) → given ≡ None
+given_none dp x None gives never = refl
+given_none dp x (Some v) gives never = absurd (never gives.solution)

@@ -12,4 +12,5 @@ pub mod Decisions
 pub mod Reached
 pub mod Subproblem
 pub mod Walked
+pub mod Worth
 pub mod ModelNames
