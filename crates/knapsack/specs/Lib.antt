@@ -8,6 +8,8 @@ pub mod ProgramLaws
 pub mod ModelLaws
 pub mod Placed
 pub mod Shown
-pub mod Solutions
 pub mod Reading
 pub mod Printing
+pub use Rattle.dp_model.specs.Dp
+pub use Rattle.dp_model.specs.Worth
+pub use Rattle.dd_text.specs.Grammar

@@ -21,7 +21,7 @@ use Rattle.knapsack.specs.Instance.{Instance, instance_of, numbers_of, item_numb
 use Rattle.knapsack.specs.Limits.{IsSmallItem, is_small_item-is, IsSmallInstance, is_small-is}
 use Rattle.knapsack.specs.Order.{in_order, fill}
 use Rattle.knapsack.specs.OwnWords.{has_copies, total_weight, total_profit, packed_value}
-use Rattle.knapsack.specs.Solutions.{IsWorth, SolutionGives}
+use Rattle.dp_model.specs.Worth.{IsWorth, SolutionGives}
 use Rattle.knapsack.specs.Greedy.{packing-le-fill, worth, worth-in_order, fill-le-worth}
 use Rattle.knapsack.specs.Program.{left, is_left, item_at, rough_from, program_of, program}
 
