@@ -1,23 +1,22 @@
 -- The canonical text of an instance within the limits is read as that instance.
-use Rattle.std.proofs.Common.{◌≡◌, ℕ, ◌+◌, ◌*◌, ◌<◌, ◌≤◌, ◌^◌, Bool, true, false, cond, List, [], ◌∷◌, ◌++◌, length, ℤ, pos, refl, sym, ap, ◌∙◌, subst, arith, append_assoc, append-nil, length-append, nat_eq, eqb}
-use Rattle.std.specs.Prelude.{Result, Ok, Err, fold, flat_map, if◌then◌else◌}
+use Rattle.std.proofs.Common.{◌≡◌, ℕ, ◌*◌, ◌<◌, ◌≤◌, ◌^◌, true, false, cond, List, [], ◌∷◌, ◌++◌, length, pos, refl, sym, ap, ◌∙◌, subst, arith, append_assoc, append-nil, length-append, eqb}
+use Rattle.std.specs.Prelude.{Result, Ok, fold, flat_map}
 use Rattle.std.specs.List.{list_all}
 use Rattle.std.proofs.lemmas.Bool.{and_parts, eqb-true}
-use Rattle.std.proofs.lemmas.Bool.Decides.{nat_tests}
 use Rattle.std.proofs.lemmas.Int.{ints}
 use Rattle.std.proofs.lemmas.Fmt.{length-decimal-le}
-use Rattle.dd_text.specs.Text.{TextState, is_blank, text_start, after_token, number_at, ends_line, finish_at}
+use Rattle.dd_text.specs.Text.{TextState, is_blank, text_start, after_token, number_at}
 use Rattle.dd_text.specs.Decimal.{decimal_of}
-use Rattle.dd_text.specs.Grammar.{number_then, read_then, part_then, times, end_then}
+use Rattle.dd_text.specs.Grammar.{times}
 use Rattle.dd_text.specs.Printed.{IsBefore, ReadsNumber, ReadsPart}
 use Rattle.dd_text.specs.declared.comment.Comment.TheVariants.{Never}
 use Rattle.dd_text.specs.declared.instance_error.InstanceError.{InstanceError}
 use Rattle.dd_text.proofs.Printing.{before_start, before_behind, reads_number, finishes, ends_line_LF, ends_line_number}
 use Rattle.dd_text.proofs.Repeats.{times_reads}
 use Rattle.knapsack.specs.declared.item.Item.{Item}
-use Rattle.knapsack.specs.Instance.{Instance, is_small, is_small_item, size_of}
+use Rattle.knapsack.specs.Instance.{Instance, is_small, is_small_item}
 use Rattle.knapsack.specs.Limits.{IsSmallItem, is_small_item-is, is_small-is}
-use Rattle.knapsack.specs.Reading.{size_then, line_end_then, copies_at, item_behind, instance_at, instance_text}
+use Rattle.knapsack.specs.Reading.{size_then, copies_at, item_behind, instance_at, instance_text}
 use Rattle.knapsack.specs.Printing.{copies_text, line_of, text_of}
 
 -- behind a size that is read the chain goes on

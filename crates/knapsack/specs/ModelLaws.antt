@@ -1,8 +1,7 @@
 -- The laws, of the program that the numbers of an instance spell.
-use Rattle.std.proofs.Common.{◌≡◌, true, sym, ap, subst}
-use Rattle.dp_model.specs.Dp.{Dp}
+use Rattle.std.proofs.Common.{◌≡◌, true, sym, subst}
 use Rattle.dp_model.specs.Laws.{IsLawful, IsChained}
-use Rattle.knapsack.specs.Instance.{Instance, numbers_of, instance_of, is_small}
+use Rattle.knapsack.specs.Instance.{Instance, numbers_of, is_small}
 use Rattle.knapsack.specs.Program.{program, program_of}
 use Rattle.knapsack.specs.ProgramLaws.{instance_of-numbers_of, lawful_program, chained_program}
 

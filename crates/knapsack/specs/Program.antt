@@ -1,5 +1,5 @@
 -- The bounded knapsack as a dynamic program: layer k decides the copies of item k, and a state is the capacity that is left.
-use Rattle.std.specs.Prelude.{ℕ, ◌+◌, ◌-◌, ◌*◌, max, ℤ, pos, Bool, false, cond, nat_le, List, [], ◌∷◌, length, drop, Option, Some, None, slice_index_or}
+use Rattle.std.specs.Prelude.{ℕ, ◌+◌, ◌-◌, ◌*◌, max, ℤ, pos, Bool, false, cond, nat_le, List, [], ◌∷◌, length, drop, Some, None, slice_index_or}
 use Rattle.dp_model.specs.Dp.{Dp}
 use Rattle.knapsack.specs.declared.item.Item.{Item}
 use Rattle.knapsack.specs.Instance.{Instance, instance_of, size_of}

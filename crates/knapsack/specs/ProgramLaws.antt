@@ -1,7 +1,6 @@
 -- The dynamic program of an instance within the limits meets the laws.
-use Rattle.std.proofs.Common.{◌≡◌, ℕ, ◌+◌, ◌-◌, ◌*◌, ◌/◌, ◌<◌, ◌≤◌, ◌^◌, ℤ, pos, ◌+ℤ◌, ◌≤ℤ◌, min, max, Bool, true, false, not, ◌&&◌, ◌||◌, cond, List, [], ◌∷◌, length, drop, Option, Some, None, refl, sym, ap, ◌∙◌, subst, arith, eqb, ltb, leb, get_or}
-use Rattle.std.specs.Prelude.{IsTrue}
-use Rattle.std.proofs.lemmas.Bool.{and_parts, leb-true, eqb-true, le-leb, leb-false, false≢true, and_from}
+use Rattle.std.proofs.Common.{◌≡◌, ℕ, ◌+◌, ◌-◌, ◌*◌, ◌<◌, ◌≤◌, ◌^◌, ℤ, pos, ◌+ℤ◌, ◌≤ℤ◌, Bool, true, false, ◌&&◌, cond, List, [], ◌∷◌, length, drop, Option, Some, None, refl, sym, ap, ◌∙◌, subst, arith, leb}
+use Rattle.std.proofs.lemmas.Bool.{and_parts, leb-true, le-leb, leb-false, false≢true, and_from}
 use Rattle.std.proofs.lemmas.Bool.Decides.{nat_tests}
 use Rattle.std.proofs.lemmas.Int.{ints}
 use Rattle.std.proofs.lemmas.List.{drop_more, drop_all, length-drop}
@@ -11,19 +10,17 @@ use Rattle.std.proofs.lemmas.List.Elements.{All-get_or, All-drop}
 use Rattle.std.proofs.lemmas.List.Sums.{AllPass-from_list_all, list_all-from_AllPass}
 use Rattle.std.proofs.lemmas.Nat.{mul-le}
 use Rattle.dp_model.specs.Lists.{Each}
-use Rattle.dp_model.specs.Dp.{Dp, IsAllowed}
-use Rattle.dp_model.specs.Prefixes.{IsPath, IsContinuation, IsSolution, gain_of, value_of}
-use Rattle.dp_model.specs.Gaps.{IsStateOf, IsSoundGap, HasGap, HasGapWithin, Matches}
-use Rattle.dp_model.specs.Numbers.{AtMost, IsSmall as IsSmallNumber}
+use Rattle.dp_model.specs.Prefixes.{IsPath, IsSolution, gain_of, value_of}
+use Rattle.dp_model.specs.Numbers.{IsSmall as IsSmallNumber}
 use Rattle.dp_model.specs.Laws.{StepsAreStates, GapsAreSound, RoughBounds, SizesHold, IsLawful, IsChained}
 use Rattle.knapsack.specs.declared.item.Item.{Item}
-use Rattle.knapsack.specs.Instance.{Instance, instance_of, numbers_of, item_numbers, items_of, size_of, is_small, is_small_item}
-use Rattle.knapsack.specs.Limits.{IsSmallItem, is_small_item-is, IsSmallInstance, is_small-is}
+use Rattle.knapsack.specs.Instance.{Instance, instance_of, numbers_of, item_numbers, items_of, is_small, is_small_item}
+use Rattle.knapsack.specs.Limits.{IsSmallItem, is_small_item-is, is_small-is}
 use Rattle.knapsack.specs.Order.{in_order, fill}
 use Rattle.knapsack.specs.OwnWords.{has_copies, total_weight, total_profit, packed_value}
 use Rattle.dp_model.specs.Worth.{IsWorth, SolutionGives}
 use Rattle.knapsack.specs.Greedy.{packing-le-fill, worth, worth-in_order, fill-le-worth}
-use Rattle.knapsack.specs.Program.{left, is_left, item_at, rough_from, program_of, program}
+use Rattle.knapsack.specs.Program.{left, is_left, item_at, rough_from, program_of}
 
 -- the numbers of items spell them
 pub items_of-item_numbers : (xs : List Item) → items_of (item_numbers xs) ≡ xs

@@ -1,5 +1,5 @@
 -- The grammar of an instance's text.
-use Rattle.std.specs.Prelude.{ℕ, ◌^◌, ℤ, pos, List, [], ◌∷◌, ◌++◌, Result, Ok, Err, if◌then◌else◌}
+use Rattle.std.specs.Prelude.{ℕ, ◌^◌, pos, List, [], ◌∷◌, ◌++◌, Result, Ok, Err, if◌then◌else◌}
 use Rattle.dd_text.specs.Text.{TextState, text_start, ends_line, place_of}
 use Rattle.dd_text.specs.Grammar.{number_then, part_then, times, end_then}
 use Rattle.dd_text.specs.declared.instance_error.InstanceError.{InstanceError}

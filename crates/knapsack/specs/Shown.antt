@@ -1,8 +1,7 @@
 -- What contracts see of a knapsack problem in memory.
-use Rattle.std.specs.Prelude.{List, ℤ}
 use Rattle.dp_model.specs.Dp.{Dp}
 use Rattle.knapsack.specs.declared.problem.Knapsack.{Knapsack}
-use Rattle.knapsack.specs.Instance.{Instance, numbers_of}
+use Rattle.knapsack.specs.Instance.{Instance}
 use Rattle.knapsack.specs.Program.{program_of}
 
 -- its capacity and items

@@ -1,4 +1,4 @@
-use Rattle.std.proofs.Common.{◌≡◌, ℤ, ℕ, pos, List, [], ◌∷◌, length, refl, ap, ◌∙◌, arith, slice_set}
+use Rattle.std.proofs.Common.{◌≡◌, ℤ, List, [], ◌∷◌, length, refl, ap, ◌∙◌, arith, slice_set}
 use Rattle.std.proofs.lemmas.Int.{ints}
 use Rattle.knapsack.proofs.model.write.Goals as goal
 

@@ -1,4 +1,4 @@
-use Rattle.std.proofs.Common.{◌≡◌, ◌+◌, ◌*◌, ◌≤◌, drop, true}
+use Rattle.std.proofs.Common.{◌≡◌, ◌+◌, ◌*◌, ◌≤◌, drop}
 use Rattle.knapsack.specs.OwnWords.{has_copies, total_weight, total_profit}
 use Rattle.knapsack.proofs.packing.total_of.Given as goal
 

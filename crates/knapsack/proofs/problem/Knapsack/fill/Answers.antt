@@ -1,4 +1,4 @@
-use Rattle.std.proofs.Common.{sym, ◌∙◌, arith}
+use Rattle.std.proofs.Common.{◌∙◌, arith}
 use Rattle.knapsack.specs.ProgramLaws.{rough_small}
 use Rattle.knapsack.specs.Limits.{is_small-is}
 use Rattle.knapsack.specs.Program.{left}
