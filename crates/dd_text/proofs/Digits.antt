@@ -1,13 +1,13 @@
 -- Printed digits: what they are and what number they write.
-use Rattle.std.proofs.Common.{◌≡◌, ◌≢◌, ℕ, suc, ◌+◌, ◌-◌, ◌*◌, ◌<◌, ◌≤◌, ◌^◌, Bool, true, false, List, [], ◌∷◌, length, ℤ, pos, negsuc, neg_ℤ, refl, sym, ap, ◌∙◌, arith, rules, tests, nat_eq, lit<, lit≤}
-use Rattle.std.specs.Prelude.{◌&&◌, Some, Option, option_map, nat_abs, decimal}
+use Rattle.std.proofs.Common.{◌≡◌, ℕ, suc, ◌<◌, ◌≤◌, ◌^◌, Bool, true, false, List, [], ◌∷◌, length, ℤ, pos, negsuc, neg_ℤ, refl, ap, ◌∙◌, arith, rules, tests, nat_eq, lit<, lit≤}
+use Rattle.std.specs.Prelude.{◌&&◌, Some, nat_abs, decimal}
 use Rattle.std.specs.List.{list_all}
 use Rattle.std.specs.Char.{is_ascii_digit}
 use Rattle.std.specs.Str.{all_ascii_digits}
 use Rattle.std.proofs.lemmas.Bool.Decides.{nat_tests}
 use Rattle.std.proofs.lemmas.Str.Parse.{IsNumeralModel, numerals_by_fold}
 use Rattle.std.proofs.lemmas.Fmt.{digits_decimal, digits_value-decimal, decimal_nonempty}
-use Rattle.dd_text.specs.Text.{Comment, is_blank, is_solid, opens_comment, value_after, natural_of, number_of}
+use Rattle.dd_text.specs.Text.{Comment, is_solid, opens_comment, value_after, natural_of, number_of}
 use Rattle.dd_text.specs.declared.comment.Comment.TheVariants.{Never, Hash, LetterC}
 use Rattle.dd_text.specs.Decimal.{decimal_of}
 

@@ -1,13 +1,13 @@
 -- What is read of a printed text.
-use Rattle.std.proofs.Common.{◌≡◌, ℕ, ◌+◌, ◌<◌, ◌^◌, subst, nat_eq, Bool, true, false, not, List, [], ◌∷◌, ◌++◌, length, take, drop, ℤ, refl, sym, ap, ◌∙◌, arith, rules, tests, append_assoc}
-use Rattle.std.specs.Prelude.{Result, Ok, Err, ◌≤ℤ◌, nat_abs, Some, Option, ◌&&◌, ◌||◌, ◌==◌, int_le, nat_le}
+use Rattle.std.proofs.Common.{◌≡◌, ℕ, ◌<◌, ◌^◌, subst, nat_eq, Bool, true, false, not, List, [], ◌∷◌, ◌++◌, length, take, ℤ, refl, sym, ap, ◌∙◌, arith, rules, tests}
+use Rattle.std.specs.Prelude.{Ok, ◌≤ℤ◌, nat_abs, Some, ◌&&◌, ◌||◌, ◌==◌, int_le, nat_le}
 use Rattle.std.specs.List.{list_all, prefix_len}
 use Rattle.std.proofs.Math.Seq.{take-append_seam, drop-append_seam}
 use Rattle.std.proofs.lemmas.Bool.Decides.{nat_tests}
-use Rattle.dd_text.specs.Text.{TextState, Place, Comment, TextError, text_start, is_blank, is_solid, opens_comment, place_after, is_passed, is_inside_after, skip, at_token, token, place_of, number_of, number_in, number_at, word_in, word_at, nothing_in, finish_at, ends_line, is_blank_line, is_at_end, after_token}
+use Rattle.dd_text.specs.Text.{TextState, Place, Comment, text_start, is_blank, is_solid, opens_comment, place_after, is_passed, is_inside_after, skip, at_token, token, place_of, number_of, number_in, number_at, word_in, word_at, nothing_in, finish_at, ends_line, is_at_end, after_token}
 use Rattle.dd_text.specs.Decimal.{decimal_of}
 use Rattle.dd_text.specs.Printed.{IsBefore, ReadsNumber, ReadsWord}
-use Rattle.dd_text.proofs.Digits.{both, IsPrinted, is_printed, number_of-decimal_of}
+use Rattle.dd_text.proofs.Digits.{both, is_printed, number_of-decimal_of}
 
 not_true : (b : Bool) → not b ≡ true → b ≡ false
 not_true true h = cc

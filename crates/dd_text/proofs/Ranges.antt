@@ -1,8 +1,6 @@
 -- A number that was read lies in the range that was asked for.
-use Rattle.std.proofs.Common.{◌≡◌, ℕ, List, [], ◌∷◌, ℤ, Bool, true, false, refl, sym, ◌∙◌, arith, tests, rules}
+use Rattle.std.proofs.Common.{◌≡◌, ℕ, List, [], ◌∷◌, ℤ, Bool, true, false, refl, tests, rules}
 use Rattle.std.specs.Prelude.{Option, Some, None, Result, Ok, Err, IfOk, if◌then◌else◌, ◌≤ℤ◌, ◌&&◌, int_le, nat_le}
-use Rattle.std.proofs.lemmas.Bool.Decides.{nat_tests}
-use Rattle.std.proofs.lemmas.Int.{ints}
 use Rattle.dd_text.specs.Text.{TextState, Place, TextError, place_of, token, number_of, within, number_in, number_at}
 use Rattle.dd_text.specs.declared.text_error.TextError.TheVariants.{OutOfRange}
 

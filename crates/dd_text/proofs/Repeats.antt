@@ -1,6 +1,6 @@
 -- A printed list of parts is read, part by part.
-use Rattle.std.proofs.Common.{◌≡◌, ℕ, suc, List, [], ◌∷◌, ◌++◌, length, subst, refl, sym, ap, ◌∙◌, append_assoc}
-use Rattle.std.specs.Prelude.{Result, Ok, fold, flat_map}
+use Rattle.std.proofs.Common.{◌≡◌, ℕ, List, [], ◌∷◌, ◌++◌, length, subst, refl, ap, ◌∙◌, append_assoc}
+use Rattle.std.specs.Prelude.{Result, fold, flat_map}
 use Rattle.dd_text.specs.Text.{TextState, Comment}
 use Rattle.dd_text.specs.Grammar.{InstanceError, part_then, times}
 use Rattle.dd_text.specs.Printed.{IsBefore, ReadsPart}

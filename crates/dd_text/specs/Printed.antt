@@ -2,7 +2,6 @@
 use Rattle.std.specs.Prelude.{◌≡◌, ℕ, List, ◌++◌, true, Result, Ok, ℤ}
 use Rattle.std.specs.List.{list_all}
 use Rattle.dd_text.specs.Text.{TextState, is_blank, number_at, word_at, after_token}
-use Rattle.dd_text.specs.Decimal.{decimal_of}
 use Rattle.dd_text.specs.Grammar.{InstanceError}
 
 -- reading stands before these bytes, perhaps with blanks in between

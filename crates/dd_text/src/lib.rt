@@ -6,7 +6,7 @@
 //! stand where they stood before the call.
 //!
 //! `InstanceError` and `ReadModelError` are what the readers of problems answer, and `push_number`
-//! and `push_text` print. The crate stands on std alone.
+//! and `push_text` print. The crate stands on std and on `itoa`.
 //!
 //! Promised, each in the contract of its call: what each call reads and where it stands afterwards,
 //! each fault exactly where it arises and at its place, for texts with numbers of any length; and the
