@@ -1,0 +1,89 @@
+-- The greedy fill, item by item.
+use Rattle.std.proofs.Common.{◌≡◌, ℕ, ◌+◌, ◌-◌, ◌*◌, ◌/◌, ◌<◌, ◌≤◌, Bool, true, false, cond, List, ◌∷◌, length, drop, get_or, refl, ap, ◌∙◌, arith, ltb, eqb}
+use Rattle.std.proofs.lemmas.Bool.{lt-ltb, le-ltb}
+use Rattle.std.proofs.lemmas.Bool.Decides.{nat_tests}
+use Rattle.std.proofs.lemmas.List.{drop_more}
+use Rattle.std.proofs.lemmas.List.Elements.{All-get_or}
+use Rattle.std.proofs.lemmas.List.Sums.{AllPass-from_list_all}
+use Rattle.std.proofs.lemmas.Nat.{le-div, mul-le, div_below}
+use Rattle.std.proofs.Math.Nat.{mul-le-mul_right, div-mul-le_self, div-le_of_le-mul}
+use Rattle.knapsack.specs.declared.item.Item.{Item}
+use Rattle.knapsack.specs.declared.placed.Placed.{Placed}
+use Rattle.knapsack.specs.Instance.{is_small_item}
+use Rattle.knapsack.specs.Limits.{IsSmallItem, is_small_item-is}
+use Rattle.knapsack.specs.Order.{fitting, fill}
+use Rattle.knapsack.specs.Greedy.{part-le-copy}
+use Rattle.knapsack.specs.Placed.{kept_from, HasSmallItems}
+
+-- an item of which not all copies fit weighs something
+some_weight : (c w rest : ℕ) → rest < c * w → 0 < w
+some_weight c w rest h =
+    elim (eqb w 0) as (λ b. eqb w 0 ≡ b → 0 < w) [
+      | true ↦ λ e. let none : w ≡ 0 = grind (arith, nat_tests) in absurd (omega (arith, ap (λ (n : ℕ). c * n) none))
+      | false ↦ λ e. grind (arith, nat_tests)
+    ] refl
+
+pub weighs : (x : Item) (rest : ℕ) → rest < x.copies * x.weight → 0 < x.weight
+weighs x rest h = some_weight x.copies x.weight rest h
+
+-- all copies fit where they weigh no more than what is left
+fitting-whole : (x : Item) (rest : ℕ) → x.copies * x.weight ≤ rest → fitting x rest ≡ x.copies
+fitting-whole x rest h =
+    elim (eqb x.weight 0) as (λ b. eqb x.weight 0 ≡ b → fitting x rest ≡ x.copies) [
+      | true ↦ λ e. rw e refl
+      | false ↦ λ e. let some : 0 < x.weight = grind (arith, nat_tests) in let few : x.copies ≤ rest / x.weight = le-div x.copies rest x.weight some h in rw e (omega arith)
+    ] refl
+
+-- fewer fit where they weigh more
+pub few_fit : (x : Item) (rest : ℕ) → rest < x.copies * x.weight → rest / x.weight < x.copies
+few_fit x rest h = div_below rest x.weight x.copies (weighs x rest h) h
+
+fitting-part : (x : Item) (rest : ℕ) → rest < x.copies * x.weight → fitting x rest ≡ rest / x.weight
+fitting-part x rest h =
+    let some : 0 < x.weight = weighs x rest h in
+    let few : rest / x.weight < x.copies = few_fit x rest h in
+    grind (arith, nat_tests)
+
+pub fill-whole : (x : Item) (xs : List Item) (rest : ℕ) → x.copies * x.weight ≤ rest
+    → fill (x ∷ xs) rest ≡ x.copies * x.profit + fill xs (rest - x.copies * x.weight)
+fill-whole x xs rest h =
+    ap (λ (q : ℕ). cond (ltb q x.copies) (q * x.profit + (rest - q * x.weight) * x.profit / x.weight) (q * x.profit + fill xs (rest - q * x.weight))) (fitting-whole x rest h)
+    ∙ ap (λ (b : Bool). cond b (x.copies * x.profit + (rest - x.copies * x.weight) * x.profit / x.weight) (x.copies * x.profit + fill xs (rest - x.copies * x.weight))) (le-ltb x.copies x.copies (omega arith))
+
+pub fill-part : (x : Item) (xs : List Item) (rest : ℕ) → rest < x.copies * x.weight
+    → fill (x ∷ xs) rest ≡ rest / x.weight * x.profit + (rest - rest / x.weight * x.weight) * x.profit / x.weight
+fill-part x xs rest h =
+    let q = rest / x.weight in
+    ap (λ (q : ℕ). cond (ltb q x.copies) (q * x.profit + (rest - q * x.weight) * x.profit / x.weight) (q * x.profit + fill xs (rest - q * x.weight))) (fitting-part x rest h)
+    ∙ ap (λ (b : Bool). cond b (q * x.profit + (rest - q * x.weight) * x.profit / x.weight) (q * x.profit + fill xs (rest - q * x.weight))) (lt-ltb q x.copies (few_fit x rest h))
+
+-- an item before the layer is passed over, and another one is next
+pub passes : (k : ℕ) (ps : List Placed) (i : ℕ) (d : Placed) → i < length ps → (get_or ps i d).number < k → kept_from k (drop i ps) ≡ kept_from k (drop (i + 1) ps)
+passes k ps i d h before =
+    ap (kept_from k) (drop_more ps i d h)
+    ∙ ap (λ (b : Bool). cond b (kept_from k (drop (i + 1) ps)) ((get_or ps i d).item ∷ kept_from k (drop (i + 1) ps))) (lt-ltb _ _ before)
+
+pub takes : (k : ℕ) (ps : List Placed) (i : ℕ) (d : Placed) → i < length ps → k ≤ (get_or ps i d).number → kept_from k (drop i ps) ≡ (get_or ps i d).item ∷ kept_from k (drop (i + 1) ps)
+takes k ps i d h from =
+    ap (kept_from k) (drop_more ps i d h)
+    ∙ ap (λ (b : Bool). cond b (kept_from k (drop (i + 1) ps)) ((get_or ps i d).item ∷ kept_from k (drop (i + 1) ps))) (le-ltb _ _ from)
+
+-- each of the items is within the limits
+pub small_at : (ps : List Placed) (i : ℕ) (d : Placed) → HasSmallItems ps → i < length ps → IsSmallItem (get_or ps i d).item
+small_at ps i d small h = is_small_item-is _ (All-get_or (λ p. is_small_item p.item ≡ true) ps i d h (AllPass-from_list_all (λ p. is_small_item p.item) ps small.items))
+
+-- the part that is left of one more copy weighs less than it
+pub left_below : (w rest : ℕ) → 0 < w → rest - rest / w * w < w
+left_below w rest some = let up : rest < w * (rest / w + 1) = omega arith in let down : rest / w * w ≤ rest = div-mul-le_self rest w in omega arith
+
+-- a part is worth at most one copy
+pub part_below : (m p w : ℕ) → 0 < w → m ≤ w → m * p / w ≤ p
+part_below m p w some h = div-le_of_le-mul w (mul-le-mul_right p h)
+
+-- what a part of an item within the limits is worth
+pub part_small : (x : Item) (rest : ℕ) → IsSmallItem x → rest < x.copies * x.weight
+    → rest / x.weight * x.profit + (rest - rest / x.weight * x.weight) * x.profit / x.weight ≤ 1000000000000
+part_small x rest small h =
+    let less = part-le-copy x.profit x.weight (rest / x.weight) x.copies rest (weighs x rest h) refl (few_fit x rest h) in
+    let most : x.copies * x.profit ≤ 1000 * 1000000000 = mul-le x.copies x.profit 1000 1000000000 small.copies small.profit in
+    omega arith

@@ -1,0 +1,15 @@
+pub mod Instance
+pub mod Limits
+pub mod Order
+pub mod OwnWords
+pub mod Greedy
+pub mod Program
+pub mod ProgramLaws
+pub mod ModelLaws
+pub mod Placed
+pub mod Shown
+pub mod Reading
+pub mod Printing
+pub use Rattle.dp_model.specs.Dp
+pub use Rattle.dp_model.specs.Worth
+pub use Rattle.dd_text.specs.Grammar

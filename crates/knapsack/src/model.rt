@@ -1,0 +1,150 @@
+ghost use Rattle.std.specs.Prelude.{◌≡◌, ◌∷◌, [], ◌+◌, ◌*◌, ◌<◌, ◌≤◌, ◌^◌, length, pos, IsTrue};
+ghost use Rattle.knapsack.specs.Program.{left, is_left, item_at, rough_from};
+ghost use Rattle.knapsack.specs.Limits.{IsSmallItem};
+
+use crate::filling::filled;
+use crate::item::Item;
+use crate::problem::Knapsack;
+use dp_model::DpModel;
+
+/// Writes a state of one cell.
+fn write(out: &mut [i64], left: u64)
+    requires cell { length out.old ≡ 1 }
+    requires fits { left < 2 ^ 63 }
+    ensures { out.new ≡ pos left ∷ [] }
+{
+    out[0] = left as i64;
+}
+
+impl Knapsack {
+    /// The item that a layer decides.
+    fn item(&self, k: usize) -> Item
+        requires { k < length self.now.items.items }
+        ensures value { result ≡ item_at self.now.items.items k }
+        ensures small { IsSmallItem result }
+    {
+        self.items[k]
+    }
+
+    /// What copies of an item weigh.
+    fn weight(&self, k: usize, copies: u32) -> u64
+        requires layer { k < length self.now.items.items }
+        requires few { copies < (item_at self.now.items.items k).copies + 1 }
+        ensures value { result ≡ copies * (item_at self.now.items.items k).weight }
+    {
+        u64::from(copies) * u64::from(self.item(k).weight)
+    }
+
+    /// What copies of an item are worth.
+    fn profit(&self, k: usize, copies: u32) -> u64
+        requires layer { k < length self.now.items.items }
+        requires few { copies < (item_at self.now.items.items k).copies + 1 }
+        ensures value { result ≡ copies * (item_at self.now.items.items k).profit }
+        ensures small { result < 2 ^ 63 }
+    {
+        u64::from(copies) * u64::from(self.item(k).profit)
+    }
+
+    /// The capacity that a state has left.
+    fn left(&self, s: &[i64]) -> u64
+        requires { IsTrue (is_left self.now.capacity s.now) }
+        ensures value { result ≡ left s.now }
+        ensures small { result < 2 ^ 63 }
+    {
+        s[0] as u64
+    }
+
+    /// The greedy fill of what a state has left, by the items from the layer on.
+    fn fill(&self, k: usize, s: &[i64]) -> u64
+        requires { IsTrue (is_left self.now.capacity s.now) }
+        ensures value { result ≡ rough_from self.now.items.items k (left s.now) }
+        ensures small { result < 2 ^ 63 }
+    {
+        filled(&self.order, k, self.left(s))
+    }
+
+    /// Whether a row of one cell is a capacity that may be left.
+    fn may_be_left(&self, s: &[i64]) -> bool
+        requires { length s.now ≡ 1 }
+        ensures { result ≡ is_left self.now.capacity s.now }
+    {
+        s[0] >= 0 && s[0] as u64 <= self.capacity
+    }
+}
+
+#[tactic(auto, using(crate::specs::ProgramLaws::round_trip))]
+impl DpModel for Knapsack {
+    ghost use Rattle.knapsack.specs.Instance.{numbers_of};
+    ghost use Rattle.knapsack.specs.Program.{program};
+    ghost use Rattle.knapsack.specs.Shown.{instance_in};
+    ghost use Rattle.knapsack.specs.ModelLaws.{lawful_numbers, chained_numbers};
+
+    ghost numbers = { λ m. numbers_of (instance_in m) };
+
+    ghost meaning = { program };
+
+    ghost lawful = { λ m. lawful_numbers (instance_in m) m.small };
+
+    ghost chained = { λ m. chained_numbers (instance_in m) };
+
+    fn vars(&self) -> usize {
+        self.items.len()
+    }
+
+    fn words(&self) -> usize {
+        1
+    }
+
+    fn choices(&self, k: usize) -> u32 {
+        self.item(k).copies + 1
+    }
+
+    fn root(&self, out: &mut [i64]) {
+        write(out, self.capacity);
+    }
+
+    fn root_value(&self) -> i64 {
+        0
+    }
+
+    fn allowed(&self, k: usize, s: &[i64], d: u32) -> bool {
+        self.weight(k, d) <= self.left(s)
+    }
+
+    fn step(&self, k: usize, s: &[i64], d: u32, out: &mut [i64]) {
+        write(out, self.left(s) - self.weight(k, d));
+    }
+
+    fn gain(&self, k: usize, _s: &[i64], d: u32) -> i64 {
+        self.profit(k, d) as i64
+    }
+
+    fn merge_into(&self, _k: usize, acc: &mut [i64], s: &[i64]) {
+        let most = self.left(acc).max(self.left(s));
+        write(acc, most);
+    }
+
+    fn gap(&self, _k: usize, a: &[i64], s: &[i64]) -> Option<i64> {
+        if self.left(a) >= self.left(s) {
+            Some(0)
+        } else {
+            None
+        }
+    }
+
+    fn rough(&self, k: usize, s: &[i64]) -> Option<i64> {
+        Some(self.fill(k, s) as i64)
+    }
+
+    fn rank(&self, _k: usize, s: &[i64]) -> i64 {
+        self.left(s) as i64
+    }
+
+    fn bucket(&self, _k: usize, _s: &[i64]) -> u64 {
+        0
+    }
+
+    fn is_state(&self, _k: usize, s: &[i64]) -> bool {
+        self.may_be_left(s)
+    }
+}

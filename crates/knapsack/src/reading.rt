@@ -1,0 +1,94 @@
+ghost use Rattle.std.specs.Prelude.{◌≡◌, ℕ, ◌-◌, ◌^◌, ◌+◌, ◌<◌, ◌≤◌, ◌≤ℤ◌, pos, length, true, IsTrue, Ok, Err, OnOk, IfOk, MatchResult};
+ghost use Rattle.std.specs.List.{list_all};
+ghost use Rattle.dd_text.specs.Text.{number_at, after_token};
+ghost use Rattle.dd_text.specs.Grammar.{Reads, times};
+ghost use Rattle.knapsack.specs.Instance.{is_small, is_small_item};
+ghost use Rattle.knapsack.specs.Shown.{instance_in};
+ghost use Rattle.knapsack.specs.Reading.{copies_at, item_behind, instance_text};
+
+use crate::item::Item;
+use crate::problem::Knapsack;
+use dd_text::{Comment, InstanceError, InstanceFault, ReadModelError, TextError, Tokens};
+use std::alloc::Global;
+
+/// Reads a number from 0 to the greatest.
+fn next_size(tokens: &mut Tokens, greatest: u64) -> Result<u64, TextError>
+    requires { greatest < 2 ^ 63 }
+    ensures value { MatchResult result (λ n. Ok (pos n) ≡ number_at (pos 0) (pos greatest) tokens.old) (λ e. Err e ≡ number_at (pos 0) (pos greatest) tokens.old) }
+    ensures within { IfOk result (λ n. n ≤ greatest) }
+    ensures ok { OnOk result (tokens.new ≡ after_token tokens.old) }
+{
+    let number = tokens.next_number(0, greatest as i64)?;
+    Ok(number as u64)
+}
+
+/// Reads the copies of an item, which are one where the line ends.
+#[tactic(auto, unfolding(crate::specs::Reading::copies_at))]
+fn next_copies(tokens: &mut Tokens) -> Result<u32, ReadModelError>
+    ensures reads { Reads (λ c. (c, tokens.new)) result (copies_at tokens.old) }
+    ensures within { IfOk result (λ c. c ≤ 1000) }
+{
+    if tokens.at_line_end() {
+        return Ok(1);
+    }
+    let copies = next_size(tokens, 1_000)?;
+    if !tokens.at_line_end() {
+        let place = tokens.place();
+        let fault = InstanceFault::Trailing;
+        return Err(ReadModelError::Text(InstanceError { fault, place }));
+    }
+    Ok(copies as u32)
+}
+
+/// Reads an item behind others.
+#[tactic(auto, unfolding(crate::specs::Reading::item_behind), using(dd_text::proofs::Chains::part_fails))]
+fn next_item(tokens: &mut Tokens, items: &mut Vec<Item>) -> Result<(), ReadModelError>
+    requires { list_all is_small_item items.old.items ≡ true }
+    ensures reads { Reads (λ _. (items.new.items, tokens.new)) result (item_behind items.old.items tokens.old) }
+    ensures one { OnOk result (length items.new.items ≡ length items.old.items + 1) }
+    ensures small { OnOk result (list_all is_small_item items.new.items ≡ true) }
+{
+    let profit = next_size(tokens, 1_000_000_000)? as u32;
+    let weight = next_size(tokens, 1_000_000_000)? as u32;
+    let copies = next_copies(tokens)?;
+    items.push(Item {
+        profit,
+        weight,
+        copies,
+    })?;
+    Ok(())
+}
+
+/// Reads so many items behind others.
+#[tactic(auto, using(dd_text::proofs::Chains::times_more, dd_text::proofs::Chains::times_done))]
+fn next_items(count: u64, tokens: &mut Tokens, items: &mut Vec<Item>) -> Result<(), ReadModelError>
+    requires { list_all is_small_item items.old.items ≡ true }
+    ensures reads { Reads (λ _. (items.new.items, tokens.new)) result (times item_behind count items.old.items tokens.old) }
+    ensures count { OnOk result (length items.new.items ≡ length items.old.items + count) }
+    ensures small { OnOk result (list_all is_small_item items.new.items ≡ true) }
+{
+    for _ in 0..count {
+        next_item(tokens, items)?;
+    }
+    Ok(())
+}
+
+/// Reads an instance from its text: how many items and the capacity, then for each item its profit, its weight and, where
+/// a further token stands on the weight's line, its copies, which are one where they are left out.
+///
+/// The first fault in reading order is answered, with its place: `EndOfText` where a number is missing, `NotAscii` and
+/// `NotNumber` for a token that is none, `OutOfRange` for a number outside the limits, `Trailing` for a further token on
+/// the line of the copies, and `Trailing` or `NotAscii` for one behind the last item. `OutOfMemory` where there was none.
+#[tactic(auto, unfolding(crate::specs::Reading::instance_at), using(dd_text::proofs::Chains::part_fails))]
+pub fn read(alloc: Global, bytes: &[u8]) -> Result<Knapsack, ReadModelError>
+    requires { length bytes.now < 2 ^ 32 - 1 }
+    ensures { Reads instance_in result (instance_text bytes.now) }
+{
+    let mut tokens = Tokens::new(bytes, Comment::Never);
+    let count = next_size(&mut tokens, 1_000)?;
+    let capacity = next_size(&mut tokens, 1 << 40)?;
+    let mut items = Vec::with_capacity(alloc, count as usize)?;
+    next_items(count, &mut tokens, &mut items)?;
+    tokens.finish()?;
+    Ok(Knapsack::new(alloc, capacity, items)?)
+}
