@@ -47,19 +47,13 @@ slot_of (Some slot) = slot
 abbrev pub slot_at : BoardState → ℕ → Option Ticketed
 slot_at b who = slot_of (slice_get b.slots who)
 
--- all that is out or open
-abbrev pub out_or_open : BoardState → List Ticketed
-out_or_open b = full_slots b.slots ++ b.open_ones
+-- the frontier: all that is out or open
+abbrev pub frontier : BoardState → List Ticketed
+frontier b = full_slots b.slots ++ b.open_ones
 
-abbrev pub subproblems : List Ticketed → List Subproblem
-subproblems os = map (λ o. o.subproblem) os
-
--- the frontier: the subproblems of all that is out or open
-abbrev pub frontier : BoardState → List Subproblem
-frontier b = subproblems (out_or_open b)
-
-abbrev pub prefixes : List Subproblem → List (List ℕ)
-prefixes cs = map (λ c. c.decisions) cs
+-- their prefixes
+abbrev pub prefixes : List Ticketed → List (List ℕ)
+prefixes os = map (λ o. o.subproblem.decisions) os
 
 -- whether nothing is out or open
 abbrev pub is_explored : BoardState → Bool

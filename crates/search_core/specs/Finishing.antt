@@ -1,4 +1,4 @@
--- What a Finish asks of the children, and of which steps a run is made.
+-- What a Finish asks of the children.
 use Rattle.std.specs.Prelude.{◌≡◌, ℕ, ◌^◌, ◌≤◌, ℤ, List, length, map, ◌⊎◌, Option, Some, None, IsTrue}
 use Rattle.dp_model.specs.Cover.{IsHeld}
 use Rattle.dp_model.specs.Dp.{Dp}
@@ -7,9 +7,9 @@ use Rattle.dp_model.specs.Numbers.{AtMost, IsFar}
 use Rattle.dp_model.specs.Prefixes.{IsCompletion, IsMatched, value_of}
 use Rattle.dp_model.specs.Subproblem.{Subproblem, Roomy, IsChild}
 use Rattle.search_core.specs.declared.fate.Fate.{Fate}
-use Rattle.search_core.specs.Board.{Ticketed, BoardState, incumbent_value, slot_at, prefixes}
+use Rattle.search_core.specs.Board.{Ticketed, BoardState, incumbent_value, slot_at}
 use Rattle.search_core.specs.Fates.{fates_on}
-use Rattle.search_core.specs.GoodBoard.{no_two, begin_alike}
+use Rattle.search_core.specs.GoodBoard.{EachTwo, AreApart}
 
 -- subproblems in memory as data
 abbrev pub contents : List Roomy → List Subproblem
@@ -24,8 +24,8 @@ pub record MayFinish (dp : Dp) (b : BoardState) (who : ℕ) (cs : List Subproble
   pub few : length cs ≤ 2 ^ 24
   pub fates : fs ≡ fates_on b cs
   pub own : Each (IsChild dp parent.subproblem.decisions) cs
-  pub apart : IsTrue (no_two begin_alike cs)
+  pub apart : EachTwo AreApart cs
   pub far : Each (λ c. IsFar c.bound) cs
   pub held : Each (λ c. IsHeld dp (incumbent_value b) c.decisions c.bound) cs
   pub matched : (x : List ℕ) → IsCompletion dp parent.subproblem.decisions x →
-      AtMost (value_of dp x) (incumbent_value b) ⊎ OneOf (IsMatched dp x) (prefixes cs)
+      AtMost (value_of dp x) (incumbent_value b) ⊎ OneOf (IsMatched dp x) (map (λ c. c.decisions) cs)

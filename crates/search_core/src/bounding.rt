@@ -2,7 +2,7 @@
 
 ghost use Rattle.std.specs.Prelude.{◌≡◌, ℤ, Bool, Option};
 ghost use Rattle.dp_model.specs.Numbers.{is_above};
-ghost use Rattle.search_core.specs.Board.{full_slots, subproblems};
+ghost use Rattle.search_core.specs.Board.{full_slots};
 ghost use Rattle.search_core.specs.Bound.{raised, raised_by};
 
 use crate::listed::Listed;
@@ -29,7 +29,7 @@ fn raised(most: Option<i64>, bound: i64) -> Option<i64>
 
 /// The greatest of the option and the bounds of the listed.
 pub fn raised_by_listed(most: Option<i64>, listed: &[Listed]) -> Option<i64>
-    ensures { result ≡ raised_by most (subproblems listed.now) }
+    ensures { result ≡ raised_by most listed.now }
 {
     let mut most = most;
     for one in listed {
@@ -40,7 +40,7 @@ pub fn raised_by_listed(most: Option<i64>, listed: &[Listed]) -> Option<i64>
 
 /// The greatest of the option and the bounds of what the slots have.
 pub fn raised_by_slots(most: Option<i64>, slots: &[Option<Listed>]) -> Option<i64>
-    ensures { result ≡ raised_by most (subproblems (full_slots slots.now)) }
+    ensures { result ≡ raised_by most (full_slots slots.now) }
 {
     let mut most = most;
     for slot in slots {
