@@ -5,3 +5,5 @@ pub mod Slots
 pub mod Kids
 pub mod Frontier
 pub mod Steps
+pub mod First
+pub mod Reading
