@@ -11,7 +11,7 @@ use Rattle.dp_model.specs.Dp.{Dp}
 use Rattle.dp_model.specs.Gaps.{IsStateOf}
 use Rattle.dp_model.specs.Laws.{IsLawful}
 use Rattle.dp_model.specs.Lists.{Each, OneOf}
-use Rattle.dp_model.specs.Numbers.{AtMost, is_above}
+use Rattle.dp_model.specs.Numbers.{AtMost, is_above, add_some}
 use Rattle.dp_model.specs.Prefixes.{IsSolution, IsCompletion, IsContinuation, IsMatched, value_of, gain_of}
 use Rattle.dp_model.specs.Subproblem.{Subproblem, IsOwn}
 use Rattle.search_core.specs.Board.{Ticketed, BoardState, incumbent_value, value_held, full_slots, frontier, prefixes}
@@ -81,7 +81,7 @@ root_value-is dp = omega (arith, ints)
 from-root : (dp : Dp) (x : List ℕ) → IsSolution dp x → IsContinuation dp 0 dp.root x
 from-root dp x s = let whole = s.whole in record { path = s.prefix; whole = omega arith }
 
-root-state : (dp : Dp) → IsLawful dp → IsStateOf dp 0 dp.root
+pub root-state : (dp : Dp) → IsLawful dp → IsStateOf dp 0 dp.root
 root-state dp laws = record { layer = omega arith; test = laws.states.root }
 
 begins-whole : (dp : Dp) → dp.vars ≡ 0 → Begins dp (Some (record { decisions = []; value = dp.root_value })) []
@@ -100,7 +100,7 @@ begins-whole dp none = record {
   shares = omega arith;
 }
 
-begins-root : (dp : Dp) → IsLawful dp → 0 < dp.vars → (rough : Option ℤ) → dp.rough 0 dp.root ≡ rough → Begins dp None (opened (root_with dp rough))
+begins-root : (dp : Dp) → IsLawful dp → 0 < dp.vars → (rough : Option ℤ) → dp.rough 0 dp.root ≡ rough → Begins dp None (opened (root_with dp (add_some dp.root_value rough)))
 begins-root dp laws some None is = record {
   incumbent = tt;
   covers = λ x s. absurd (subst (λ r. AtMost (gain_of dp 0 dp.root x) r) is (laws.rough.bounds 0 dp.root x (root-state dp laws) (from-root dp x s)));

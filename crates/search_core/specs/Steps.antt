@@ -1,8 +1,8 @@
 -- The steps of a board beside Take: Improve, Finish, GiveBack and Halt, and the first board.
-use Rattle.std.specs.Prelude.{ℕ, zero, suc, ◌+◌, ℤ, ◌+ℤ◌, cond, List, [], ◌∷◌, ◌++◌, filter, length, nat_eq, nat_lt, int_lt, slice_set, Option, Some, None}
+use Rattle.std.specs.Prelude.{ℕ, zero, suc, ◌+◌, ℤ, cond, List, [], ◌∷◌, ◌++◌, filter, length, nat_eq, nat_lt, int_lt, slice_set, Option, Some, None}
 use Rattle.dp_model.specs.Best.{Best}
 use Rattle.dp_model.specs.Dp.{Dp}
-use Rattle.dp_model.specs.Numbers.{is_above}
+use Rattle.dp_model.specs.Numbers.{is_above, add_some}
 use Rattle.dp_model.specs.Subproblem.{Subproblem}
 use Rattle.search_core.specs.declared.cause.Cause.{Cause}
 use Rattle.search_core.specs.declared.cause.Cause.TheVariants.{Budget, Memory, Journal}
@@ -57,13 +57,17 @@ cause_after (Some held) Memory = Some held
 abbrev pub halted : BoardState → Cause → BoardState
 halted b cause = record b { cause = cause_after b.cause cause }
 
+-- the root's value and its rough bound, or none where it is known to have no completion
+abbrev pub root_bound : Dp → Option ℤ
+root_bound dp = add_some dp.root_value (dp.rough 0 dp.root)
+
 abbrev pub root_with : Dp → Option ℤ → Option Subproblem
 root_with dp None = None
-root_with dp (Some rough) = Some (record { decisions = []; row = dp.root; value = dp.root_value; bound = dp.root_value +ℤ rough })
+root_with dp (Some bound) = Some (record { decisions = []; row = dp.root; value = dp.root_value; bound = bound })
 
--- the root as a subproblem, where it is not known to have no completion
+-- the root as a subproblem, where it has a bound
 abbrev pub root_of : Dp → Option Subproblem
-root_of dp = root_with dp (dp.rough 0 dp.root)
+root_of dp = root_with dp (root_bound dp)
 
 -- the list of one with ticket 0, or none
 abbrev pub opened : Option Subproblem → List Ticketed

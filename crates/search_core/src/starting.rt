@@ -1,7 +1,7 @@
 //! What a board begins with.
 
 ghost use Rattle.std.specs.Prelude.{◌≡◌, ◌≤◌, length, IfOk, option_map, vec_len, vec_capacity};
-ghost use Rattle.search_core.specs.Steps.{empty_slots, root_of, first_open};
+ghost use Rattle.search_core.specs.Steps.{empty_slots, root_bound, root_of, first_open};
 
 use crate::listed::Listed;
 use dp_model::{DpModel, OutOfMemory, Sub};
@@ -12,10 +12,29 @@ pub fn empty_slots(alloc: Global, workers: u32) -> Result<Vec<Option<Listed>>, O
     ensures { IfOk result (λ slots. slots.items ≡ empty_slots workers) }
 {
     let mut slots = Vec::with_capacity(alloc, workers as usize)?;
-    for _ in 0..workers {
+    for _made in 0..workers {
         slots.push_reserved(None);
     }
     Ok(slots)
+}
+
+/// Writes the root state.
+fn write_root<M: DpModel>(model: &M, row: &mut Vec<i64>)
+    requires { vec_len row.old ≡ (M.meaning (M.numbers model.now)).words }
+    ensures { row.new.items ≡ (M.meaning (M.numbers model.now)).root }
+{
+    model.root(row.as_mut_slice());
+}
+
+/// The bound of the root, or `None` where it is known to have no completion.
+fn root_bound<M: DpModel>(model: &M, row: &[i64]) -> Option<i64>
+    requires { row.now ≡ (M.meaning (M.numbers model.now)).root }
+    ensures { result ≡ root_bound (M.meaning (M.numbers model.now)) }
+{
+    let Some(rough) = model.rough(0, row) else {
+        return None;
+    };
+    Some(model.root_value() + rough)
 }
 
 /// The root as a subproblem, or `None` where it is known to have no completion.
@@ -23,12 +42,12 @@ fn root_sub<M: DpModel>(alloc: Global, model: &M) -> Result<Option<Sub>, OutOfMe
     ensures { IfOk result (λ root. option_map (λ s. s.subproblem) root ≡ root_of (M.meaning (M.numbers model.now))) }
 {
     let mut sub = Sub::blank(alloc, model.vars(), model.words())?;
-    model.root(sub.row.as_mut_slice());
-    let Some(rough) = model.rough(0, sub.row.as_slice()) else {
+    write_root(model, &mut sub.row);
+    let Some(bound) = root_bound(model, sub.row.as_slice()) else {
         return Ok(None);
     };
     sub.value = model.root_value();
-    sub.bound = sub.value + rough;
+    sub.bound = bound;
     Ok(Some(sub))
 }
 
