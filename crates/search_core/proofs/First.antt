@@ -144,3 +144,7 @@ first-begins dp laws =
 
 pub first-good : (dp : Dp) → IsLawful dp → (workers budget : ℕ) → IsGood dp (first_board dp workers budget)
 first-good dp laws workers budget = begin dp (first_incumbent dp) (first_open dp) (empty_slots workers) budget (full-none workers) (first-begins dp laws)
+
+pub slots-more : (n : ℕ) → empty_slots n ++ None ∷ [] ≡ empty_slots (n + 1)
+slots-more zero = refl
+slots-more (suc n) = ap (λ l. None ∷ l) (slots-more n) ∙ ap empty_slots (let same : suc (n + 1) ≡ suc n + 1 = omega arith in same)

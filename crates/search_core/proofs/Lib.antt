@@ -9,3 +9,4 @@ pub mod Steps
 pub mod First
 pub mod Roots
 pub mod Reading
+pub mod Keeping

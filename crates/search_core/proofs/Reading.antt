@@ -13,6 +13,7 @@ use Rattle.dp_model.specs.Prefixes.{IsSolution, value_of}
 use Rattle.search_core.specs.Board.{Ticketed, BoardState, incumbent_value, value_held, full_slots, frontier, prefixes, is_explored}
 use Rattle.search_core.specs.Bound.{raised, raised_by, bound_of}
 use Rattle.search_core.specs.GoodBoard.{IncumbentHolds, IsGood}
+use Rattle.search_core.specs.Kept.{best_of}
 use Rattle.search_core.proofs.Counting.{pots-many}
 use Rattle.search_core.proofs.Frontier.{MatchedBy, HeldBy, covers-by, matched-below}
 use Rattle.search_core.proofs.Lists.{each-then, one-each, one-out}
@@ -101,3 +102,9 @@ taken-fewer dp b g none more =
     let balanced = g.counts.balanced none in
     let ends = g.counts.ends in
     omega arith
+
+-- The fields.
+
+pub held-value : (decisions : List ℕ) (value : Option ℤ) → value_held (best_of decisions value) ≡ value
+held-value decisions None = refl
+held-value decisions (Some value) = refl

@@ -49,7 +49,7 @@ without-none ticket (x ∷ os) h =
     let other : nat_eq x.ticket ticket ≡ false = let no : ticket ≢ x.ticket = h.0 in grind (arith, nat_tests) in
     ap (λ b. cond (not b) (x ∷ without ticket os) (without ticket os)) other ∙ ap (λ l. x ∷ l) (without-none ticket os h.1)
 
-at-ticket : (R : Ticketed → Type 0) (os : List Ticketed) (i : ℕ) (o : Ticketed) → slice_get os i ≡ Some o → Each R os → R o
+pub at-ticket : (R : Ticketed → Type 0) (os : List Ticketed) (i : ℕ) (o : Ticketed) → slice_get os i ≡ Some o → Each R os → R o
 at-ticket R [] i o h all = absurd (cc)
 at-ticket R (x ∷ os) zero o h all = let same : x ≡ o = cc in subst R same all.0
 at-ticket R (x ∷ os) (suc i) o h all = at-ticket R os i o h all.1

@@ -15,13 +15,13 @@ ghost use Rattle.search_core.specs.Taking.{take_gives, after_take, handed_out};
 
 use crate::bounding::{is_above, raised_by_listed, raised_by_slots};
 use crate::cause::Cause;
-use crate::entering::{decide_all, enter_all, keep_above, put_by_ticket};
+use crate::entering::{decide_all, enter_all, keep_above, put_back};
 use crate::fate::Fate;
 use crate::improved::Improved;
 use crate::listed::Listed;
 use crate::settings::Settings;
-use crate::solving::solution_value;
-use crate::starting::{empty_slots, first_open};
+use crate::solving::{copy_decisions, solution_value};
+use crate::starting::{empty_slots, first_open, first_value};
 use crate::taken::Taken;
 use crate::taking::{count_full, first_place};
 use dp_model::{DpModel, Found, OutOfMemory, Sub};
@@ -78,11 +78,7 @@ impl<M: DpModel> Board<M> {
         let slots = empty_slots(alloc, settings.workers)?;
         let listed = first_open(alloc, &*model)?;
         let next_ticket = listed.len() as u64;
-        let best_value = if model.vars() == 0 {
-            Some(model.root_value())
-        } else {
-            None
-        };
+        let best_value = first_value(&*model);
         Ok(Board {
             model,
             best,
@@ -179,8 +175,7 @@ impl<M: DpModel> Board<M> {
         if !is_above(self.best_value, value) {
             return Improved::NotBetter;
         }
-        self.best.clear();
-        let _ = self.best.extend_from_slice(decisions);
+        copy_decisions(&mut self.best, decisions);
         self.best_value = Some(value);
         keep_above(&mut self.listed, value);
         Improved::Yes
@@ -240,9 +235,7 @@ impl<M: DpModel> Board<M> {
         let Some(one) = slot else {
             unreachable!();
         };
-        if is_above(self.best_value, one.sub.bound) {
-            put_by_ticket(&mut self.listed, one);
-        }
+        put_back(&mut self.listed, self.best_value, one);
     }
 
     /// Halts the search. `Memory` becomes the cause only where none is held; `Journal` becomes it always. The budget is no

@@ -1,6 +1,6 @@
-//! Whether decisions are a feasible solution.
+//! Whether decisions are a feasible solution, and how one is kept.
 
-ghost use Rattle.std.specs.Prelude.{◌≡◌, length, Option};
+ghost use Rattle.std.specs.Prelude.{◌≡◌, ◌≤◌, length, Option, vec_capacity};
 ghost use Rattle.search_core.specs.Solving.{SolutionGives};
 
 use dp_model::{DpModel, walk};
@@ -20,4 +20,14 @@ pub fn solution_value<M: DpModel>(
         return None;
     }
     walk(model, decisions, row, spare)
+}
+
+/// Writes the decisions over those of the last solution. It takes no memory.
+pub fn copy_decisions(best: &mut Vec<u32>, decisions: &[u32])
+    requires { length decisions.now ≤ vec_capacity best.old }
+    ensures copied { best.new.items ≡ decisions.now }
+    ensures capacity { vec_capacity best.old ≤ vec_capacity best.new }
+{
+    best.clear();
+    let _ = best.extend_from_slice(decisions);
 }

@@ -1,7 +1,8 @@
 //! What a board begins with.
 
-ghost use Rattle.std.specs.Prelude.{◌≡◌, ◌≤◌, length, IfOk, option_map, vec_len, vec_capacity};
-ghost use Rattle.search_core.specs.Steps.{empty_slots, root_bound, root_of, first_open};
+ghost use Rattle.std.specs.Prelude.{◌≡◌, ◌≤◌, [], length, IfOk, option_map, vec_len, vec_capacity};
+ghost use Rattle.search_core.specs.Kept.{best_of};
+ghost use Rattle.search_core.specs.Steps.{empty_slots, root_bound, root_of, first_incumbent, first_open};
 
 use crate::listed::Listed;
 use dp_model::{DpModel, OutOfMemory, Sub};
@@ -16,6 +17,13 @@ pub fn empty_slots(alloc: Global, workers: u32) -> Result<Vec<Option<Listed>>, O
         slots.push_reserved(None);
     }
     Ok(slots)
+}
+
+/// The value of the empty solution, where there are no variables.
+pub fn first_value<M: DpModel>(model: &M) -> Option<i64>
+    ensures { best_of [] result ≡ first_incumbent (M.meaning (M.numbers model.now)) }
+{
+    if model.vars() == 0 { Some(model.root_value()) } else { None }
 }
 
 /// Writes the root state.
