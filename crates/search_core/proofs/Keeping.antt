@@ -289,3 +289,11 @@ pub begin-kept : (dp : Dp) → IsLawful dp → (decisions : List ℕ) (value : O
 begin-kept dp laws decisions value os slots workers budget next for_best for_open cells spare_cells none best opened empty many few fits listed row spare =
     subst (λ b. IsKept dp b for_best for_open cells spare_cells) (sym (begin-same dp decisions value os slots workers budget next none best opened empty many))
     (first-kept dp laws workers budget for_best for_open cells spare_cells few fits (subst (λ (l : List Ticketed). length l ≤ for_open) opened listed) row spare)
+
+-- The slots.
+
+-- what was put into a slot is there
+pub slot-set : (slots : List (Option Ticketed)) (who : ℕ) (o : Ticketed) → who < length slots → slot_of (slice_get (set slots who (Some o)) who) ≡ Some o
+slot-set [] who o h = absurd (omega arith)
+slot-set (slot ∷ slots) zero o h = refl
+slot-set (slot ∷ slots) (suc who) o h = slot-set slots who o (omega arith)

@@ -1,5 +1,5 @@
 -- The board as data.
-use Rattle.std.specs.Prelude.{ℕ, ◌+◌, ℤ, Bool, true, false, List, [], ◌∷◌, ◌++◌, map, length, nat_eq, slice_get, Option, Some, None}
+use Rattle.std.specs.Prelude.{◌≡◌, ℕ, ◌+◌, ℤ, Bool, true, false, List, [], ◌∷◌, ◌++◌, map, length, nat_eq, slice_get, Option, Some, None}
 use Rattle.dp_model.specs.Best.{Best}
 use Rattle.dp_model.specs.Subproblem.{Subproblem}
 use Rattle.search_core.specs.declared.cause.Cause.{Cause}
@@ -58,3 +58,8 @@ prefixes os = map (λ o. o.subproblem.decisions) os
 -- whether nothing is out or open
 abbrev pub is_explored : BoardState → Bool
 is_explored b = nat_eq (length b.open_ones + length (full_slots b.slots)) 0
+
+-- the settings stay: how many workers there are, and the budget
+pub record KeepsSettings (old new : BoardState) : Type 0 where
+  pub workers : length new.slots ≡ length old.slots
+  pub budget : new.budget ≡ old.budget

@@ -7,3 +7,4 @@ pub mod Bound
 pub mod GoodBoard
 pub mod Finishing
 pub mod Kept
+pub mod Ones

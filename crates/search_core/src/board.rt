@@ -4,7 +4,7 @@ ghost use Rattle.dp_model.specs.Best.{IsBest};
 ghost use Rattle.dp_model.specs.Counts.{tree};
 ghost use Rattle.dp_model.specs.Numbers.{AtMost};
 ghost use Rattle.dp_model.specs.Prefixes.{IsSolution, value_of};
-ghost use Rattle.search_core.specs.Board.{incumbent_value, full_slots, slot_at, frontier, is_explored};
+ghost use Rattle.search_core.specs.Board.{incumbent_value, full_slots, slot_at, is_explored, KeepsSettings};
 ghost use Rattle.search_core.specs.Bound.{bound_of};
 ghost use Rattle.search_core.specs.Fates.{fates_on};
 ghost use Rattle.search_core.specs.Finishing.{contents, MayFinish};
@@ -106,8 +106,10 @@ impl<M: DpModel> Board<M> {
         ensures answer { result ≡ take_gives self.old.board }
         ensures step { self.new.board ≡ after_take self.old.board who }
         ensures copied { into.new.subproblem ≡ handed_out result self.old.board into.old.subproblem }
+        ensures out { result ≡ Taken.Sub → option_map (λ o. o.subproblem) (slot_at self.new.board who) ≡ Some into.new.subproblem }
         ensures into_room { into.old.room ≤ into.new.room }
         ensures numbers { self.new.numbers ≡ self.old.numbers }
+        ensures settings { KeepsSettings self.old.board self.new.board }
         ensures room { self.old.room ≤ self.new.room }
     {
         let answer = self.answer();
@@ -144,8 +146,10 @@ impl<M: DpModel> Board<M> {
         requires cells { length into.old.subproblem.row ≡ (M.meaning self.old.numbers).words }
         ensures step { self.new.board ≡ after_take self.old.board who }
         ensures copied { into.new.subproblem ≡ handed_out Taken.Sub self.old.board into.old.subproblem }
+        ensures out { option_map (λ o. o.subproblem) (slot_at self.new.board who) ≡ Some into.new.subproblem }
         ensures into_room { into.old.room ≤ into.new.room }
         ensures numbers { self.new.numbers ≡ self.old.numbers }
+        ensures settings { KeepsSettings self.old.board self.new.board }
         ensures room { self.old.room ≤ self.new.room }
     {
         let place = first_place(self.listed.as_slice());
@@ -161,6 +165,7 @@ impl<M: DpModel> Board<M> {
         ensures answer { ImproveGives (M.meaning self.old.numbers) self.old.board decisions.now result }
         ensures step { self.new.board ≡ after_offer result self.old.board decisions.now (value_of (M.meaning self.old.numbers) decisions.now) }
         ensures numbers { self.new.numbers ≡ self.old.numbers }
+        ensures settings { KeepsSettings self.old.board self.new.board }
         ensures room { self.old.room ≤ self.new.room }
     {
         let value = solution_value(
@@ -185,8 +190,9 @@ impl<M: DpModel> Board<M> {
     pub fn reserve_for(&mut self, count: usize) -> Result<(), OutOfMemory>
         ensures board { self.new.board ≡ self.old.board }
         ensures numbers { self.new.numbers ≡ self.old.numbers }
+        ensures settings { KeepsSettings self.old.board self.new.board }
         ensures ok { OnOk result (count ≤ self.new.room) }
-        ensures err { OnErr result (self.new.room ≡ self.old.room) }
+        ensures err { OnErr result (self.new ≡ self.old) }
         ensures room { self.old.room ≤ self.new.room }
     {
         let out = count_full(self.slots.as_slice());
@@ -215,6 +221,7 @@ impl<M: DpModel> Board<M> {
         ensures step { self.new.board ≡ finished_by self.old.board who (contents subs.old.items) }
         ensures emptied { subs.new.items ≡ [] }
         ensures numbers { self.new.numbers ≡ self.old.numbers }
+        ensures settings { KeepsSettings self.old.board self.new.board }
         ensures room { self.old.room ≤ self.new.room + length subs.old.items }
     {
         self.slots[who as usize] = None;
@@ -229,6 +236,7 @@ impl<M: DpModel> Board<M> {
         requires halted { IsSome self.old.board.cause }
         ensures step { self.new.board ≡ given_back self.old.board who }
         ensures numbers { self.new.numbers ≡ self.old.numbers }
+        ensures settings { KeepsSettings self.old.board self.new.board }
         ensures room { self.old.room ≤ self.new.room }
     {
         let slot = std::mem::replace(&mut self.slots[who as usize], None);
@@ -244,6 +252,7 @@ impl<M: DpModel> Board<M> {
         requires { cause ≢ Cause.Budget }
         ensures step { self.new.board ≡ halted self.old.board cause }
         ensures numbers { self.new.numbers ≡ self.old.numbers }
+        ensures settings { KeepsSettings self.old.board self.new.board }
         ensures room { self.new.room ≡ self.old.room }
     {
         match (self.cause, cause) {
@@ -334,6 +343,7 @@ impl<M: DpModel> Board<M> {
     pub fn is_explored(&self) -> bool
         ensures explored { result ≡ is_explored self.now.board }
         ensures best { IsTrue result → IsBest (M.meaning self.now.numbers) (incumbent_value self.now.board) }
+        ensures good { IsGood (M.meaning self.now.numbers) self.now.board }
     {
         self.listed.is_empty() && count_full(self.slots.as_slice()) == 0
     }

@@ -14,11 +14,15 @@ mod entering;
 mod fate;
 mod improved;
 mod listed;
+#[cfg(test)]
+mod ones;
 mod settings;
 mod solving;
 mod starting;
 mod taken;
 mod taking;
+#[cfg(test)]
+mod tests;
 
 pub use board::Board;
 pub use cause::Cause;

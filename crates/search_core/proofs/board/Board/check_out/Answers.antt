@@ -2,11 +2,12 @@ use Rattle.std.proofs.Common.{◌≡◌, ◌<◌, ◌≤◌, ℕ, ◌+◌, lengt
 use Rattle.std.proofs.lemmas.Option.{slice_get_read, slice_get_within}
 use Rattle.std.specs.Arc.{arc_value}
 use Rattle.std.specs.List.{slice_get}
+use Rattle.std.specs.Prelude.{option_map}
 use Rattle.dp_model.specs.Laws.{IsLawful}
 use Rattle.search_core.specs.declared.taken.Taken.TheVariants.{Sub}
 use Rattle.search_core.specs.Board.{Ticketed, BoardView}
 use Rattle.search_core.specs.Taking.{take_gives, first_taken, after_take, copy_of}
-use Rattle.search_core.proofs.Keeping.{take-kept, take-step, take-many, take-copies}
+use Rattle.search_core.proofs.Keeping.{take-kept, take-step, take-many, take-copies, slot-set}
 use Rattle.search_core.proofs.board.Board.check_out.Given as given
 use Rattle.search_core.proofs.board.Board.check_out.Goals as goal
 
@@ -78,3 +79,10 @@ returns-clause-room g c =
     let new_length = c.remove-one.new.self.ok.0 ∙ ap length c.remove-one.ensures.items in
     let old_length = c.self.inside.listed.ok.0 in
     omega arith
+
+pub returns-clause-out : goal.returns-clause-out
+returns-clause-out g c =
+    let empty = subst (λ (v : BoardView). slice_get v.board.slots c.args.who ≡ Some None) (sym c.self.view_is) c.requires.empty in
+    let within = slice_get_within c.self.inside.slots.items c.args.who None empty in
+    ap (option_map (λ (o : Ticketed). o.subproblem)) (slot-set c.self.inside.slots.items c.args.who c.remove-one.result within)
+    ∙ ap (λ p. Some p) (sym (ap (λ (o : Ticketed). o.subproblem) c.one.view_is) ∙ sym c.copy_from.ensures.copied)
