@@ -50,7 +50,7 @@ gains-any n k a s (d ∷ ds) = refl
 zero-gap : (g : ℤ) → Some (pos 0) ≡ Some g → g ≡ pos 0
 zero-gap g h = cc
 
-one-cell : (s : List ℤ) → row_same s (pos 0 ∷ []) ≡ true → length s ≡ 1
+pub one-cell : (s : List ℤ) → row_same s (pos 0 ∷ []) ≡ true → length s ≡ 1
 one-cell [] h = absurd (cc)
 one-cell (x ∷ []) h = refl
 one-cell (x ∷ y ∷ s) h = absurd (grind (arith, ints))

@@ -29,6 +29,9 @@ use std::alloc::Global;
 use std::marker::Model;
 use std::sync::Arc;
 
+/// Once the next ticket is greater, the budget counts as taken up, so that tickets never run out: 2^64 - 2^29.
+const GREATEST_TICKET: u64 = 0xFFFF_FFFF_E000_0000;
+
 /// The board of a search: what was found, what is open, and what each worker has out.
 #[derive(Drop)]
 pub struct Board<M: DpModel> {
@@ -132,7 +135,7 @@ impl<M: DpModel> Board<M> {
         if self.listed.is_empty() {
             return Taken::WaitForOthers;
         }
-        if self.taken == self.budget || self.next_ticket > (1 << 63) - (1 << 29) + (1 << 63) {
+        if self.taken == self.budget || self.next_ticket > GREATEST_TICKET {
             return Taken::Halted(Cause::Budget);
         }
         Taken::Sub
