@@ -10,3 +10,4 @@ pub mod First
 pub mod Roots
 pub mod Reading
 pub mod Keeping
+pub mod Childless

@@ -2,8 +2,15 @@ use Rattle.std.proofs.Common.{◌≡◌, ◌<◌, ◌≤◌, ◌+◌, ◌++◌, 
 use Rattle.search_core.specs.Board.{Ticketed, BoardView}
 use Rattle.search_core.specs.Fates.{entering, tickets_after}
 use Rattle.search_core.specs.Finishing.{contents, MayFinish}
+use Rattle.search_core.specs.Steps.{finished_by}
 use Rattle.search_core.proofs.Keeping.{contents-many, fates-many, finish-kept, finish-many, finish-fits}
 use Rattle.search_core.proofs.board.Board.finish.Goals as goal
+
+pub returns-clause-step : goal.returns-clause-step
+returns-clause-step g c =
+    let may = subst (λ (v : BoardView). MayFinish (g.M.DpModel.meaning v.numbers) v.board c.args.who (contents c.args.subs.now.items) c.args.fates.now) (sym c.self.view_is) c.requires.may in
+    rw (c.enter_all-self-inside.ensures.listed, c.enter_all-self-inside.ensures.next, may.fates)
+    (ap (λ (v : BoardView). finished_by v.board c.args.who (contents c.args.subs.now.items)) c.self.view_is)
 
 pub enter_all-self-inside-requires-clause-fates : goal.enter_all-self-inside-requires-clause-fates
 enter_all-self-inside-requires-clause-fates g c =
