@@ -1,0 +1,76 @@
+-- Slots that are filled and emptied, and the open list by place and by ticket.
+use Rattle.std.proofs.Common.{◌≡◌, ◌≢◌, ℕ, zero, suc, ◌+◌, ◌-◌, ◌<◌, ◌≤◌, List, [], ◌∷◌, ◌++◌, length, take, drop, set, Bool, true, false, cond, not, nat_eq, nat_lt, Option, Some, None, ◌⊎◌, inl, inr, refl, sym, ◌∙◌, ap, subst, arith}
+use Rattle.std.specs.List.{filter, slice_get, remove, insert}
+use Rattle.std.proofs.lemmas.Bool.Decides.{nat_tests}
+use Rattle.dp_model.specs.Lists.{Each}
+use Rattle.search_core.specs.Board.{Ticketed, full_slots, slot_of}
+use Rattle.search_core.specs.GoodBoard.{EachTwo}
+use Rattle.search_core.specs.Steps.{by_ticket}
+use Rattle.search_core.specs.Taking.{without}
+use Rattle.search_core.proofs.With.{IsWith, with-here, with-there}
+
+-- a slot that has something
+pub slot-full : (slot : Option (Option Ticketed)) (o : Ticketed) → slot_of slot ≡ Some o → slot ≡ Some (Some o)
+slot-full None o h = absurd (cc)
+slot-full (Some slot) o h = ap (λ x. Some x) h
+
+pub filled : (slots : List (Option Ticketed)) (who : ℕ) (o : Ticketed) → slice_get slots who ≡ Some None → IsWith o (full_slots slots) (full_slots (set slots who (Some o)))
+filled [] who o h = absurd (cc)
+filled (None ∷ slots) zero o h = with-here o (full_slots slots)
+filled (Some x ∷ slots) zero o h = absurd (cc)
+filled (None ∷ slots) (suc who) o h = filled slots who o h
+filled (Some x ∷ slots) (suc who) o h = with-there o x (full_slots slots) (full_slots (set slots who (Some o))) (filled slots who o h)
+
+pub emptied : (slots : List (Option Ticketed)) (who : ℕ) (o : Ticketed) → slice_get slots who ≡ Some (Some o) → IsWith o (full_slots (set slots who None)) (full_slots slots)
+emptied [] who o h = absurd (cc)
+emptied (None ∷ slots) zero o h = absurd (cc)
+emptied (Some x ∷ slots) zero o h =
+    let same : x ≡ o = cc in subst (λ y. IsWith o (full_slots slots) (y ∷ full_slots slots)) (sym same) (with-here o (full_slots slots))
+emptied (None ∷ slots) (suc who) o h = emptied slots who o h
+emptied (Some x ∷ slots) (suc who) o h = with-there o x (full_slots (set slots who None)) (full_slots slots) (emptied slots who o h)
+
+-- no more slots are full than there are
+pub full-few : (slots : List (Option Ticketed)) → length (full_slots slots) ≤ length slots
+full-few [] = omega arith
+full-few (None ∷ slots) = let rest = full-few slots in omega arith
+full-few (Some x ∷ slots) = let rest = full-few slots in omega arith
+
+-- the list is what stands at a place and the rest
+pub removed : (os : List Ticketed) (i : ℕ) (o : Ticketed) → slice_get os i ≡ Some o → IsWith o (remove os i) os
+removed [] i o h = absurd (cc)
+removed (x ∷ os) zero o h =
+    let same : x ≡ o = cc in subst (λ y. IsWith o os (y ∷ os)) (sym same) (with-here o os)
+removed (x ∷ os) (suc i) o h = with-there o x (remove os i) os (removed os i o h)
+
+-- none of the others goes where no other has the ticket
+without-none : (ticket : ℕ) (os : List Ticketed) → Each (λ o. ticket ≢ o.ticket) os → without ticket os ≡ os
+without-none ticket [] h = refl
+without-none ticket (x ∷ os) h =
+    let other : nat_eq x.ticket ticket ≡ false = let no : ticket ≢ x.ticket = h.0 in grind (arith, nat_tests) in
+    ap (λ b. cond (not b) (x ∷ without ticket os) (without ticket os)) other ∙ ap (λ l. x ∷ l) (without-none ticket os h.1)
+
+pub at-ticket : (R : Ticketed → Type 0) (os : List Ticketed) (i : ℕ) (o : Ticketed) → slice_get os i ≡ Some o → Each R os → R o
+at-ticket R [] i o h all = absurd (cc)
+at-ticket R (x ∷ os) zero o h all = let same : x ≡ o = cc in subst R same all.0
+at-ticket R (x ∷ os) (suc i) o h all = at-ticket R os i o h all.1
+
+-- where tickets differ, the others than the one at a place are the rest
+pub without-removed : (os : List Ticketed) (i : ℕ) (o : Ticketed) → slice_get os i ≡ Some o → EachTwo (λ a b. a.ticket ≢ b.ticket) os → without o.ticket os ≡ remove os i
+without-removed [] i o h two = absurd (cc)
+without-removed (x ∷ os) zero o h two =
+    let same : x ≡ o = cc in
+    let ticket : x.ticket ≡ o.ticket = ap (λ (y : Ticketed). y.ticket) same in
+    let here : nat_eq x.ticket o.ticket ≡ true = grind (arith, nat_tests) in
+    ap (λ b. cond (not b) (x ∷ without o.ticket os) (without o.ticket os)) here
+    ∙ without-none o.ticket os (subst (λ t. Each (λ b. t ≢ b.ticket) os) ticket two.0)
+without-removed (x ∷ os) (suc i) o h two =
+    let other : nat_eq x.ticket o.ticket ≡ false = let no : x.ticket ≢ o.ticket = at-ticket (λ b. x.ticket ≢ b.ticket) os i o h two.0 in grind (arith, nat_tests) in
+    ap (λ b. cond (not b) (x ∷ without o.ticket os) (without o.ticket os)) other ∙ ap (λ l. x ∷ l) (without-removed os i o h two.1)
+
+pub with-by_ticket : (o : Ticketed) (os : List Ticketed) → IsWith o os (by_ticket o os)
+with-by_ticket o [] = with-here o []
+with-by_ticket o (x ∷ os) =
+    elim (nat_lt o.ticket x.ticket) as (λ b. IsWith o (x ∷ os) (cond b (o ∷ x ∷ os) (x ∷ by_ticket o os))) [
+      true ↦ with-here o (x ∷ os)
+    | false ↦ with-there o x os (by_ticket o os) (with-by_ticket o os)
+    ]

@@ -1,0 +1,65 @@
+-- What every board keeps.
+use Rattle.std.specs.Prelude.{◌≡◌, ℕ, ◌+◌, ◌-◌, ◌*◌, ◌^◌, ◌<◌, ◌≤◌, ◌≢◌, ℤ, false, List, [], ◌∷◌, length, sum_by, Option, Some, None, IsTrue}
+use Rattle.dp_model.specs.Best.{Best}
+use Rattle.dp_model.specs.Counts.{pot, tree}
+use Rattle.dp_model.specs.Cover.{Covers, IsHeld}
+use Rattle.dp_model.specs.Decisions.{begins}
+use Rattle.dp_model.specs.Dp.{Dp}
+use Rattle.dp_model.specs.Lists.{Each}
+use Rattle.dp_model.specs.Numbers.{is_above}
+use Rattle.dp_model.specs.Prefixes.{IsSolution, value_of}
+use Rattle.dp_model.specs.Subproblem.{Subproblem, IsOwn}
+use Rattle.search_core.specs.declared.cause.Cause.{Cause}
+use Rattle.search_core.specs.Board.{Ticketed, BoardState, incumbent_value, full_slots, frontier, prefixes}
+
+-- a feasible solution with its value
+pub record IsIncumbent (dp : Dp) (best : Best) : Type 0 where
+  pub solution : IsSolution dp best.decisions
+  pub value : best.value ≡ value_of dp best.decisions
+
+abbrev pub IncumbentHolds : Dp → Option Best → Type 0
+IncumbentHolds dp None = Unit {0}
+IncumbentHolds dp (Some best) = IsIncumbent dp best
+
+-- a fact of each two members of a list, the earlier one first
+abbrev pub EachTwo : {X : Type 0} → (X → X → Type 0) → List X → Type 0
+EachTwo R [] = Unit {0}
+EachTwo R (x ∷ xs) = Each (R x) xs × EachTwo R xs
+
+-- neither prefix begins with the other
+pub record AreApart (a b : Subproblem) : Type 0 where
+  pub first : begins a.decisions b.decisions ≡ false
+  pub second : begins b.decisions a.decisions ≡ false
+
+-- how many prefixes begin with that of a subproblem, and how many more than itself
+abbrev pub pot_of : Dp → Ticketed → ℕ
+pot_of dp o = pot dp o.subproblem.decisions
+
+abbrev pub rest_of : Dp → Ticketed → ℕ
+rest_of dp o = pot_of dp o - 1
+
+-- the counts of a board with so many full slots and this frontier
+pub record CountsHold (dp : Dp) (b : BoardState) (full : ℕ) (os : List Ticketed) : Type 0 where
+  pub ends : b.finished + sum_by (pot_of dp) os ≤ tree dp
+  pub out : b.finished + full ≤ b.taken
+  pub balanced : b.cause ≡ None → b.finished + full ≡ b.taken
+  pub budget : b.taken ≤ b.budget
+  pub tickets : b.next_ticket + sum_by (rest_of dp) os ≤ tree dp
+  pub room : 1 ≤ full → b.next_ticket + 2 ^ 24 * full ≤ 2 ^ 64 - 2 ^ 28
+
+-- no two of the list have one ticket, and each has one that was given out
+pub record TicketsHold (next : ℕ) (os : List Ticketed) : Type 0 where
+  pub distinct : EachTwo (λ a b. a.ticket ≢ b.ticket) os
+  pub given : Each (λ o. o.ticket < next) os
+
+-- the incumbent is feasible, the frontier covers with it, each of the frontier is a prefix of its own whose bound is held,
+-- what is open is above the incumbent, no prefix of the frontier begins with another, and tickets and counts hold
+pub record IsGood (dp : Dp) (b : BoardState) : Type 0 where
+  pub incumbent : IncumbentHolds dp b.incumbent
+  pub covers : Covers dp (incumbent_value b) (prefixes (frontier b))
+  pub own : Each (λ o. IsOwn dp o.subproblem) (frontier b)
+  pub held : Each (λ o. IsHeld dp (incumbent_value b) o.subproblem.decisions o.subproblem.bound) (frontier b)
+  pub above : Each (λ o. IsTrue (is_above (incumbent_value b) o.subproblem.bound)) b.open_ones
+  pub apart : EachTwo (λ a o. AreApart a.subproblem o.subproblem) (frontier b)
+  pub tickets : TicketsHold b.next_ticket (frontier b)
+  pub counts : CountsHold dp b (length (full_slots b.slots)) (frontier b)

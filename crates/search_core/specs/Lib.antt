@@ -1,0 +1,10 @@
+pub mod Board
+pub mod Taking
+pub mod Steps
+pub mod Solving
+pub mod Fates
+pub mod Bound
+pub mod GoodBoard
+pub mod Finishing
+pub mod Kept
+pub mod Ones

@@ -1,0 +1,70 @@
+-- Which open subproblem is taken, and what Take answers.
+use Rattle.std.specs.Prelude.{ℕ, ◌+◌, ◌-◌, ◌^◌, Bool, cond, not, ◌&&◌, ◌||◌, List, [], ◌∷◌, filter, nat_eq, nat_lt, int_lt, int_le, slice_set, Option, Some, None}
+use Rattle.dp_model.specs.Subproblem.{Subproblem}
+use Rattle.search_core.specs.declared.cause.Cause.{Cause}
+use Rattle.search_core.specs.declared.cause.Cause.TheVariants.{Budget}
+use Rattle.search_core.specs.declared.taken.Taken.{Taken}
+use Rattle.search_core.specs.declared.taken.Taken.TheVariants.{Sub, WaitForOthers, Finished, Halted}
+use Rattle.search_core.specs.Board.{Ticketed, BoardState, is_explored}
+
+-- a is taken rather than b: the greater bound, then the greater value, then the lesser ticket
+abbrev pub is_taken_before : Ticketed → Ticketed → Bool
+is_taken_before a b =
+    int_lt b.subproblem.bound a.subproblem.bound || (int_le b.subproblem.bound a.subproblem.bound &&
+    (int_lt b.subproblem.value a.subproblem.value || (int_le b.subproblem.value a.subproblem.value &&
+    nat_lt a.ticket b.ticket)))
+
+abbrev pub first_from : Ticketed → List Ticketed → Ticketed
+first_from first [] = first
+first_from first (o ∷ os) = first_from (cond (is_taken_before o first) o first) os
+
+-- the one to take, where there is one
+abbrev pub first_taken : List Ticketed → Option Ticketed
+first_taken [] = None
+first_taken (o ∷ os) = Some (first_from o os)
+
+-- the others than the one with the ticket
+abbrev pub without : ℕ → List Ticketed → List Ticketed
+without ticket os = filter (λ o. not (nat_eq o.ticket ticket)) os
+
+-- the budget is taken up, or tickets come near to their end
+abbrev pub is_budget_up : BoardState → Bool
+is_budget_up b = nat_eq b.taken b.budget || nat_lt (2 ^ 64 - 2 ^ 29) b.next_ticket
+
+abbrev pub take_open : BoardState → List Ticketed → Taken
+take_open b [] = WaitForOthers
+take_open b (o ∷ os) = cond (is_budget_up b) (Halted Budget) Sub
+
+abbrev pub take_unless : BoardState → Option Cause → Taken
+take_unless b (Some cause) = Halted cause
+take_unless b None = take_open b b.open_ones
+
+-- what Take answers: the first rule that applies
+abbrev pub take_gives : BoardState → Taken
+take_gives b = cond (is_explored b) Finished (take_unless b b.cause)
+
+abbrev pub checked_out : BoardState → ℕ → Option Ticketed → BoardState
+checked_out b who None = b
+checked_out b who (Some o) = record b { open_ones = without o.ticket b.open_ones; slots = slice_set b.slots who (Some o); taken = b.taken + 1 }
+
+-- the board after an answer of Take: on `Sub` the first one goes to the worker's slot
+abbrev pub after_answer : BoardState → ℕ → Taken → BoardState
+after_answer b who Sub = checked_out b who (first_taken b.open_ones)
+after_answer b who WaitForOthers = b
+after_answer b who Finished = b
+after_answer b who (Halted cause) = b
+
+-- Take
+abbrev pub after_take : BoardState → ℕ → BoardState
+after_take b who = after_answer b who (take_gives b)
+
+abbrev pub copy_of : Subproblem → Option Ticketed → Subproblem
+copy_of c None = c
+copy_of c (Some o) = o.subproblem
+
+-- what the caller's subproblem is after an answer: on `Sub` that of the first one
+abbrev pub handed_out : Taken → BoardState → Subproblem → Subproblem
+handed_out Sub b c = copy_of c (first_taken b.open_ones)
+handed_out WaitForOthers b c = c
+handed_out Finished b c = c
+handed_out (Halted cause) b c = c

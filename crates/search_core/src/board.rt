@@ -1,0 +1,353 @@
+ghost use Rattle.std.specs.Prelude.{◌≡◌, ℕ, ◌+◌, ◌-◌, ◌^◌, ◌<◌, ◌≤◌, ◌≢◌, ◌↔◌, ℤ, true, List, [], length, slice_get, Option, Some, None, option_map, IsTrue, IfOk, OnOk, OnErr, IsSome, IsNone, vec_capacity};
+ghost use Rattle.std.specs.Arc.{arc_value};
+ghost use Rattle.dp_model.specs.Best.{IsBest};
+ghost use Rattle.dp_model.specs.Counts.{tree};
+ghost use Rattle.dp_model.specs.Numbers.{AtMost};
+ghost use Rattle.dp_model.specs.Prefixes.{IsSolution, value_of};
+ghost use Rattle.search_core.specs.Board.{incumbent_value, full_slots, slot_at, is_explored, KeepsSettings};
+ghost use Rattle.search_core.specs.Bound.{bound_of};
+ghost use Rattle.search_core.specs.Fates.{fates_on};
+ghost use Rattle.search_core.specs.Finishing.{contents, MayFinish};
+ghost use Rattle.search_core.specs.GoodBoard.{IsGood};
+ghost use Rattle.search_core.specs.Solving.{ImproveGives, after_offer};
+ghost use Rattle.search_core.specs.Steps.{first_board, finished_by, given_back, halted};
+ghost use Rattle.search_core.specs.Taking.{take_gives, after_take, handed_out};
+
+use crate::bounding::{is_above, raised_by_listed, raised_by_slots};
+use crate::cause::Cause;
+use crate::entering::{decide_all, enter_all, keep_above, put_back};
+use crate::fate::Fate;
+use crate::improved::Improved;
+use crate::listed::Listed;
+use crate::settings::Settings;
+use crate::solving::{copy_decisions, solution_value};
+use crate::starting::{empty_slots, first_open, first_value};
+use crate::taken::Taken;
+use crate::taking::{count_full, first_place};
+use dp_model::{DpModel, Found, OutOfMemory, Sub};
+use std::alloc::Global;
+use std::marker::Model;
+use std::sync::Arc;
+
+/// Once the next ticket is greater, the budget counts as taken up, so that tickets never run out: 2^64 - 2^29.
+const GREATEST_TICKET: u64 = 0xFFFF_FFFF_E000_0000;
+
+/// The board of a search: what was found, what is open, and what each worker has out.
+#[derive(Drop)]
+pub struct Board<M: DpModel> {
+    model: Arc<M>,
+    best: Vec<u32>,
+    best_value: Option<i64>,
+    listed: Vec<Listed>,
+    slots: Vec<Option<Listed>>,
+    taken: u64,
+    finished: u64,
+    budget: u64,
+    next_ticket: u64,
+    cause: Option<Cause>,
+    row: Vec<i64>,
+    spare: Vec<i64>,
+}
+
+impl<M: DpModel> Model for Board<M> {
+    ghost use Rattle.std.specs.Prelude.{◌+◌, ◌-◌, length, vec_len, vec_capacity};
+    ghost use Rattle.std.specs.Arc.{arc_value};
+    ghost use Rattle.search_core.specs.Board.{BoardView, full_slots};
+    ghost use Rattle.search_core.specs.Kept.{board_of, IsKept};
+
+    ghost Value = { BoardView };
+
+    ghost view = { λ b. record {
+      numbers = M.numbers (arc_value b.model);
+      board = board_of b.best.items b.best_value b.listed.items b.slots.items b.taken b.finished b.budget b.next_ticket b.cause;
+      room = vec_capacity b.listed - (vec_len b.listed + length (full_slots b.slots.items));
+    } };
+
+    ghost invariant = { λ b. IsKept (M.meaning (M.numbers (arc_value b.model))) (board_of b.best.items b.best_value b.listed.items b.slots.items b.taken b.finished b.budget b.next_ticket b.cause) (vec_capacity b.best) (vec_capacity b.listed) (vec_len b.row) (vec_len b.spare) };
+}
+
+impl<M: DpModel> Board<M> {
+    /// The board at the start of a search: the root is open, or, without variables, the empty solution is the incumbent.
+    /// Fails only for want of memory.
+    pub fn begin(alloc: Global, model: Arc<M>, settings: Settings) -> Result<Board<M>, OutOfMemory>
+        requires some { 1 ≤ settings.workers }
+        requires few { settings.workers ≤ 16 }
+        ensures numbers { IfOk result (λ b. b.numbers ≡ M.numbers (arc_value model)) }
+        ensures board { IfOk result (λ b. b.board ≡ first_board (M.meaning (M.numbers (arc_value model))) settings.workers settings.budget) }
+    {
+        let row = vec![in alloc; 0i64; model.words()]?;
+        let spare = vec![in alloc; 0i64; model.words()]?;
+        let best = Vec::with_capacity(alloc, model.vars())?;
+        let slots = empty_slots(alloc, settings.workers)?;
+        let listed = first_open(alloc, &*model)?;
+        let next_ticket = listed.len() as u64;
+        let best_value = first_value(&*model);
+        Ok(Board {
+            model,
+            best,
+            best_value,
+            listed,
+            slots,
+            taken: 0,
+            finished: 0,
+            budget: settings.budget,
+            next_ticket,
+            cause: None,
+            row,
+            spare,
+        })
+    }
+
+    /// The worker asks for a subproblem. The first rule that applies decides: nothing is open or out (`Finished`); a cause is
+    /// held (`Halted`); nothing is open (`WaitForOthers`); the budget is taken up (`Halted(Budget)`); otherwise the open one
+    /// with the greatest bound, then the greatest value, then the least ticket goes to the worker's slot and is copied to
+    /// `into`. It takes no memory.
+    pub fn take(&mut self, who: u32, into: &mut Sub) -> Taken
+        requires empty { slice_get self.old.board.slots who ≡ Some None }
+        requires room { (M.meaning self.old.numbers).vars ≤ into.old.room }
+        requires cells { length into.old.subproblem.row ≡ (M.meaning self.old.numbers).words }
+        ensures answer { result ≡ take_gives self.old.board }
+        ensures step { self.new.board ≡ after_take self.old.board who }
+        ensures copied { into.new.subproblem ≡ handed_out result self.old.board into.old.subproblem }
+        ensures out { result ≡ Taken.Sub → option_map (λ o. o.subproblem) (slot_at self.new.board who) ≡ Some into.new.subproblem }
+        ensures into_room { into.old.room ≤ into.new.room }
+        ensures numbers { self.new.numbers ≡ self.old.numbers }
+        ensures settings { KeepsSettings self.old.board self.new.board }
+        ensures room { self.old.room ≤ self.new.room }
+    {
+        let answer = self.answer();
+        if let Taken::Sub = answer {
+            self.check_out(who, into);
+        }
+        answer
+    }
+
+    /// The answer of `take`.
+    fn answer(&self) -> Taken
+        ensures { result ≡ take_gives self.now.board }
+    {
+        if self.is_explored() {
+            return Taken::Finished;
+        }
+        if let Some(cause) = self.cause {
+            return Taken::Halted(cause);
+        }
+        if self.listed.is_empty() {
+            return Taken::WaitForOthers;
+        }
+        if self.taken == self.budget || self.next_ticket > GREATEST_TICKET {
+            return Taken::Halted(Cause::Budget);
+        }
+        Taken::Sub
+    }
+
+    /// The first open one goes to the worker's slot, and a copy to `into`.
+    fn check_out(&mut self, who: u32, into: &mut Sub)
+        requires may { take_gives self.old.board ≡ Taken.Sub }
+        requires empty { slice_get self.old.board.slots who ≡ Some None }
+        requires room { (M.meaning self.old.numbers).vars ≤ into.old.room }
+        requires cells { length into.old.subproblem.row ≡ (M.meaning self.old.numbers).words }
+        ensures step { self.new.board ≡ after_take self.old.board who }
+        ensures copied { into.new.subproblem ≡ handed_out Taken.Sub self.old.board into.old.subproblem }
+        ensures out { option_map (λ o. o.subproblem) (slot_at self.new.board who) ≡ Some into.new.subproblem }
+        ensures into_room { into.old.room ≤ into.new.room }
+        ensures numbers { self.new.numbers ≡ self.old.numbers }
+        ensures settings { KeepsSettings self.old.board self.new.board }
+        ensures room { self.old.room ≤ self.new.room }
+    {
+        let place = first_place(self.listed.as_slice());
+        let one = self.listed.remove(place);
+        into.copy_from(&one.sub);
+        self.slots[who as usize] = Some(one);
+        self.taken += 1;
+    }
+
+    /// Offers a solution. It becomes the incumbent where it is feasible and its value is greater than the incumbent's, and
+    /// then every open subproblem whose bound is at most its value is dropped. It takes no memory.
+    pub fn improve(&mut self, decisions: &[u32]) -> Improved
+        ensures answer { ImproveGives (M.meaning self.old.numbers) self.old.board decisions.now result }
+        ensures step { self.new.board ≡ after_offer result self.old.board decisions.now (value_of (M.meaning self.old.numbers) decisions.now) }
+        ensures numbers { self.new.numbers ≡ self.old.numbers }
+        ensures settings { KeepsSettings self.old.board self.new.board }
+        ensures room { self.old.room ≤ self.new.room }
+    {
+        let value = solution_value(
+            &*self.model,
+            decisions,
+            self.row.as_mut_slice(),
+            self.spare.as_mut_slice(),
+        );
+        let Some(value) = value else {
+            return Improved::NoSolution;
+        };
+        if !is_above(self.best_value, value) {
+            return Improved::NotBetter;
+        }
+        copy_decisions(&mut self.best, decisions);
+        self.best_value = Some(value);
+        keep_above(&mut self.listed, value);
+        Improved::Yes
+    }
+
+    /// Makes `room` at least `count`: so many children have room beside all that is open or out. A refusal changes nothing.
+    pub fn reserve_for(&mut self, count: usize) -> Result<(), OutOfMemory>
+        ensures board { self.new.board ≡ self.old.board }
+        ensures numbers { self.new.numbers ≡ self.old.numbers }
+        ensures settings { KeepsSettings self.old.board self.new.board }
+        ensures ok { OnOk result (count ≤ self.new.room) }
+        ensures err { OnErr result (self.new ≡ self.old) }
+        ensures room { self.old.room ≤ self.new.room }
+    {
+        let out = count_full(self.slots.as_slice());
+        let Some(more) = count.checked_add(out) else {
+            return Err(OutOfMemory);
+        };
+        self.listed.reserve(more)
+    }
+
+    /// Decides the fates of children, all on the board as it is.
+    pub fn fates(&self, subs: &[Sub], into: &mut Vec<Fate>)
+        requires full { 1 ≤ length (full_slots self.now.board.slots) }
+        requires few { length subs.now ≤ 2 ^ 24 }
+        requires empty { into.old.items ≡ [] }
+        requires room { length subs.now ≤ vec_capacity into.old }
+        ensures fates { into.new.items ≡ fates_on self.now.board (contents subs.now) }
+        ensures capacity { vec_capacity into.new ≡ vec_capacity into.old }
+    {
+        decide_all(self.best_value, self.next_ticket, subs, into);
+    }
+
+    /// The worker's slot becomes empty, and the children enter by their fates, in order. `subs` is emptied. It takes no memory.
+    pub fn finish(&mut self, who: u32, subs: &mut Vec<Sub>, fates: &[Fate])
+        requires may { MayFinish (M.meaning self.old.numbers) self.old.board who (contents subs.old.items) fates.now }
+        requires room { length subs.old.items ≤ self.old.room }
+        ensures step { self.new.board ≡ finished_by self.old.board who (contents subs.old.items) }
+        ensures emptied { subs.new.items ≡ [] }
+        ensures numbers { self.new.numbers ≡ self.old.numbers }
+        ensures settings { KeepsSettings self.old.board self.new.board }
+        ensures room { self.old.room ≤ self.new.room + length subs.old.items }
+    {
+        self.slots[who as usize] = None;
+        self.next_ticket = enter_all(&mut self.listed, self.next_ticket, subs, fates);
+        self.finished += 1;
+    }
+
+    /// The worker hands its subproblem back, after a halt: it is open again under its own ticket, or dropped where its bound is
+    /// at most the incumbent's value. It takes no memory.
+    pub fn give_back(&mut self, who: u32)
+        requires full { IsSome (slot_at self.old.board who) }
+        requires halted { IsSome self.old.board.cause }
+        ensures step { self.new.board ≡ given_back self.old.board who }
+        ensures numbers { self.new.numbers ≡ self.old.numbers }
+        ensures settings { KeepsSettings self.old.board self.new.board }
+        ensures room { self.old.room ≤ self.new.room }
+    {
+        let slot = std::mem::replace(&mut self.slots[who as usize], None);
+        let Some(one) = slot else {
+            unreachable!();
+        };
+        put_back(&mut self.listed, self.best_value, one);
+    }
+
+    /// Halts the search. `Memory` becomes the cause only where none is held; `Journal` becomes it always. The budget is no
+    /// cause that a board keeps.
+    pub fn halt(&mut self, cause: Cause)
+        requires { cause ≢ Cause.Budget }
+        ensures step { self.new.board ≡ halted self.old.board cause }
+        ensures numbers { self.new.numbers ≡ self.old.numbers }
+        ensures settings { KeepsSettings self.old.board self.new.board }
+        ensures room { self.new.room ≡ self.old.room }
+    {
+        match (self.cause, cause) {
+            (None, Cause::Memory) => self.cause = Some(Cause::Memory),
+            (_, Cause::Journal) => self.cause = Some(Cause::Journal),
+            _ => {}
+        }
+    }
+
+    /// What the worker has out.
+    pub fn slot(&self, who: u32) -> Option<&Sub>
+        requires { who < length self.now.board.slots }
+        ensures { option_map (λ s. s.now.subproblem) result ≡ option_map (λ o. o.subproblem) (slot_at self.now.board who) }
+    {
+        match &self.slots[who as usize] {
+            Some(one) => Some(&one.sub),
+            None => None,
+        }
+    }
+
+    /// The ticket of what the worker has out.
+    pub fn slot_ticket(&self, who: u32) -> Option<u64>
+        requires { who < length self.now.board.slots }
+        ensures { result ≡ option_map (λ o. o.ticket) (slot_at self.now.board who) }
+    {
+        match &self.slots[who as usize] {
+            Some(one) => Some(one.ticket),
+            None => None,
+        }
+    }
+
+    /// The best solution found, or `None` exactly where there is none yet.
+    pub fn incumbent(&self) -> Option<Found<'_>>
+        ensures { option_map (λ f. record { decisions = f.decisions.now; value = f.value }) result ≡ self.now.board.incumbent }
+    {
+        match self.best_value {
+            Some(value) => Some(Found {
+                value,
+                decisions: self.best.as_slice(),
+            }),
+            None => None,
+        }
+    }
+
+    /// The value of the best solution found, or `None` exactly where there is none yet.
+    pub fn incumbent_value(&self) -> Option<i64>
+        ensures value { result ≡ incumbent_value self.now.board }
+        ensures good { IsGood (M.meaning self.now.numbers) self.now.board }
+    {
+        self.best_value
+    }
+
+    /// The greatest of the incumbent's value and the bounds of all that is open or out, which no feasible solution exceeds.
+    /// `None` exactly where there is no incumbent and nothing is open or out.
+    pub fn bound(&self) -> Option<i64>
+        ensures bound { result ≡ bound_of self.now.board }
+        ensures holds { (x : List ℕ) → IsSolution (M.meaning self.now.numbers) x → AtMost (value_of (M.meaning self.now.numbers) x) result }
+    {
+        let most = raised_by_slots(self.best_value, self.slots.as_slice());
+        raised_by_listed(most, self.listed.as_slice())
+    }
+
+    /// How many subproblems were taken.
+    pub fn taken(&self) -> u64
+        ensures taken { result ≡ self.now.board.taken }
+        ensures fewer { self.now.board.cause ≡ None → self.now.board.open_ones ≢ [] → result < tree (M.meaning self.now.numbers) }
+    {
+        self.taken
+    }
+
+    /// How many of them were finished.
+    pub fn finished(&self) -> u64
+        ensures finished { result ≡ self.now.board.finished }
+        ensures counts { result ≤ self.now.board.taken }
+        ensures fewer { result ≤ tree (M.meaning self.now.numbers) }
+    {
+        self.finished
+    }
+
+    /// The cause that is held, or `None` exactly where none is.
+    pub fn cause(&self) -> Option<Cause>
+        ensures { result ≡ self.now.board.cause }
+    {
+        self.cause
+    }
+
+    /// Whether nothing is open or out. Then the incumbent is best, or there is no feasible solution.
+    pub fn is_explored(&self) -> bool
+        ensures explored { result ≡ is_explored self.now.board }
+        ensures best { IsTrue result → IsBest (M.meaning self.now.numbers) (incumbent_value self.now.board) }
+        ensures good { IsGood (M.meaning self.now.numbers) self.now.board }
+    {
+        self.listed.is_empty() && count_full(self.slots.as_slice()) == 0
+    }
+}

@@ -1,0 +1,76 @@
+//! What a board begins with.
+
+ghost use Rattle.std.specs.Prelude.{◌≡◌, ◌≤◌, [], length, IfOk, option_map, vec_len, vec_capacity};
+ghost use Rattle.search_core.specs.Kept.{best_of};
+ghost use Rattle.search_core.specs.Steps.{empty_slots, root_bound, root_of, first_incumbent, first_open};
+
+use crate::listed::Listed;
+use dp_model::{DpModel, OutOfMemory, Sub};
+use std::alloc::Global;
+
+/// Slots for so many workers, all empty.
+pub fn empty_slots(alloc: Global, workers: u32) -> Result<Vec<Option<Listed>>, OutOfMemory>
+    ensures { IfOk result (λ slots. slots.items ≡ empty_slots workers) }
+{
+    let mut slots = Vec::with_capacity(alloc, workers as usize)?;
+    for _made in 0..workers {
+        slots.push_reserved(None);
+    }
+    Ok(slots)
+}
+
+/// The value of the empty solution, where there are no variables.
+pub fn first_value<M: DpModel>(model: &M) -> Option<i64>
+    ensures { best_of [] result ≡ first_incumbent (M.meaning (M.numbers model.now)) }
+{
+    if model.vars() == 0 { Some(model.root_value()) } else { None }
+}
+
+/// Writes the root state.
+fn write_root<M: DpModel>(model: &M, row: &mut Vec<i64>)
+    requires { vec_len row.old ≡ (M.meaning (M.numbers model.now)).words }
+    ensures { row.new.items ≡ (M.meaning (M.numbers model.now)).root }
+{
+    model.root(row.as_mut_slice());
+}
+
+/// The bound of the root, or `None` where it is known to have no completion.
+fn root_bound<M: DpModel>(model: &M, row: &[i64]) -> Option<i64>
+    requires { row.now ≡ (M.meaning (M.numbers model.now)).root }
+    ensures { result ≡ root_bound (M.meaning (M.numbers model.now)) }
+{
+    let Some(rough) = model.rough(0, row) else {
+        return None;
+    };
+    Some(model.root_value() + rough)
+}
+
+/// The root as a subproblem, or `None` where it is known to have no completion.
+fn root_sub<M: DpModel>(alloc: Global, model: &M) -> Result<Option<Sub>, OutOfMemory>
+    ensures { IfOk result (λ root. option_map (λ s. s.subproblem) root ≡ root_of (M.meaning (M.numbers model.now))) }
+{
+    let mut sub = Sub::blank(alloc, model.vars(), model.words())?;
+    write_root(model, &mut sub.row);
+    let Some(bound) = root_bound(model, sub.row.as_slice()) else {
+        return Ok(None);
+    };
+    sub.value = model.root_value();
+    sub.bound = bound;
+    Ok(Some(sub))
+}
+
+/// The list with the root, where there are variables and the root has a bound.
+pub fn first_open<M: DpModel>(alloc: Global, model: &M) -> Result<Vec<Listed>, OutOfMemory>
+    ensures { IfOk result (λ listed. listed.items ≡ first_open (M.meaning (M.numbers model.now))) }
+{
+    let mut listed = Vec::with_capacity(alloc, 1)?;
+    if model.vars() > 0 {
+        if let Some(sub) = root_sub(alloc, model)? {
+            listed.push_reserved(Listed {
+                ticket: 0,
+                sub,
+            });
+        }
+    }
+    Ok(listed)
+}
