@@ -1,0 +1,135 @@
+-- What holds of rows of signed benefits.
+use Rattle.std.specs.Prelude.{◌≡◌, ℕ, zero, suc, ℤ, pos, ◌+ℤ◌, ◌-ℤ◌, ◌≤ℤ◌, List, [], ◌∷◌, ◌++◌, length, drop, refl}
+use Rattle.std.specs.Int.{int_max, int_min}
+use Rattle.std.proofs.Common.{arith}
+use Rattle.std.proofs.lemmas.Int.{ints, clamps}
+use Rattle.benefit_rows.specs.Benefits.{size_of, gain_of, gains_of, rank_of, gap_between, gap_of, benefit_merged, merged_of, differences}
+
+-- One benefit.
+
+pub size_of-positive : (z : ℤ) → pos 0 ≤ℤ size_of z
+size_of-positive z = omega (arith, ints, clamps)
+
+pub size_of-add : (y z : ℤ) → size_of (y +ℤ z) ≤ℤ (size_of y +ℤ size_of z)
+size_of-add y z = omega (arith, ints, clamps)
+
+pub size_of-sub : (y z : ℤ) → size_of (y -ℤ z) ≤ℤ (size_of y +ℤ size_of z)
+size_of-sub y z = omega (arith, ints, clamps)
+
+-- a benefit lies between its size and the negated size
+pub size_of-bounds : (z : ℤ) → (z ≤ℤ size_of z) × ((pos 0 -ℤ size_of z) ≤ℤ z)
+size_of-bounds z = (omega (arith, ints, clamps), omega (arith, ints, clamps))
+
+pub gain_of-positive : (z : ℤ) (d : ℕ) → pos 0 ≤ℤ gain_of z d
+gain_of-positive z zero = omega (arith, ints, clamps)
+gain_of-positive z (suc d) = omega (arith, ints, clamps)
+
+pub gain_of-most : (z : ℤ) (d : ℕ) → gain_of z d ≤ℤ size_of z
+gain_of-most z zero = omega (arith, ints, clamps)
+gain_of-most z (suc d) = omega (arith, ints, clamps)
+
+pub gap_between-self : (z : ℤ) → gap_between z z ≡ pos 0
+gap_between-self z = omega (arith, ints, clamps)
+
+pub gap_between-positive : (a s : ℤ) → pos 0 ≤ℤ gap_between a s
+gap_between-positive a s = omega (arith, ints, clamps)
+
+pub gap_between-most : (a s : ℤ) → gap_between a s ≤ℤ size_of s
+gap_between-most a s = omega (arith, ints, clamps)
+
+pub gap_between-chain : (a b c : ℤ) → gap_between a c ≤ℤ (gap_between a b +ℤ gap_between b c)
+gap_between-chain a b c = omega (arith, ints, clamps)
+
+pub gap_between-bounds : (a s : ℤ) (d : ℕ) → gain_of s d ≤ℤ (gain_of a d +ℤ gap_between a s)
+gap_between-bounds a s zero = omega (arith, ints, clamps)
+gap_between-bounds a s (suc d) = omega (arith, ints, clamps)
+
+-- the gap by sizes alone
+pub gap_between-by_sizes : (a s : ℤ) → gap_between a s +ℤ gap_between a s ≡ (size_of s -ℤ size_of a) +ℤ size_of (s -ℤ a)
+gap_between-by_sizes a s = omega (arith, ints, clamps)
+
+-- the merged benefit is the one in the middle of the two and zero
+pub benefit_merged-middle : (a s : ℤ) → int_max (int_min a s) (int_min (int_max a s) (pos 0)) ≡ benefit_merged a s
+benefit_merged-middle a s = grind (arith, ints, clamps)
+
+pub benefit_merged-left : (a s : ℤ) → size_of (benefit_merged a s) ≤ℤ size_of a
+benefit_merged-left a s = grind (arith, ints, clamps)
+
+pub benefit_merged-right : (a s : ℤ) → size_of (benefit_merged a s) ≤ℤ size_of s
+benefit_merged-right a s = grind (arith, ints, clamps)
+
+-- Rows of them.
+
+pub rank_of-positive : (ss : List ℤ) → pos 0 ≤ℤ rank_of ss
+rank_of-positive [] = omega (arith, ints)
+rank_of-positive (s ∷ ss) = omega (arith, ints, size_of-positive s, rank_of-positive ss)
+
+pub rank_of-append : (ss more : List ℤ) → rank_of (ss ++ more) ≡ rank_of ss +ℤ rank_of more
+rank_of-append [] more = omega (arith, ints)
+rank_of-append (s ∷ ss) more = omega (arith, ints, rank_of-append ss more)
+
+pub rank_of-drop : (k : ℕ) (ss : List ℤ) → rank_of (drop k ss) ≤ℤ rank_of ss
+rank_of-drop zero ss = omega (arith, ints)
+rank_of-drop (suc k) [] = omega (arith, ints)
+rank_of-drop (suc k) (s ∷ ss) = omega (arith, ints, size_of-positive s, rank_of-drop k ss)
+
+pub gains_of-positive : (ss : List ℤ) (ds : List ℕ) → pos 0 ≤ℤ gains_of ss ds
+gains_of-positive [] ds = omega (arith, ints)
+gains_of-positive (s ∷ ss) [] = omega (arith, ints)
+gains_of-positive (s ∷ ss) (d ∷ ds) = omega (arith, ints, gain_of-positive s d, gains_of-positive ss ds)
+
+pub gains_of-most : (ss : List ℤ) (ds : List ℕ) → gains_of ss ds ≤ℤ rank_of ss
+gains_of-most [] ds = omega (arith, ints)
+gains_of-most (s ∷ ss) [] = rank_of-positive (s ∷ ss)
+gains_of-most (s ∷ ss) (d ∷ ds) = omega (arith, ints, gain_of-most s d, gains_of-most ss ds)
+
+-- a row has no gap to itself
+pub gap_of-self : (ss : List ℤ) → gap_of ss ss ≡ pos 0
+gap_of-self [] = refl
+gap_of-self (s ∷ ss) = omega (arith, ints, gap_between-self s, gap_of-self ss)
+
+pub gap_of-positive : (as_ ss : List ℤ) → pos 0 ≤ℤ gap_of as_ ss
+gap_of-positive [] ss = omega (arith, ints)
+gap_of-positive (a ∷ as_) [] = omega (arith, ints)
+gap_of-positive (a ∷ as_) (s ∷ ss) = omega (arith, ints, gap_between-positive a s, gap_of-positive as_ ss)
+
+pub gap_of-most : (as_ ss : List ℤ) → gap_of as_ ss ≤ℤ rank_of ss
+gap_of-most [] ss = rank_of-positive ss
+gap_of-most (a ∷ as_) [] = omega (arith, ints)
+gap_of-most (a ∷ as_) (s ∷ ss) = omega (arith, ints, gap_between-most a s, gap_of-most as_ ss)
+
+-- gaps add up along a chain
+pub gap_of-chain : (as_ bs cs : List ℤ) → length as_ ≡ length bs → length bs ≡ length cs → gap_of as_ cs ≤ℤ (gap_of as_ bs +ℤ gap_of bs cs)
+gap_of-chain [] bs cs p q = omega (arith, ints, gap_of-positive bs cs)
+gap_of-chain (a ∷ as_) [] cs p q = absurd (omega arith)
+gap_of-chain (a ∷ as_) (b ∷ bs) [] p q = absurd (omega arith)
+gap_of-chain (a ∷ as_) (b ∷ bs) (c ∷ cs) p q =
+    omega (arith, ints, gap_between-chain a b c, gap_of-chain as_ bs cs (omega arith) (omega arith))
+
+-- the same choices gain from the second row at most the gap more than from the first
+pub gap_of-bounds : (as_ ss : List ℤ) (ds : List ℕ) → length as_ ≡ length ss → gains_of ss ds ≤ℤ (gains_of as_ ds +ℤ gap_of as_ ss)
+gap_of-bounds [] [] ds p = omega (arith, ints)
+gap_of-bounds [] (s ∷ ss) ds p = absurd (omega arith)
+gap_of-bounds (a ∷ as_) [] ds p = absurd (omega arith)
+gap_of-bounds (a ∷ as_) (s ∷ ss) [] p = omega (arith, ints, gap_of-positive (a ∷ as_) (s ∷ ss))
+gap_of-bounds (a ∷ as_) (s ∷ ss) (d ∷ ds) p =
+    omega (arith, ints, gap_between-bounds a s d, gap_of-bounds as_ ss ds (omega arith))
+
+pub differences-most : (as_ ss : List ℤ) → rank_of (differences as_ ss) ≤ℤ (rank_of as_ +ℤ rank_of ss)
+differences-most [] ss = omega (arith, ints, rank_of-positive ss)
+differences-most (a ∷ as_) [] = omega (arith, ints, rank_of-positive (a ∷ as_))
+differences-most (a ∷ as_) (s ∷ ss) = omega (arith, ints, size_of-sub s a, differences-most as_ ss)
+
+-- twice the gap is how much greater the second rank is, and the sizes of the differences
+pub gap_of-by_sizes : (as_ ss : List ℤ) → length as_ ≡ length ss
+    → gap_of as_ ss +ℤ gap_of as_ ss ≡ (rank_of ss -ℤ rank_of as_) +ℤ rank_of (differences as_ ss)
+gap_of-by_sizes [] [] p = refl
+gap_of-by_sizes [] (s ∷ ss) p = absurd (omega arith)
+gap_of-by_sizes (a ∷ as_) [] p = absurd (omega arith)
+gap_of-by_sizes (a ∷ as_) (s ∷ ss) p =
+    omega (arith, ints, gap_between-by_sizes a s, gap_of-by_sizes as_ ss (omega arith))
+
+pub length-merged_of : (as_ ss : List ℤ) → length as_ ≡ length ss → length (merged_of as_ ss) ≡ length as_
+length-merged_of [] ss p = refl
+length-merged_of (a ∷ as_) [] p = absurd (omega arith)
+length-merged_of (a ∷ as_) (s ∷ ss) p = omega (arith, length-merged_of as_ ss (omega arith))

@@ -1,0 +1,2 @@
+pub mod Benefits
+pub mod BenefitLaws

@@ -1,0 +1,27 @@
+use crate::{above_zero, below_zero, gap, merge_into, rank, size};
+use std::test::Fail;
+
+#[test]
+fn one_benefit(rt: HostRuntime) {
+    for (benefit, above, below) in [(3i64, 3i64, 0i64), (-4, 0, 4), (0, 0, 0)] {
+        assert_eq!(rt; above_zero(benefit), above);
+        assert_eq!(rt; below_zero(benefit), below);
+        assert_eq!(rt; size(benefit), above + below);
+    }
+}
+
+#[test]
+fn rows(rt: HostRuntime) -> Result<(), Fail> {
+    let from = [5i64, -2, 0, 4, -7];
+    let to = [3i64, -6, 2, -1, -7];
+    assert_eq!(rt; rank(&from), 18);
+    assert_eq!(rt; rank(&[]), 0);
+    // 0 + 4 + 2 + 1 + 0
+    assert_eq!(rt; gap(&from, &to), 7);
+    // 2 + 0 + 0 + 4 + 0
+    assert_eq!(rt; gap(&to, &from), 6);
+    let mut merged = from;
+    merge_into(&mut merged, &to);
+    assert_eq!(rt; merged.as_slice(), [3i64, -2, 0, 0, -7].as_slice());
+    Ok(())
+}

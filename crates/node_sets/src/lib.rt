@@ -1,0 +1,18 @@
+//! Sets of small numbers, kept in the cells of a row.
+//!
+//! A set of numbers below `n` takes `words_for(n)` cells of a row of `i64`. Each cell holds a word of 32 bits, from 0 to
+//! 2^32 - 1, and the number `v` is bit `v % 32` of word `v / 32`. A contract speaks of a row by its members, `has row v`.
+//! Every call works on slices, a word at a time, and takes no memory. The crate stands on std alone.
+#![tactic(auto)]
+
+mod combine;
+mod member;
+mod test;
+mod word;
+
+pub use combine::{intersect_with, subtract, union_with};
+pub use member::{clear, contains, insert, remove};
+pub use test::{
+    count, is_disjoint, is_empty, is_set, is_subset, is_union_subset, least, next_member,
+    rows_are_sets, words_for,
+};

@@ -1,0 +1,219 @@
+//! What can be asked of sets.
+
+ghost use Rattle.std.specs.Prelude.{◌≡◌, ℕ, ℤ, List, ◌+◌, ◌*◌, ◌/◌, ◌^◌, ◌<◌, ◌≤◌, ◌↔◌, ◌&&◌, ◌||◌, not, true, false, length, IsTrue, IfSome, IfNone};
+ghost use Rattle.node_sets.specs.Sums.{count_below};
+ghost use Rattle.node_sets.specs.Sets as sets;
+ghost use Rattle.node_sets.specs.Sets.{AreWords, IsNext, has};
+
+use crate::word::word;
+
+/// How many cells hold the numbers below `n`.
+pub fn words_for(n: usize) -> usize
+    requires { n < 2 ^ 32 }
+    ensures { result ≡ sets.words_for n }
+{
+    (n + 31) / 32
+}
+
+/// Whether the row has one cell for each 32 numbers below `n`, each a word, and no member at or above `n`.
+pub fn is_set(row: &[i64], n: usize) -> bool
+    requires { n < 2 ^ 32 }
+    ensures { result ≡ sets.is_set n row.now }
+{
+    if row.len() != words_for(n) {
+        return false;
+    }
+    if !are_words(row) {
+        return false;
+    }
+    is_below(row, n)
+}
+
+fn are_words(row: &[i64]) -> bool
+    ensures { result ≡ sets.are_words row.now }
+{
+    for cell in row {
+        if *cell < 0 || *cell >= 1 << 32 {
+            return false;
+        }
+    }
+    true
+}
+
+// Only the last word can have a bit at or above `n`.
+fn is_below(row: &[i64], n: usize) -> bool
+    requires cells { AreWords row.now }
+    requires words { length row.now ≡ sets.words_for n }
+    ensures { IsTrue result ↔ ((v : ℕ) → n ≤ v → has row.now v ≡ false) }
+{
+    if n % 32 == 0 {
+        return true;
+    }
+    word(row, n / 32) >> (n % 32) == 0
+}
+
+/// Whether there is no member.
+pub fn is_empty(row: &[i64]) -> bool
+    requires { AreWords row.now }
+    ensures { IsTrue result ↔ ((v : ℕ) → has row.now v ≡ false) }
+{
+    for i in 0..row.len() {
+        if word(row, i) != 0 {
+            return false;
+        }
+    }
+    true
+}
+
+/// Whether each member of `part` is a member of `whole`.
+pub fn is_subset(part: &[i64], whole: &[i64]) -> bool
+    requires part_cells { AreWords part.now }
+    requires whole_cells { AreWords whole.now }
+    requires same { length part.now ≡ length whole.now }
+    ensures { IsTrue result ↔ ((v : ℕ) → has part.now v ≡ true → has whole.now v ≡ true) }
+{
+    for i in 0..part.len() {
+        if word(part, i) & !word(whole, i) != 0 {
+            return false;
+        }
+    }
+    true
+}
+
+/// Whether no number is a member of both.
+pub fn is_disjoint(left: &[i64], right: &[i64]) -> bool
+    requires left_cells { AreWords left.now }
+    requires right_cells { AreWords right.now }
+    requires same { length left.now ≡ length right.now }
+    ensures { IsTrue result ↔ ((v : ℕ) → has left.now v ≡ true → has right.now v ≡ false) }
+{
+    for i in 0..left.len() {
+        if word(left, i) & word(right, i) != 0 {
+            return false;
+        }
+    }
+    true
+}
+
+/// Whether each member of `one` or of `two` is a member of `wide` or of `more`.
+pub fn is_union_subset(one: &[i64], two: &[i64], wide: &[i64], more: &[i64]) -> bool
+    requires one_cells { AreWords one.now }
+    requires two_cells { AreWords two.now }
+    requires wide_cells { AreWords wide.now }
+    requires more_cells { AreWords more.now }
+    requires two_same { length one.now ≡ length two.now }
+    requires wide_same { length one.now ≡ length wide.now }
+    requires more_same { length one.now ≡ length more.now }
+    ensures { IsTrue result
+        ↔ ((v : ℕ) → (has one.now v || has two.now v) ≡ true → (has wide.now v || has more.now v) ≡ true) }
+{
+    for i in 0..one.len() {
+        let part = word(one, i) | word(two, i);
+        let whole = word(wide, i) | word(more, i);
+        if part & !whole != 0 {
+            return false;
+        }
+    }
+    true
+}
+
+/// How many members there are.
+pub fn count(row: &[i64]) -> usize
+    requires cells { AreWords row.now }
+    requires short { length row.now < 2 ^ 32 }
+    ensures { result ≡ count_below (32 * length row.now) (has row.now) }
+{
+    let mut total: usize = 0;
+    'words: for i in 0..row.len() {
+        total += word(row, i).count_ones() as usize;
+    }
+    total
+}
+
+/// The least member that is at or above `from`, or none where there is none.
+pub fn next_member(row: &[i64], from: usize) -> Option<usize>
+    requires cells { AreWords row.now }
+    requires short { length row.now < 2 ^ 32 }
+    ensures some { IfSome result (λ v. v < 32 * length row.now) }
+    ensures next { IfSome result (IsNext (has row.now) from) }
+    ensures none { IfNone result ((v : ℕ) → from ≤ v → has row.now v ≡ false) }
+{
+    if from / 32 >= row.len() {
+        return None;
+    }
+    let first = word(row, from / 32) >> (from % 32);
+    if first != 0 {
+        return Some(from + first.trailing_zeros() as usize);
+    }
+    for i in from / 32 + 1..row.len() {
+        let bits = word(row, i);
+        if bits != 0 {
+            return Some(32 * i + bits.trailing_zeros() as usize);
+        }
+    }
+    None
+}
+
+/// The least member, or none where there is no member.
+pub fn least(row: &[i64]) -> Option<usize>
+    requires cells { AreWords row.now }
+    requires short { length row.now < 2 ^ 32 }
+    ensures some { IfSome result (λ v. v < 32 * length row.now) }
+    ensures next { IfSome result (IsNext (has row.now) 0) }
+    ensures none { IfNone result ((v : ℕ) → has row.now v ≡ false) }
+{
+    next_member(row, 0)
+}
+
+/// A row of words is a set of numbers: two rows of one length with the same members are equal.
+pub fn rows_are_sets()
+    ensures { (a b : List ℤ) → AreWords a → AreWords b → length a ≡ length b
+        → ((v : ℕ) → has a v ≡ has b v) → a ≡ b }
+{}
+
+#[cfg(test)]
+mod tests {
+    use super::*;
+    use crate::combine::{intersect_with, subtract, union_with};
+    use crate::member::{clear, contains, insert, remove};
+    use std::test::Fail;
+
+    #[test]
+    fn members(rt: HostRuntime) -> Result<(), Fail> {
+        let mut row = [7i64, 9];
+        clear(&mut row);
+        insert(&mut row, 0);
+        insert(&mut row, 31);
+        insert(&mut row, 32);
+        insert(&mut row, 40);
+        remove(&mut row, 31);
+        assert_eq!(rt; row, [1, 257]);
+        assert_eq!(rt; contains(&row, 40), true);
+        assert_eq!(rt; contains(&row, 31), false);
+        assert_eq!(rt; count(&row), 3);
+        assert_eq!(rt; least(&row), Some(0));
+        assert_eq!(rt; next_member(&row, 1), Some(32));
+        assert_eq!(rt; next_member(&row, 41), None);
+        assert_eq!(rt; is_set(&row, 41), true);
+        assert_eq!(rt; is_set(&row, 40), false);
+        assert_eq!(rt; is_empty(&row), false);
+        Ok(())
+    }
+
+    #[test]
+    fn pairs(rt: HostRuntime) -> Result<(), Fail> {
+        let (odd, low, mut row) = ([0b1010i64], [0b0011i64], [0b1000i64]);
+        union_with(&mut row, &low);
+        assert_eq!(rt; row, [0b1011]);
+        intersect_with(&mut row, &odd);
+        assert_eq!(rt; row, [0b1010]);
+        subtract(&mut row, &low);
+        assert_eq!(rt; row, [0b1000]);
+        assert_eq!(rt; is_subset(&row, &odd), true);
+        assert_eq!(rt; is_subset(&odd, &low), false);
+        assert_eq!(rt; is_disjoint(&row, &low), true);
+        assert_eq!(rt; is_union_subset(&row, &low, &odd, &low), true);
+        assert_eq!(rt; is_union_subset(&odd, &low, &row, &row), false);
+        Ok(())
+    }
+}
