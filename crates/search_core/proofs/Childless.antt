@@ -1,9 +1,9 @@
 -- A finish without children on the small instance, where the incumbent is best.
-use Rattle.std.proofs.Common.{◌≡◌, ℕ, ◌+◌, ℤ, pos, ◌+ℤ◌, ◌≤ℤ◌, List, [], ◌∷◌, length, Option, Some, None, inl, refl, sym, subst, arith}
+use Rattle.std.proofs.Common.{◌≡◌, ℕ, pos, ◌≤ℤ◌, [], ◌∷◌, Option, Some, None, inl, refl, sym, subst, arith}
 use Rattle.std.proofs.lemmas.Int.{ints}
 use Rattle.std.specs.Prelude.{IsSome}
 use Rattle.dp_model.specs.Numbers.{AtMost}
-use Rattle.dp_model.specs.Prefixes.{IsCompletion, value_of}
+use Rattle.dp_model.specs.Prefixes.{value_of}
 use Rattle.search_core.specs.Board.{Ticketed, BoardState, incumbent_value, slot_at}
 use Rattle.search_core.specs.Finishing.{MayFinish}
 use Rattle.search_core.specs.Ones.{ones, gains}
@@ -25,8 +25,8 @@ childless n b who full best =
       far = tt;
       held = tt;
       matched = λ x c.
-        let most = gains n 0 (pos 0 ∷ []) x c.solution.prefix in
-        let long = c.solution.whole in
-        let within : value_of (ones n) x ≤ℤ pos n = omega (arith, ints) in
-        inl (subst (λ i. AtMost (value_of (ones n) x) i) (sym best) within);
+          let most = gains n 0 (pos 0 ∷ []) x c.solution.prefix in
+          let long = c.solution.whole in
+          let within : value_of (ones n) x ≤ℤ pos n = omega (arith, ints) in
+          inl (subst (λ i. AtMost (value_of (ones n) x) i) (sym best) within);
     }

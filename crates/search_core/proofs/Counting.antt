@@ -1,19 +1,18 @@
 -- How many prefixes begin with one of several that are apart.
-use Rattle.std.proofs.Common.{◌≡◌, ℕ, zero, suc, ◌+◌, ◌-◌, ◌<◌, ◌≤◌, ◌≢◌, ℤ, List, [], ◌∷◌, ◌++◌, map, length, drop, filter, Bool, true, false, cond, ◌&&◌, nat_eq, IsTrue, ◌⊎◌, inl, inr, refl, sym, ◌∙◌, ap, subst, arith, add-zero, length-append}
+use Rattle.std.proofs.Common.{◌≡◌, ℕ, zero, suc, ◌+◌, ◌-◌, ◌<◌, ◌≤◌, ℤ, List, [], ◌∷◌, ◌++◌, map, length, drop, filter, Bool, true, false, cond, ◌&&◌, nat_eq, inl, inr, refl, sym, ◌∙◌, ap, subst, arith, add-zero, length-append}
 use Rattle.std.specs.List.{sum_by}
 use Rattle.std.proofs.lemmas.List.Sums.{sum_by-cons}
 use Rattle.std.proofs.lemmas.Bool.Decides.{nat_tests}
 use Rattle.dp_model.specs.Counts.{pot, paths_from}
 use Rattle.dp_model.specs.Decisions.{begins, below}
-use Rattle.dp_model.specs.Dp.{Dp, IsAllowed}
-use Rattle.dp_model.specs.Lists.{Each, OneOf}
+use Rattle.dp_model.specs.Dp.{Dp}
+use Rattle.dp_model.specs.Lists.{Each}
 use Rattle.dp_model.specs.Prefixes.{IsPath, IsPrefix, end_of, state_of}
-use Rattle.dp_model.specs.Subproblem.{Subproblem, IsOwn, IsChild}
+use Rattle.dp_model.specs.Subproblem.{IsOwn, IsChild}
 use Rattle.dp_model.proofs.Members.{Has, Has-filter, Has-below}
 use Rattle.dp_model.proofs.Paths.{IsPrefix-back, state_of-append}
 use Rattle.search_core.specs.Board.{Ticketed}
 use Rattle.search_core.specs.GoodBoard.{EachTwo, AreApart, pot_of, rest_of}
-use Rattle.search_core.proofs.Lists.{each-then}
 
 -- Sums.
 
@@ -77,10 +76,10 @@ tails-paths dp k s d ([] ∷ cs) h = tails-paths dp k s d cs h.1
 tails-paths dp k s d ((e ∷ t) ∷ cs) h =
     let rest = tails-paths dp k s d cs h.1 in
     let go : (b : Bool) → nat_eq e d ≡ b → Each (IsPath dp (k + 1) (dp.step k s d)) (cond b (t ∷ tails d cs) (tails d cs)) =
-      λ b. elim b as (λ b. nat_eq e d ≡ b → Each (IsPath dp (k + 1) (dp.step k s d)) (cond b (t ∷ tails d cs) (tails d cs))) [
-        true ↦ λ same. (subst (λ x. IsPath dp (k + 1) (dp.step k s x) t) (same-is e d same) h.0.1, rest)
+    λ b. elim b as (λ b. nat_eq e d ≡ b → Each (IsPath dp (k + 1) (dp.step k s d)) (cond b (t ∷ tails d cs) (tails d cs))) [
+      | true ↦ λ same. (subst (λ x. IsPath dp (k + 1) (dp.step k s x) t) (same-is e d same) h.0.1, rest)
       | false ↦ λ other. rest
-      ] in
+    ] in
     go (nat_eq e d) refl
 
 apart-tails : (d : ℕ) (t : List ℕ) (cs : List (List ℕ)) → Each (ListsApart (d ∷ t)) cs → Each (ListsApart t) (tails d cs)
@@ -90,12 +89,12 @@ apart-tails d t ([] ∷ cs) h = apart-tails d t cs h.1
 apart-tails d t ((e ∷ u) ∷ cs) h =
     let rest = apart-tails d t cs h.1 in
     let go : (b : Bool) → nat_eq e d ≡ b → Each (ListsApart t) (cond b (u ∷ tails d cs) (tails d cs)) =
-      λ b. elim b as (λ b. nat_eq e d ≡ b → Each (ListsApart t) (cond b (u ∷ tails d cs) (tails d cs))) [
-        true ↦ λ same.
+    λ b. elim b as (λ b. nat_eq e d ≡ b → Each (ListsApart t) (cond b (u ∷ tails d cs) (tails d cs))) [
+      | true ↦ λ same.
           let here : ListsApart (d ∷ t) (d ∷ u) = subst (λ x. ListsApart (d ∷ t) (x ∷ u)) (same-is e d same) h.0 in
           (record { first = sym (begins-cons d t u) ∙ here.first; second = sym (begins-cons d u t) ∙ here.second }, rest)
       | false ↦ λ other. rest
-      ] in
+    ] in
     go (nat_eq e d) refl
 
 two-tails : (d : ℕ) (cs : List (List ℕ)) → EachTwo ListsApart cs → EachTwo ListsApart (tails d cs)
@@ -105,10 +104,10 @@ two-tails d ([] ∷ cs) h = two-tails d cs h.1
 two-tails d ((e ∷ t) ∷ cs) h =
     let rest = two-tails d cs h.1 in
     let go : (b : Bool) → nat_eq e d ≡ b → EachTwo ListsApart (cond b (t ∷ tails d cs) (tails d cs)) =
-      λ b. elim b as (λ b. nat_eq e d ≡ b → EachTwo ListsApart (cond b (t ∷ tails d cs) (tails d cs))) [
-        true ↦ λ same. (apart-tails d t cs (subst (λ x. Each (ListsApart (x ∷ t)) cs) (same-is e d same) h.0), rest)
+    λ b. elim b as (λ b. nat_eq e d ≡ b → EachTwo ListsApart (cond b (t ∷ tails d cs) (tails d cs))) [
+      | true ↦ λ same. (apart-tails d t cs (subst (λ x. Each (ListsApart (x ∷ t)) cs) (same-is e d same) h.0), rest)
       | false ↦ λ other. rest
-      ] in
+    ] in
     go (nat_eq e d) refl
 
 -- what a list counts for, by its first decision and the rest
@@ -133,8 +132,8 @@ shared g ds ((e ∷ t) ∷ cs) h =
     let f2 : ℕ → ℕ = λ d. sum_by (g d) (tails d ((e ∷ t) ∷ cs)) in
     let here : f2 e ≡ g e t + f e = ap (sum_by (g e)) (tails-here e t cs) ∙ sum_by-cons (g e) t (tails e cs) in
     let le : (d : ℕ) → f d ≤ f2 d = λ d.
-      let more = sum_by-cons (g d) t (tails d cs) in
-      elim (nat_eq e d) as (λ b. sum_by (g d) (tails d cs) ≤ sum_by (g d) (cond b (t ∷ tails d cs) (tails d cs))) [ true ↦ omega arith | false ↦ omega arith ] in
+    let more = sum_by-cons (g d) t (tails d cs) in
+    elim (nat_eq e d) as (λ b. sum_by (g d) (tails d cs) ≤ sum_by (g d) (cond b (t ∷ tails d cs) (tails d cs))) [ true ↦ omega arith | false ↦ omega arith ] in
     let sum = sum-more f f2 e (g e t) here le ds h.0 in
     omega arith
 
@@ -223,10 +222,10 @@ begins-is [] c h = refl
 begins-is (d ∷ p) [] h = absurd (cc)
 begins-is (d ∷ p) (e ∷ c) h =
     let go : (b : Bool) → nat_eq d e ≡ b → (b && begins p c) ≡ true → (e ∷ c) ≡ (d ∷ p) ++ drop (length (d ∷ p)) (e ∷ c) =
-      λ b. elim b as (λ b. nat_eq d e ≡ b → (b && begins p c) ≡ true → (e ∷ c) ≡ (d ∷ p) ++ drop (length (d ∷ p)) (e ∷ c)) [
-        true ↦ λ same h. ap (λ x. x ∷ c) (sym (same-is d e same)) ∙ ap (λ l. d ∷ l) (begins-is p c h)
+    λ b. elim b as (λ b. nat_eq d e ≡ b → (b && begins p c) ≡ true → (e ∷ c) ≡ (d ∷ p) ++ drop (length (d ∷ p)) (e ∷ c)) [
+      | true ↦ λ same h. ap (λ x. x ∷ c) (sym (same-is d e same)) ∙ ap (λ l. d ∷ l) (begins-is p c h)
       | false ↦ λ other h. absurd (cc)
-      ] in
+    ] in
     go (nat_eq d e) refl h
 
 -- what follows the parent's decisions
@@ -258,9 +257,9 @@ follows-apart : (dp : Dp) (p : List ℕ) (o : Ticketed) (os : List Ticketed) →
 follows-apart dp p o [] own h apart = tt
 follows-apart dp p o (a ∷ os) own h apart =
     let first : begins (p ++ follows p o) (p ++ follows p a) ≡ false =
-      subst (λ l. begins l (p ++ follows p a) ≡ false) (follows-is dp p o own) (subst (λ l. begins o.subproblem.decisions l ≡ false) (follows-is dp p a h.0) apart.0.first) in
+    subst (λ l. begins l (p ++ follows p a) ≡ false) (follows-is dp p o own) (subst (λ l. begins o.subproblem.decisions l ≡ false) (follows-is dp p a h.0) apart.0.first) in
     let second : begins (p ++ follows p a) (p ++ follows p o) ≡ false =
-      subst (λ l. begins l (p ++ follows p o) ≡ false) (follows-is dp p a h.0) (subst (λ l. begins a.subproblem.decisions l ≡ false) (follows-is dp p o own) apart.0.second) in
+    subst (λ l. begins l (p ++ follows p o) ≡ false) (follows-is dp p a h.0) (subst (λ l. begins a.subproblem.decisions l ≡ false) (follows-is dp p o own) apart.0.second) in
     (record { first = sym (begins-both p (follows p o) (follows p a)) ∙ first; second = sym (begins-both p (follows p a) (follows p o)) ∙ second }, follows-apart dp p o os own h.1 apart.1)
 
 follows-two : (dp : Dp) (p : List ℕ) (os : List Ticketed) → Each (λ o. IsChild dp p o.subproblem) os → EachTwo (λ a o. AreApart a.subproblem o.subproblem) os → EachTwo ListsApart (map (follows p) os)

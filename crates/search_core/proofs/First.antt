@@ -1,21 +1,21 @@
 -- The first board is good.
-use Rattle.std.proofs.Common.{◌≡◌, ◌≢◌, ℕ, zero, suc, ◌+◌, ◌-◌, ◌*◌, ◌^◌, ◌<◌, ◌≤◌, ℤ, pos, ◌+ℤ◌, ◌≤ℤ◌, List, [], ◌∷◌, ◌++◌, length, Bool, true, false, cond, nat_eq, Option, Some, None, ◌⊎◌, inl, inr, refl, sym, ◌∙◌, ap, subst, IsTrue, arith}
+use Rattle.std.proofs.Common.{◌≡◌, ◌≢◌, ℕ, zero, suc, ◌+◌, ◌<◌, ◌≤◌, ℤ, ◌+ℤ◌, ◌≤ℤ◌, List, [], ◌∷◌, ◌++◌, length, Bool, true, false, cond, nat_eq, Option, Some, None, inl, inr, refl, sym, ◌∙◌, ap, subst, IsTrue, arith}
 use Rattle.std.proofs.lemmas.Bool.Decides.{nat_tests}
 use Rattle.std.proofs.lemmas.Int.{ints}
 use Rattle.std.specs.List.{sum_by}
 use Rattle.std.proofs.lemmas.List.Sums.{sum_by-cons}
 use Rattle.dp_model.specs.Best.{Best}
-use Rattle.dp_model.specs.Counts.{pot, tree}
-use Rattle.dp_model.specs.Cover.{Covers, IsHeld}
+use Rattle.dp_model.specs.Counts.{tree}
+use Rattle.dp_model.specs.Cover.{Covers}
 use Rattle.dp_model.specs.Dp.{Dp}
 use Rattle.dp_model.specs.Gaps.{IsStateOf}
 use Rattle.dp_model.specs.Laws.{IsLawful}
-use Rattle.dp_model.specs.Lists.{Each, OneOf}
+use Rattle.dp_model.specs.Lists.{Each}
 use Rattle.dp_model.specs.Numbers.{AtMost, is_above, add_some}
-use Rattle.dp_model.specs.Prefixes.{IsSolution, IsCompletion, IsContinuation, IsMatched, value_of, gain_of}
-use Rattle.dp_model.specs.Subproblem.{Subproblem, IsOwn}
-use Rattle.search_core.specs.Board.{Ticketed, BoardState, incumbent_value, value_held, full_slots, frontier, prefixes}
-use Rattle.search_core.specs.GoodBoard.{EachTwo, AreApart, IncumbentHolds, CountsHold, TicketsHold, IsGood, pot_of, rest_of}
+use Rattle.dp_model.specs.Prefixes.{IsSolution, IsContinuation, value_of, gain_of}
+use Rattle.dp_model.specs.Subproblem.{IsOwn}
+use Rattle.search_core.specs.Board.{Ticketed, value_held, full_slots, prefixes}
+use Rattle.search_core.specs.GoodBoard.{EachTwo, AreApart, IncumbentHolds, IsGood, pot_of, rest_of}
 use Rattle.search_core.specs.Steps.{root_with, root_of, opened, empty_slots, first_incumbent, first_open, first_board}
 use Rattle.search_core.proofs.Counting.{pot-some}
 use Rattle.search_core.proofs.Frontier.{HeldBy}
@@ -88,8 +88,8 @@ begins-whole : (dp : Dp) → dp.vars ≡ 0 → Begins dp (Some (record { decisio
 begins-whole dp none = record {
   incumbent = record { solution = record { prefix = tt; whole = sym none }; value = root_value-is dp };
   covers = λ x s. (let whole : length x ≡ 0 = s.whole ∙ none in let is = no-decisions x whole in
-    let same : value_of dp x ≡ value_of dp [] = ap (value_of dp) is in let root = root_value-is dp in
-    let most : value_of dp x ≤ℤ dp.root_value = omega (arith, ints) in inl most);
+      let same : value_of dp x ≡ value_of dp [] = ap (value_of dp) is in let root = root_value-is dp in
+      let most : value_of dp x ≤ℤ dp.root_value = omega (arith, ints) in inl most);
   own = tt;
   held = tt;
   above = tt;
@@ -122,9 +122,12 @@ begins-root dp laws some (Some rough) is =
       incumbent = tt;
       covers = λ x s. inr (inl (record { by = x; completion = record { solution = s; rest = x; begins = refl }; least = omega (arith, ints) }));
       own = (record { prefix = tt; row = refl; value = root_value-is dp; shorter = some }, tt);
-      held = ((λ x c.
-        let most : gain_of dp 0 dp.root x ≤ℤ rough = subst (λ r. AtMost (gain_of dp 0 dp.root x) r) is (laws.rough.bounds 0 dp.root x (root-state dp laws) (from-root dp x c.solution)) in
-        let within : value_of dp x ≤ℤ (dp.root_value +ℤ rough) = omega (arith, ints) in inl within), tt);
+      held = (
+        (λ x c.
+            let most : gain_of dp 0 dp.root x ≤ℤ rough = subst (λ r. AtMost (gain_of dp 0 dp.root x) r) is (laws.rough.bounds 0 dp.root x (root-state dp laws) (from-root dp x c.solution)) in
+            let within : value_of dp x ≤ℤ (dp.root_value +ℤ rough) = omega (arith, ints) in inl within),
+        tt,
+      );
       above = (refl, tt);
       apart = (tt, tt);
       distinct = (tt, tt);
@@ -137,9 +140,9 @@ first-begins : (dp : Dp) → IsLawful dp → Begins dp (first_incumbent dp) (fir
 first-begins dp laws =
     let Goal : Bool → Type 0 = λ b. Begins dp (cond b (Some (record { decisions = []; value = dp.root_value })) None) (cond b [] (opened (root_of dp))) in
     let go : (b : Bool) → nat_eq dp.vars 0 ≡ b → Goal b = λ b. elim b as (λ b. nat_eq dp.vars 0 ≡ b → Goal b) [
-        true ↦ λ e. begins-whole dp (grind (arith, nat_tests))
+      | true ↦ λ e. begins-whole dp (grind (arith, nat_tests))
       | false ↦ λ e. begins-root dp laws (grind (arith, nat_tests)) (dp.rough 0 dp.root) refl
-      ] in
+    ] in
     go (nat_eq dp.vars 0) refl
 
 pub first-good : (dp : Dp) → IsLawful dp → (workers budget : ℕ) → IsGood dp (first_board dp workers budget)

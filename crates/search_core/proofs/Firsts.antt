@@ -1,5 +1,5 @@
 -- The first one so far, and the rest of the list.
-use Rattle.std.proofs.Common.{◌≡◌, ℕ, ◌+◌, ◌<◌, List, [], ◌∷◌, length, drop, get_or, Bool, true, false, cond, Option, Some, None, refl, sym, ◌∙◌, ap, arith}
+use Rattle.std.proofs.Common.{◌≡◌, ℕ, ◌+◌, ◌<◌, List, ◌∷◌, length, drop, get_or, Bool, true, false, cond, Option, Some, None, refl, sym, ◌∙◌, ap}
 use Rattle.std.proofs.lemmas.List.{drop_more}
 use Rattle.std.proofs.lemmas.Option.{slice_get_read}
 use Rattle.std.specs.List.{slice_get}
@@ -17,7 +17,7 @@ first-step os first place best one b within more best-is one-is h is =
     let first-at = slice_get_read os (length os) first best refl within best-is in
     let rest : drop place os ≡ one ∷ drop (place + 1) os = drop_more os place one more ∙ ap (λ x. x ∷ drop (place + 1) os) (sym one-is) in
     let before : first_more (Some best) (one ∷ drop (place + 1) os) ≡ first_taken os =
-      ap (λ x. first_more x (one ∷ drop (place + 1) os)) (sym first-at) ∙ (ap (first_more (slice_get os first)) (sym rest) ∙ h) in
+    ap (λ x. first_more x (one ∷ drop (place + 1) os)) (sym first-at) ∙ (ap (first_more (slice_get os first)) (sym rest) ∙ h) in
     ap (λ b. first_more (Some (cond b one best)) (drop (place + 1) os)) is ∙ before
 
 -- the one at the place is taken before the first so far

@@ -1,15 +1,14 @@
 -- The parts of a good board over lists of what is out or open.
-use Rattle.std.proofs.Common.{◌≡◌, ◌≢◌, ℕ, ◌+◌, ◌-◌, ◌<◌, ◌≤◌, ℤ, ◌≤ℤ◌, List, [], ◌∷◌, ◌++◌, map, length, Bool, true, false, ◌&&◌, nat_eq, Option, Some, None, ◌⊎◌, inl, inr, refl, sym, ◌∙◌, ap, subst, IsTrue, arith}
+use Rattle.std.proofs.Common.{◌≡◌, ◌≢◌, ℕ, ℤ, ◌≤ℤ◌, List, [], ◌∷◌, Bool, true, false, ◌&&◌, nat_eq, Option, Some, None, ◌⊎◌, inl, inr, refl, sym, ◌∙◌, arith}
 use Rattle.std.proofs.lemmas.Int.{ints}
 use Rattle.std.proofs.lemmas.Bool.Decides.{nat_tests}
 use Rattle.std.specs.List.{sum_by}
-use Rattle.std.specs.Prelude.{int_lt}
 use Rattle.dp_model.specs.Cover.{Covers, IsHeld}
 use Rattle.dp_model.specs.Decisions.{begins}
 use Rattle.dp_model.specs.Dp.{Dp}
 use Rattle.dp_model.specs.Lists.{Each, OneOf}
 use Rattle.dp_model.specs.Numbers.{AtMost, is_above}
-use Rattle.dp_model.specs.Prefixes.{IsSolution, IsCompletion, IsMatched, Reaches, value_of}
+use Rattle.dp_model.specs.Prefixes.{IsSolution, IsMatched, value_of}
 use Rattle.dp_model.specs.Subproblem.{Subproblem}
 use Rattle.search_core.specs.Board.{Ticketed, prefixes}
 use Rattle.search_core.specs.GoodBoard.{EachTwo, AreApart}
@@ -85,8 +84,8 @@ HeldBy dp inc o = IsHeld dp inc o.subproblem.decisions o.subproblem.bound
 pub matched-below : (dp : Dp) (x : List ℕ) (inc : Option ℤ) (p : List ℕ) (bound : ℤ) → IsMatched dp x p → IsHeld dp inc p bound → AtMost bound inc → AtMost (value_of dp x) inc
 matched-below dp x inc p bound m held low =
     elim (held m.by m.completion) as (λ _. AtMost (value_of dp x) inc) [
-      inl le ↦ at-most-then (value_of dp x) bound inc (let least = m.least in omega (arith, ints)) low
-    | inr most ↦ at-most-then (value_of dp x) (value_of dp m.by) inc m.least most
+      | inl le ↦ at-most-then (value_of dp x) bound inc (let least = m.least in omega (arith, ints)) low
+      | inr most ↦ at-most-then (value_of dp x) (value_of dp m.by) inc m.least most
     ]
 
 -- Prefixes that are apart.
@@ -123,8 +122,8 @@ begins-either (d ∷ a) (e ∷ b) (f ∷ c) h k =
     let first = and-both (nat_eq d f) (begins a c) h in
     let second = and-both (nat_eq e f) (begins b c) k in
     elim (begins-either a b c first.1 second.1) as (λ _. (begins (d ∷ a) (e ∷ b) ≡ true) ⊎ (begins (e ∷ b) (d ∷ a) ≡ true)) [
-      inl x ↦ inl (and-true (nat_eq d e) (begins a b) (same-from d e f first.0 second.0) x)
-    | inr x ↦ inr (and-true (nat_eq e d) (begins b a) (same-from e d f second.0 first.0) x)
+      | inl x ↦ inl (and-true (nat_eq d e) (begins a b) (same-from d e f first.0 second.0) x)
+      | inr x ↦ inr (and-true (nat_eq e d) (begins b a) (same-from e d f second.0 first.0) x)
     ]
 
 not-true : (b : Bool) → (b ≡ true → ⊥) → b ≡ false
@@ -135,6 +134,6 @@ not-true false h = refl
 pub apart-child : (p y c : Subproblem) → AreApart p y → begins p.decisions c.decisions ≡ true → AreApart y c
 apart-child p y c h extends = record {
   first = not-true (begins y.decisions c.decisions) (λ k.
-    elim (begins-either p.decisions y.decisions c.decisions extends k) as (λ _. ⊥) [ inl x ↦ (let no = h.first in absurd (cc)) | inr x ↦ (let no = h.second in absurd (cc)) ]);
+      elim (begins-either p.decisions y.decisions c.decisions extends k) as (λ _. ⊥) [ inl x ↦ (let no = h.first in absurd (cc)) | inr x ↦ (let no = h.second in absurd (cc)) ]);
   second = not-true (begins c.decisions y.decisions) (λ k. let x = begins-then p.decisions c.decisions y.decisions extends k in let no = h.first in absurd (cc));
 }

@@ -1,12 +1,10 @@
 -- What the fields of a board keep under each step.
-use Rattle.std.proofs.Common.{◌≡◌, ◌≢◌, ℕ, zero, suc, ◌+◌, ◌-◌, ◌<◌, ◌≤◌, ℤ, List, [], ◌∷◌, ◌++◌, length, set, get_or, Bool, true, false, cond, Option, Some, None, refl, sym, ◌∙◌, ap, subst, IsTrue, length-set, length-append, arith}
-use Rattle.std.proofs.lemmas.Bool.Decides.{nat_tests}
+use Rattle.std.proofs.Common.{◌≡◌, ◌≢◌, ℕ, zero, suc, ◌+◌, ◌<◌, ◌≤◌, ℤ, List, [], ◌∷◌, length, set, get_or, Bool, true, false, cond, Option, Some, None, refl, sym, ◌∙◌, ap, subst, IsTrue, length-set, length-append, arith}
 use Rattle.std.proofs.lemmas.Option.{slice_get_read, slice_get_within}
 use Rattle.std.specs.List.{slice_get, remove}
 use Rattle.std.specs.Prelude.{is_some, IsSome, int_lt, ◌^◌}
 use Rattle.dp_model.specs.Dp.{Dp}
 use Rattle.dp_model.specs.Laws.{IsLawful}
-use Rattle.dp_model.specs.Lists.{Each}
 use Rattle.dp_model.specs.Numbers.{is_above}
 use Rattle.dp_model.specs.Prefixes.{IsSolution, value_of, state_of}
 use Rattle.dp_model.specs.Subproblem.{Subproblem, Roomy, IsOwn}
@@ -14,14 +12,14 @@ use Rattle.dp_model.proofs.Paths.{state_of-state}
 use Rattle.search_core.specs.declared.cause.Cause.{Cause}
 use Rattle.search_core.specs.declared.cause.Cause.TheVariants.{Budget}
 use Rattle.search_core.specs.declared.fate.Fate.{Fate}
-use Rattle.search_core.specs.declared.taken.Taken.TheVariants.{Sub, WaitForOthers, Finished, Halted}
-use Rattle.search_core.specs.Board.{Ticketed, BoardState, incumbent_value, full_slots, slot_of, slot_at, frontier, is_explored}
-use Rattle.search_core.specs.Fates.{fate_of, ticket_after, fates_on, fates_from, entering, tickets_after}
+use Rattle.search_core.specs.declared.taken.Taken.TheVariants.{Sub, Finished, Halted}
+use Rattle.search_core.specs.Board.{Ticketed, BoardState, incumbent_value, full_slots, slot_of, is_explored}
+use Rattle.search_core.specs.Fates.{fate_of, ticket_after, fates_on, fates_from, entering}
 use Rattle.search_core.specs.Finishing.{contents, MayFinish}
 use Rattle.search_core.specs.GoodBoard.{IsGood}
-use Rattle.search_core.specs.Kept.{best_of, board_of, HasRoom, IsKept}
+use Rattle.search_core.specs.Kept.{best_of, board_of, IsKept}
 use Rattle.search_core.specs.Steps.{above_value, finished_by, given_back_from, given_back, by_ticket, back_among, halted, first_board, empty_slots, first_incumbent, first_open}
-use Rattle.search_core.specs.Taking.{without, first_taken, take_gives, take_unless, take_open, is_budget_up, checked_out, after_answer, after_take}
+use Rattle.search_core.specs.Taking.{first_taken, take_gives, take_unless, take_open, is_budget_up, checked_out, after_answer, after_take}
 use Rattle.search_core.proofs.First.{first-good, full-none, slots-many}
 use Rattle.search_core.proofs.Kids.{kids-few}
 use Rattle.search_core.proofs.Lists.{each-back}
@@ -41,8 +39,10 @@ open-hands : (b : BoardState) (os : List Ticketed) → take_open b os ≡ Sub �
 open-hands b [] h = absurd (cc)
 open-hands b (o ∷ os) h =
     let go : (up : Bool) → is_budget_up b ≡ up → cond up (Halted Budget) Sub ≡ Sub → (0 < length (o ∷ os)) × (is_budget_up b ≡ false) =
-      λ up. elim up as (λ up. is_budget_up b ≡ up → cond up (Halted Budget) Sub ≡ Sub → (0 < length (o ∷ os)) × (is_budget_up b ≡ false)) [
-        true ↦ λ e k. absurd (cc) | false ↦ λ e k. (omega arith, e) ] in
+    λ up. elim up as (λ up. is_budget_up b ≡ up → cond up (Halted Budget) Sub ≡ Sub → (0 < length (o ∷ os)) × (is_budget_up b ≡ false)) [
+      | true ↦ λ e k. absurd (cc)
+      | false ↦ λ e k. (omega arith, e)
+    ] in
     go (is_budget_up b) refl h
 
 cause-hands : (b : BoardState) (cause : Option Cause) → take_unless b cause ≡ Sub → take_open b b.open_ones ≡ Sub
@@ -52,7 +52,7 @@ cause-hands b (Some cause) h = absurd (cc)
 pub hands : (b : BoardState) → take_gives b ≡ Sub → Hands b
 hands b h =
     let go : (none : Bool) → cond none Finished (take_unless b b.cause) ≡ Sub → take_unless b b.cause ≡ Sub =
-      λ none. elim none as (λ none. cond none Finished (take_unless b b.cause) ≡ Sub → take_unless b b.cause ≡ Sub) [ true ↦ λ k. absurd (cc) | false ↦ λ k. k ] in
+    λ none. elim none as (λ none. cond none Finished (take_unless b b.cause) ≡ Sub → take_unless b b.cause ≡ Sub) [ true ↦ λ k. absurd (cc) | false ↦ λ k. k ] in
     let r = open-hands b b.open_ones (cause-hands b b.cause (go (is_explored b) h)) in
     record { some = r.0; left = r.1 }
 
@@ -128,7 +128,7 @@ improve-kept dp b x value for_best for_best2 for_open cells spare_cells k soluti
     let fewer = filter-few value b.open_ones in
     record {
       good = subst (λ v. IsGood dp (record b { incumbent = Some (record { decisions = x; value = v }); open_ones = above_value v b.open_ones })) (sym is)
-        (improve-good dp b x k.good solution (subst (λ v. is_above (incumbent_value b) v ≡ true) is up));
+          (improve-good dp b x k.good solution (subst (λ v. is_above (incumbent_value b) v ≡ true) is up));
       room = record {
         best = (let old = room.best in omega arith);
         listed = (let old = room.listed in omega arith);
@@ -204,7 +204,7 @@ back-kept dp b who o for_best for_open for_open2 cells spare_cells k at held mor
     let put = length-with o b.open_ones (by_ticket o b.open_ones) (with-by_ticket o b.open_ones) in
     let many = length-set b.slots who None in
     let few : length (back_among (incumbent_value b) o b.open_ones) ≤ length b.open_ones + 1 =
-      elim (is_above (incumbent_value b) o.subproblem.bound) as (λ up. length (cond up (by_ticket o b.open_ones) b.open_ones) ≤ length b.open_ones + 1) [ true ↦ omega arith | false ↦ omega arith ] in
+    elim (is_above (incumbent_value b) o.subproblem.bound) as (λ up. length (cond up (by_ticket o b.open_ones) b.open_ones) ≤ length b.open_ones + 1) [ true ↦ omega arith | false ↦ omega arith ] in
     record {
       good = give-back-good dp b who o k.good at held;
       room = record {

@@ -1,11 +1,11 @@
 -- The children that enter.
-use Rattle.std.proofs.Common.{◌≡◌, ◌≢◌, ℕ, ◌+◌, ◌<◌, ◌≤◌, ℤ, List, [], ◌∷◌, ◌++◌, length, Bool, true, false, cond, Option, ◌⊎◌, inl, inr, refl, sym, ◌∙◌, ap, subst, IsTrue, arith}
+use Rattle.std.proofs.Common.{◌≡◌, ◌≢◌, ℕ, ◌+◌, ◌<◌, ◌≤◌, ℤ, List, [], ◌∷◌, length, Bool, true, false, cond, Option, ◌⊎◌, inl, inr, refl, IsTrue, arith}
 use Rattle.dp_model.specs.Lists.{Each, OneOf}
 use Rattle.dp_model.specs.Numbers.{is_above}
 use Rattle.dp_model.specs.Subproblem.{Subproblem}
 use Rattle.search_core.specs.declared.fate.Fate.TheVariants.{Below, Entered}
 use Rattle.search_core.specs.Board.{Ticketed}
-use Rattle.search_core.specs.Fates.{fate_of, ticket_after, fates_from, let_in, entering, tickets_after}
+use Rattle.search_core.specs.Fates.{ticket_after, fates_from, let_in, entering, tickets_after}
 use Rattle.search_core.specs.GoodBoard.{EachTwo}
 use Rattle.search_core.proofs.Lists.{each-then}
 

@@ -1,5 +1,5 @@
 -- Facts of each member of a list, of one of them and of each two.
-use Rattle.std.proofs.Common.{◌≡◌, ℕ, ◌+◌, ◌≤◌, List, [], ◌∷◌, ◌++◌, map, filter, Bool, true, false, cond, ◌⊎◌, inl, inr, refl, sym, subst, arith}
+use Rattle.std.proofs.Common.{◌≡◌, ℕ, ◌≤◌, List, [], ◌∷◌, ◌++◌, map, filter, Bool, true, false, cond, ◌⊎◌, inl, inr, refl, arith}
 use Rattle.std.specs.List.{sum_by}
 use Rattle.std.proofs.lemmas.List.Sums.{sum_by-cons}
 use Rattle.dp_model.specs.Lists.{Each, OneOf}
@@ -35,7 +35,7 @@ pub each-passes : {X : Type 0} (p : X → Bool) (xs : List X) → Each (λ x. p 
 each-passes p [] = tt
 each-passes p (x ∷ xs) =
     let go : (b : Bool) → p x ≡ b → Each (λ x. p x ≡ true) (cond b (x ∷ filter p xs) (filter p xs)) =
-      λ b. elim b as (λ b. p x ≡ b → Each (λ x. p x ≡ true) (cond b (x ∷ filter p xs) (filter p xs))) [ true ↦ λ e. (e, each-passes p xs) | false ↦ λ e. each-passes p xs ] in
+    λ b. elim b as (λ b. p x ≡ b → Each (λ x. p x ≡ true) (cond b (x ∷ filter p xs) (filter p xs))) [ true ↦ λ e. (e, each-passes p xs) | false ↦ λ e. each-passes p xs ] in
     go (p x) refl
 
 pub one-then : {X : Type 0} (P Q : X → Type 0) → ((x : X) → P x → Q x) → (xs : List X) → OneOf P xs → OneOf Q xs
@@ -62,12 +62,12 @@ pub one-filter : {X : Type 0} (P : X → Type 0) (p : X → Bool) (xs : List X) 
 one-filter P p [] h = absurd h
 one-filter P p (x ∷ xs) (inl h) =
     let go : (b : Bool) → p x ≡ b → OneOf P (cond b (x ∷ filter p xs) (filter p xs)) ⊎ OneOf (λ x. P x × (p x ≡ false)) (x ∷ xs) =
-      λ b. elim b as (λ b. p x ≡ b → OneOf P (cond b (x ∷ filter p xs) (filter p xs)) ⊎ OneOf (λ x. P x × (p x ≡ false)) (x ∷ xs)) [ true ↦ λ e. inl (inl h) | false ↦ λ e. inr (inl (h, e)) ] in
+    λ b. elim b as (λ b. p x ≡ b → OneOf P (cond b (x ∷ filter p xs) (filter p xs)) ⊎ OneOf (λ x. P x × (p x ≡ false)) (x ∷ xs)) [ true ↦ λ e. inl (inl h) | false ↦ λ e. inr (inl (h, e)) ] in
     go (p x) refl
 one-filter P p (x ∷ xs) (inr h) =
     elim (one-filter P p xs h) as (λ _. OneOf P (cond (p x) (x ∷ filter p xs) (filter p xs)) ⊎ OneOf (λ x. P x × (p x ≡ false)) (x ∷ xs)) [
-      inl a ↦ inl (elim (p x) as (λ b. OneOf P (cond b (x ∷ filter p xs) (filter p xs))) [ true ↦ inr a | false ↦ a ])
-    | inr b ↦ inr (inr b)
+      | inl a ↦ inl (elim (p x) as (λ b. OneOf P (cond b (x ∷ filter p xs) (filter p xs))) [ true ↦ inr a | false ↦ a ])
+      | inr b ↦ inr (inr b)
     ]
 
 pub one-map : {X Y : Type 0} (f : X → Y) (P : Y → Type 0) (xs : List X) → OneOf P (map f xs) → OneOf (λ x. P (f x)) xs

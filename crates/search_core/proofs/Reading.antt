@@ -1,16 +1,15 @@
 -- What a good board says of the feasible solutions and of the counts.
-use Rattle.std.proofs.Common.{◌≡◌, ◌≢◌, ℕ, ◌+◌, ◌<◌, ◌≤◌, ℤ, ◌≤ℤ◌, List, [], ◌∷◌, ◌++◌, length, Bool, true, false, cond, nat_eq, Option, Some, None, ◌⊎◌, inl, inr, refl, sym, ◌∙◌, ap, subst, length-append, arith}
+use Rattle.std.proofs.Common.{◌≡◌, ◌≢◌, ℕ, ◌+◌, ◌<◌, ◌≤◌, ℤ, ◌≤ℤ◌, List, [], ◌∷◌, ◌++◌, length, Bool, true, false, cond, Option, Some, None, ◌⊎◌, inl, inr, refl, sym, subst, length-append, arith}
 use Rattle.std.proofs.lemmas.Bool.Decides.{nat_tests}
 use Rattle.std.proofs.lemmas.Int.{ints}
 use Rattle.std.specs.Prelude.{int_lt}
 use Rattle.dp_model.specs.Best.{Best, IsBest}
 use Rattle.dp_model.specs.Counts.{tree}
-use Rattle.dp_model.specs.Cover.{Covers}
 use Rattle.dp_model.specs.Dp.{Dp}
 use Rattle.dp_model.specs.Lists.{Each, OneOf}
 use Rattle.dp_model.specs.Numbers.{AtMost}
 use Rattle.dp_model.specs.Prefixes.{IsSolution, value_of}
-use Rattle.search_core.specs.Board.{Ticketed, BoardState, incumbent_value, value_held, full_slots, frontier, prefixes, is_explored}
+use Rattle.search_core.specs.Board.{Ticketed, BoardState, incumbent_value, value_held, full_slots, frontier, is_explored}
 use Rattle.search_core.specs.Bound.{raised, raised_by, bound_of}
 use Rattle.search_core.specs.GoodBoard.{IncumbentHolds, IsGood}
 use Rattle.search_core.specs.Kept.{best_of}
@@ -52,10 +51,10 @@ bound-holds dp b g x s =
     let most = bound_of b in
     let up : (z : ℤ) → AtMost z inc → AtMost z most = raised-keeps (frontier b) inc in
     elim (covers-by dp inc (frontier b) g.covers x s) as (λ _. AtMost (value_of dp x) most) [
-      inl a ↦ up (value_of dp x) a
-    | inr m ↦ one-out (λ o. (MatchedBy dp x o × HeldBy dp most o) × AtMost o.subproblem.bound most) (AtMost (value_of dp x) most)
-        (λ o h. matched-below dp x most o.subproblem.decisions o.subproblem.bound h.0.0 h.0.1 h.1) (frontier b)
-        (one-each (λ o. MatchedBy dp x o × HeldBy dp most o) (λ o. AtMost o.subproblem.bound most) (frontier b)
+      | inl a ↦ up (value_of dp x) a
+      | inr m ↦ one-out (λ o. (MatchedBy dp x o × HeldBy dp most o) × AtMost o.subproblem.bound most) (AtMost (value_of dp x) most)
+          (λ o h. matched-below dp x most o.subproblem.decisions o.subproblem.bound h.0.0 h.0.1 h.1) (frontier b)
+          (one-each (λ o. MatchedBy dp x o × HeldBy dp most o) (λ o. AtMost o.subproblem.bound most) (frontier b)
           (one-each (MatchedBy dp x) (HeldBy dp most) (frontier b) m (each-then (HeldBy dp inc) (HeldBy dp most) (held-by-more dp inc most up) (frontier b) g.held))
           (raised-each (frontier b) inc))
     ]
@@ -84,8 +83,10 @@ pub explored-best : (dp : Dp) (b : BoardState) → IsGood dp b → is_explored b
 explored-best dp b g h =
     let none = explored-none b h in
     best-of dp b.incumbent g.incumbent (λ x s.
-      elim (covers-by dp (incumbent_value b) (frontier b) g.covers x s) as (λ _. AtMost (value_of dp x) (incumbent_value b)) [
-        inl a ↦ a | inr m ↦ absurd (subst (λ l. OneOf (MatchedBy dp x) l) none m) ])
+    elim (covers-by dp (incumbent_value b) (frontier b) g.covers x s) as (λ _. AtMost (value_of dp x) (incumbent_value b)) [
+      | inl a ↦ a
+      | inr m ↦ absurd (subst (λ l. OneOf (MatchedBy dp x) l) none m)
+    ])
 
 -- The counts.
 

@@ -1,6 +1,6 @@
 -- Slots that are filled and emptied, and the open list by place and by ticket.
-use Rattle.std.proofs.Common.{◌≡◌, ◌≢◌, ℕ, zero, suc, ◌+◌, ◌-◌, ◌<◌, ◌≤◌, List, [], ◌∷◌, ◌++◌, length, take, drop, set, Bool, true, false, cond, not, nat_eq, nat_lt, Option, Some, None, ◌⊎◌, inl, inr, refl, sym, ◌∙◌, ap, subst, arith}
-use Rattle.std.specs.List.{filter, slice_get, remove, insert}
+use Rattle.std.proofs.Common.{◌≡◌, ◌≢◌, ℕ, zero, suc, ◌≤◌, List, [], ◌∷◌, length, set, true, false, cond, not, nat_eq, nat_lt, Option, Some, None, refl, sym, ◌∙◌, ap, subst, arith}
+use Rattle.std.specs.List.{slice_get, remove}
 use Rattle.std.proofs.lemmas.Bool.Decides.{nat_tests}
 use Rattle.dp_model.specs.Lists.{Each}
 use Rattle.search_core.specs.Board.{Ticketed, full_slots, slot_of}
@@ -71,6 +71,6 @@ pub with-by_ticket : (o : Ticketed) (os : List Ticketed) → IsWith o os (by_tic
 with-by_ticket o [] = with-here o []
 with-by_ticket o (x ∷ os) =
     elim (nat_lt o.ticket x.ticket) as (λ b. IsWith o (x ∷ os) (cond b (o ∷ x ∷ os) (x ∷ by_ticket o os))) [
-      true ↦ with-here o (x ∷ os)
-    | false ↦ with-there o x os (by_ticket o os) (with-by_ticket o os)
+      | true ↦ with-here o (x ∷ os)
+      | false ↦ with-there o x os (by_ticket o os) (with-by_ticket o os)
     ]

@@ -1,12 +1,11 @@
 -- Each step keeps a good board.
-use Rattle.std.proofs.Common.{◌≡◌, ◌≢◌, ℕ, ◌+◌, ◌-◌, ◌*◌, ◌^◌, ◌<◌, ◌≤◌, ℤ, ◌≤ℤ◌, List, [], ◌∷◌, ◌++◌, map, length, set, Bool, true, false, cond, not, ◌||◌, nat_eq, nat_lt, Option, Some, None, ◌⊎◌, inl, inr, refl, sym, ◌∙◌, ap, subst, IsTrue, append_assoc, length-append, length-set, arith}
+use Rattle.std.proofs.Common.{◌≡◌, ◌≢◌, ℕ, ◌-◌, ◌^◌, ◌<◌, ◌≤◌, ℤ, ◌≤ℤ◌, List, ◌++◌, map, length, set, Bool, true, false, cond, not, ◌||◌, nat_eq, nat_lt, Option, Some, None, ◌⊎◌, inl, inr, refl, sym, ◌∙◌, ap, subst, IsTrue, append_assoc, length-set, arith}
 use Rattle.std.proofs.lemmas.Bool.Decides.{nat_tests}
 use Rattle.std.proofs.lemmas.Int.{ints}
 use Rattle.std.proofs.lemmas.List.Sums.{sum_by-append}
-use Rattle.std.specs.List.{sum_by, slice_get, filter, remove}
+use Rattle.std.specs.List.{sum_by, slice_get, filter}
 use Rattle.std.specs.Prelude.{int_lt, is_some}
 use Rattle.dp_model.specs.Cover.{Covers, IsHeld}
-use Rattle.dp_model.specs.Counts.{tree}
 use Rattle.dp_model.specs.Dp.{Dp}
 use Rattle.dp_model.specs.Lists.{Each, OneOf}
 use Rattle.dp_model.specs.Numbers.{AtMost, is_above}
@@ -15,15 +14,15 @@ use Rattle.dp_model.specs.Subproblem.{Subproblem, IsOwn, IsChild}
 use Rattle.search_core.specs.declared.cause.Cause.{Cause}
 use Rattle.search_core.specs.declared.cause.Cause.TheVariants.{Budget, Memory, Journal}
 use Rattle.search_core.specs.declared.fate.Fate.{Fate}
-use Rattle.search_core.specs.Board.{Ticketed, BoardState, incumbent_value, full_slots, slot_at, slot_of, frontier, prefixes}
+use Rattle.search_core.specs.Board.{Ticketed, BoardState, incumbent_value, full_slots, frontier, prefixes}
 use Rattle.search_core.specs.Finishing.{MayFinish}
-use Rattle.search_core.specs.GoodBoard.{EachTwo, AreApart, CountsHold, TicketsHold, IsGood, pot_of, rest_of}
-use Rattle.search_core.specs.Steps.{improved, finished_by, given_back_from, given_back, back_among, by_ticket, cause_after, halted, above_value}
+use Rattle.search_core.specs.GoodBoard.{EachTwo, AreApart, IsGood, pot_of, rest_of}
+use Rattle.search_core.specs.Steps.{finished_by, given_back_from, by_ticket, cause_after, halted, above_value}
 use Rattle.search_core.specs.Taking.{without, is_budget_up, checked_out}
 use Rattle.search_core.proofs.Counting.{children-below, pots-split}
-use Rattle.search_core.proofs.Frontier.{not-above, at-most-then, at-most-above, each-moved, one-moved, two-moved, sum-moved, tickets-flip, apart-flip, MatchedBy, CoversBy, HeldBy, covers-by, covers-from, matched-below, apart-child}
+use Rattle.search_core.proofs.Frontier.{not-above, at-most-then, at-most-above, each-moved, one-moved, two-moved, sum-moved, tickets-flip, apart-flip, MatchedBy, HeldBy, covers-by, covers-from, matched-below, apart-child}
 use Rattle.search_core.proofs.Kids.{kids, next_after, kids-each, kids-two, kids-above, kids-from, next-many, kids-few, kids-given, kids-differ, kids-one}
-use Rattle.search_core.proofs.Lists.{each-then, each-both, each-append, each-front, each-back, each-filter, each-passes, one-then, one-map, one-left, one-right, one-cases, one-filter, one-each, one-out, two-filter, two-append, two-front, two-back, two-across, sum-filter}
+use Rattle.search_core.proofs.Lists.{each-then, each-append, each-front, each-back, each-filter, each-passes, one-then, one-map, one-left, one-right, one-cases, one-filter, one-each, one-out, two-filter, two-append, two-front, two-back, two-across, sum-filter}
 use Rattle.search_core.proofs.Slots.{slot-full, filled, emptied, full-few, removed, without-removed, with-by_ticket}
 use Rattle.search_core.proofs.With.{IsWith, with-left, with-right, each-out, each-in, one-out_of, two-out, sum-with, length-with}
 
@@ -72,8 +71,10 @@ take-good dp b who i o g few empty at left =
     record {
       incumbent = g.incumbent;
       covers = covers-from dp (incumbent_value b) (full2 ++ rest) (λ x s.
-        elim (covers-by dp (incumbent_value b) (frontier b) g.covers x s) as (λ _. AtMost (value_of dp x) (incumbent_value b) ⊎ OneOf (MatchedBy dp x) (full2 ++ rest)) [
-          inl a ↦ inl a | inr m ↦ inr (one-moved (MatchedBy dp x) o base (frontier b) (full2 ++ rest) from to m) ]);
+          elim (covers-by dp (incumbent_value b) (frontier b) g.covers x s) as (λ _. AtMost (value_of dp x) (incumbent_value b) ⊎ OneOf (MatchedBy dp x) (full2 ++ rest)) [
+            | inl a ↦ inl a
+            | inr m ↦ inr (one-moved (MatchedBy dp x) o base (frontier b) (full2 ++ rest) from to m)
+          ]);
       own = each-moved (λ o. IsOwn dp o.subproblem) o base (frontier b) (full2 ++ rest) from to g.own;
       held = each-moved (HeldBy dp (incumbent_value b)) o base (frontier b) (full2 ++ rest) from to g.held;
       above = each-filter (λ o. IsTrue (is_above (incumbent_value b) o.subproblem.bound)) (λ a. not-same a.ticket o.ticket) b.open_ones g.above;
@@ -117,26 +118,26 @@ improve-good dp b x g solution up =
     let ends = sum-front (pot_of dp) p full b.open_ones in
     let shares = sum-front (rest_of dp) p full b.open_ones in
     let each : (P : Ticketed → Type 0) → Each P (frontier b) → Each P (full ++ stay) = λ P h.
-      each-append P full stay (each-front P full b.open_ones h) (each-filter P p b.open_ones (each-back P full b.open_ones h)) in
+    each-append P full stay (each-front P full b.open_ones h) (each-filter P p b.open_ones (each-back P full b.open_ones h)) in
     let two : (R : Ticketed → Ticketed → Type 0) → EachTwo R (frontier b) → EachTwo R (full ++ stay) = λ R h.
-      two-append R full stay (two-front R full b.open_ones h) (two-filter R p b.open_ones (two-back R full b.open_ones h))
-      (each-then (λ a. Each (R a) b.open_ones) (λ a. Each (R a) stay) (λ a k. each-filter (R a) p b.open_ones k) full (two-across R full b.open_ones h)) in
+    two-append R full stay (two-front R full b.open_ones h) (two-filter R p b.open_ones (two-back R full b.open_ones h))
+    (each-then (λ a. Each (R a) b.open_ones) (λ a. Each (R a) stay) (λ a k. each-filter (R a) p b.open_ones k) full (two-across R full b.open_ones h)) in
     record {
       incumbent = record { solution = solution; value = refl };
       covers = covers-from dp (Some value) (full ++ stay) (λ y s.
-        let Answer : Type 0 = AtMost (value_of dp y) (Some value) ⊎ OneOf (MatchedBy dp y) (full ++ stay) in
-        elim (covers-by dp inc (frontier b) g.covers y s) as (λ _. Answer) [
-          inl a ↦ inl (better dp inc value y up a)
-        | inr m ↦ elim (one-cases (MatchedBy dp y) full b.open_ones m) as (λ _. Answer) [
-            inl a ↦ inr (one-left (MatchedBy dp y) full stay a)
-          | inr k ↦ elim (one-filter (MatchedBy dp y) p b.open_ones k) as (λ _. Answer) [
-              inl a ↦ inr (one-right (MatchedBy dp y) full stay a)
-            | inr low ↦ inl (one-out (λ o. (MatchedBy dp y o × (p o ≡ false)) × HeldBy dp inc o) (AtMost (value_of dp y) (Some value))
-                (λ o h. matched-below dp y (Some value) o.subproblem.decisions o.subproblem.bound h.0.0 (held-better dp inc value up o h.1) (not-above (Some value) o.subproblem.bound h.0.1))
-                b.open_ones (one-each (λ o. MatchedBy dp y o × (p o ≡ false)) (HeldBy dp inc) b.open_ones low (each-back (HeldBy dp inc) full b.open_ones g.held)))
+          let Answer : Type 0 = AtMost (value_of dp y) (Some value) ⊎ OneOf (MatchedBy dp y) (full ++ stay) in
+          elim (covers-by dp inc (frontier b) g.covers y s) as (λ _. Answer) [
+            | inl a ↦ inl (better dp inc value y up a)
+            | inr m ↦ elim (one-cases (MatchedBy dp y) full b.open_ones m) as (λ _. Answer) [
+              | inl a ↦ inr (one-left (MatchedBy dp y) full stay a)
+              | inr k ↦ elim (one-filter (MatchedBy dp y) p b.open_ones k) as (λ _. Answer) [
+                | inl a ↦ inr (one-right (MatchedBy dp y) full stay a)
+                | inr low ↦ inl (one-out (λ o. (MatchedBy dp y o × (p o ≡ false)) × HeldBy dp inc o) (AtMost (value_of dp y) (Some value))
+                    (λ o h. matched-below dp y (Some value) o.subproblem.decisions o.subproblem.bound h.0.0 (held-better dp inc value up o h.1) (not-above (Some value) o.subproblem.bound h.0.1))
+                    b.open_ones (one-each (λ o. MatchedBy dp y o × (p o ≡ false)) (HeldBy dp inc) b.open_ones low (each-back (HeldBy dp inc) full b.open_ones g.held)))
+              ]
             ]
-          ]
-        ]);
+          ]);
       own = each (λ o. IsOwn dp o.subproblem) g.own;
       held = each (HeldBy dp (Some value)) (each-then (HeldBy dp inc) (HeldBy dp (Some value)) (held-better dp inc value up) (frontier b) g.held);
       above = each-passes p b.open_ones;
@@ -169,16 +170,16 @@ passed-on dp inc o cs ticket base held matched x m =
     let Answer : Type 0 = AtMost (value_of dp x) inc ⊎ OneOf (MatchedBy dp x) (base ++ new) in
     let P : Subproblem → Type 0 = λ c. IsMatched dp x c.decisions in
     elim (matched m.by m.completion) as (λ _. Answer) [
-      inl most ↦ inl (at-most-then (value_of dp x) (value_of dp m.by) inc m.least most)
-    | inr one ↦
-      let mine = one-then (λ (c : Subproblem). IsMatched dp m.by c.decisions) P (λ c k. record { by = k.by; completion = k.completion; least = (let first = m.least in let second = k.least in omega (arith, ints)) }) cs
-        (one-map (λ (c : Subproblem). c.decisions) (IsMatched dp m.by) cs one) in
-      elim (kids-one P inc ticket cs mine) as (λ _. Answer) [
-        inl entered ↦ inr (one-right (MatchedBy dp x) base new entered)
-      | inr low ↦ inl (one-out (λ c. (P c × (is_above inc c.bound ≡ false)) × IsHeld dp inc c.decisions c.bound) (AtMost (value_of dp x) inc)
-          (λ c h. matched-below dp x inc c.decisions c.bound h.0.0 h.1 (not-above inc c.bound h.0.1))
-          cs (one-each (λ c. P c × (is_above inc c.bound ≡ false)) (λ c. IsHeld dp inc c.decisions c.bound) cs low held))
-      ]
+      | inl most ↦ inl (at-most-then (value_of dp x) (value_of dp m.by) inc m.least most)
+      | inr one ↦
+          let mine = one-then (λ (c : Subproblem). IsMatched dp m.by c.decisions) P (λ c k. record { by = k.by; completion = k.completion; least = (let first = m.least in let second = k.least in omega (arith, ints)) }) cs
+          (one-map (λ (c : Subproblem). c.decisions) (IsMatched dp m.by) cs one) in
+          elim (kids-one P inc ticket cs mine) as (λ _. Answer) [
+            | inl entered ↦ inr (one-right (MatchedBy dp x) base new entered)
+            | inr low ↦ inl (one-out (λ c. (P c × (is_above inc c.bound ≡ false)) × IsHeld dp inc c.decisions c.bound) (AtMost (value_of dp x) inc)
+                (λ c h. matched-below dp x inc c.decisions c.bound h.0.0 h.1 (not-above inc c.bound h.0.1))
+                cs (one-each (λ c. P c × (is_above inc c.bound ≡ false)) (λ c. IsHeld dp inc c.decisions c.bound) cs low held))
+          ]
     ]
 
 pub finish-good : (dp : Dp) (b : BoardState) (who : ℕ) (cs : List Subproblem) (fs : List Fate) → IsGood dp b → MayFinish dp b who cs fs → IsGood dp (finished_by b who cs)
@@ -205,10 +206,10 @@ finish-good dp b who cs fs g m =
     let own_new = each-then (λ o. IsChild dp p o.subproblem) (λ o. IsOwn dp o.subproblem) (λ o h. h.own) new children in
     let apart_new = kids-two AreApart inc b.next_ticket cs m.apart in
     let apart_across = each-then (λ y. AreApart o.subproblem y.subproblem) (λ y. Each (λ k. AreApart y.subproblem k.subproblem) new)
-      (λ y h. each-then (λ k. IsChild dp p k.subproblem) (λ k. AreApart y.subproblem k.subproblem) (λ k child. apart-child o.subproblem y.subproblem k.subproblem h child.extends) new children) base apart_out.0 in
+    (λ y h. each-then (λ k. IsChild dp p k.subproblem) (λ k. AreApart y.subproblem k.subproblem) (λ k child. apart-child o.subproblem y.subproblem k.subproblem h child.extends) new children) base apart_out.0 in
     let from_new = kids-from inc b.next_ticket cs in
     let tickets_across = each-then (λ (y : Ticketed). y.ticket < b.next_ticket) (λ y. Each (λ k. y.ticket ≢ k.ticket) new)
-      (λ y h. each-then (λ (k : Ticketed). b.next_ticket ≤ k.ticket) (λ k. y.ticket ≢ k.ticket) (λ k later. omega arith) new from_new) base given_out.1 in
+    (λ y h. each-then (λ (k : Ticketed). b.next_ticket ≤ k.ticket) (λ k. y.ticket ≢ k.ticket) (λ k later. omega arith) new from_new) base given_out.1 in
     let many = next-many inc b.next_ticket cs in
     let few = kids-few inc b.next_ticket cs in
     let limit = m.few in
@@ -220,18 +221,18 @@ finish-good dp b who cs fs g m =
     let shares_after = ap (sum_by (rest_of dp)) (sym same) ∙ sum_by-append (rest_of dp) base new in
     let each : (P : Ticketed → Type 0) → Each P base → Each P new → Each P (full2 ++ (b.open_ones ++ new)) = λ P h k. subst (λ l. Each P l) same (each-append P base new h k) in
     let two : (R : Ticketed → Ticketed → Type 0) → EachTwo R base → EachTwo R new → Each (λ a. Each (R a) new) base → EachTwo R (full2 ++ (b.open_ones ++ new)) =
-      λ R h k across. subst (λ l. EachTwo R l) same (two-append R base new h k across) in
+    λ R h k across. subst (λ l. EachTwo R l) same (two-append R base new h k across) in
     record {
       incumbent = g.incumbent;
       covers = subst (λ l. CoversOf dp inc l) same (covers-from dp inc after (λ x s.
-        let Answer : Type 0 = AtMost (value_of dp x) inc ⊎ OneOf (MatchedBy dp x) after in
-        elim (covers-by dp inc (frontier b) g.covers x s) as (λ _. Answer) [
-          inl a ↦ inl a
-        | inr h ↦ elim (one-out_of (MatchedBy dp x) o base (frontier b) out h) as (λ _. Answer) [
-            inl here ↦ passed-on dp inc o cs b.next_ticket base m.held m.matched x here
-          | inr other ↦ inr (one-left (MatchedBy dp x) base new other)
-          ]
-        ]));
+          let Answer : Type 0 = AtMost (value_of dp x) inc ⊎ OneOf (MatchedBy dp x) after in
+          elim (covers-by dp inc (frontier b) g.covers x s) as (λ _. Answer) [
+            | inl a ↦ inl a
+            | inr h ↦ elim (one-out_of (MatchedBy dp x) o base (frontier b) out h) as (λ _. Answer) [
+              | inl here ↦ passed-on dp inc o cs b.next_ticket base m.held m.matched x here
+              | inr other ↦ inr (one-left (MatchedBy dp x) base new other)
+            ]
+          ]));
       own = each (λ o. IsOwn dp o.subproblem) own_out.1 own_new;
       held = each (HeldBy dp inc) held_out.1 (kids-each (λ c. IsHeld dp inc c.decisions c.bound) inc b.next_ticket cs m.held);
       above = each-append (λ o. IsTrue (is_above inc o.subproblem.bound)) b.open_ones new g.above (kids-above inc b.next_ticket cs);
@@ -239,8 +240,8 @@ finish-good dp b who cs fs g m =
       tickets = record {
         distinct = two (λ a o. a.ticket ≢ o.ticket) tickets_out.1 (kids-differ inc b.next_ticket cs) tickets_across;
         given = each (λ o. o.ticket < next_after inc b.next_ticket cs)
-          (each-then (λ (y : Ticketed). y.ticket < b.next_ticket) (λ y. y.ticket < next_after inc b.next_ticket cs) (λ y h. omega arith) base given_out.1)
-          (kids-given inc b.next_ticket cs);
+            (each-then (λ (y : Ticketed). y.ticket < b.next_ticket) (λ y. y.ticket < next_after inc b.next_ticket cs) (λ y h. omega arith) base given_out.1)
+            (kids-given inc b.next_ticket cs);
       };
       counts = record {
         ends = (let old = c.ends in omega arith);
@@ -274,8 +275,10 @@ back-good dp b who o g at held true up =
     record {
       incumbent = g.incumbent;
       covers = covers-from dp inc after (λ x s.
-        elim (covers-by dp inc (frontier b) g.covers x s) as (λ _. AtMost (value_of dp x) inc ⊎ OneOf (MatchedBy dp x) after) [
-          inl a ↦ inl a | inr m ↦ inr (one-moved (MatchedBy dp x) o base (frontier b) after from to m) ]);
+          elim (covers-by dp inc (frontier b) g.covers x s) as (λ _. AtMost (value_of dp x) inc ⊎ OneOf (MatchedBy dp x) after) [
+            | inl a ↦ inl a
+            | inr m ↦ inr (one-moved (MatchedBy dp x) o base (frontier b) after from to m)
+          ]);
       own = each-moved (λ o. IsOwn dp o.subproblem) o base (frontier b) after from to g.own;
       held = each-moved (HeldBy dp inc) o base (frontier b) after from to g.held;
       above = each-in (λ o. IsTrue (is_above inc o.subproblem.bound)) o b.open_ones (by_ticket o b.open_ones) put up g.above;
@@ -308,14 +311,14 @@ back-good dp b who o g at held false low =
     record {
       incumbent = g.incumbent;
       covers = covers-from dp inc base (λ x s.
-        let Answer : Type 0 = AtMost (value_of dp x) inc ⊎ OneOf (MatchedBy dp x) base in
-        elim (covers-by dp inc (frontier b) g.covers x s) as (λ _. Answer) [
-          inl a ↦ inl a
-        | inr m ↦ elim (one-out_of (MatchedBy dp x) o base (frontier b) out m) as (λ _. Answer) [
-            inl here ↦ inl (matched-below dp x inc o.subproblem.decisions o.subproblem.bound here held_out.0 (not-above inc o.subproblem.bound low))
-          | inr other ↦ inr other
-          ]
-        ]);
+          let Answer : Type 0 = AtMost (value_of dp x) inc ⊎ OneOf (MatchedBy dp x) base in
+          elim (covers-by dp inc (frontier b) g.covers x s) as (λ _. Answer) [
+            | inl a ↦ inl a
+            | inr m ↦ elim (one-out_of (MatchedBy dp x) o base (frontier b) out m) as (λ _. Answer) [
+              | inl here ↦ inl (matched-below dp x inc o.subproblem.decisions o.subproblem.bound here held_out.0 (not-above inc o.subproblem.bound low))
+              | inr other ↦ inr other
+            ]
+          ]);
       own = (each-out (λ o. IsOwn dp o.subproblem) o base (frontier b) out g.own).1;
       held = held_out.1;
       above = g.above;

@@ -1,10 +1,9 @@
 -- A list with one member more.
-use Rattle.std.proofs.Common.{◌≡◌, ℕ, ◌+◌, List, [], ◌∷◌, ◌++◌, map, length, ◌⊎◌, inl, inr, refl, sym, ◌∙◌, ap, subst, append_assoc, length-append, arith}
+use Rattle.std.proofs.Common.{◌≡◌, ℕ, ◌+◌, List, [], ◌∷◌, ◌++◌, length, ◌⊎◌, inl, inr, refl, sym, ◌∙◌, ap, subst, append_assoc, length-append, arith}
 use Rattle.std.specs.List.{sum_by}
 use Rattle.std.proofs.lemmas.List.Sums.{sum_by-cons, sum_by-append}
 use Rattle.dp_model.specs.Lists.{Each, OneOf}
 use Rattle.search_core.specs.GoodBoard.{EachTwo}
-use Rattle.search_core.proofs.Lists.{each-append, each-front, each-back}
 
 -- the whole list is the rest with one more, somewhere
 pub record IsWith {X : Type 0} (o : X) (rest whole : List X) : Type 0 where

@@ -1,5 +1,5 @@
 -- The board as data.
-use Rattle.std.specs.Prelude.{◌≡◌, ℕ, ◌+◌, ℤ, Bool, true, false, List, [], ◌∷◌, ◌++◌, map, length, nat_eq, slice_get, Option, Some, None}
+use Rattle.std.specs.Prelude.{◌≡◌, ℕ, ◌+◌, ℤ, Bool, List, [], ◌∷◌, ◌++◌, map, length, nat_eq, slice_get, Option, Some, None}
 use Rattle.dp_model.specs.Best.{Best}
 use Rattle.dp_model.specs.Subproblem.{Subproblem}
 use Rattle.search_core.specs.declared.cause.Cause.{Cause}

@@ -1,5 +1,5 @@
 -- What every board keeps.
-use Rattle.std.specs.Prelude.{◌≡◌, ℕ, ◌+◌, ◌-◌, ◌*◌, ◌^◌, ◌<◌, ◌≤◌, ◌≢◌, ℤ, false, List, [], ◌∷◌, length, sum_by, Option, Some, None, IsTrue}
+use Rattle.std.specs.Prelude.{◌≡◌, ℕ, ◌+◌, ◌-◌, ◌*◌, ◌^◌, ◌<◌, ◌≤◌, ◌≢◌, false, List, [], ◌∷◌, length, sum_by, Option, Some, None, IsTrue}
 use Rattle.dp_model.specs.Best.{Best}
 use Rattle.dp_model.specs.Counts.{pot, tree}
 use Rattle.dp_model.specs.Cover.{Covers, IsHeld}
@@ -9,7 +9,6 @@ use Rattle.dp_model.specs.Lists.{Each}
 use Rattle.dp_model.specs.Numbers.{is_above}
 use Rattle.dp_model.specs.Prefixes.{IsSolution, value_of}
 use Rattle.dp_model.specs.Subproblem.{Subproblem, IsOwn}
-use Rattle.search_core.specs.declared.cause.Cause.{Cause}
 use Rattle.search_core.specs.Board.{Ticketed, BoardState, incumbent_value, full_slots, frontier, prefixes}
 
 -- a feasible solution with its value

@@ -8,3 +8,12 @@ pub mod GoodBoard
 pub mod Finishing
 pub mod Kept
 pub mod Ones
+pub use Rattle.dp_model.specs.Best
+pub use Rattle.dp_model.specs.Counts
+pub use Rattle.dp_model.specs.Cover
+pub use Rattle.dp_model.specs.Decisions
+pub use Rattle.dp_model.specs.Dp
+pub use Rattle.dp_model.specs.Lists
+pub use Rattle.dp_model.specs.Numbers
+pub use Rattle.dp_model.specs.Prefixes
+pub use Rattle.dp_model.specs.Subproblem

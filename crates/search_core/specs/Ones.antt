@@ -1,13 +1,12 @@
 -- A small instance for tests: each variable is 0 or 1, and the value is the number of ones.
-use Rattle.std.specs.Prelude.{◌≡◌, ℕ, zero, suc, ◌+◌, ◌-◌, ◌<◌, ◌≤◌, ℤ, pos, ◌+ℤ◌, ◌≤ℤ◌, nat_abs, Bool, true, List, [], ◌∷◌, length, Option, Some, None, IsTrue, refl}
-use Rattle.std.proofs.Common.{sym, ◌∙◌, ap, subst, arith}
+use Rattle.std.specs.Prelude.{◌≡◌, ℕ, ◌+◌, ◌-◌, ◌≤◌, ℤ, pos, ◌≤ℤ◌, nat_abs, true, List, [], ◌∷◌, length, Some, refl}
+use Rattle.std.proofs.Common.{sym, ap, subst, arith}
 use Rattle.std.proofs.lemmas.Int.{ints}
-use Rattle.dp_model.specs.Dp.{Dp, IsAllowed}
-use Rattle.dp_model.specs.Gaps.{IsStateOf, IsSoundGap}
-use Rattle.dp_model.specs.Laws.{StepsAreStates, GapsAreSound, RoughBounds, SizesHold, IsLawful, IsChained}
+use Rattle.dp_model.specs.Dp.{Dp}
+use Rattle.dp_model.specs.Laws.{IsLawful, IsChained}
 use Rattle.dp_model.specs.Lists.{Each}
-use Rattle.dp_model.specs.Numbers.{AtMost, IsSmall, int_same}
-use Rattle.dp_model.specs.Prefixes.{IsPath, IsContinuation, gain_of}
+use Rattle.dp_model.specs.Numbers.{IsSmall}
+use Rattle.dp_model.specs.Prefixes.{IsPath, gain_of}
 use Rattle.dp_model.specs.Rows.{row_same}
 
 -- the number of variables that an instance spells

@@ -1,5 +1,5 @@
 -- What Improve answers.
-use Rattle.std.specs.Prelude.{◌≡◌, ℕ, ℤ, List, Option, Some, None}
+use Rattle.std.specs.Prelude.{ℕ, ℤ, List}
 use Rattle.dp_model.specs.Dp.{Dp}
 use Rattle.dp_model.specs.Numbers.{AtMost}
 use Rattle.dp_model.specs.Prefixes.{IsSolution, value_of}
@@ -7,11 +7,6 @@ use Rattle.search_core.specs.declared.improved.Improved.{Improved}
 use Rattle.search_core.specs.declared.improved.Improved.TheVariants.{Yes, NotBetter, NoSolution}
 use Rattle.search_core.specs.Board.{BoardState, incumbent_value}
 use Rattle.search_core.specs.Steps.{improved}
-
--- the value of the decisions where they are a feasible solution, and none exactly where they are none
-abbrev pub SolutionGives : Dp → List ℕ → Option ℤ → Type 0
-SolutionGives dp x None = IsSolution dp x → ⊥
-SolutionGives dp x (Some value) = IsSolution dp x × (value ≡ value_of dp x)
 
 -- exactly where the decisions are no feasible solution, where they are one of at most the incumbent's value, and else
 abbrev pub ImproveGives : Dp → BoardState → List ℕ → Improved → Type 0

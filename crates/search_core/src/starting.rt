@@ -23,7 +23,11 @@ pub fn empty_slots(alloc: Global, workers: u32) -> Result<Vec<Option<Listed>>, O
 pub fn first_value<M: DpModel>(model: &M) -> Option<i64>
     ensures { best_of [] result ≡ first_incumbent (M.meaning (M.numbers model.now)) }
 {
-    if model.vars() == 0 { Some(model.root_value()) } else { None }
+    if model.vars() == 0 {
+        Some(model.root_value())
+    } else {
+        None
+    }
 }
 
 /// Writes the root state.
@@ -66,10 +70,7 @@ pub fn first_open<M: DpModel>(alloc: Global, model: &M) -> Result<Vec<Listed>, O
     let mut listed = Vec::with_capacity(alloc, 1)?;
     if model.vars() > 0 {
         if let Some(sub) = root_sub(alloc, model)? {
-            listed.push_reserved(Listed {
-                ticket: 0,
-                sub,
-            });
+            listed.push_reserved(Listed { ticket: 0, sub });
         }
     }
     Ok(listed)

@@ -14,8 +14,7 @@ pub fn is_taken_before(one: &Listed, other: &Listed) -> bool
     let (value, other_value) = (one.sub.value, other.sub.value);
     other_bound < bound
         || (other_bound <= bound
-            && (other_value < value
-                || (other_value <= value && one.ticket < other.ticket)))
+            && (other_value < value || (other_value <= value && one.ticket < other.ticket)))
 }
 
 /// The place of the one to take.

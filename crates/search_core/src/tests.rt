@@ -18,10 +18,7 @@ fn two_variables(alloc: Global, budget: u64) -> Result<Board<Ones>, AllocError>
     ensures numbers { IfOk result (λ b. b.numbers ≡ pos 2 ∷ []) }
 {
     let model = Arc::new(alloc, Ones { vars: 2 })?;
-    let settings = Settings {
-        workers: 1,
-        budget,
-    };
+    let settings = Settings { workers: 1, budget };
     Board::begin(alloc, model, settings)
 }
 

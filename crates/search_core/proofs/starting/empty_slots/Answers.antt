@@ -1,4 +1,4 @@
-use Rattle.std.proofs.Common.{◌≡◌, ◌+◌, ◌∷◌, ◌++◌, [], None, ◌∙◌, ap, arith}
+use Rattle.std.proofs.Common.{◌∷◌, ◌++◌, [], None, ◌∙◌, ap, arith}
 use Rattle.search_core.proofs.First.{slots-more}
 use Rattle.search_core.proofs.starting.empty_slots.Goals as goal
 

@@ -1,4 +1,4 @@
-use Rattle.std.proofs.Common.{◌≡◌, ◌+ℤ◌, ap, sym, ◌∙◌, Some}
+use Rattle.std.proofs.Common.{◌+ℤ◌, ap, ◌∙◌, Some}
 use Rattle.dp_model.specs.Laws.{IsLawful}
 use Rattle.dp_model.specs.Numbers.{add_some}
 use Rattle.search_core.proofs.Roots.{root-sum}

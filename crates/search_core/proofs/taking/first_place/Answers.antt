@@ -1,4 +1,4 @@
-use Rattle.std.proofs.Common.{arith, ◌<◌, ◌≡◌, ◌+◌, length, drop, sym, subst}
+use Rattle.std.proofs.Common.{arith, ◌≡◌, ◌+◌, drop, sym, subst}
 use Rattle.std.specs.List.{slice_get}
 use Rattle.search_core.specs.Taking.{first_taken}
 use Rattle.search_core.proofs.Firsts.{first_more, first-then, first-else}
@@ -9,14 +9,14 @@ pub loop-place-preserved : goal.loop-place-preserved
 loop-place-preserved c =
     let os = c.args.listed.now in
     elim c.if-is_taken_before.branch [
-      then-is_taken_before w ↦ record {
+      | then-is_taken_before w ↦ record {
         within = omega arith;
         first = subst (λ n. first_more (slice_get os n) (drop (c.loop-place.place + 1) os) ≡ first_taken os) (sym w.first-is)
-          (first-then os c.loop-place.first c.loop-place.place _ _ _ c.loop-place.invariant.within c.loop-place-test.true c.index-listed-first.is c.index-listed-place.is c.loop-place.invariant.first c.is_taken_before.ensures w.if-is_taken_before.true);
+            (first-then os c.loop-place.first c.loop-place.place _ _ _ c.loop-place.invariant.within c.loop-place-test.true c.index-listed-first.is c.index-listed-place.is c.loop-place.invariant.first c.is_taken_before.ensures w.if-is_taken_before.true);
       }
-    | else-is_taken_before w ↦ record {
+      | else-is_taken_before w ↦ record {
         within = omega arith;
         first = subst (λ n. first_more (slice_get os n) (drop (c.loop-place.place + 1) os) ≡ first_taken os) (sym w.first-is)
-          (first-else os c.loop-place.first c.loop-place.place _ _ _ c.loop-place.invariant.within c.loop-place-test.true c.index-listed-first.is c.index-listed-place.is c.loop-place.invariant.first c.is_taken_before.ensures w.if-is_taken_before.false);
+            (first-else os c.loop-place.first c.loop-place.place _ _ _ c.loop-place.invariant.within c.loop-place-test.true c.index-listed-first.is c.index-listed-place.is c.loop-place.invariant.first c.is_taken_before.ensures w.if-is_taken_before.false);
       }
     ]

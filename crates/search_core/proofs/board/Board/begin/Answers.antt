@@ -1,4 +1,4 @@
-use Rattle.std.proofs.Common.{◌≡◌, ◌≤◌, length, [], sym, ◌∙◌, ap, subst, arith}
+use Rattle.std.proofs.Common.{◌≡◌, [], ◌∙◌, subst, arith}
 use Rattle.std.specs.Arc.{arc_value}
 use Rattle.dp_model.specs.Laws.{IsLawful}
 use Rattle.search_core.specs.Kept.{best_of}
@@ -21,4 +21,4 @@ invariant_of-result g c =
     let capacity = c.in_ok-best.ensures.exact in
     let long = c.in_ok-listed.listed.ok in
     begin-kept dp (laws_of g (arc_value c.args.model)) _ _ _ _ c.args.settings.workers _ _ _ _ _ _ c.in_ok-best.ensures.items best opened c.in_ok-slots.ensures (c.len-next_ticket.ensures ∙ long.0)
-      c.requires.few (omega arith) (omega arith) (c.in_ok-row.ensures.len ∙ words) (c.in_ok-spare.ensures.len ∙ spare)
+    c.requires.few (omega arith) (omega arith) (c.in_ok-row.ensures.len ∙ words) (c.in_ok-spare.ensures.len ∙ spare)

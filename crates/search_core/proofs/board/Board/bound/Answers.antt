@@ -1,4 +1,4 @@
-use Rattle.std.proofs.Common.{◌≡◌, ◌++◌, ap, sym, ◌∙◌, subst, List, ℕ}
+use Rattle.std.proofs.Common.{◌++◌, ap, sym, ◌∙◌, subst, List, ℕ}
 use Rattle.dp_model.specs.Numbers.{AtMost}
 use Rattle.dp_model.specs.Prefixes.{IsSolution, value_of}
 use Rattle.search_core.specs.Board.{BoardView, full_slots}

@@ -1,6 +1,6 @@
-use Rattle.std.proofs.Common.{◌≡◌, ◌<◌, ◌≤◌, ◌+◌, ◌++◌, ◌^◌, ℕ, length, map, Some, None, refl, sym, ◌∙◌, ap, subst, arith, rules}
-use Rattle.search_core.specs.Board.{Ticketed, BoardView}
-use Rattle.search_core.specs.Fates.{entering, tickets_after}
+use Rattle.std.proofs.Common.{◌≡◌, ◌<◌, ◌≤◌, ◌++◌, ◌^◌, length, sym, ◌∙◌, ap, subst, arith, rules}
+use Rattle.search_core.specs.Board.{BoardView}
+use Rattle.search_core.specs.Fates.{entering}
 use Rattle.search_core.specs.Finishing.{contents, MayFinish}
 use Rattle.search_core.specs.Steps.{finished_by}
 use Rattle.search_core.proofs.Keeping.{contents-many, fates-many, finish-kept, finish-many, finish-fits}

@@ -1,7 +1,6 @@
-use Rattle.std.proofs.Common.{◌≡◌, ◌<◌, ◌≤◌, ◌+◌, ℕ, length, Some, None, refl, sym, ◌∙◌, ap, subst, arith}
+use Rattle.std.proofs.Common.{length, sym, ◌∙◌, ap, subst, arith}
 use Rattle.std.specs.Prelude.{IsSome}
-use Rattle.std.specs.List.{slice_get}
-use Rattle.search_core.specs.Board.{Ticketed, BoardView, full_slots, slot_at}
+use Rattle.search_core.specs.Board.{BoardView, slot_at}
 use Rattle.search_core.specs.Steps.{back_among, given_back}
 use Rattle.search_core.proofs.Keeping.{back-kept, back-at, back-spare, back-open, back-many, back-step, some-true}
 use Rattle.search_core.proofs.Reading.{held-value}

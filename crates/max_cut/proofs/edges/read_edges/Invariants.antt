@@ -1,0 +1,12 @@
+use Rattle.std.proofs.Common.{◌≡◌, ◌-◌}
+use Rattle.std.specs.List.{All}
+use Rattle.dd_text.specs.Grammar.{times}
+use Rattle.max_cut.specs.Graph.{IsWeight}
+use Rattle.max_cut.specs.Edges.{edge_at}
+use Rattle.max_cut.proofs.edges.read_edges.Given as goal
+
+-- what the edges that are left give is what all give
+abbrev pub invariant-loop : goal.invariant-loop
+invariant-loop l =
+    (times (edge_at l.vertices) (l.edges - l.counter) l.totals l.tokens ≡ times (edge_at l.vertices) l.edges l.initial.totals l.initial.tokens)
+    × All IsWeight l.totals

@@ -1,0 +1,7 @@
+use Rattle.std.proofs.Common.{◌≡◌, pos, slice_index_or}
+use Rattle.max_cut.specs.Program.{limits_of}
+use Rattle.max_cut.proofs.limits.limit_at.Given as goal
+
+-- the limit at an earlier layer
+abbrev pub invariant-loop-j : goal.invariant-loop-j
+invariant-loop-j c = c.limit ≡ slice_index_or (limits_of (record { vertices = c.vertices; weights = c.weights }) c.j) c.l (pos 0)

@@ -1,0 +1,62 @@
+-- Graphs with a weight for each pair of vertices.
+use Rattle.std.specs.Prelude.{◌≡◌, ℕ, zero, suc, ◌+◌, ◌-◌, ◌≤◌, ℤ, pos, ◌+ℤ◌, ◌≤ℤ◌, unsigned_abs, List, [], ◌∷◌, length, take, drop, slice_index_or}
+use Rattle.std.specs.Int.{int_min}
+use Rattle.std.specs.List.{All}
+use Rattle.benefit_rows.specs.Benefits.{size_of, rank_of}
+
+-- the vertices are numbered from 0; the weights of their pairs stand by the first vertex, then by the second
+pub record Graph : Type 0 where
+  pub vertices : ℕ
+  pub weights : List ℤ
+
+-- how many pairs so many vertices make
+abbrev pub pairs_of : ℕ → ℕ
+pairs_of zero = 0
+pairs_of (suc n) = n + pairs_of n
+
+-- a weight is at most 500,000,000 in size
+abbrev pub IsWeight : ℤ → Type 0
+IsWeight w = size_of w ≤ℤ pos 500000000
+
+pub record IsGraph (g : Graph) : Type 0 where
+  pub few : g.vertices ≤ 1024
+  pub whole : length g.weights ≡ pairs_of g.vertices
+  pub small : All IsWeight g.weights
+
+-- the numbers of an instance: how many vertices, then the weights
+abbrev pub numbers_of : Graph → List ℤ
+numbers_of g = pos g.vertices ∷ g.weights
+
+-- the graph that such numbers spell
+abbrev pub graph_of : List ℤ → Graph
+graph_of [] = record { vertices = 0; weights = [] }
+graph_of (n ∷ ws) = record { vertices = unsigned_abs n; weights = ws }
+
+-- of n vertices, how many pairs have their first vertex before k
+abbrev pub row_start : ℕ → ℕ → ℕ
+row_start n zero = 0
+row_start n (suc k) = row_start n k + (n - suc k)
+
+-- the weights of the pairs of vertices from k on
+abbrev pub weights_from : Graph → ℕ → List ℤ
+weights_from g k = drop (row_start g.vertices k) g.weights
+
+-- the weights of the pairs of k and each later vertex
+abbrev pub row_of : Graph → ℕ → List ℤ
+row_of g k = take (g.vertices - (k + 1)) (weights_from g k)
+
+-- the weight of the pair of j and a later vertex l
+abbrev pub weight_at : Graph → ℕ → ℕ → ℤ
+weight_at g j l = slice_index_or g.weights (row_start g.vertices j + (l - (j + 1))) (pos 0)
+
+-- the sum of the negative numbers of a list
+abbrev pub negatives_of : List ℤ → ℤ
+negatives_of [] = pos 0
+negatives_of (w ∷ ws) = int_min w (pos 0) +ℤ negatives_of ws
+
+-- what is made once of a graph: for each k the sum of the sizes of the weights from k on, and the sum of the negative weights
+pub record IsPrepared (g : Graph) (sizes : List ℤ) (negatives : ℤ) : Type 0 where
+  pub graph : IsGraph g
+  pub long : length sizes ≡ g.vertices + 1
+  pub sizes_are : (k : ℕ) → k ≤ g.vertices → slice_index_or sizes k (pos 0) ≡ rank_of (weights_from g k)
+  pub negatives_are : negatives ≡ negatives_of g.weights

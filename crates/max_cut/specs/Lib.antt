@@ -1,0 +1,10 @@
+pub mod Graph
+pub mod Program
+pub mod Cuts
+pub mod Edges
+pub mod EdgeLines
+pub mod Shown
+pub mod GraphLaws
+pub mod PullLaws
+pub mod StateLaws
+pub mod ProgramLaws

@@ -1,0 +1,7 @@
+-- What contracts see of an instance in memory.
+use Rattle.max_cut.specs.declared.model.MaxCut.{MaxCut}
+use Rattle.max_cut.specs.Graph.{Graph}
+
+-- its graph
+abbrev pub graph_shown : MaxCut → Graph
+graph_shown m = record { vertices = m.vertices; weights = m.weights.items }

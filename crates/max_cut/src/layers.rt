@@ -1,0 +1,163 @@
+//! One pass over a row of benefits and a row of weights.
+
+ghost use Rattle.std.specs.Prelude.{◌≡◌, ◌+◌, ◌*◌, ◌-◌, ◌^◌, ◌<◌, ◌≤◌, ◌++◌, drop, length, map, neg_ℤ, pos, ◌+ℤ◌, ◌≤ℤ◌};
+ghost use Rattle.benefit_rows.specs.Benefits.{gain_of, rank_of, size_of};
+ghost use Rattle.max_cut.specs.Graph.{IsGraph, negatives_of, row_of, row_start};
+ghost use Rattle.max_cut.specs.Program.{pulls_of, settled, settled_of, sums_of, zeros};
+
+use benefit_rows::{above_zero, below_zero, size};
+
+/// Where the weights of the pairs begin whose first vertex is `k`.
+pub(crate) fn start_of_row(vertices: usize, k: usize) -> usize
+    requires few { vertices ≤ 1024 }
+    requires vertex { k ≤ vertices }
+    ensures { result ≡ row_start vertices k }
+{
+    k * vertices - k * (k + 1) / 2
+}
+
+/// The weights of the pairs of `k` and each later vertex.
+pub(crate) fn row_of_pairs(vertices: usize, weights: &[i64], k: usize) -> &[i64]
+    requires graph { IsGraph (record { vertices = vertices; weights = weights.now }) }
+    requires vertex { k < vertices }
+    ensures { result.now ≡ row_of (record { vertices = vertices; weights = weights.now }) k }
+{
+    let rest = tail(weights, start_of_row(vertices, k));
+    &rest[..vertices - (k + 1)]
+}
+
+/// What stands from a place on.
+pub(crate) fn tail<T>(row: &[T], from: usize) -> &[T]
+    requires { from ≤ length row.now }
+    ensures { result.now ≡ drop from row.now }
+{
+    &row[from..]
+}
+
+/// Writes zeros.
+pub(crate) fn write_zeros(out: &mut [i64])
+    ensures { out.new ≡ zeros (length out.old) }
+{
+    for cell in out.iter_mut() {
+        *cell = 0;
+    }
+}
+
+/// Writes what the step of vertex `k` makes of a state, with the weights to the later vertices.
+pub(crate) fn write_step(out: &mut [i64], k: usize, s: &[i64], d: u32, weights: &[i64])
+    requires vertex { k < length s.now }
+    requires cells { length out.old ≡ length s.now }
+    requires weights { length weights.now + (k + 1) ≡ length s.now }
+    requires benefit_sizes { rank_of s.now ≤ℤ pos (2 ^ 50) }
+    requires weight_sizes { rank_of weights.now ≤ℤ pos (2 ^ 50) }
+    ensures { out.new ≡ zeros (k + 1) ++ sums_of (drop (k + 1) s.now) (pulls_of d weights.now) }
+{
+    let (decided, later) = out.split_at_mut(k + 1);
+    write_zeros(decided);
+    write_pulled(later, tail(s, k + 1), d, weights);
+}
+
+/// Writes each benefit with what the side `d` of an earlier vertex adds to it.
+fn write_pulled(out: &mut [i64], benefits: &[i64], d: u32, weights: &[i64])
+    requires benefits { length out.old ≡ length benefits.now }
+    requires weights { length benefits.now ≡ length weights.now }
+    requires benefit_sizes { rank_of benefits.now ≤ℤ pos (2 ^ 50) }
+    requires weight_sizes { rank_of weights.now ≤ℤ pos (2 ^ 50) }
+    ensures { out.new ≡ sums_of benefits.now (pulls_of d weights.now) }
+{
+    if d == 0 {
+        write_sums(out, benefits, weights);
+    } else {
+        write_differences(out, benefits, weights);
+    }
+}
+
+/// Writes each benefit and its weight added up.
+fn write_sums(out: &mut [i64], benefits: &[i64], weights: &[i64])
+    requires benefits { length out.old ≡ length benefits.now }
+    requires weights { length benefits.now ≡ length weights.now }
+    requires benefit_sizes { rank_of benefits.now ≤ℤ pos (2 ^ 50) }
+    requires weight_sizes { rank_of weights.now ≤ℤ pos (2 ^ 50) }
+    ensures { out.new ≡ sums_of benefits.now weights.now }
+{
+    for i in 0..out.len() {
+        out[i] = benefits[i] + weights[i];
+    }
+}
+
+/// Writes each benefit less its weight.
+fn write_differences(out: &mut [i64], benefits: &[i64], weights: &[i64])
+    requires benefits { length out.old ≡ length benefits.now }
+    requires weights { length benefits.now ≡ length weights.now }
+    requires benefit_sizes { rank_of benefits.now ≤ℤ pos (2 ^ 50) }
+    requires weight_sizes { rank_of weights.now ≤ℤ pos (2 ^ 50) }
+    ensures { out.new ≡ sums_of benefits.now (map neg_ℤ weights.now) }
+{
+    for i in 0..out.len() {
+        out[i] = benefits[i] - weights[i];
+    }
+}
+
+/// What the side `d` of a vertex gains from its benefit, and from what it settles with the later ones.
+pub(crate) fn gain_by_side(benefit: i64, benefits: &[i64], d: u32, weights: &[i64]) -> i64
+    requires lengths { length benefits.now ≡ length weights.now }
+    requires size { size_of benefit ≤ℤ pos (2 ^ 50) }
+    requires benefit_sizes { rank_of benefits.now ≤ℤ pos (2 ^ 50) }
+    requires weight_sizes { rank_of weights.now ≤ℤ pos (2 ^ 50) }
+    ensures { result ≡ gain_of benefit d +ℤ settled_of benefits.now (pulls_of d weights.now) }
+{
+    if d == 0 {
+        below_zero(benefit) + settled_with(benefits, weights)
+    } else {
+        above_zero(benefit) + settled_against(benefits, weights)
+    }
+}
+
+/// What the benefits and the weights settle together.
+fn settled_with(benefits: &[i64], weights: &[i64]) -> i64
+    requires lengths { length benefits.now ≡ length weights.now }
+    requires benefit_sizes { rank_of benefits.now ≤ℤ pos (2 ^ 50) }
+    requires weight_sizes { rank_of weights.now ≤ℤ pos (2 ^ 50) }
+    ensures { result ≡ settled_of benefits.now weights.now }
+{
+    let mut doubled = 0;
+    for i in 0..benefits.len() {
+        doubled += doubled_settled(benefits[i], weights[i]);
+    }
+    doubled / 2
+}
+
+/// What the benefits and the negated weights settle together.
+fn settled_against(benefits: &[i64], weights: &[i64]) -> i64
+    requires lengths { length benefits.now ≡ length weights.now }
+    requires benefit_sizes { rank_of benefits.now ≤ℤ pos (2 ^ 50) }
+    requires weight_sizes { rank_of weights.now ≤ℤ pos (2 ^ 50) }
+    ensures { result ≡ settled_of benefits.now (map neg_ℤ weights.now) }
+{
+    let mut doubled = 0;
+    for i in 0..benefits.len() {
+        doubled += doubled_settled(benefits[i], -weights[i]);
+    }
+    doubled / 2
+}
+
+/// Twice what a benefit and a pull settle, by sizes alone.
+fn doubled_settled(benefit: i64, pull: i64) -> i64
+    requires benefit_size { size_of benefit ≤ℤ pos (2 ^ 50) }
+    requires pull_size { size_of pull ≤ℤ pos (2 ^ 50) }
+    ensures { result ≡ settled benefit pull +ℤ settled benefit pull }
+{
+    size(benefit) + size(pull) - size(benefit + pull)
+}
+
+/// The sum of the negative weights.
+pub(crate) fn sum_of_negatives(weights: &[i64]) -> i64
+    requires { rank_of weights.now ≤ℤ pos (2 ^ 50) }
+    ensures { result ≡ negatives_of weights.now }
+{
+    let mut total = 0;
+    for weight in weights {
+        total += (*weight).min(0);
+    }
+    total
+}

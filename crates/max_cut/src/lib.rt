@@ -1,0 +1,33 @@
+//! Maximum cut: the vertices of a graph are put on two sides, S and T, so that the edges across weigh as
+//! much as can be. Vertex 0 is on S.
+//!
+//! `MaxCut` is such an instance, as a dynamic program of `dp_model` that meets its laws: layer `k` puts
+//! vertex `k` on a side, and a state has the net benefit of T for each later vertex, a row of
+//! `benefit_rows`. `read` and `print` are its text, by `dd_text`, and `value_of` weighs a cut in the
+//! problem's own words.
+//!
+//! Promised, each in the contract of its call: the instance that a text spells, or its first fault with
+//! its place; the canonical text, which reads as the instance; the weight across, or none exactly where
+//! the sides are no cut; and that the feasible solutions of the program are the cuts, with their values.
+//! Only want of memory has no stated cause.
+#![tactic(auto)]
+
+mod cut;
+mod edges;
+mod layers;
+mod limits;
+mod lines;
+mod model;
+mod prepared;
+mod printing;
+mod reading;
+mod rests;
+mod sides;
+
+pub use cut::value_of;
+pub use model::MaxCut;
+pub use printing::print;
+pub use reading::read;
+
+#[cfg(test)]
+mod tests;

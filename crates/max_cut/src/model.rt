@@ -1,0 +1,104 @@
+ghost use Rattle.std.specs.Prelude.{◌≡◌, ◌≤◌, ◌+◌, ◌<◌, length, pos, slice_index_or};
+ghost use Rattle.max_cut.specs.Graph.{IsPrepared};
+
+use crate::layers::{gain_by_side, row_of_pairs, tail, write_step, write_zeros};
+use crate::limits::is_within_limits;
+use benefit_rows::{gap, merge_into, rank};
+use dp_model::DpModel;
+
+/// An instance of maximum cut: up to 1,024 vertices, and a weight of up to 500,000,000 in size for each
+/// pair of them, 0 where no edge stands.
+#[derive(Debug, Drop)]
+pub struct MaxCut {
+    pub(crate) vertices: usize,
+    // The weights of the pairs, by the first vertex, then by the second.
+    pub(crate) weights: Vec<i64>,
+    // For each vertex the sum of the sizes of the weights of pairs from it on, and a last 0.
+    pub(crate) sizes: Vec<i64>,
+    pub(crate) negatives: i64,
+    ghost prepared: { IsPrepared (record { vertices = vertices; weights = weights.items }) sizes.items negatives },
+}
+
+impl MaxCut {
+    ghost use Rattle.std.specs.Prelude.{◌≡◌, ◌<◌};
+    ghost use Rattle.max_cut.specs.Graph.{row_of, weight_at};
+    ghost use Rattle.max_cut.specs.Shown.{graph_shown};
+
+    /// The weights of the pairs of `k` and each later vertex.
+    fn row(&self, k: usize) -> &[i64]
+        requires { k < self.now.vertices }
+        ensures { result.now ≡ row_of (graph_shown self.now) k }
+    {
+        row_of_pairs(self.vertices, self.weights.as_slice(), k)
+    }
+}
+
+impl DpModel for MaxCut {
+    ghost use Rattle.max_cut.specs.Graph.{numbers_of};
+    ghost use Rattle.max_cut.specs.Program.{program_in};
+    ghost use Rattle.max_cut.specs.ProgramLaws.{lawful_program, chained_program};
+
+    ghost numbers = { λ m. numbers_of (record { vertices = m.vertices; weights = m.weights.items }) };
+
+    ghost meaning = { program_in };
+
+    ghost lawful = { λ m. lawful_program (record { vertices = m.vertices; weights = m.weights.items }) m.prepared.graph };
+
+    ghost chained = { λ m. chained_program (record { vertices = m.vertices; weights = m.weights.items }) m.prepared.graph };
+
+    fn vars(&self) -> usize {
+        self.vertices
+    }
+
+    fn words(&self) -> usize {
+        if self.vertices == 0 { 1 } else { self.vertices }
+    }
+
+    fn choices(&self, k: usize) -> u32 {
+        if k == 0 { 1 } else { 2 }
+    }
+
+    fn root(&self, out: &mut [i64]) {
+        write_zeros(out);
+    }
+
+    fn root_value(&self) -> i64 {
+        self.negatives
+    }
+
+    fn allowed(&self, _k: usize, _s: &[i64], _d: u32) -> bool {
+        true
+    }
+
+    fn step(&self, k: usize, s: &[i64], d: u32, out: &mut [i64]) {
+        write_step(out, k, s, d, self.row(k));
+    }
+
+    fn gain(&self, k: usize, s: &[i64], d: u32) -> i64 {
+        gain_by_side(s[k], tail(s, k + 1), d, self.row(k))
+    }
+
+    fn merge_into(&self, _k: usize, acc: &mut [i64], s: &[i64]) {
+        merge_into(acc, s);
+    }
+
+    fn gap(&self, k: usize, a: &[i64], s: &[i64]) -> Option<i64> {
+        Some(gap(tail(a, k), tail(s, k)))
+    }
+
+    fn rough(&self, k: usize, s: &[i64]) -> Option<i64> {
+        Some(rank(tail(s, k)) + self.sizes[k])
+    }
+
+    fn rank(&self, _k: usize, s: &[i64]) -> i64 {
+        rank(s)
+    }
+
+    fn bucket(&self, _k: usize, _s: &[i64]) -> u64 {
+        0
+    }
+
+    fn is_state(&self, k: usize, s: &[i64]) -> bool {
+        is_within_limits(self.vertices, self.weights.as_slice(), k, s)
+    }
+}

@@ -1,0 +1,36 @@
+//! The text of an instance, read.
+
+ghost use Rattle.std.specs.Prelude.{◌^◌, ◌<◌, ◌-◌, length};
+ghost use Rattle.dd_text.specs.Text.{text_start};
+ghost use Rattle.dd_text.specs.Grammar.{Reads};
+ghost use Rattle.dd_text.specs.declared.comment.Comment.TheVariants.{Never};
+ghost use Rattle.max_cut.specs.Edges.{graph_at};
+ghost use Rattle.max_cut.specs.Shown.{graph_shown};
+
+use crate::edges::read_totals;
+use crate::model::MaxCut;
+use dd_text::{Comment, ReadModelError, Tokens};
+use std::alloc::Global;
+
+const MOST_VERTICES: i64 = 1024;
+
+const MOST_EDGES: i64 = 1_048_576;
+
+/// Reads an instance: the number of vertices and the number of edges, then for each edge two vertices,
+/// from 1, and a weight. The weights of edges on one pair add up, and a loop counts nothing.
+///
+/// Numbers outside their range are `OutOfRange`: 0 to 1,024 vertices, 0 to `2^20` edges, weights of at most
+/// 500,000,000 in size. A number that is no vertex is `Vertex`. `Limit` comes at the weight after which
+/// the total of a pair exceeds 500,000,000 in size. The first fault is answered, with its place.
+#[tactic(auto, unfolding(crate::specs::Edges::graph_at), using(dd_text::proofs::Chains::part_fails))]
+pub fn read(alloc: Global, bytes: &[u8]) -> Result<MaxCut, ReadModelError>
+    requires { length bytes.now < 2 ^ 32 - 1 }
+    ensures { Reads graph_shown result (graph_at (text_start Never bytes.now)) }
+{
+    let mut tokens = Tokens::new(bytes, Comment::Never);
+    let vertices = tokens.next_number(0, MOST_VERTICES)? as usize;
+    let edges = tokens.next_number(0, MOST_EDGES)? as usize;
+    let totals = read_totals(alloc, &mut tokens, vertices, edges)?;
+    tokens.finish()?;
+    Ok(MaxCut::prepared(alloc, vertices, totals)?)
+}

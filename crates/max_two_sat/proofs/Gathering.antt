@@ -1,0 +1,331 @@
+-- What a clause more keeps.
+use Rattle.std.proofs.Common.{◌≡◌, ℕ, zero, suc, ◌+◌, ◌^◌, ◌<◌, ◌≤◌, ℤ, pos, ◌+ℤ◌, ◌≤ℤ◌, Bool, true, false, List, [], ◌∷◌, ◌++◌, length, get_or, set, refl, arith, ap, sym, ◌∙◌, eq-eqb}
+use Rattle.std.specs.Prelude.{IsTrue, ◌==◌, nat_lt, int_lt, if◌then◌else◌}
+use Rattle.std.proofs.lemmas.Bool.Decides.{nat_tests}
+use Rattle.std.proofs.lemmas.Int.{ints}
+use Rattle.std.proofs.lemmas.List.{length-set}
+use Rattle.max_two_sat.specs.declared.clause.Literal.{Literal}
+use Rattle.max_two_sat.specs.declared.clause.Literals.{Literals}
+use Rattle.max_two_sat.specs.declared.clause.Literals.TheVariants.{Empty, One, Two}
+use Rattle.max_two_sat.specs.declared.header.Form.{Form}
+use Rattle.max_two_sat.specs.declared.header.Form.TheVariants.{Plain, Weighted}
+use Rattle.max_two_sat.specs.declared.weights.UnitWeights.{UnitWeights}
+use Rattle.max_two_sat.specs.declared.weights.PairWeights.{PairWeights}
+use Rattle.max_two_sat.specs.Clauses.{FitsLiteral, FitsLiterals, Gathered, copies_of, gathered_with, nothing_gathered, heavier_unit, heavier_pair, no_unit, no_pair, place_of_pair, same_sign, with_clause, with_two, with_pair, with_tautology, with_unit}
+use Rattle.max_two_sat.specs.Instance.{Instance, pair_count, unit_total, pair_total, units_total, pairs_total}
+use Rattle.max_two_sat.specs.Kept.{PairIsPositive, UnitIsPositive, pairs_are_positive, units_are_positive, pair_is_positive, unit_is_positive, and-left, and-right, and-both, is-le}
+use Rattle.max_two_sat.specs.Lines.{line_count, weighs, units_weighing, pairs_weighing}
+use Rattle.max_two_sat.specs.Room.{FormGives, FormKeeps, HasRoom, IsGathered}
+use Rattle.max_two_sat.specs.Table.{entries_before, entries_before-more, entries_before-most}
+use Rattle.max_two_sat.specs.Totals.{units_total-positive, pairs_total-positive}
+use Rattle.max_two_sat.proofs.Cells.{pair-at, unit-at}
+
+-- so many of one value
+
+pub copies-more : {X : Type 0} (x : X) (n : ℕ) → copies_of x n ++ x ∷ [] ≡ copies_of x (n + 1)
+copies-more x n = copies-behind x n ∙ ap (copies_of x) (let e : suc n ≡ n + 1 = omega arith in e)
+  where
+    copies-behind : {X : Type 0} (x : X) (n : ℕ) → copies_of x n ++ x ∷ [] ≡ copies_of x (suc n)
+    copies-behind x zero = refl
+    copies-behind x (suc n) = ap (λ xs. x ∷ xs) (copies-behind x n)
+
+pub entries_before-all : (n : ℕ) → entries_before n n ≡ pair_count n
+entries_before-all zero = refl
+entries_before-all (suc n) = ap (λ m. n + m) (entries_before-all n)
+
+-- the place of a pair
+pub place-inside : (n i j : ℕ) → i < j → j < n → place_of_pair n i j < pair_count n
+place-inside n i j h g = omega (arith, entries_before-more n i (omega arith), entries_before-most n (suc i))
+
+-- one entry replaced
+
+pub record UnitPut (us : List UnitWeights) (k : ℕ) (u : UnitWeights) : Type 0 where
+  pub weight : units_total (set us k u) +ℤ unit_total (get_or us k no_unit) ≡ units_total us +ℤ unit_total u
+  pub lines : units_weighing (set us k u) + (weighs (get_or us k no_unit).positive + weighs (get_or us k no_unit).negative) ≡ units_weighing us + (weighs u.positive + weighs u.negative)
+  pub positive : IsTrue (units_are_positive us) → IsTrue (unit_is_positive u) → IsTrue (units_are_positive (set us k u))
+
+pub unit-put : (us : List UnitWeights) (k : ℕ) (u : UnitWeights) → k < length us → UnitPut us k u
+unit-put [] k u h = absurd (omega arith)
+unit-put (v ∷ us) zero u h = record {
+  weight = omega (arith, ints);
+  lines = omega arith;
+  positive = λ all one. and-both (unit_is_positive u) _ one (and-right (unit_is_positive v) _ all);
+}
+unit-put (v ∷ us) (suc k) u h =
+    let rest : UnitPut us k u = unit-put us k u (omega arith) in
+    record {
+      weight = omega (arith, ints, rest.weight);
+      lines = omega (arith, rest.lines);
+      positive = λ all one. and-both (unit_is_positive v) _ (and-left _ _ all) (rest.positive (and-right (unit_is_positive v) _ all) one);
+    }
+
+pub record PairPut (ps : List PairWeights) (k : ℕ) (p : PairWeights) : Type 0 where
+  pub weight : pairs_total (set ps k p) +ℤ pair_total (get_or ps k no_pair) ≡ pairs_total ps +ℤ pair_total p
+  pub lines : pairs_weighing (set ps k p) + ((weighs (get_or ps k no_pair).both + weighs (get_or ps k no_pair).first) + (weighs (get_or ps k no_pair).second + weighs (get_or ps k no_pair).neither))
+      ≡ pairs_weighing ps + ((weighs p.both + weighs p.first) + (weighs p.second + weighs p.neither))
+  pub positive : IsTrue (pairs_are_positive ps) → IsTrue (pair_is_positive p) → IsTrue (pairs_are_positive (set ps k p))
+
+pub pair-put : (ps : List PairWeights) (k : ℕ) (p : PairWeights) → k < length ps → PairPut ps k p
+pair-put [] k p h = absurd (omega arith)
+pair-put (q ∷ ps) zero p h = record {
+  weight = omega (arith, ints);
+  lines = omega arith;
+  positive = λ all one. and-both (pair_is_positive p) _ one (and-right (pair_is_positive q) _ all);
+}
+pair-put (q ∷ ps) (suc k) p h =
+    let rest : PairPut ps k p = pair-put ps k p (omega arith) in
+    record {
+      weight = omega (arith, ints, rest.weight);
+      lines = omega (arith, rest.lines);
+      positive = λ all one. and-both (pair_is_positive q) _ (and-left _ _ all) (rest.positive (and-right (pair_is_positive q) _ all) one);
+    }
+
+-- a weight is above zero or not
+pub weighs-most : (z : ℤ) → weighs z ≤ 1
+weighs-most z = elim (int_lt (pos 0) z) as (λ b. (if b then 1 else 0) ≤ 1) [ true ↦ omega arith | false ↦ omega arith ]
+
+-- an entry that got heavier
+
+pub heavier_unit-total : (u : UnitWeights) (sign : Bool) (w : ℤ) → unit_total (heavier_unit u sign w) ≡ unit_total u +ℤ w
+heavier_unit-total u true w = omega (arith, ints)
+heavier_unit-total u false w = omega (arith, ints)
+
+pub heavier_unit-lines : (u : UnitWeights) (sign : Bool) (w : ℤ) →
+    weighs (heavier_unit u sign w).positive + weighs (heavier_unit u sign w).negative ≤ (weighs u.positive + weighs u.negative) + 1
+heavier_unit-lines u true w = omega (arith, weighs-most (u.positive +ℤ w))
+heavier_unit-lines u false w = omega (arith, weighs-most (u.negative +ℤ w))
+
+pub heavier_unit-positive : (u : UnitWeights) (sign : Bool) (w : ℤ) → UnitIsPositive u → pos 0 ≤ℤ w → IsTrue (unit_is_positive (heavier_unit u sign w))
+heavier_unit-positive u true w here low = and-both _ _ (is-le (pos 0) (u.positive +ℤ w) (omega (arith, ints, here.positive))) (is-le (pos 0) u.negative here.negative)
+heavier_unit-positive u false w here low = and-both _ _ (is-le (pos 0) u.positive here.positive) (is-le (pos 0) (u.negative +ℤ w) (omega (arith, ints, here.negative)))
+
+pub heavier_pair-total : (p : PairWeights) (s t : Bool) (w : ℤ) → pair_total (heavier_pair p s t w) ≡ pair_total p +ℤ w
+heavier_pair-total p true true w = omega (arith, ints)
+heavier_pair-total p true false w = omega (arith, ints)
+heavier_pair-total p false true w = omega (arith, ints)
+heavier_pair-total p false false w = omega (arith, ints)
+
+pub heavier_pair-lines : (p : PairWeights) (s t : Bool) (w : ℤ) →
+    (weighs (heavier_pair p s t w).both + weighs (heavier_pair p s t w).first) + (weighs (heavier_pair p s t w).second + weighs (heavier_pair p s t w).neither)
+    ≤ ((weighs p.both + weighs p.first) + (weighs p.second + weighs p.neither)) + 1
+heavier_pair-lines p true true w = omega (arith, weighs-most (p.both +ℤ w))
+heavier_pair-lines p true false w = omega (arith, weighs-most (p.first +ℤ w))
+heavier_pair-lines p false true w = omega (arith, weighs-most (p.second +ℤ w))
+heavier_pair-lines p false false w = omega (arith, weighs-most (p.neither +ℤ w))
+
+positive-of : (a b c d : ℤ) → pos 0 ≤ℤ a → pos 0 ≤ℤ b → pos 0 ≤ℤ c → pos 0 ≤ℤ d → IsTrue (pair_is_positive (record { both = a; first = b; second = c; neither = d }))
+positive-of a b c d h1 h2 h3 h4 = and-both _ _ (and-both _ _ (is-le (pos 0) a h1) (is-le (pos 0) b h2)) (and-both _ _ (is-le (pos 0) c h3) (is-le (pos 0) d h4))
+
+pub heavier_pair-positive : (p : PairWeights) (s t : Bool) (w : ℤ) → PairIsPositive p → pos 0 ≤ℤ w → IsTrue (pair_is_positive (heavier_pair p s t w))
+heavier_pair-positive p true true w here low = positive-of (p.both +ℤ w) p.first p.second p.neither (omega (arith, ints, here.both)) here.first here.second here.neither
+heavier_pair-positive p true false w here low = positive-of p.both (p.first +ℤ w) p.second p.neither here.both (omega (arith, ints, here.first)) here.second here.neither
+heavier_pair-positive p false true w here low = positive-of p.both p.first (p.second +ℤ w) p.neither here.both here.first (omega (arith, ints, here.second)) here.neither
+heavier_pair-positive p false false w here low = positive-of p.both p.first p.second (p.neither +ℤ w) here.both here.first here.second (omega (arith, ints, here.neither))
+
+-- what an instance with a clause more keeps
+pub record Keeps (i next : Instance) (w : ℤ) : Type 0 where
+  pub units_count : length next.units ≡ length i.units
+  pub pairs_count : length next.pairs ≡ length i.pairs
+  pub tautologies : pos 0 ≤ℤ next.tautologies
+  pub units : IsTrue (units_are_positive next.units)
+  pub pairs : IsTrue (pairs_are_positive next.pairs)
+  pub weight : (next.tautologies +ℤ (units_total next.units +ℤ pairs_total next.pairs)) ≤ℤ ((i.tautologies +ℤ (units_total i.units +ℤ pairs_total i.pairs)) +ℤ w)
+  pub lines : line_count next ≤ line_count i + 1
+  pub some : weighs next.tautologies ≤ length next.units
+
+keeps-unit : (i : Instance) (w : ℤ) (a : Literal) → HasRoom i w → weighs i.tautologies ≤ length i.units → FitsLiteral (length i.units) a → Keeps i (with_unit i w a) w
+keeps-unit i w a room some fits =
+    let old : UnitWeights = get_or i.units a.variable no_unit in
+    let there = unit-at i.units a.variable no_unit fits room.units in
+    let put : UnitPut i.units a.variable (heavier_unit old a.positive w) = unit-put i.units a.variable (heavier_unit old a.positive w) fits in
+    let count = length-set {A = UnitWeights} i.units a.variable (heavier_unit old a.positive w) in
+    record {
+      units_count = count;
+      pairs_count = refl;
+      tautologies = room.tautologies;
+      units = put.positive room.units (heavier_unit-positive old a.positive w there room.low);
+      pairs = room.pairs;
+      weight = omega (arith, ints, put.weight, heavier_unit-total old a.positive w);
+      lines = omega (arith, put.lines, heavier_unit-lines old a.positive w);
+      some = omega (arith, count);
+    }
+
+keeps-pair : (i : Instance) (w : ℤ) (a b : Literal) → HasRoom i w → weighs i.tautologies ≤ length i.units → a.variable < b.variable → FitsLiteral (length i.units) b → Keeps i (with_pair i w a b) w
+keeps-pair i w a b room some less fits =
+    let place : ℕ = place_of_pair (length i.units) a.variable b.variable in
+    let inside : place < length i.pairs = omega (arith, place-inside (length i.units) a.variable b.variable less fits, room.whole) in
+    let old : PairWeights = get_or i.pairs place no_pair in
+    let there = pair-at i.pairs place no_pair inside room.pairs in
+    let put : PairPut i.pairs place (heavier_pair old a.positive b.positive w) = pair-put i.pairs place (heavier_pair old a.positive b.positive w) inside in
+    record {
+      units_count = refl;
+      pairs_count = length-set {A = PairWeights} i.pairs place (heavier_pair old a.positive b.positive w);
+      tautologies = room.tautologies;
+      units = room.units;
+      pairs = put.positive room.pairs (heavier_pair-positive old a.positive b.positive w there room.low);
+      weight = omega (arith, ints, put.weight, heavier_pair-total old a.positive b.positive w);
+      lines = omega (arith, put.lines, heavier_pair-lines old a.positive b.positive w);
+      some = some;
+    }
+
+keeps-tautology : (i : Instance) (w : ℤ) → HasRoom i w → 0 < length i.units → Keeps i (with_tautology i w) w
+keeps-tautology i w room some = record {
+  units_count = refl;
+  pairs_count = refl;
+  tautologies = omega (arith, ints, room.tautologies, room.low);
+  units = room.units;
+  pairs = room.pairs;
+  weight = omega (arith, ints);
+  lines = omega (arith, weighs-most (i.tautologies +ℤ w));
+  some = omega (arith, weighs-most (i.tautologies +ℤ w));
+}
+
+keeps-two : (i : Instance) (w : ℤ) (a b : Literal) → HasRoom i w → weighs i.tautologies ≤ length i.units → FitsLiteral (length i.units) a → FitsLiteral (length i.units) b → Keeps i (with_two i w a b) w
+keeps-two i w a b room some first second =
+    elim (a.variable == b.variable) as (λ t. (a.variable == b.variable) ≡ t →
+    Keeps i (if t then (if same_sign a.positive b.positive then with_unit i w a else with_tautology i w) else (if nat_lt a.variable b.variable then with_pair i w a b else with_pair i w b a)) w) [
+      | true ↦ λ same.
+          elim (same_sign a.positive b.positive) as (λ t. Keeps i (if t then with_unit i w a else with_tautology i w) w) [
+            | true ↦ keeps-unit i w a room some first
+            | false ↦ keeps-tautology i w room (omega arith)
+          ]
+      | false ↦ λ other.
+          elim (nat_lt a.variable b.variable) as (λ t. nat_lt a.variable b.variable ≡ t → Keeps i (if t then with_pair i w a b else with_pair i w b a) w) [
+            | true ↦ λ less. keeps-pair i w a b room some (grind (arith, nat_tests)) second
+            | false ↦ λ more. keeps-pair i w b a room some (grind (arith, nat_tests)) first
+          ] refl
+    ] refl
+
+pub keeps : (i : Instance) (w : ℤ) (literals : Literals) → HasRoom i w → weighs i.tautologies ≤ length i.units → FitsLiterals (length i.units) literals → Keeps i (with_clause i w literals) w
+keeps i w Empty room some fits = record {
+  units_count = refl;
+  pairs_count = refl;
+  tautologies = room.tautologies;
+  units = room.units;
+  pairs = room.pairs;
+  weight = omega (arith, ints, room.low);
+  lines = omega arith;
+  some = some;
+}
+keeps i w (One a) room some fits = keeps-unit i w a room some fits
+keeps i w (Two a b) room some fits = keeps-two i w a b room some fits.0 fits.1
+
+-- a draft with a clause more
+
+pub total-low : (g : Gathered) → IsGathered g → pos 0 ≤ℤ g.total
+total-low g kept =
+    omega (arith, ints, kept.weight, kept.tautologies, units_total-positive g.instance.units kept.units, pairs_total-positive g.instance.pairs kept.pairs)
+
+pub room-for : (g : Gathered) (w : ℤ) → IsGathered g → pos 0 ≤ℤ w → (g.total +ℤ w) ≤ℤ pos (2 ^ 48) → HasRoom g.instance w
+room-for g w kept low most = record {
+  variables = kept.variables;
+  whole = kept.whole;
+  tautologies = kept.tautologies;
+  units = kept.units;
+  pairs = kept.pairs;
+  low = low;
+  total = omega (arith, ints, kept.weight);
+}
+
+pub gathered-more : (g : Gathered) (w : ℤ) (literals : Literals) → IsGathered g → pos 0 ≤ℤ w → (g.total +ℤ w) ≤ℤ pos (2 ^ 48) → FitsLiterals (length g.instance.units) literals → IsGathered (gathered_with g w literals)
+gathered-more g w literals kept low most fits =
+    let next : Keeps g.instance (with_clause g.instance w literals) w = keeps g.instance w literals (room-for g w kept low most) kept.some fits in
+    record {
+      variables = omega (arith, next.units_count, kept.variables);
+      whole = next.pairs_count ∙ (kept.whole ∙ ap pair_count (sym next.units_count));
+      tautologies = next.tautologies;
+      units = next.units;
+      pairs = next.pairs;
+      weight = omega (arith, ints, next.weight, kept.weight);
+      total = most;
+      lines = omega (arith, next.lines, kept.lines);
+      some = next.some;
+    }
+
+pub count-stays : (g : Gathered) (w : ℤ) (literals : Literals) → IsGathered g → pos 0 ≤ℤ w → (g.total +ℤ w) ≤ℤ pos (2 ^ 48) → FitsLiterals (length g.instance.units) literals → length (gathered_with g w literals).instance.units ≡ length g.instance.units
+count-stays g w literals kept low most fits = (keeps g.instance w literals (room-for g w kept low most) kept.some fits).units_count
+
+-- the weight of a clause fits
+
+pub record WeightFits (g : Gathered) (w : ℤ) : Type 0 where
+  pub low : pos 0 ≤ℤ w
+  pub most : (g.total +ℤ w) ≤ℤ pos (2 ^ 48)
+
+pub weight-fits : (form : Form) (g : Gathered) (w : ℤ) → g.clauses < 2 ^ 20 → FormKeeps form g → FormGives form g.total w → WeightFits g w
+weight-fits Plain g w few keep gives = record { low = omega (arith, ints); most = omega (arith, ints) }
+weight-fits (Weighted top) g w few keep gives = record { low = gives.0; most = gives.1 }
+
+pub form-more : (form : Form) (g : Gathered) (w : ℤ) (literals : Literals) → FormKeeps form g → FormGives form g.total w → FormKeeps form (gathered_with g w literals)
+form-more Plain g w literals keep gives = omega (arith, ints)
+form-more (Weighted top) g w literals keep gives = tt
+
+-- nothing is gathered at first
+
+units-none : (n : ℕ) → units_total (copies_of no_unit n) ≡ pos 0
+units-none zero = refl
+units-none (suc n) = omega (arith, ints, units-none n)
+
+pairs-none : (n : ℕ) → pairs_total (copies_of no_pair n) ≡ pos 0
+pairs-none zero = refl
+pairs-none (suc n) = omega (arith, ints, pairs-none n)
+
+units-positive-none : (n : ℕ) → IsTrue (units_are_positive (copies_of no_unit n))
+units-positive-none zero = refl
+units-positive-none (suc n) = units-positive-none n
+
+pairs-positive-none : (n : ℕ) → IsTrue (pairs_are_positive (copies_of no_pair n))
+pairs-positive-none zero = refl
+pairs-positive-none (suc n) = pairs-positive-none n
+
+units-lines-none : (n : ℕ) → units_weighing (copies_of no_unit n) ≡ 0
+units-lines-none zero = refl
+units-lines-none (suc n) = omega (arith, units-lines-none n)
+
+pairs-lines-none : (n : ℕ) → pairs_weighing (copies_of no_pair n) ≡ 0
+pairs-lines-none zero = refl
+pairs-lines-none (suc n) = omega (arith, pairs-lines-none n)
+
+pub length-copies_of : {X : Type 0} (x : X) (n : ℕ) → length (copies_of x n) ≡ n
+length-copies_of x zero = refl
+length-copies_of x (suc n) = omega (arith, length-copies_of x n)
+
+pub nothing-gathered : (n : ℕ) → n ≤ 1024 → IsGathered (nothing_gathered n)
+nothing-gathered n h = record {
+  variables = omega (arith, length-copies_of no_unit n);
+  whole = length-copies_of no_pair (pair_count n) ∙ ap pair_count (sym (length-copies_of no_unit n));
+  tautologies = omega (arith, ints);
+  units = units-positive-none n;
+  pairs = pairs-positive-none (pair_count n);
+  weight = omega (arith, ints, units-none n, pairs-none (pair_count n));
+  total = omega (arith, ints);
+  lines = omega (arith, units-lines-none n, pairs-lines-none (pair_count n));
+  some = omega arith;
+}
+
+pub form-first : (form : Form) (n : ℕ) → FormKeeps form (nothing_gathered n)
+form-first Plain n = refl
+form-first (Weighted top) n = tt
+
+-- a clause with two literals, case by case
+
+pub two-same : (i : Instance) (w : ℤ) (a b : Literal) → a.variable ≡ b.variable → same_sign a.positive b.positive ≡ true → with_two i w a b ≡ with_unit i w a
+two-same i w a b same sign =
+    let one : (a.variable == b.variable) ≡ true = eq-eqb a.variable b.variable same in
+    rw (one, sign) refl
+
+pub two-opposite : (i : Instance) (w : ℤ) (a b : Literal) → a.variable ≡ b.variable → same_sign a.positive b.positive ≡ false → with_two i w a b ≡ with_tautology i w
+two-opposite i w a b same sign =
+    let one : (a.variable == b.variable) ≡ true = eq-eqb a.variable b.variable same in
+    rw (one, sign) refl
+
+pub two-in-order : (i : Instance) (w : ℤ) (a b : Literal) → a.variable < b.variable → with_two i w a b ≡ with_pair i w a b
+two-in-order i w a b less =
+    let other : (a.variable == b.variable) ≡ false = grind (arith, nat_tests) in
+    let first : nat_lt a.variable b.variable ≡ true = grind (arith, nat_tests) in
+    rw (other, first) refl
+
+pub two-turned : (i : Instance) (w : ℤ) (a b : Literal) → b.variable < a.variable → with_two i w a b ≡ with_pair i w b a
+two-turned i w a b less =
+    let other : (a.variable == b.variable) ≡ false = grind (arith, nat_tests) in
+    let first : nat_lt a.variable b.variable ≡ false = grind (arith, nat_tests) in
+    rw (other, first) refl

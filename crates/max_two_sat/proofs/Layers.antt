@@ -1,0 +1,157 @@
+-- What a layer of a problem in memory has, for a state of it.
+use Rattle.std.proofs.Common.{◌≡◌, ℕ, zero, suc, Bool, true, false, eq-eqb, take, ◌+◌, ◌^◌, ◌<◌, ◌≤◌, ℤ, pos, ◌+ℤ◌, ◌≤ℤ◌, List, length, drop, get_or, refl, arith, ap, sym, ◌∙◌}
+use Rattle.std.specs.Prelude.{IsTrue, ◌==◌}
+use Rattle.std.proofs.lemmas.Int.{ints}
+use Rattle.benefit_rows.specs.Benefits.{rank_of}
+use Rattle.benefit_rows.specs.BenefitLaws.{rank_of-positive}
+use Rattle.dp_model.specs.Dp.{IsAllowed}
+use Rattle.dp_model.specs.Gaps.{IsStateOf}
+use Rattle.max_two_sat.specs.declared.weights.PairWeights.{PairWeights}
+use Rattle.max_two_sat.specs.Instance.{Instance, rows_of, row_at, pairs_total, units_total, rows_total}
+use Rattle.max_two_sat.specs.InstanceNumbers.{instance_of, numbers_of, instance_of-numbers_of}
+use Rattle.max_two_sat.specs.Kept.{IsKept, pairs_are_positive}
+use Rattle.max_two_sat.specs.Program.{all_zero, are_within, is_state_of, limits_at, lesser_units, program_of, words_of}
+use Rattle.max_two_sat.specs.Rows.{length-rows_of, length-row_at, drop-rows, words_of-some}
+use Rattle.max_two_sat.specs.SizeLaws.{lesser_units-positive, lesser_units-most, rank-most, later-positive, rank_of-state}
+use Rattle.max_two_sat.specs.StateLaws.{state-is}
+use Rattle.max_two_sat.specs.Table.{later_totals, later_totals-at, length-later_totals}
+use Rattle.max_two_sat.specs.Totals.{units_total-positive, positive-rows_of, positive-row_at, rows_total-rows_of, rows_total-drop, pairs_total-positive}
+
+-- a state of the layer, by the instance itself
+pub record LayerHas (i : Instance) (k : ℕ) (s : List ℤ) : Type 0 where
+  pub cells : length s ≡ words_of (length i.units)
+  pub rank : rank_of (drop k s) ≤ℤ pos (2 ^ 48)
+  pub whole_rank : rank_of s ≤ℤ pos (2 ^ 48)
+  pub rough : (rank_of (drop k s) +ℤ rows_total (drop k (rows_of (length i.units) i.pairs))) ≤ℤ pos (2 ^ 48)
+  pub later_low : pos 0 ≤ℤ rows_total (drop k (rows_of (length i.units) i.pairs))
+
+pub layer-has : (i : Instance) (k : ℕ) (s : List ℤ) → IsKept i → IsStateOf (program_of i) k s → LayerHas i k s
+layer-has i k s kept state =
+    let later = later-positive i k kept in
+    let most = rank-most i k s kept state in
+    record {
+      cells = (state-is i k s state.test).cells;
+      rank = omega (arith, ints);
+      whole_rank = omega (arith, ints, rank_of-state i k s state);
+      rough = most;
+      later_low = later;
+    }
+
+-- the row of the layer's variable
+pub record RowHas (i : Instance) (k : ℕ) (cells : ℕ) : Type 0 where
+  pub entries : length (row_at (rows_of (length i.units) i.pairs) k) + suc k ≡ cells
+  pub positive : IsTrue (pairs_are_positive (row_at (rows_of (length i.units) i.pairs) k))
+  pub weight : pairs_total (row_at (rows_of (length i.units) i.pairs) k) ≤ℤ pos (2 ^ 48)
+
+pub row-has : (i : Instance) (k cells : ℕ) → IsKept i → k < length i.units → cells ≡ words_of (length i.units) → RowHas i k cells
+row-has i k cells kept layer is =
+    let rows : List (List PairWeights) = rows_of (length i.units) i.pairs in
+    let positive : IsTrue (pairs_are_positive (row_at rows k)) = positive-row_at rows k (positive-rows_of (length i.units) i.pairs kept.pairs) in
+    let rest : rows_total (drop k rows) ≡ pairs_total (row_at rows k) +ℤ rows_total (drop (suc k) rows) = rw (drop-rows rows k (omega (arith, length-rows_of (length i.units) i.pairs))) refl in
+    let front = rows_total-drop rows k (positive-rows_of (length i.units) i.pairs kept.pairs) in
+    let all = rows_total-rows_of (length i.units) i.pairs kept.whole in
+    let later = later-positive i (suc k) kept in
+    let units = units_total-positive i.units kept.units in
+    record {
+      entries = omega (arith, length-row_at (length i.units) i.pairs k kept.whole layer, words_of-some (length i.units) k layer);
+      positive = positive;
+      weight = omega (arith, ints, kept.total, kept.tautologies);
+    }
+
+-- what is said of the instance that the numbers spell holds of the instance
+pub same-state : (i : Instance) (k : ℕ) (s : List ℤ) → IsStateOf (program_of (instance_of (numbers_of i))) k s → IsStateOf (program_of i) k s
+same-state i k s state = rw instance_of-numbers_of at state
+
+pub same-test : (i : Instance) (k : ℕ) (s : List ℤ) → k ≤ length i.units → IsTrue ((program_of (instance_of (numbers_of i))).is_state k s) → IsStateOf (program_of i) k s
+same-test i k s layer test = record { layer = layer; test = rw instance_of-numbers_of at test }
+
+pub same-allowed : (i : Instance) (k : ℕ) (s : List ℤ) (d : ℕ) → IsAllowed (program_of (instance_of (numbers_of i))) k s d → k < length i.units
+same-allowed i k s d allowed = (rw instance_of-numbers_of at allowed).layer
+
+-- all weights of units are within the total
+pub units-most : (i : Instance) → IsKept i → units_total i.units ≤ℤ pos (2 ^ 48)
+units-most i kept = omega (arith, ints, kept.total, kept.tautologies, pairs_total-positive i.pairs kept.pairs)
+
+-- the weight of the pairs from a layer on, as it stands in memory
+pub later-read : (i : Instance) (later : List ℤ) (k : ℕ) (d : ℤ) → later ≡ later_totals (rows_of (length i.units) i.pairs) → k ≤ length i.units →
+    get_or later k d ≡ rows_total (drop k (rows_of (length i.units) i.pairs))
+later-read i later k d is layer =
+    rw is (later_totals-at (rows_of (length i.units) i.pairs) k d (omega (arith, length-rows_of (length i.units) i.pairs)))
+
+pub later-count : (i : Instance) (later : List ℤ) → later ≡ later_totals (rows_of (length i.units) i.pairs) → length later ≡ length i.units + 1
+later-count i later is =
+    ap length is ∙ (length-later_totals (rows_of (length i.units) i.pairs) ∙ ap (λ n. n + 1) (length-rows_of (length i.units) i.pairs))
+
+-- the words of a state
+
+pub words-none : (n : ℕ) → (n == 0) ≡ true → 1 ≡ words_of n
+words-none zero h = refl
+words-none (suc n) h = absurd (grind arith)
+
+pub words-some : (n : ℕ) → (n == 0) ≡ false → n ≡ words_of n
+words-some zero h = absurd (grind arith)
+words-some (suc n) h = refl
+
+-- the sums that are made
+
+pub record RootValueAdds (i : Instance) (lesser : ℤ) : Type 0 where
+  pub sum : i.tautologies +ℤ lesser ≡ i.tautologies +ℤ lesser_units i.units
+  pub low : pos 0 ≤ℤ lesser
+  pub high : lesser ≤ℤ pos (2 ^ 48)
+  pub tautologies_low : pos 0 ≤ℤ i.tautologies
+  pub tautologies_high : i.tautologies ≤ℤ pos (2 ^ 48)
+
+pub root-value-adds : (i : Instance) (lesser : ℤ) → IsKept i → lesser ≡ lesser_units i.units → RootValueAdds i lesser
+root-value-adds i lesser kept is =
+    let low = lesser_units-positive i.units kept.units in
+    let most = lesser_units-most i.units kept.units in
+    let units = units_total-positive i.units kept.units in
+    let pairs = pairs_total-positive i.pairs kept.pairs in
+    record {
+      sum = ap (λ z. i.tautologies +ℤ z) is;
+      low = omega (arith, ints);
+      high = omega (arith, ints, kept.total, kept.tautologies);
+      tautologies_low = kept.tautologies;
+      tautologies_high = omega (arith, ints, kept.total);
+    }
+
+pub record RoughAdds (i : Instance) (k : ℕ) (s : List ℤ) (rank later : ℤ) : Type 0 where
+  pub sum : rank +ℤ later ≡ rank_of (drop k s) +ℤ rows_total (drop k (rows_of (length i.units) i.pairs))
+  pub rank_low : pos 0 ≤ℤ rank
+  pub rank_high : rank ≤ℤ pos (2 ^ 48)
+  pub later_low : pos 0 ≤ℤ later
+  pub later_high : later ≤ℤ pos (2 ^ 48)
+
+pub rough-adds : (i : Instance) (k : ℕ) (s laters : List ℤ) (rank later : ℤ) → IsKept i → IsStateOf (program_of i) k s →
+    laters ≡ later_totals (rows_of (length i.units) i.pairs) → rank ≡ rank_of (drop k s) → later ≡ get_or laters k later → RoughAdds i k s rank later
+rough-adds i k s laters rank later kept state summed rank_is later_is =
+    let has = layer-has i k s kept state in
+    let there : later ≡ rows_total (drop k (rows_of (length i.units) i.pairs)) = later_is ∙ later-read i laters k later summed state.layer in
+    let low = rank_of-positive (drop k s) in
+    record {
+      sum = omega (arith, ints);
+      rank_low = omega (arith, ints);
+      rank_high = omega (arith, ints);
+      later_low = omega (arith, ints);
+      later_high = omega (arith, ints);
+    }
+
+pub words-over : (n : ℕ) → n ≤ words_of n
+words-over zero = omega arith
+words-over (suc n) = omega arith
+
+-- the test of a state, part by part
+
+pub state-then : (i : Instance) (k : ℕ) (s : List ℤ) (zero_front within : Bool) → length s ≡ words_of (length i.units) → zero_front ≡ true → zero_front ≡ all_zero (take k s) →
+    within ≡ are_within (drop k s) (limits_at i.units i.pairs k) → within ≡ is_state_of i k s
+state-then i k s zero_front within cells yes_front is within_is =
+    let counted : (length s == words_of (length i.units)) ≡ true = eq-eqb (length s) (words_of (length i.units)) cells in
+    let front : all_zero (take k s) ≡ true = sym is ∙ yes_front in
+    rw (counted, front) within_is
+
+pub state-else : (i : Instance) (k : ℕ) (s : List ℤ) (zero_front : Bool) → length s ≡ words_of (length i.units) → zero_front ≡ false → zero_front ≡ all_zero (take k s) →
+    zero_front ≡ is_state_of i k s
+state-else i k s zero_front cells no_front is =
+    let counted : (length s == words_of (length i.units)) ≡ true = eq-eqb (length s) (words_of (length i.units)) cells in
+    let front : all_zero (take k s) ≡ false = sym is ∙ no_front in
+    rw (counted, front) no_front

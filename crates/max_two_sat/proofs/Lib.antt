@@ -1,0 +1,9 @@
+pub mod Cells
+pub mod Writing
+pub mod ZeroRows
+pub mod Layers
+pub mod LayerLimits
+pub mod Weighing
+pub mod Gathering
+pub mod Summing
+pub mod PrintedLines

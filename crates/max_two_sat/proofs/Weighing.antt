@@ -1,0 +1,266 @@
+-- Passes over a list of truth values.
+use Rattle.std.proofs.Common.{◌≡◌, ℕ, zero, suc, ◌+◌, ◌^◌, ◌<◌, ◌≤◌, ℤ, pos, ◌+ℤ◌, ◌-ℤ◌, ◌≤ℤ◌, Bool, true, false, List, [], ◌∷◌, length, drop, get_or, refl, arith, ap, subst, sym, ◌∙◌, to_z, of_z, w64}
+use Rattle.std.specs.Prelude.{IsTrue, ◌&&◌, ◌==◌, nat_lt, Some, None, if◌then◌else◌}
+use Rattle.std.proofs.lemmas.Bool.{eqb-true}
+use Rattle.std.proofs.lemmas.Bool.Decides.{nat_tests}
+use Rattle.std.proofs.lemmas.Int.{ints}
+use Rattle.std.proofs.lemmas.List.{drop_more, drop_all}
+use Rattle.max_two_sat.specs.declared.weights.UnitWeights.{UnitWeights}
+use Rattle.max_two_sat.specs.declared.weights.PairWeights.{PairWeights}
+use Rattle.max_two_sat.specs.Instance.{Instance, rows_of, row_at, pair_count, unit_total, pair_total, units_total, pairs_total, rows_total}
+use Rattle.dp_model.specs.Prefixes.{IsSolution, value_of}
+use Rattle.max_two_sat.specs.GapLaws.{row_value-most, rows_value-most}
+use Rattle.max_two_sat.specs.Kept.{IsKept, PairIsPositive, UnitIsPositive, pairs_are_positive, units_are_positive, pair_is_positive, unit_is_positive, unit-positive, pair-positive, and-left, and-right}
+use Rattle.max_two_sat.specs.OwnWords.{all_truth_values, own_value, weight_of, unit_value, pair_value, pair_left, units_value, row_value, rows_value}
+use Rattle.max_two_sat.specs.Program.{program_of}
+use Rattle.max_two_sat.specs.Solutions.{AgreesWithOwnWords, own_value-agrees}
+use Rattle.max_two_sat.specs.Rows.{length-rows_of, length-row_at, drop-rows}
+use Rattle.max_two_sat.specs.Totals.{units_total-positive, positive-drop, positive-rows_of, positive-row_at, positive-drop_rows, rows_are_positive, rows_total-rows_of, rows_total-drop, rows_total-positive}
+use Rattle.max_two_sat.proofs.Cells.{no_unit, no_weights, unit-at, pair-at, units-positive-drop}
+
+-- truth values
+
+pub truth-more : (xs : List ℕ) (i : ℕ) → i < length xs → get_or xs i 0 < 2 → all_truth_values (drop i xs) ≡ all_truth_values xs → all_truth_values (drop (i + 1) xs) ≡ all_truth_values xs
+truth-more xs i h small before =
+    let here : nat_lt (get_or xs i 0) 2 ≡ true = grind (arith, nat_tests) in
+    let cut : all_truth_values (drop i xs) ≡ all_truth_values (drop (i + 1) xs) = rw (drop_more xs i 0 h, here) refl in
+    sym cut ∙ before
+
+pub truth-not : (xs : List ℕ) (i : ℕ) → i < length xs → 2 ≤ get_or xs i 0 → all_truth_values (drop i xs) ≡ all_truth_values xs → false ≡ all_truth_values xs
+truth-not xs i h large before =
+    let here : nat_lt (get_or xs i 0) 2 ≡ false = grind (arith, nat_tests) in
+    let cut : all_truth_values (drop i xs) ≡ false = rw (drop_more xs i 0 h, here) refl in
+    sym cut ∙ before
+
+pub truth-done : (xs : List ℕ) (i : ℕ) → length xs ≤ i → all_truth_values (drop i xs) ≡ all_truth_values xs → true ≡ all_truth_values xs
+truth-done xs i h before = ap all_truth_values (sym (drop_all i xs h)) ∙ before
+
+-- one variable
+
+pub unit_value-false : (u : UnitWeights) (x : ℕ) → x ≡ 0 → u.negative ≡ unit_value u x
+unit_value-false u zero h = omega (arith, ints)
+unit_value-false u (suc x) h = absurd (omega arith)
+
+pub unit_value-true : (u : UnitWeights) (x : ℕ) → (x ≡ 0 → ⊥) → u.positive ≡ unit_value u x
+unit_value-true u zero h = absurd (h refl)
+unit_value-true u (suc x) h = omega (arith, ints)
+
+pub unit_value-positive : (u : UnitWeights) (x : ℕ) → UnitIsPositive u → pos 0 ≤ℤ unit_value u x
+unit_value-positive u zero here = omega (arith, ints)
+unit_value-positive u (suc x) here = omega (arith, ints)
+
+pub unit_value-most : (u : UnitWeights) (x : ℕ) → UnitIsPositive u → unit_value u x ≤ℤ unit_total u
+unit_value-most u zero here = omega (arith, ints)
+unit_value-most u (suc x) here = omega (arith, ints)
+
+pub units_value-positive : (us : List UnitWeights) (xs : List ℕ) → IsTrue (units_are_positive us) → pos 0 ≤ℤ units_value us xs
+units_value-positive [] xs h = omega (arith, ints)
+units_value-positive (u ∷ us) [] h = omega (arith, ints)
+units_value-positive (u ∷ us) (x ∷ xs) h =
+    omega (arith, ints, unit_value-positive u x (unit-positive u (and-left _ _ h)), units_value-positive us xs (and-right (unit_is_positive u) _ h))
+
+pub units_value-most : (us : List UnitWeights) (xs : List ℕ) → IsTrue (units_are_positive us) → units_value us xs ≤ℤ units_total us
+units_value-most [] xs h = omega (arith, ints)
+units_value-most (u ∷ us) [] h = units_total-positive (u ∷ us) h
+units_value-most (u ∷ us) (x ∷ xs) h =
+    omega (arith, ints, unit_value-most u x (unit-positive u (and-left _ _ h)), units_value-most us xs (and-right (unit_is_positive u) _ h))
+
+-- a sum so far of a whole that is bounded
+pub record SumGrows (whole rest total cell : ℤ) : Type 0 where
+  pub sum : (total +ℤ cell) +ℤ rest ≡ whole
+  pub low : pos 0 ≤ℤ (total +ℤ cell)
+  pub high : (total +ℤ cell) ≤ℤ pos (2 ^ 48)
+  pub cell_low : pos 0 ≤ℤ cell
+  pub cell_high : cell ≤ℤ pos (2 ^ 48)
+  pub total_high : total ≤ℤ pos (2 ^ 48)
+
+pub units-grow : (us : List UnitWeights) (xs : List ℕ) (i : ℕ) (total cell : ℤ) → i < length us → length xs ≡ length us → IsTrue (units_are_positive us) → units_total us ≤ℤ pos (2 ^ 48) →
+    cell ≡ unit_value (get_or us i no_unit) (get_or xs i 0) → (total +ℤ units_value (drop i us) (drop i xs) ≡ units_value us xs) × (pos 0 ≤ℤ total) →
+    SumGrows (units_value us xs) (units_value (drop (i + 1) us) (drop (i + 1) xs)) total cell
+units-grow us xs i total cell h e positive weight is before =
+    let below : i < length xs = omega arith in
+    let cut : units_value (drop i us) (drop i xs) ≡ unit_value (get_or us i no_unit) (get_or xs i 0) +ℤ units_value (drop (i + 1) us) (drop (i + 1) xs) = rw (drop_more us i no_unit h, drop_more xs i 0 below) refl in
+    let here = unit_value-positive (get_or us i no_unit) (get_or xs i 0) (unit-at us i no_unit h positive) in
+    let rest = units_value-positive (drop (i + 1) us) (drop (i + 1) xs) (units-positive-drop (i + 1) us positive) in
+    let most = units_value-most us xs positive in
+    record {
+      sum = omega (arith, ints, before.0);
+      low = omega (arith, ints, before.1);
+      high = omega (arith, ints, before.0);
+      cell_low = omega (arith, ints);
+      cell_high = omega (arith, ints, before.0, before.1);
+      total_high = omega (arith, ints, before.0);
+    }
+
+pub units-done : (us : List UnitWeights) (xs : List ℕ) (i : ℕ) (total : ℤ) → length us ≤ i → total +ℤ units_value (drop i us) (drop i xs) ≡ units_value us xs → total ≡ units_value us xs
+units-done us xs i total h before =
+    let none : drop i us ≡ [] = drop_all i us h in
+    let left : total +ℤ pos 0 ≡ units_value us xs = rw none at before in
+    omega (arith, ints)
+
+-- two variables
+
+pub pair_left-is : (p : PairWeights) (x y : ℕ) → pair_total p -ℤ pair_left p x y ≡ pair_value p x y
+pair_left-is p zero zero = omega (arith, ints)
+pair_left-is p zero (suc y) = omega (arith, ints)
+pair_left-is p (suc x) zero = omega (arith, ints)
+pair_left-is p (suc x) (suc y) = omega (arith, ints)
+
+pub pair_left-positive : (p : PairWeights) (x y : ℕ) → PairIsPositive p → pos 0 ≤ℤ pair_left p x y
+pair_left-positive p zero zero here = here.both
+pair_left-positive p zero (suc y) here = here.first
+pair_left-positive p (suc x) zero here = here.second
+pair_left-positive p (suc x) (suc y) here = here.neither
+
+pub pair_left-most : (p : PairWeights) (x y : ℕ) → PairIsPositive p → pair_left p x y ≤ℤ pair_total p
+pair_left-most p zero zero here = omega (arith, ints)
+pair_left-most p zero (suc y) here = omega (arith, ints)
+pair_left-most p (suc x) zero here = omega (arith, ints)
+pair_left-most p (suc x) (suc y) here = omega (arith, ints)
+
+pub left-both : (p : PairWeights) (x y : ℕ) → x ≡ 0 → y ≡ 0 → p.both ≡ pair_left p x y
+left-both p zero zero h g = refl
+left-both p zero (suc y) h g = absurd (omega arith)
+left-both p (suc x) y h g = absurd (omega arith)
+
+pub left-first : (p : PairWeights) (x y : ℕ) → x ≡ 0 → (y ≡ 0 → ⊥) → p.first ≡ pair_left p x y
+left-first p zero zero h g = absurd (g refl)
+left-first p zero (suc y) h g = refl
+left-first p (suc x) y h g = absurd (omega arith)
+
+pub left-second : (p : PairWeights) (x y : ℕ) → (x ≡ 0 → ⊥) → y ≡ 0 → p.second ≡ pair_left p x y
+left-second p zero y h g = absurd (h refl)
+left-second p (suc x) zero h g = refl
+left-second p (suc x) (suc y) h g = absurd (omega arith)
+
+pub left-neither : (p : PairWeights) (x y : ℕ) → (x ≡ 0 → ⊥) → (y ≡ 0 → ⊥) → p.neither ≡ pair_left p x y
+left-neither p zero y h g = absurd (h refl)
+left-neither p (suc x) zero h g = absurd (g refl)
+left-neither p (suc x) (suc y) h g = refl
+
+pair_value-positive : (p : PairWeights) (x y : ℕ) → PairIsPositive p → pos 0 ≤ℤ pair_value p x y
+pair_value-positive p x y here = omega (arith, ints, pair_left-is p x y, pair_left-most p x y here)
+
+row_value-positive : (ps : List PairWeights) (x : ℕ) (ys : List ℕ) → IsTrue (pairs_are_positive ps) → pos 0 ≤ℤ row_value ps x ys
+row_value-positive [] x ys h = omega (arith, ints)
+row_value-positive (p ∷ ps) x [] h = omega (arith, ints)
+row_value-positive (p ∷ ps) x (y ∷ ys) h =
+    omega (arith, ints, pair_value-positive p x y (pair-positive p (and-left _ _ h)), row_value-positive ps x ys (and-right (pair_is_positive p) _ h))
+
+rows_value-positive : (rows : List (List PairWeights)) (xs : List ℕ) → IsTrue (rows_are_positive rows) → pos 0 ≤ℤ rows_value rows xs
+rows_value-positive [] xs h = omega (arith, ints)
+rows_value-positive (row ∷ rows) [] h = omega (arith, ints)
+rows_value-positive (row ∷ rows) (x ∷ xs) h =
+    omega (arith, ints, row_value-positive row x xs (and-left _ _ h), rows_value-positive rows xs (and-right (pairs_are_positive row) _ h))
+
+pub row-grows : (ps : List PairWeights) (x : ℕ) (ys : List ℕ) (i : ℕ) (total cell : ℤ) → i < length ps → length ps ≡ length ys → IsTrue (pairs_are_positive ps) → pairs_total ps ≤ℤ pos (2 ^ 48) →
+    cell ≡ pair_value (get_or ps i no_weights) x (get_or ys i 0) → (total +ℤ row_value (drop i ps) x (drop i ys) ≡ row_value ps x ys) × (pos 0 ≤ℤ total) →
+    SumGrows (row_value ps x ys) (row_value (drop (i + 1) ps) x (drop (i + 1) ys)) total cell
+row-grows ps x ys i total cell h e positive weight is before =
+    let below : i < length ys = omega arith in
+    let cut : row_value (drop i ps) x (drop i ys) ≡ pair_value (get_or ps i no_weights) x (get_or ys i 0) +ℤ row_value (drop (i + 1) ps) x (drop (i + 1) ys) = rw (drop_more ps i no_weights h, drop_more ys i 0 below) refl in
+    let here = pair_value-positive (get_or ps i no_weights) x (get_or ys i 0) (pair-at ps i no_weights h positive) in
+    let rest = row_value-positive (drop (i + 1) ps) x (drop (i + 1) ys) (positive-drop (i + 1) ps positive) in
+    let most = row_value-most ps x ys positive in
+    record {
+      sum = omega (arith, ints, before.0);
+      low = omega (arith, ints, before.1);
+      high = omega (arith, ints, before.0);
+      cell_low = omega (arith, ints);
+      cell_high = omega (arith, ints, before.0, before.1);
+      total_high = omega (arith, ints, before.0);
+    }
+
+pub row-done : (ps : List PairWeights) (x : ℕ) (ys : List ℕ) (i : ℕ) (total : ℤ) → length ps ≤ i → total +ℤ row_value (drop i ps) x (drop i ys) ≡ row_value ps x ys → total ≡ row_value ps x ys
+row-done ps x ys i total h before =
+    let none : drop i ps ≡ [] = drop_all i ps h in
+    let left : total +ℤ pos 0 ≡ row_value ps x ys = rw none at before in
+    omega (arith, ints)
+
+pub row-bounds : (ps : List PairWeights) (x : ℕ) (ys : List ℕ) → IsTrue (pairs_are_positive ps) → (pos 0 ≤ℤ row_value ps x ys) × (row_value ps x ys ≤ℤ pairs_total ps)
+row-bounds ps x ys positive = (row_value-positive ps x ys positive, row_value-most ps x ys positive)
+
+-- the row of a variable among all pairs
+pub record RowThere (ps : List PairWeights) (n k : ℕ) (row : List PairWeights) : Type 0 where
+  pub entries : length row + suc k ≡ n
+  pub positive : IsTrue (pairs_are_positive row)
+  pub weight : pairs_total row ≤ℤ pairs_total ps
+
+pub row-there : (ps : List PairWeights) (n k : ℕ) (row : List PairWeights) → length ps ≡ pair_count n → k < n → IsTrue (pairs_are_positive ps) → row ≡ row_at (rows_of n ps) k → RowThere ps n k row
+row-there ps n k row whole h positive is =
+    let rows : List (List PairWeights) = rows_of n ps in
+    let all = positive-rows_of n ps positive in
+    let rest : rows_total (drop k rows) ≡ pairs_total (row_at rows k) +ℤ rows_total (drop (suc k) rows) = rw (drop-rows rows k (omega (arith, length-rows_of n ps))) refl in
+    let later = rows_total-positive (drop (suc k) rows) (positive-drop_rows rows (suc k) all) in
+    let front = rows_total-drop rows k all in
+    record {
+      entries = omega (arith, ap length is, length-row_at n ps k whole h);
+      positive = rw is (positive-row_at rows k all);
+      weight = rw is (omega (arith, ints, rows_total-rows_of n ps whole));
+    }
+
+pub rows-grow : (ps : List PairWeights) (xs : List ℕ) (k : ℕ) (row : List PairWeights) (total cell : ℤ) → k < length xs → length ps ≡ pair_count (length xs) → IsTrue (pairs_are_positive ps) → pairs_total ps ≤ℤ pos (2 ^ 48) →
+    row ≡ row_at (rows_of (length xs) ps) k → cell ≡ row_value row (get_or xs k 0) (drop (k + 1) xs) →
+    (total +ℤ rows_value (drop k (rows_of (length xs) ps)) (drop k xs) ≡ rows_value (rows_of (length xs) ps) xs) × (pos 0 ≤ℤ total) →
+    SumGrows (rows_value (rows_of (length xs) ps) xs) (rows_value (drop (k + 1) (rows_of (length xs) ps)) (drop (k + 1) xs)) total cell
+rows-grow ps xs k row total cell h whole positive weight is cell_is before =
+    let rows : List (List PairWeights) = rows_of (length xs) ps in
+    let all = positive-rows_of (length xs) ps positive in
+    let one : suc k ≡ k + 1 = omega arith in
+    let cut : rows_value (drop k rows) (drop k xs) ≡ row_value (row_at rows k) (get_or xs k 0) (drop (k + 1) xs) +ℤ rows_value (drop (k + 1) rows) (drop (k + 1) xs) =
+    rw (drop-rows rows k (omega (arith, length-rows_of (length xs) ps)), drop_more xs k 0 h) (ap (λ n. row_value (row_at rows k) (get_or xs k 0) (drop (k + 1) xs) +ℤ rows_value (drop n rows) (drop (k + 1) xs)) one) in
+    let same : cell ≡ row_value (row_at rows k) (get_or xs k 0) (drop (k + 1) xs) = cell_is ∙ ap (λ r. row_value r (get_or xs k 0) (drop (k + 1) xs)) is in
+    let here = row_value-positive (row_at rows k) (get_or xs k 0) (drop (k + 1) xs) (positive-row_at rows k all) in
+    let rest = rows_value-positive (drop (k + 1) rows) (drop (k + 1) xs) (positive-drop_rows rows (k + 1) all) in
+    let most = rows_value-most rows xs all in
+    let sums = rows_total-rows_of (length xs) ps whole in
+    record {
+      sum = omega (arith, ints, before.0);
+      low = omega (arith, ints, before.1);
+      high = omega (arith, ints, before.0);
+      cell_low = omega (arith, ints);
+      cell_high = omega (arith, ints, before.0, before.1);
+      total_high = omega (arith, ints, before.0);
+    }
+
+pub rows-done : (ps : List PairWeights) (xs : List ℕ) (k : ℕ) (total : ℤ) → length xs ≤ k →
+    total +ℤ rows_value (drop k (rows_of (length xs) ps)) (drop k xs) ≡ rows_value (rows_of (length xs) ps) xs → total ≡ rows_value (rows_of (length xs) ps) xs
+rows-done ps xs k total h before =
+    let none : drop k (rows_of (length xs) ps) ≡ [] = drop_all k (rows_of (length xs) ps) (omega (arith, length-rows_of (length xs) ps)) in
+    let left : total +ℤ pos 0 ≡ rows_value (rows_of (length xs) ps) xs = rw none at before in
+    omega (arith, ints)
+
+pub rows-bounds : (ps : List PairWeights) (n : ℕ) (xs : List ℕ) → length ps ≡ pair_count n → IsTrue (pairs_are_positive ps) → (pos 0 ≤ℤ rows_value (rows_of n ps) xs) × (rows_value (rows_of n ps) xs ≤ℤ pairs_total ps)
+rows-bounds ps n xs whole positive =
+    let all = positive-rows_of n ps positive in
+    (rows_value-positive (rows_of n ps) xs all, omega (arith, ints, rows_value-most (rows_of n ps) xs all, rows_total-rows_of n ps whole))
+
+-- what value_of answers
+
+pub value-none : (i : Instance) (xs : List ℕ) (answer : Bool) → IsKept i → answer ≡ ((length xs == length i.units) && all_truth_values xs) → answer ≡ false → ¬ IsSolution (program_of i) xs
+value-none i xs answer kept is no_assignment =
+    let test : ((length xs == length i.units) && all_truth_values xs) ≡ false = sym is ∙ no_assignment in
+    subst (λ (b : Bool). AgreesWithOwnWords i xs (if b then Some (weight_of i xs) else None)) test (own_value-agrees i xs kept)
+
+pub record ValueIs (i : Instance) (xs : List ℕ) (units_part pairs_part : ℤ) : Type 0 where
+  pub value : Some (i.tautologies +ℤ (units_part +ℤ pairs_part)) ≡ own_value i xs
+  pub solution : IsSolution (program_of i) xs × (value_of (program_of i) xs ≡ i.tautologies +ℤ (units_part +ℤ pairs_part))
+  pub read : to_z w64 (of_z w64 (to_z w64 (of_z w64 i.tautologies) +ℤ to_z w64 (of_z w64 (to_z w64 (of_z w64 units_part) +ℤ to_z w64 (of_z w64 pairs_part))))) ≡ i.tautologies +ℤ (units_part +ℤ pairs_part)
+
+pub value-is : (i : Instance) (xs : List ℕ) (answer : Bool) (units_part pairs_part : ℤ) → IsKept i → answer ≡ ((length xs == length i.units) && all_truth_values xs) → answer ≡ true →
+    units_part ≡ units_value i.units xs → pairs_part ≡ rows_value (rows_of (length xs) i.pairs) xs → ValueIs i xs units_part pairs_part
+value-is i xs answer units_part pairs_part kept is yes_assignment units_is pairs_is =
+    let test : ((length xs == length i.units) && all_truth_values xs) ≡ true = sym is ∙ yes_assignment in
+    let whole : length xs ≡ length i.units = eqb-true (length xs) (length i.units) (and-left _ _ test) in
+    let pairs : pairs_part ≡ rows_value (rows_of (length i.units) i.pairs) xs = pairs_is ∙ ap (λ n. rows_value (rows_of n i.pairs) xs) whole in
+    let sum : i.tautologies +ℤ (units_part +ℤ pairs_part) ≡ weight_of i xs = omega (arith, ints) in
+    let agrees : IsSolution (program_of i) xs × (value_of (program_of i) xs ≡ weight_of i xs) =
+    subst (λ (b : Bool). AgreesWithOwnWords i xs (if b then Some (weight_of i xs) else None)) test (own_value-agrees i xs kept) in
+    let units_low = units_value-positive i.units xs kept.units in
+    let units_high = units_value-most i.units xs kept.units in
+    let pairs_bounds = rows-bounds i.pairs (length i.units) xs kept.whole kept.pairs in
+    record {
+      value = subst (λ (b : Bool). Some (i.tautologies +ℤ (units_part +ℤ pairs_part)) ≡ (if b then Some (weight_of i xs) else None)) (sym test) (ap (λ v. Some v) sum);
+      solution = (agrees.0, agrees.1 ∙ sym sum);
+      read = omega (arith, ints, kept.total, kept.tautologies, pairs_bounds.0, pairs_bounds.1);
+    }

@@ -1,0 +1,75 @@
+-- What a step and the root write.
+use Rattle.std.proofs.Common.{◌≡◌, ℕ, ◌+◌, ◌-◌, ◌^◌, ◌<◌, ◌≤◌, ℤ, pos, ◌-ℤ◌, ◌≤ℤ◌, List, [], ◌∷◌, ◌++◌, length, take, drop, set, get_or, refl, arith, ap, sym, ◌∙◌, append_assoc, to_z, of_z, w64, add-one, map}
+use Rattle.std.specs.Prelude.{IsTrue, false, ◌==◌}
+use Rattle.std.proofs.Math.Seq.{take-suc-set}
+use Rattle.std.proofs.lemmas.Int.{ints}
+use Rattle.std.proofs.lemmas.List.{drop_more, drop_all, take_all, take_at, append-nil, length-drop, length-take-le, length-append, length-set}
+use borrow.Rule.Slice.PartMut.{put_mid, post_of}
+use Rattle.benefit_rows.specs.Benefits.{rank_of}
+use Rattle.benefit_rows.specs.BenefitLaws.{size_of-positive}
+use Rattle.max_two_sat.specs.declared.weights.PairWeights.{PairWeights}
+use Rattle.max_two_sat.specs.declared.weights.UnitWeights.{UnitWeights}
+use Rattle.benefit_rows.proofs.Steps.{read_by_size}
+use Rattle.max_two_sat.specs.Instance.{units_total}
+use Rattle.max_two_sat.specs.Kept.{units_are_positive}
+use Rattle.max_two_sat.specs.Program.{grown, row_step, root_of, words_of}
+use Rattle.max_two_sat.proofs.Cells.{no_unit, benefit-small}
+
+-- a slice to the end
+pub tail-is : {X : Type 0} (k : ℕ) (s : List X) → take (length s - k) (drop k s) ≡ drop k s
+tail-is k s = take_all (length s - k) (drop k s) (omega (arith, length-drop k s))
+
+-- what stands behind the first benefit has no greater rank
+pub rank_of-tail : (k : ℕ) (s : List ℤ) → k < length s → rank_of (drop (k + 1) s) ≤ℤ rank_of (drop k s)
+rank_of-tail k s h =
+    let cut = ap rank_of (drop_more s k (pos 0) h) in
+    omega (arith, ints, size_of-positive (get_or s k (pos 0)))
+
+-- the front, a zero and the later benefits make the next state
+pub step-written : (row : List PairWeights) (s old front later : List ℤ) (k d : ℕ) → k < length s → length old ≡ length s → front ≡ take k s →
+    later ≡ grown row (drop (k + 1) s) d → length later ≡ length s - (k + 1) →
+    put_mid (k + 1) (length (set (front ++ drop k old) k (pos 0)) - (k + 1)) (set (front ++ drop k old) k (pos 0)) later ≡ take k s ++ row_step row (drop k s) d
+step-written row s old front later k d h e is grows count =
+    let written : List ℤ = set (front ++ drop k old) k (pos 0) in
+    let short : length front ≡ k = ap length is ∙ length-take-le k s (omega arith) in
+    let cells : length written ≡ length s = omega (arith, length-set {A = ℤ} (front ++ drop k old) k (pos 0), length-append front (drop k old), length-drop k old) in
+    let inside : k < length (front ++ drop k old) = omega (arith, length-append front (drop k old), length-drop k old) in
+    let begins : take (k + 1) written ≡ front ++ pos 0 ∷ [] = rw add-one (take-suc-set (front ++ drop k old) k (pos 0) inside ∙ ap (λ xs. xs ++ pos 0 ∷ []) (take_at front (drop k old) k short)) in
+    let ends : post_of (k + 1) (length written - (k + 1)) written ≡ [] = drop_all (length written - (k + 1)) (drop (k + 1) written) (omega (arith, length-drop (k + 1) written)) in
+    let cut : drop k s ≡ get_or s k (pos 0) ∷ drop (k + 1) s = drop_more s k (pos 0) h in
+    rw (begins, ends, append-nil, append_assoc, is, grows, cut) refl
+
+-- the root
+
+pub root-written : (us : List UnitWeights) (out whole : List ℤ) (i : ℕ) (cell : ℤ) → i < length us → length out ≡ length us →
+    IsTrue (units_are_positive us) → units_total us ≤ℤ pos (2 ^ 48) → cell ≡ (get_or us i no_unit).positive -ℤ (get_or us i no_unit).negative →
+    take i out ++ map (λ v. v.positive -ℤ v.negative) (drop i us) ≡ whole →
+    take (i + 1) (set out i (to_z w64 (of_z w64 cell))) ++ map (λ v. v.positive -ℤ v.negative) (drop (i + 1) us) ≡ whole
+root-written us out whole i cell h e positive weight is before =
+    let small = benefit-small us i h positive weight in
+    let written : to_z w64 (of_z w64 cell) ≡ cell = read_by_size cell (rw is (omega (arith, ints))) in
+    let inside : i < length out = omega arith in
+    let front : take (i + 1) (set out i cell) ≡ take i out ++ cell ∷ [] = rw add-one (take-suc-set out i cell inside) in
+    let more = rw (drop_more us i no_unit h) at before in
+    rw (written, front, append_assoc, is) more
+
+root_of-some : (us : List UnitWeights) → (length us == 0) ≡ false → map (λ v. v.positive -ℤ v.negative) us ≡ root_of us
+root_of-some [] h = absurd (grind arith)
+root_of-some (u ∷ us) h = refl
+
+some-words : (us : List UnitWeights) → (length us == 0) ≡ false → words_of (length us) ≡ length us
+some-words [] h = absurd (grind arith)
+some-words (u ∷ us) h = refl
+
+pub root-done : (us : List UnitWeights) (out : List ℤ) (i : ℕ) → length us ≤ i → (length us == 0) ≡ false → length out ≡ words_of (length us) →
+    take i out ++ map (λ v. v.positive -ℤ v.negative) (drop i us) ≡ map (λ v. v.positive -ℤ v.negative) us → out ≡ root_of us
+root-done us out i h some e before =
+    let all : take i out ≡ out = take_all i out (omega (arith, some-words us some)) in
+    let none : drop i us ≡ [] = drop_all i us h in
+    sym (append-nil out) ∙ (rw (all, none) at before ∙ root_of-some us some)
+
+pub root_of-none : (us : List UnitWeights) (out : List ℤ) → length us ≡ 0 → length out ≡ words_of (length us) → set out 0 (pos 0) ≡ root_of us
+root_of-none [] [] h e = absurd (omega arith)
+root_of-none [] (x ∷ []) h e = refl
+root_of-none [] (x ∷ y ∷ out) h e = absurd (omega arith)
+root_of-none (u ∷ us) out h e = absurd (omega arith)

@@ -1,0 +1,16 @@
+use Rattle.std.proofs.Common.{◌≡◌, ◌-◌, length}
+use Rattle.dd_text.specs.Grammar.{times}
+use Rattle.max_two_sat.specs.Drafted.{gathered_in}
+use Rattle.max_two_sat.specs.Room.{FormKeeps, IsGathered}
+use Rattle.max_two_sat.specs.Texts.{clause_at}
+use Rattle.max_two_sat.proofs.reading_clauses.read_clauses.Given as goal
+
+-- reading goes on with what was gathered so far
+abbrev pub invariant-loop : goal.invariant-loop
+invariant-loop l = record {
+  reads : times (clause_at l.header) (l.header.clauses - l.counter) (gathered_in l.draft) l.tokens ≡ times (clause_at l.header) l.header.clauses (gathered_in l.initial.draft) l.initial.tokens;
+  gathered : IsGathered (gathered_in l.draft);
+  form : FormKeeps l.header.form (gathered_in l.draft);
+  variables : length l.draft.units.items ≡ l.header.variables;
+  count : l.draft.clauses ≡ l.counter;
+}

@@ -1,0 +1,183 @@
+ghost use Rattle.std.specs.Prelude.{◌≡◌, ◌^◌, ◌+◌, ◌<◌, ◌≤◌, pos, ◌+ℤ◌, ◌≤ℤ◌, length, IfOk};
+ghost use Rattle.max_two_sat.specs.Instance.{pair_count, pair_total, unit_total};
+ghost use Rattle.max_two_sat.specs.Kept.{PairIsPositive, UnitIsPositive};
+ghost use Rattle.max_two_sat.specs.Clauses.{FitsLiteral, FitsLiterals, copies_of, gathered_with, heavier_pair, heavier_unit, no_pair, no_unit, nothing_gathered, same_sign, with_pair, with_two, with_unit};
+ghost use Rattle.max_two_sat.specs.Room.{HasRoom};
+ghost use Rattle.max_two_sat.specs.Drafted.{gathered_in, instance_gathered};
+
+use crate::clause::{Literal, Literals};
+use crate::problem::start_of_row;
+use crate::weights::{PairWeights, UnitWeights};
+use std::alloc::{AllocError, Global};
+
+/// An instance while its clauses are read.
+#[derive(Drop)]
+pub(crate) struct Draft {
+    pub(crate) tautologies: i64,
+    pub(crate) units: Vec<UnitWeights>,
+    pub(crate) pairs: Vec<PairWeights>,
+    /// What the clauses weigh, those without literals too.
+    pub(crate) total: i64,
+    /// How many clauses there are.
+    pub(crate) clauses: u64,
+}
+
+impl Draft {
+    /// An instance of so many variables, without clauses.
+    pub(crate) fn new(alloc: Global, variables: usize) -> Result<Draft, AllocError>
+        requires { variables ≤ 1024 }
+        ensures { IfOk result (λ d. gathered_in d ≡ nothing_gathered variables) }
+    {
+        let units = without_units(alloc, variables)?;
+        let pairs = without_pairs(alloc, pairs_of(variables))?;
+        Ok(Draft {
+            tautologies: 0,
+            units,
+            pairs,
+            total: 0,
+            clauses: 0,
+        })
+    }
+
+    /// Adds a clause.
+    pub(crate) fn add(&mut self, weight: i64, literals: Literals)
+        requires room { HasRoom (instance_gathered self.old) weight }
+        requires variables { FitsLiterals (length self.old.units.items) literals }
+        requires total { (self.old.total +ℤ weight) ≤ℤ pos (2 ^ 48) }
+        requires low { pos 0 ≤ℤ self.old.total }
+        requires clauses { self.old.clauses < 2 ^ 20 }
+        ensures { gathered_in self.new ≡ gathered_with (gathered_in self.old) weight literals }
+    {
+        self.total += weight;
+        self.clauses += 1;
+        match literals {
+            Literals::Empty => {}
+            Literals::One(a) => self.add_unit(weight, a),
+            Literals::Two(a, b) => self.add_two(weight, a, b),
+        }
+    }
+
+    fn add_two(&mut self, weight: i64, a: Literal, b: Literal)
+        requires room { HasRoom (instance_gathered self.old) weight }
+        requires first { FitsLiteral (length self.old.units.items) a }
+        requires second { FitsLiteral (length self.old.units.items) b }
+        ensures instance { instance_gathered self.new ≡ with_two (instance_gathered self.old) weight a b }
+        ensures total { self.new.total ≡ self.old.total }
+        ensures clauses { self.new.clauses ≡ self.old.clauses }
+    {
+        if a.variable == b.variable {
+            if has_same_sign(a, b) {
+                self.add_unit(weight, a);
+            } else {
+                self.tautologies += weight;
+            }
+        } else if a.variable < b.variable {
+            self.add_pair(weight, a, b);
+        } else {
+            self.add_pair(weight, b, a);
+        }
+    }
+
+    fn add_unit(&mut self, weight: i64, a: Literal)
+        requires room { HasRoom (instance_gathered self.old) weight }
+        requires variable { FitsLiteral (length self.old.units.items) a }
+        ensures instance { instance_gathered self.new ≡ with_unit (instance_gathered self.old) weight a }
+        ensures total { self.new.total ≡ self.old.total }
+        ensures clauses { self.new.clauses ≡ self.old.clauses }
+    {
+        self.units[a.variable] = unit_with(self.units[a.variable], a.positive, weight);
+    }
+
+    /// Adds a clause on two variables, of which that of `a` is the lesser.
+    fn add_pair(&mut self, weight: i64, a: Literal, b: Literal)
+        requires room { HasRoom (instance_gathered self.old) weight }
+        requires lesser { a.variable < b.variable }
+        requires variable { FitsLiteral (length self.old.units.items) b }
+        ensures instance { instance_gathered self.new ≡ with_pair (instance_gathered self.old) weight a b }
+        ensures total { self.new.total ≡ self.old.total }
+        ensures clauses { self.new.clauses ≡ self.old.clauses }
+    {
+        let start = start_of_row(self.units.as_slice().len(), a.variable);
+        let place = start + (b.variable - a.variable - 1);
+        self.pairs[place] = pair_with(self.pairs[place], a.positive, b.positive, weight);
+    }
+}
+
+fn has_same_sign(a: Literal, b: Literal) -> bool
+    ensures { result ≡ same_sign a.positive b.positive }
+{
+    if a.positive { b.positive } else { !b.positive }
+}
+
+/// The unit weights with a weight added at a sign.
+fn unit_with(unit: UnitWeights, positive: bool, weight: i64) -> UnitWeights
+    requires positive { UnitIsPositive unit }
+    requires low { pos 0 ≤ℤ weight }
+    requires room { (unit_total unit +ℤ weight) ≤ℤ pos (2 ^ 48) }
+    ensures { result ≡ heavier_unit unit positive weight }
+{
+    if positive {
+        UnitWeights {
+            positive: unit.positive + weight,
+            negative: unit.negative,
+        }
+    } else {
+        UnitWeights {
+            positive: unit.positive,
+            negative: unit.negative + weight,
+        }
+    }
+}
+
+/// The weights of a pair with a weight added at the signs of both literals.
+fn pair_with(pair: PairWeights, first: bool, second: bool, weight: i64) -> PairWeights
+    requires positive { PairIsPositive pair }
+    requires low { pos 0 ≤ℤ weight }
+    requires room { (pair_total pair +ℤ weight) ≤ℤ pos (2 ^ 48) }
+    ensures { result ≡ heavier_pair pair first second weight }
+{
+    let mut heavier = pair;
+    match (first, second) {
+        (true, true) => heavier.both += weight,
+        (true, false) => heavier.first += weight,
+        (false, true) => heavier.second += weight,
+        (false, false) => heavier.neither += weight,
+    }
+    heavier
+}
+
+/// How many pairs so many variables have.
+fn pairs_of(variables: usize) -> usize
+    requires { variables ≤ 1024 }
+    ensures { result ≡ pair_count variables }
+{
+    start_of_row(variables, variables)
+}
+
+fn without_units(alloc: Global, count: usize) -> Result<Vec<UnitWeights>, AllocError>
+    ensures { IfOk result (λ v. v.items ≡ copies_of no_unit count) }
+{
+    let mut units = Vec::with_capacity(alloc, count)?;
+    for _ in 0..count {
+        units.push(UnitWeights {
+            positive: 0,
+            negative: 0,
+        })?;
+    }
+    Ok(units)
+}
+
+fn without_pairs(alloc: Global, count: usize) -> Result<Vec<PairWeights>, AllocError>
+    ensures { IfOk result (λ v. v.items ≡ copies_of no_pair count) }
+{
+    let mut pairs = Vec::with_capacity(alloc, count)?;
+    for _ in 0..count {
+        pairs.push(PairWeights {
+            both: 0,
+            first: 0,
+            second: 0,
+            neither: 0,
+        })?;
+    }
+    Ok(pairs)
+}

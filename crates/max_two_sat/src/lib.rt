@@ -1,0 +1,37 @@
+//! Weighted MAX-2SAT: a truth value for each variable, so that the satisfied clauses weigh as much as possible. A clause has at most
+//! two literals.
+//!
+//! `MaxTwoSat` is an instance, `read` and `print` are its texts, and `value_of` is the weight that an assignment satisfies, by the
+//! problem's own words. It implements `DpModel` of the crate dp_model: layer `k` gives variable `k` its value, and a state has for
+//! each later variable the net benefit of making it true, among the clauses that are decided but for it. The crate stands on dp_model,
+//! dd_text and benefit_rows.
+//!
+//! Promised, each in the contract of its call: `read` answers the instance exactly where the text is in the grammar, and otherwise its
+//! first fault with its place; `print` gives the canonical text; the program meets the six laws of dp_model and its gaps add up along
+//! chains; and a list of decisions is a feasible solution exactly where `value_of` gives a value, which is the same. Only want of
+//! memory has no stated cause.
+#![tactic(auto)]
+
+mod clause;
+mod draft;
+mod first_line;
+mod header;
+mod limits;
+mod lines;
+mod printing;
+mod problem;
+mod program;
+mod reading;
+mod reading_clauses;
+mod row;
+mod sums;
+mod value;
+mod weights;
+
+pub use printing::print;
+pub use problem::MaxTwoSat;
+pub use reading::read;
+pub use value::value_of;
+
+#[cfg(test)]
+mod tests;

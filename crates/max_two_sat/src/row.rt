@@ -1,0 +1,188 @@
+ghost use Rattle.std.specs.Prelude.{◌≡◌, ◌^◌, ◌+◌, ◌<◌, ◌≤◌, suc, pos, ◌+ℤ◌, ◌-ℤ◌, ◌≤ℤ◌, ◌++◌, length, take, drop, IsTrue};
+ghost use Rattle.std.specs.Int.{int_min};
+ghost use Rattle.benefit_rows.specs.Benefits.{gain_of, rank_of, size_of};
+ghost use Rattle.max_two_sat.specs.Instance.{pair_total, pairs_total, unit_total, units_total};
+ghost use Rattle.max_two_sat.specs.Kept.{PairIsPositive, UnitIsPositive, pairs_are_positive, units_are_positive};
+ghost use Rattle.max_two_sat.specs.Program.{all_zero, cell_part, grown, is_within, lesser_units, open_false, open_true, root_of, row_gain, row_step, settled, shared_gain, words_of};
+
+use crate::weights::{PairWeights, UnitWeights};
+use benefit_rows::{above_zero, below_zero};
+
+/// Writes the root state: the benefit of each variable by its clauses with one literal.
+pub(crate) fn write_root(units: &[UnitWeights], out: &mut [i64])
+    requires cells { length out.old ≡ words_of (length units.now) }
+    requires positive { IsTrue (units_are_positive units.now) }
+    requires weight { units_total units.now ≤ℤ pos (2 ^ 48) }
+    ensures { out.new ≡ root_of units.now }
+{
+    if units.is_empty() {
+        out[0] = 0;
+        return;
+    }
+    for i in 0..units.len() {
+        out[i] = unit_benefit(units[i]);
+    }
+}
+
+/// What a variable gains by being true rather than false, among its clauses with one literal.
+fn unit_benefit(unit: UnitWeights) -> i64
+    requires positive { UnitIsPositive unit }
+    requires weight { unit_total unit ≤ℤ pos (2 ^ 48) }
+    ensures { result ≡ unit.positive -ℤ unit.negative }
+{
+    unit.positive - unit.negative
+}
+
+/// The sum of the lesser of the two weights of each variable.
+pub(crate) fn lesser_sum(units: &[UnitWeights]) -> i64
+    requires positive { IsTrue (units_are_positive units.now) }
+    requires weight { units_total units.now ≤ℤ pos (2 ^ 48) }
+    ensures { result ≡ lesser_units units.now }
+{
+    let mut total = 0;
+    for unit in units {
+        total += lesser_of(unit.positive, unit.negative);
+    }
+    total
+}
+
+/// Writes the state behind a decision.
+pub(crate) fn write_step(row: &[PairWeights], k: usize, s: &[i64], d: u32, out: &mut [i64])
+    requires cells { length out.old ≡ length s.now }
+    requires entries { length row.now + suc k ≡ length s.now }
+    requires positive { IsTrue (pairs_are_positive row.now) }
+    requires weight { pairs_total row.now ≤ℤ pos (2 ^ 48) }
+    requires rank { rank_of (drop k s.now) ≤ℤ pos (2 ^ 48) }
+    ensures { out.new ≡ take k s.now ++ row_step row.now (drop k s.now) d }
+{
+    out[..k].copy_from_slice(&s[..k]);
+    out[k] = 0;
+    grow(row, &s[k + 1..], d, &mut out[k + 1..]);
+}
+
+/// Writes what the benefits of the later variables grow to.
+fn grow(row: &[PairWeights], benefits: &[i64], d: u32, out: &mut [i64])
+    requires cells { length out.old ≡ length row.now }
+    requires entries { length row.now ≡ length benefits.now }
+    requires positive { IsTrue (pairs_are_positive row.now) }
+    requires weight { pairs_total row.now ≤ℤ pos (2 ^ 48) }
+    requires rank { rank_of benefits.now ≤ℤ pos (2 ^ 48) }
+    ensures { out.new ≡ grown row.now benefits.now d }
+{
+    for i in 0..row.len() {
+        out[i] = grown_benefit(row[i], benefits[i], d);
+    }
+}
+
+/// What the benefit of one later variable grows to.
+fn grown_benefit(pair: PairWeights, benefit: i64, d: u32) -> i64
+    requires positive { PairIsPositive pair }
+    requires weight { pair_total pair ≤ℤ pos (2 ^ 48) }
+    requires size { size_of benefit ≤ℤ pos (2 ^ 48) }
+    ensures { result ≡ benefit +ℤ (open_true pair d -ℤ open_false pair d) }
+{
+    let (on_true, on_false) = open_weights(pair, d);
+    benefit + (on_true - on_false)
+}
+
+/// What a decision satisfies with the later variables, and the lesser of what each of them then has on its two sides.
+pub(crate) fn gain_with_later(row: &[PairWeights], benefits: &[i64], d: u32) -> i64
+    requires entries { length row.now ≡ length benefits.now }
+    requires positive { IsTrue (pairs_are_positive row.now) }
+    requires weight { pairs_total row.now ≤ℤ pos (2 ^ 48) }
+    requires rank { rank_of benefits.now ≤ℤ pos (2 ^ 48) }
+    ensures { result ≡ shared_gain row.now benefits.now d }
+{
+    let mut total = 0;
+    for i in 0..row.len() {
+        total += cell_gain(row[i], benefits[i], d);
+    }
+    total
+}
+
+/// What a decision gains: the decided variable's side, and the parts of the later variables.
+pub(crate) fn step_gain(row: &[PairWeights], k: usize, s: &[i64], d: u32) -> i64
+    requires entries { length row.now + suc k ≡ length s.now }
+    requires positive { IsTrue (pairs_are_positive row.now) }
+    requires weight { pairs_total row.now ≤ℤ pos (2 ^ 48) }
+    requires rank { rank_of (drop k s.now) ≤ℤ pos (2 ^ 48) }
+    ensures { result ≡ row_gain row.now (drop k s.now) d }
+{
+    side_gain(s[k], d) + gain_with_later(row, &s[k + 1..], d)
+}
+
+/// What a variable gains from its benefit.
+fn side_gain(benefit: i64, d: u32) -> i64
+    requires size { size_of benefit ≤ℤ pos (2 ^ 48) }
+    ensures { result ≡ gain_of benefit d }
+{
+    if d == 0 {
+        below_zero(benefit)
+    } else {
+        above_zero(benefit)
+    }
+}
+
+/// The part of one later variable.
+fn cell_gain(pair: PairWeights, benefit: i64, d: u32) -> i64
+    requires positive { PairIsPositive pair }
+    requires weight { pair_total pair ≤ℤ pos (2 ^ 48) }
+    requires size { size_of benefit ≤ℤ pos (2 ^ 48) }
+    ensures { result ≡ cell_part pair benefit d }
+{
+    let (on_true, on_false) = open_weights(pair, d);
+    let if_true = above_zero(benefit) + on_true;
+    let if_false = below_zero(benefit) + on_false;
+    settled_weight(pair, d) + lesser_of(if_true, if_false)
+}
+
+fn lesser_of(a: i64, b: i64) -> i64
+    ensures { result ≡ int_min a b }
+{
+    if b < a { b } else { a }
+}
+
+/// The weight of the clauses on two variables that the first one's value satisfies.
+fn settled_weight(pair: PairWeights, d: u32) -> i64
+    requires positive { PairIsPositive pair }
+    requires weight { pair_total pair ≤ℤ pos (2 ^ 48) }
+    ensures { result ≡ settled pair d }
+{
+    if d == 0 {
+        pair.second + pair.neither
+    } else {
+        pair.both + pair.first
+    }
+}
+
+/// Of the others, the weights of those with a positive and with a negative literal of the second variable.
+fn open_weights(pair: PairWeights, d: u32) -> (i64, i64)
+    ensures on_true { result.0 ≡ open_true pair d }
+    ensures on_false { result.1 ≡ open_false pair d }
+{
+    if d == 0 {
+        (pair.both, pair.first)
+    } else {
+        (pair.second, pair.neither)
+    }
+}
+
+/// Whether each number of the row is zero.
+pub(crate) fn is_zero_row(row: &[i64]) -> bool
+    ensures { result ≡ all_zero row.now }
+{
+    for i in 0..row.len() {
+        if !is_at_most(row[i], 0) {
+            return false;
+        }
+    }
+    true
+}
+
+/// Whether the number is at most the limit in size.
+pub(crate) fn is_at_most(number: i64, limit: i64) -> bool
+    requires low { pos 0 ≤ℤ limit }
+    ensures { result ≡ is_within number limit }
+{
+    -limit <= number && number <= limit
+}

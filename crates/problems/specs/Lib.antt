@@ -1,0 +1,6 @@
+pub mod Theory
+pub mod Cuts
+pub mod Knapsacks
+pub mod Satisfiability
+pub mod Tours
+pub mod Theories

@@ -1,0 +1,31 @@
+-- Weighted MAX-2SAT as a problem of the program.
+use Rattle.std.specs.Prelude.{◌≡◌, ℕ, ℤ, List, Option, Some, None}
+use Rattle.std.proofs.Common.{sym, subst}
+use Rattle.dd_text.specs.Text.{text_start}
+use Rattle.dd_text.specs.declared.comment.Comment.TheVariants.{LetterC}
+use Rattle.dp_model.specs.Worth.{SolutionGives}
+use Rattle.max_two_sat.specs.Instance.{Instance}
+use Rattle.max_two_sat.specs.InstanceNumbers.{numbers_of, instance_of, instance_of-numbers_of}
+use Rattle.max_two_sat.specs.Kept.{IsKept}
+use Rattle.max_two_sat.specs.OwnWords.{own_value}
+use Rattle.max_two_sat.specs.Printed.{text_of}
+use Rattle.max_two_sat.specs.Program.{program_of}
+use Rattle.max_two_sat.specs.Solutions.{AgreesWithOwnWords, own_value-agrees}
+use Rattle.max_two_sat.specs.Texts.{instance_at}
+use Rattle.problems.specs.Theory.{Theory, Agrees, with_numbers}
+
+abbrev pub sat_theory : Theory
+sat_theory = record {
+  spelled = λ bytes. with_numbers numbers_of (instance_at (text_start LetterC bytes));
+  program = λ numbers. program_of (instance_of numbers);
+  canonical = λ numbers. text_of (instance_of numbers);
+  own_value = λ numbers x. own_value (instance_of numbers) x;
+}
+
+gives : (i : Instance) (x : List ℕ) (value : Option ℤ) → AgreesWithOwnWords i x value → SolutionGives (program_of i) x value
+gives i x None h = h
+gives i x (Some v) h = record { solution = h.0; value = sym h.1 }
+
+-- its own words and its program speak of the same solutions
+pub sat_agrees : (i : Instance) → IsKept i → Agrees (program_of (instance_of (numbers_of i))) (sat_theory.own_value (numbers_of i))
+sat_agrees i h = λ x. subst (λ j. SolutionGives (program_of j) x (own_value j x)) (sym (instance_of-numbers_of i)) (gives i x (own_value i x) (own_value-agrees i x h))

@@ -1,0 +1,23 @@
+-- Tours with time windows as a problem of the program.
+use Rattle.std.specs.Prelude.{◌≡◌, ℕ, ℤ, List, IsTrue}
+use Rattle.std.proofs.Common.{sym, subst}
+use Rattle.dp_model.specs.Worth.{SolutionGives}
+use Rattle.tsp_windows.specs.Instance.{Instance, is_small}
+use Rattle.tsp_windows.specs.Instances.{numbers_of, instance_of, program, is_small-gives}
+use Rattle.tsp_windows.specs.OwnWords.{tour_value}
+use Rattle.tsp_windows.specs.OwnWordsLaws.{solution_gives}
+use Rattle.tsp_windows.specs.Program.{program_of}
+use Rattle.tsp_windows.specs.Texts.{spelled, printed}
+use Rattle.problems.specs.Theory.{Theory, Agrees, with_numbers}
+
+abbrev pub tour_theory : Theory
+tour_theory = record {
+  spelled = λ bytes. with_numbers numbers_of (spelled bytes);
+  program = program;
+  canonical = λ numbers. printed (instance_of numbers);
+  own_value = λ numbers x. tour_value (instance_of numbers) x;
+}
+
+-- its own words and its program speak of the same solutions
+pub tour_agrees : (i : Instance) → IsTrue (is_small i) → instance_of (numbers_of i) ≡ i → Agrees (program (numbers_of i)) (tour_theory.own_value (numbers_of i))
+tour_agrees i small same = λ x. subst (λ j. SolutionGives (program_of j) x (tour_value j x)) (sym same) (solution_gives i x (is_small-gives i small))

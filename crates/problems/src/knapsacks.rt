@@ -1,0 +1,27 @@
+use crate::problem::Problem;
+use dd_text::ReadModelError;
+use dp_model::OutOfMemory;
+use knapsack::Knapsack;
+use std::alloc::Global;
+
+#[tactic(auto, using(crate::proofs::Readings::reads_numbers, knapsack::specs::ProgramLaws::round_trip))]
+impl Problem for Knapsack {
+    ghost use Rattle.knapsack.specs.Shown.{instance_in};
+    ghost use Rattle.problems.specs.Knapsacks.{knapsack_theory, knapsack_agrees};
+
+    ghost spelled = { knapsack_theory.spelled };
+
+    ghost canonical = { knapsack_theory.canonical };
+
+    ghost own_value = { knapsack_theory.own_value };
+
+    ghost agrees = { λ m. knapsack_agrees (instance_in m) };
+
+    fn read(alloc: Global, bytes: &[u8]) -> Result<Knapsack, ReadModelError> {
+        knapsack::read(alloc, bytes)
+    }
+
+    fn print(alloc: Global, model: &Knapsack) -> Result<Vec<u8>, OutOfMemory> {
+        knapsack::print(alloc, model)
+    }
+}

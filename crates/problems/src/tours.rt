@@ -1,0 +1,27 @@
+use crate::problem::Problem;
+use dd_text::ReadModelError;
+use dp_model::OutOfMemory;
+use std::alloc::Global;
+use tsp_windows::TspWindows;
+
+#[tactic(auto, using(crate::proofs::Readings::reads_numbers))]
+impl Problem for TspWindows {
+    ghost use Rattle.tsp_windows.specs.Shown.{instance_in};
+    ghost use Rattle.problems.specs.Tours.{tour_theory, tour_agrees};
+
+    ghost spelled = { tour_theory.spelled };
+
+    ghost canonical = { tour_theory.canonical };
+
+    ghost own_value = { tour_theory.own_value };
+
+    ghost agrees = { λ m. tour_agrees (instance_in m) m.small m.spelled };
+
+    fn read(alloc: Global, bytes: &[u8]) -> Result<TspWindows, ReadModelError> {
+        tsp_windows::read(alloc, bytes)
+    }
+
+    fn print(alloc: Global, model: &TspWindows) -> Result<Vec<u8>, OutOfMemory> {
+        tsp_windows::print(alloc, model)
+    }
+}

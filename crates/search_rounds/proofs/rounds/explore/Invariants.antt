@@ -1,0 +1,20 @@
+use Rattle.std.proofs.Common.{◌≡◌, ◌-◌}
+use Rattle.dp_model.specs.Counts.{tree}
+use Rattle.dp_model.specs.Dp.{Dp}
+use Rattle.search_core.specs.Board.{BoardView}
+use Rattle.search_rounds.specs.declared.desk.Desk.{Desk}
+use Rattle.search_rounds.specs.Later.{IsLater}
+use Rattle.search_rounds.specs.Prepared.{IsPrepared}
+use Rattle.search_rounds.proofs.rounds.explore.Given as goal
+
+-- some rounds later, with the desk ready for another one
+pub record IsBetweenRounds (dp : Dp) (first now : BoardView) (desk : Desk) : Type 0 where
+  pub numbers : now.numbers ≡ first.numbers
+  pub later : IsLater first.board now.board
+  pub prepared : IsPrepared dp desk
+
+abbrev pub invariant-rounds : goal.invariant-rounds
+invariant-rounds g l = IsBetweenRounds (g.M.DpModel.meaning (g.M.DpModel.numbers l.model)) l.initial.board l.board l.desk
+
+abbrev pub decreases-rounds : goal.decreases-rounds
+decreases-rounds g l = tree (g.M.DpModel.meaning (g.M.DpModel.numbers l.model)) - l.board.board.finished

@@ -1,0 +1,6 @@
+pub mod Branching
+pub mod Branched
+pub mod Later
+pub mod Offered
+pub mod Prepared
+pub mod UnderWay

@@ -1,0 +1,26 @@
+ghost use Rattle.std.specs.Prelude.{◌≡◌, ◌⊎◌};
+ghost use Rattle.solver_cli.specs.Ended.{Says, IsSaid};
+
+use dd_io::{Sink, write_all};
+use solver_report::{Answer, report_text, status};
+use std::alloc::Global;
+
+/// Writes the text of the answer, or that memory ran out where it can't be made, and gives the status.
+pub fn say<K: Sink>(alloc: Global, out: &mut K, answer: &Answer) -> u8
+    ensures { IsSaid (record { before = K.taken out.old; now = K.taken out.new; faults_before = K.faults out.old; faults_now = K.faults out.new; idle_before = K.idle out.old; idle_now = K.idle out.new }) answer.now result }
+{
+    match report_text(alloc, answer) {
+        Ok(text) => write(out, text.as_slice(), status(answer)),
+        Err(_) => write(out, b"out of memory\n", 8),
+    }
+}
+
+/// Writes the text, and gives the status that goes with it, or 7 where it was not written whole.
+fn write<K: Sink>(out: &mut K, text: &[u8], own: u8) -> u8
+    ensures { Says (record { before = K.taken out.old; now = K.taken out.new; faults_before = K.faults out.old; faults_now = K.faults out.new; idle_before = K.idle out.old; idle_now = K.idle out.new }) text.now own result }
+{
+    match write_all(out, text) {
+        Ok(()) => own,
+        Err(_) => 7,
+    }
+}

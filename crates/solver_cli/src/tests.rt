@@ -1,0 +1,150 @@
+use crate::run::run;
+use dd_io::{MemSink, MemSource};
+use std::alloc::{AllocError, Global};
+use std::test::Fail;
+
+const THREE_ITEMS: &str = "3 10\n60 5\n50 4\n70 6\n";
+
+/// The words of a line.
+fn words_of(alloc: Global, line: &str) -> Result<Vec<String>, AllocError> {
+    let mut words = Vec::new(alloc);
+    for word in line.split_ascii_whitespace() {
+        words.push(String::from_str(alloc, word)?)?;
+    }
+    Ok(words)
+}
+
+/// What a run prints, and its status.
+struct Printed {
+    text: MemSink,
+    status: u8,
+}
+
+/// Runs the words of a line on an input, over a source and a sink of which these calls fail.
+fn run_line(
+    alloc: Global,
+    line: &str,
+    input: &str,
+    failing_reads: &[u64],
+    failing_writes: &[u64],
+) -> Result<Printed, AllocError> {
+    let words = words_of(alloc, line)?;
+    let bytes = input.as_bytes().to_vec(alloc)?;
+    let mut source = MemSource::new(bytes, failing_reads.to_vec(alloc)?);
+    let mut text = MemSink::new(alloc, failing_writes.to_vec(alloc)?);
+    let status = run(alloc, words.as_slice(), &mut source, &mut text);
+    Ok(Printed { text, status })
+}
+
+#[test]
+fn prints_what_it_must(rt: HostRuntime) -> Result<(), Fail> {
+    let cases = [
+        ("solve knapsack", THREE_ITEMS, "proved\nvalue 120\nassignment 0 1 1\n", 0u8),
+        ("solve knapsack", "2 7\n10 3 2\n7 2 3\n", "proved\nvalue 24\nassignment 1 2\n", 0),
+        ("solve knapsack", "0 5\n", "proved\nvalue 0\nassignment\n", 0),
+        ("solve knapsack", "2 0\n5 0\n9 1\n", "proved\nvalue 5\nassignment 1 0\n", 0),
+        ("solve knapsack --budget 0", THREE_ITEMS, "stopped budget\nvalue none\nbound 121\n", 2),
+        ("solve maxcut", "3 3\n1 2 3\n2 3 1\n1 3 2\n", "proved\nvalue 5\nassignment 0 1 1\n", 0),
+        ("solve maxcut", "2 1\n1 2 -4\n", "proved\nvalue 0\nassignment 0 0\n", 0),
+        (
+            "solve max2sat",
+            "p wcnf 2 4\n3 1 2 0\n2 -1 2 0\n4 1 -2 0\n1 -1 -2 0\n",
+            "proved\nvalue 9\nassignment 1 1\n",
+            0,
+        ),
+        (
+            "solve max2sat",
+            "p wcnf 1 3\n5 1 -1 0\n2 -1 0\n1 1 1 0\n",
+            "proved\nvalue 7\nassignment 0\n",
+            0,
+        ),
+        ("solve max2sat", "p wcnf 3 1\n1 1 2 3 0\n", "instance three-literals 2 7\n", 3),
+        (
+            "solve max2sat",
+            "c a comment\np cnf 2 3\n1 2 0\n-1 2 0\n1 -2 0\n%\n0\n",
+            "proved\nvalue 3\nassignment 1 1\n",
+            0,
+        ),
+        (
+            "solve tsptw",
+            "3\n0 2 9\n2 0 3\n4 3 0\n0 100\n5 20\n0 30\n",
+            "proved\nvalue -12\nassignment 1 2 0\n",
+            0,
+        ),
+        ("solve tsptw", "3\n0 2 9\n2 0 3\n4 3 0\n0 100\n5 20\n0 1\n", "infeasible\n", 1),
+        (
+            "solve tsptw",
+            "3\n0 2 9\n2 0 3\n4 3 0\n0 100\n5 20\n0 8\n",
+            "proved\nvalue -12\nassignment 1 2 0\n",
+            0,
+        ),
+        ("solve tsptw", "1\n0\n0 10\n", "proved\nvalue 0\nassignment 0\n", 0),
+    ];
+    for (line, input, text, status) in cases {
+        let printed = run_line(rt.alloc(), line, input, &[], &[])?;
+        assert_eq!(rt; printed.text.taken(), text.as_bytes(), "{line} on {input}");
+        assert_eq!(rt; printed.status, status, "{line} on {input}");
+    }
+    Ok(())
+}
+
+#[test]
+fn refuses_at_the_place(rt: HostRuntime) -> Result<(), Fail> {
+    let cases = [
+        ("solve knapsack", "", "instance end-of-text 1 1\n", 3u8),
+        ("solve knapsack", "x\n", "instance not-number 1 1\n", 3),
+        ("solve knapsack", "1001 5\n", "instance out-of-range 1 1\n", 3),
+        ("digest knapsack", "3 10\n60 5\n", "instance end-of-text 3 1\n", 3),
+        ("solve knapsack", "0 5\n7\n", "instance trailing 2 1\n", 3),
+        ("solve knapsack", "\u{e9}\n", "instance not-ascii 1 1\n", 3),
+        ("solve maxcut", "2 1\n1 3 5\n", "instance vertex 2 3\n", 3),
+        ("solve tsptw", "1\n0\n5 4\n", "instance window 3 3\n", 3),
+        ("solve max2sat", "p cnf 1 2\n1 0\n", "instance count 3 1\n", 3),
+        ("solve max2sat", "p wcnf 1 1 10\n10 1 0\n", "instance hard 2 1\n", 3),
+        ("solve max2sat", "p wcnf 1 1 10\n9 1 0\n", "proved\nvalue 9\nassignment 1\n", 0),
+        (
+            "solve max2sat",
+            "p wcnf 1 2\n281474976710656 1 0\n1 -1 0\n",
+            "instance limit 3 1\n",
+            3,
+        ),
+        ("solve max2sat", "h 1 0\n", "instance word 1 1\n", 3),
+        ("", THREE_ITEMS, "words usage\n", 4),
+        ("solve", THREE_ITEMS, "words usage\n", 4),
+        ("solve knapsak", THREE_ITEMS, "words usage\n", 4),
+        ("solve knapsack knapsack", THREE_ITEMS, "words usage\n", 4),
+        ("solve knapsack --budget", THREE_ITEMS, "words usage\n", 4),
+        ("solve knapsack --budget 1 --budget 2", THREE_ITEMS, "words usage\n", 4),
+        ("solve knapsack --budget 18446744073709551616", THREE_ITEMS, "words usage\n", 4),
+        ("digest knapsack --budget 1", THREE_ITEMS, "words usage\n", 4),
+        ("solve --budget 1 knapsack", THREE_ITEMS, "words usage\n", 4),
+    ];
+    for (line, input, text, status) in cases {
+        let printed = run_line(rt.alloc(), line, input, &[], &[])?;
+        assert_eq!(rt; printed.text.taken(), text.as_bytes(), "{line} on {input}");
+        assert_eq!(rt; printed.status, status, "{line} on {input}");
+    }
+    Ok(())
+}
+
+#[test]
+fn tells_faults_of_the_outside(rt: HostRuntime) -> Result<(), Fail> {
+    let unread = run_line(rt.alloc(), "solve knapsack", THREE_ITEMS, &[0], &[])?;
+    assert_eq!(rt; unread.text.taken(), "read fault\n".as_bytes());
+    assert_eq!(rt; unread.status, 6);
+    let unwritten = run_line(rt.alloc(), "solve knapsack", THREE_ITEMS, &[], &[0])?;
+    assert_eq!(rt; unwritten.text.taken(), "".as_bytes());
+    assert_eq!(rt; unwritten.status, 7);
+    Ok(())
+}
+
+#[test]
+fn one_instance_has_one_digest(rt: HostRuntime) -> Result<(), Fail> {
+    let digest = "88b310997f4897e8b02cdec421c4964c734a77532e09709e47d7dbfee26f1db5\n";
+    for input in [THREE_ITEMS, "3  10\n60  5  1\n50  4  1\n70  6  1\n"] {
+        let printed = run_line(rt.alloc(), "digest knapsack", input, &[], &[])?;
+        assert_eq!(rt; printed.text.taken(), digest.as_bytes(), "{input}");
+        assert_eq!(rt; printed.status, 0);
+    }
+    Ok(())
+}

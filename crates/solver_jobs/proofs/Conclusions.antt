@@ -1,0 +1,80 @@
+-- What a search that is over may answer.
+use Rattle.std.proofs.Common.{◌≡◌, ◌≢◌, ℕ, ◌+◌, ◌^◌, ◌≤◌, ◌<◌, ℤ, ◌≤ℤ◌, int_lt, List, [], ◌∷◌, ◌++◌, length, map, Bool, true, false, cond, nat_eq, Option, Some, None, IsTrue, ◌⊎◌, inl, inr, refl, sym, ◌∙◌, ap, subst, arith}
+use Rattle.dp_model.specs.Best.{Best, best, IsBest}
+use Rattle.dp_model.specs.Counts.{tree}
+use Rattle.dp_model.specs.Dp.{Dp}
+use Rattle.dp_model.specs.Numbers.{AtMost}
+use Rattle.dp_model.specs.Prefixes.{IsSolution, value_of}
+use Rattle.dp_model.specs.Subproblem.{Subproblem}
+use Rattle.dp_model.proofs.Solutions.{best-is_best, IsBest-unique, given_value, given_none}
+use Rattle.problems.specs.Theory.{Agrees}
+use Rattle.search_core.specs.Board.{BoardState, Ticketed, full_slots, value_held, incumbent_value, is_explored, frontier}
+use Rattle.search_core.specs.Bound.{bound_of, raised, raised_by}
+use Rattle.search_core.specs.GoodBoard.{IsGood, IsIncumbent, IncumbentHolds}
+use Rattle.search_core.specs.Taking.{is_budget_up}
+use Rattle.search_core.specs.declared.cause.Cause.{Cause}
+use Rattle.search_core.specs.declared.cause.Cause.TheVariants as causes
+use Rattle.search_rounds.specs.Later.{HasEnded, IsComplete, IsCauseAfter}
+use Rattle.solver_report.specs.declared.answer.Stop.TheVariants.{Budget, Memory}
+use Rattle.solver_jobs.specs.Answers.{IsFound, FoundHolds, IsProved, IsInfeasible, IsStopped, StopHolds}
+use Rattle.solver_jobs.specs.Over.{IsOver}
+
+-- an incumbent is a solution in the problem's own words too
+pub found_one : (dp : Dp) (own : List ℕ → Option ℤ) → Agrees dp own → (found : Best) → IsIncumbent dp found → IsFound dp own found
+found_one dp own agrees found h = record {
+  solution = h.solution;
+  value = h.value;
+  own_words = given_value dp found.decisions (own found.decisions) (agrees found.decisions) h.solution ∙ ap Some (sym h.value);
+}
+
+pub found_holds : (dp : Dp) (own : List ℕ → Option ℤ) → Agrees dp own → (found : Option Best) → IncumbentHolds dp found → FoundHolds dp own found
+found_holds dp own agrees None h = tt
+found_holds dp own agrees (Some found) h = found_one dp own agrees found h
+
+-- the incumbent of an explored board is best
+pub proved : (dp : Dp) (own : List ℕ → Option ℤ) → Agrees dp own → (held : Option Best) (found : Best) → Some found ≡ held → IncumbentHolds dp held → IsBest dp (value_held held) → IsProved dp own found
+proved dp own agrees held found same h is = record {
+  found_one = found_one dp own agrees found (subst (IncumbentHolds dp) (sym same) h);
+  is_best = sym (IsBest-unique dp (Some found.value) (best dp) (subst (λ b. IsBest dp (value_held b)) (sym same) is) (best-is_best dp));
+}
+
+-- an explored board without an incumbent says that there is no feasible solution
+pub infeasible : (dp : Dp) (own : List ℕ → Option ℤ) → Agrees dp own → (held : Option Best) → None ≡ held → IsBest dp (value_held held) → IsInfeasible dp own
+infeasible dp own agrees held same is =
+    let never : IsBest dp None = subst (λ b. IsBest dp (value_held b)) (sym same) is in
+    record {
+      no_best = sym (IsBest-unique dp None (best dp) never (best-is_best dp));
+      no_solution = never;
+      no_own = λ x. given_none dp x (own x) (agrees x) (never x);
+    }
+
+-- something is open where nothing is out and the board is not explored
+open_left : (os : List Ticketed) (out : List Ticketed) → out ≡ [] → nat_eq (length os + length out) 0 ≡ false → os ≢ []
+open_left os out idle left none =
+    let few : length os ≡ 0 = ap length none in
+    let zero_out : length out ≡ 0 = ap length idle in
+    grind arith
+
+raised-some : (most : Option ℤ) (z : ℤ) → raised most z ≡ None → ⊥
+raised-some None z e = absurd (cc)
+raised-some (Some y) z e = absurd (cc)
+
+raised_by-some : (most : Option ℤ) (y : ℤ) (os : List Ticketed) → most ≡ Some y → raised_by most os ≡ None → ⊥
+raised_by-some most y [] e h = absurd (cc)
+raised_by-some None y (o ∷ os) e h = absurd (cc)
+raised_by-some (Some x) y (o ∷ os) e h = raised_by-some (raised (Some x) o.subproblem.bound) _ os refl h
+
+-- a board with something open has a bound
+raised_by-open : (most : Option ℤ) (os : List Ticketed) → os ≢ [] → raised_by most os ≡ None → ⊥
+raised_by-open most [] some h = absurd (some refl)
+raised_by-open None (o ∷ os) some h = raised_by-some (Some o.subproblem.bound) o.subproblem.bound os refl h
+raised_by-open (Some y) (o ∷ os) some h = raised_by-some (raised (Some y) o.subproblem.bound) _ os refl h
+
+no_append : {X : Type 0} (xs ys : List X) → ys ≢ [] → xs ++ ys ≡ [] → ⊥
+no_append [] ys some h = some h
+no_append (x ∷ xs) ys some h = absurd (cc)
+
+pub bound_there : (dp : Dp) (budget : ℕ) (b : BoardState) → IsOver dp budget b → is_explored b ≡ false → bound_of b ≡ None → ⊥
+bound_there dp budget b over left h =
+    let some = open_left b.open_ones (full_slots b.slots) over.idle left in
+    raised_by-open (incumbent_value b) (full_slots b.slots ++ b.open_ones) (no_append (full_slots b.slots) b.open_ones some) h

@@ -1,0 +1,98 @@
+-- When what a job answers for an instance is right.
+use Rattle.std.specs.Prelude.{◌≡◌, ◌≢◌, ℕ, ◌^◌, ◌≤◌, ℤ, List, [], Option, Some, None, Result, Ok, Err, IsTrue, ◌⊎◌}
+use Rattle.dd_text.specs.declared.instance_error.InstanceError.{InstanceError}
+use Rattle.dp_model.specs.Best.{Best, best}
+use Rattle.dp_model.specs.Counts.{tree}
+use Rattle.dp_model.specs.Dp.{Dp}
+use Rattle.dp_model.specs.Numbers.{AtMost}
+use Rattle.dp_model.specs.Prefixes.{IsSolution, value_of}
+use Rattle.dp_model.specs.declared.names.ModelName.{ModelName}
+use Rattle.problems.specs.Theory.{Theory}
+use Rattle.search_core.specs.Board.{BoardState, full_slots}
+use Rattle.search_core.specs.Bound.{bound_of}
+use Rattle.search_core.specs.GoodBoard.{IsGood}
+use Rattle.search_core.specs.Taking.{is_budget_up}
+use Rattle.search_core.specs.declared.cause.Cause.TheVariants as causes
+use Rattle.sha2.specs.Sha256.{sha256}
+use Rattle.solver_words.specs.declared.job.Job.{Job}
+use Rattle.solver_words.specs.declared.job.Job.TheVariants.{Solve, Digest}
+use Rattle.solver_report.specs.declared.answer.Stop.{Stop}
+use Rattle.solver_report.specs.declared.answer.Stop.TheVariants.{Budget, Memory}
+use Rattle.solver_report.specs.declared.answer.Answer.{Answer}
+use Rattle.solver_report.specs.declared.answer.Answer.TheVariants as answers
+
+-- a feasible solution with its value, in the states and gains and in the problem's own words
+pub record IsFound (dp : Dp) (own : List ℕ → Option ℤ) (found : Best) : Type 0 where
+  pub solution : IsSolution dp found.decisions
+  pub value : found.value ≡ value_of dp found.decisions
+  pub own_words : own found.decisions ≡ Some found.value
+
+abbrev pub FoundHolds : Dp → (List ℕ → Option ℤ) → Option Best → Type 0
+FoundHolds dp own None = Unit {0}
+FoundHolds dp own (Some found) = IsFound dp own found
+
+-- a feasible solution of the greatest value
+pub record IsProved (dp : Dp) (own : List ℕ → Option ℤ) (found : Best) : Type 0 where
+  pub found_one : IsFound dp own found
+  pub is_best : best dp ≡ Some found.value
+
+-- there is no feasible solution, and no list is one in the problem's own words
+pub record IsInfeasible (dp : Dp) (own : List ℕ → Option ℤ) : Type 0 where
+  pub no_best : best dp ≡ None
+  pub no_solution : (x : List ℕ) → IsSolution dp x → ⊥
+  pub no_own : (x : List ℕ) → own x ≡ None
+
+-- why the board at the end is not explored: the budget is taken up and no cause is held, or want of memory is held
+abbrev pub StopHolds : BoardState → Stop → Type 0
+StopHolds b Budget = IsTrue (is_budget_up b) × (b.cause ≡ None)
+StopHolds b Memory = b.cause ≡ Some causes.Memory
+
+-- the search ended on a good board with something open: for the budget only where it is less than the number of prefixes, or these
+-- are more than 2^63
+pub record IsStopped (dp : Dp) (own : List ℕ → Option ℤ) (budget : ℕ) (stop : Stop) (incumbent : Option Best) (bound : ℤ) : Type 0 where
+  pub board : BoardState
+  pub good : IsGood dp board
+  pub within : board.budget ≡ budget
+  pub nothing_out : full_slots board.slots ≡ []
+  pub something_open : board.open_ones ≢ []
+  pub holds : StopHolds board stop
+  pub held : board.incumbent ≡ incumbent
+  pub bound_is : bound_of board ≡ Some bound
+  pub found_one : FoundHolds dp own incumbent
+  pub most : (x : List ℕ) → IsSolution dp x → AtMost (value_of dp x) (Some bound)
+  pub incomplete : stop ≡ Budget → tree dp ≤ budget → tree dp ≤ 2 ^ 63 → ⊥
+
+-- what a search of an instance may answer
+abbrev pub Solves : Dp → (List ℕ → Option ℤ) → ℕ → Answer → Type 0
+Solves dp own budget (answers.Proved found) = IsProved dp own found
+Solves dp own budget answers.Infeasible = IsInfeasible dp own
+Solves dp own budget (answers.Stopped stop incumbent bound) = IsStopped dp own budget stop incumbent bound
+Solves dp own budget answers.OutOfMemory = Unit {0}
+Solves dp own budget _ = ⊥
+
+-- what a digest may answer
+abbrev pub Digests : List ℕ → Answer → Type 0
+Digests canonical (answers.Digest digest) = digest ≡ sha256 canonical
+Digests canonical answers.OutOfMemory = Unit {0}
+Digests canonical _ = ⊥
+
+-- the problem that a job is for
+abbrev pub model_in : Job → ModelName
+model_in (Solve model budget) = model
+model_in (Digest model) = model
+
+-- what the job may answer for an instance
+abbrev pub Does : Theory → Job → List ℤ → Answer → Type 0
+Does t (Solve model budget) numbers answer = Solves (t.program numbers) (t.own_value numbers) budget answer
+Does t (Digest model) numbers answer = Digests (t.canonical numbers) answer
+
+-- the first fault is answered, or want of memory
+abbrev pub Refuses : InstanceError → Answer → Type 0
+Refuses e (answers.Refused given) = given ≡ e
+Refuses e answers.OutOfMemory = Unit {0}
+Refuses e _ = ⊥
+
+-- what the job may answer for a text: for the instance that it spells, or its first fault
+abbrev pub Replies : Theory → Job → Result (List ℤ) InstanceError → Answer → Type 0
+Replies t job (Ok numbers) answer = Does t job numbers answer
+Replies t job (Err e) answer = Refuses e answer

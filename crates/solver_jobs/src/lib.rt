@@ -1,0 +1,14 @@
+//! What each job does for a text: it reads the instance, searches it or digests it, and answers.
+//!
+//! It stands on `problems` for instances, on `search_core` and `search_rounds` for the search, on `sha2` for digests and on
+//! `solver_report` for answers. A proved answer is a best solution, an infeasible one says that there is no feasible solution,
+//! and a search that stopped early tells its incumbent and a bound that no feasible solution exceeds; it stops for the budget
+//! only where that is less than the number of prefixes.
+#![tactic(auto)]
+
+mod answering;
+mod concluding;
+mod digesting;
+mod solving;
+
+pub use answering::answer_text;

@@ -1,0 +1,83 @@
+-- The printed texts.
+use Rattle.std.specs.Prelude.{ℕ, ℤ, pos, codes, List, [], ◌∷◌, ◌++◌, Option, Some, None}
+use Rattle.std.specs.List.{flat_map}
+use Rattle.dd_text.specs.Decimal.{decimal_of}
+use Rattle.dd_text.specs.declared.instance_error.InstanceError.{InstanceError}
+use Rattle.dd_text.specs.declared.instance_error.InstanceFault.{InstanceFault}
+use Rattle.dd_text.specs.declared.place.Place.{Place}
+use Rattle.dd_text.specs.declared.instance_error.InstanceFault.TheVariants.{NotNumber, OutOfRange, EndOfText, Trailing, NotAscii, Count, Limit, ThreeLiterals, Hard, Vertex, Window, Word}
+use Rattle.dp_model.specs.Best.{Best}
+use Rattle.hex.specs.Hex.{encode_lower}
+use Rattle.solver_report.specs.declared.answer.Stop.{Stop}
+use Rattle.solver_report.specs.declared.answer.Stop.TheVariants.{Budget, Memory}
+use Rattle.solver_report.specs.declared.answer.Answer.{Answer}
+use Rattle.solver_report.specs.declared.answer.Answer.TheVariants as answers
+
+abbrev pub line : List ℕ → List ℕ
+line text = text ++ 10 ∷ []
+
+-- a word and a number on a line
+abbrev pub number_line : List ℕ → ℤ → List ℕ
+number_line word z = line (word ++ 32 ∷ decimal_of z)
+
+-- each decision behind a space
+abbrev pub spaced : List ℕ → List ℕ
+spaced ds = flat_map (λ d. 32 ∷ decimal_of (pos d)) ds
+
+abbrev pub assignment_line : List ℕ → List ℕ
+assignment_line ds = line (codes "assignment" ++ spaced ds)
+
+abbrev pub solution_lines : Best → List ℕ
+solution_lines best = number_line (codes "value") best.value ++ assignment_line best.decisions
+
+abbrev pub incumbent_lines : Option Best → List ℕ
+incumbent_lines None = line (codes "value none")
+incumbent_lines (Some best) = solution_lines best
+
+abbrev pub stop_line : Stop → List ℕ
+stop_line Budget = line (codes "stopped budget")
+stop_line Memory = line (codes "stopped memory")
+
+abbrev pub fault_word : InstanceFault → List ℕ
+fault_word NotNumber = codes "not-number"
+fault_word OutOfRange = codes "out-of-range"
+fault_word EndOfText = codes "end-of-text"
+fault_word Trailing = codes "trailing"
+fault_word NotAscii = codes "not-ascii"
+fault_word Count = codes "count"
+fault_word Limit = codes "limit"
+fault_word ThreeLiterals = codes "three-literals"
+fault_word Hard = codes "hard"
+fault_word Vertex = codes "vertex"
+fault_word Window = codes "window"
+fault_word Word = codes "word"
+
+abbrev pub place_words : Place → List ℕ
+place_words p = decimal_of (pos p.line) ++ 32 ∷ decimal_of (pos p.column)
+
+abbrev pub fault_line : InstanceError → List ℕ
+fault_line e = line (codes "instance " ++ fault_word e.fault ++ 32 ∷ place_words e.place)
+
+-- the text of an answer
+abbrev pub report : Answer → List ℕ
+report (answers.Proved best) = line (codes "proved") ++ solution_lines best
+report answers.Infeasible = line (codes "infeasible")
+report (answers.Stopped stop incumbent bound) = stop_line stop ++ incumbent_lines incumbent ++ number_line (codes "bound") bound
+report (answers.Digest digest) = line (encode_lower digest)
+report (answers.Refused e) = fault_line e
+report answers.TooLong = line (codes "input too-long")
+report answers.Usage = line (codes "words usage")
+report answers.ReadFault = line (codes "read fault")
+report answers.OutOfMemory = line (codes "out of memory")
+
+-- the status that goes with an answer
+abbrev pub status_of : Answer → ℕ
+status_of (answers.Proved best) = 0
+status_of answers.Infeasible = 1
+status_of (answers.Stopped stop incumbent bound) = 2
+status_of (answers.Digest digest) = 0
+status_of (answers.Refused e) = 3
+status_of answers.TooLong = 3
+status_of answers.Usage = 4
+status_of answers.ReadFault = 6
+status_of answers.OutOfMemory = 8

@@ -1,0 +1,80 @@
+ghost use Rattle.std.specs.Prelude.{◌≡◌, IfOk};
+
+use dd_text::InstanceError;
+use dp_model::{Found, OutOfMemory};
+use std::alloc::Global;
+use std::marker::Model;
+
+/// A feasible solution with its value.
+#[derive(Debug, Drop)]
+pub struct Solution {
+    value: i64,
+    decisions: Vec<u32>,
+}
+
+impl Model for Solution {
+    ghost use Rattle.dp_model.specs.Best.{Best};
+
+    ghost Value = { Best };
+
+    ghost view = { λ s. record { decisions = s.decisions.items; value = s.value } };
+}
+
+impl Solution {
+    /// A copy of what was found. Fails only for want of memory.
+    pub fn copy_of(alloc: Global, found: Found<'_>) -> Result<Solution, OutOfMemory>
+        ensures { IfOk result (λ s. s ≡ record { decisions = found.entry.decisions.now; value = found.entry.value }) }
+    {
+        let decisions = Vec::from_slice(alloc, found.decisions)?;
+        Ok(Solution {
+            value: found.value,
+            decisions,
+        })
+    }
+
+    /// The value of the solution.
+    pub fn value(&self) -> i64
+        ensures { result ≡ self.now.value }
+    {
+        self.value
+    }
+
+    /// The decisions of the solution, one for each variable.
+    pub fn decisions(&self) -> &[u32]
+        ensures { result.now ≡ self.now.decisions }
+    {
+        self.decisions.as_slice()
+    }
+}
+
+/// Why a search ended while something was open.
+#[derive(Clone, Copy, Debug, PartialEq, Eq)]
+pub enum Stop {
+    /// The budget is taken up.
+    Budget,
+    /// Memory ran out.
+    Memory,
+}
+
+/// What the program answers.
+#[derive(Debug, Drop)]
+pub enum Answer {
+    /// A best solution.
+    Proved(Solution),
+    /// There is no feasible solution.
+    Infeasible,
+    /// The search ended early, with the incumbent and the bound that it has reached.
+    Stopped(Stop, Option<Solution>, i64),
+    /// The SHA-256 of the canonical text.
+    Digest([u8; 32]),
+    /// The input spells no instance.
+    Refused(InstanceError),
+    /// The input is longer than the limit.
+    TooLong,
+    /// The words are outside the grammar.
+    Usage,
+    /// The input could not be read.
+    ReadFault,
+    /// Memory ran out before the search or in printing.
+    OutOfMemory,
+}

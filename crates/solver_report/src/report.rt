@@ -1,0 +1,168 @@
+ghost use Rattle.std.specs.Prelude.{◌≡◌, ◌∷◌, [], ◌++◌, pos, IfOk, OnOk, codes, option_map};
+ghost use Rattle.hex.specs.Hex.{encode_lower};
+ghost use Rattle.solver_report.specs.Report.{report, status_of, line, number_line, spaced, assignment_line, solution_lines, incumbent_lines, stop_line, fault_word, fault_line};
+
+use crate::answer::{Answer, Solution, Stop};
+use dd_text::{InstanceError, InstanceFault, push_number, push_text};
+use dp_model::OutOfMemory;
+use std::alloc::Global;
+
+/// The exit status that goes with an answer.
+pub fn status(answer: &Answer) -> u8
+    ensures { result ≡ status_of answer.now }
+{
+    match answer {
+        Answer::Proved(_) => 0,
+        Answer::Infeasible => 1,
+        Answer::Stopped(_, _, _) => 2,
+        Answer::Digest(_) => 0,
+        Answer::Refused(_) => 3,
+        Answer::TooLong => 3,
+        Answer::Usage => 4,
+        Answer::ReadFault => 6,
+        Answer::OutOfMemory => 8,
+    }
+}
+
+/// The text of an answer. Fails only for want of memory.
+pub fn report_text(alloc: Global, answer: &Answer) -> Result<Vec<u8>, OutOfMemory>
+    ensures { IfOk result (λ text. text.items ≡ report answer.now) }
+{
+    let mut out = Vec::new(alloc);
+    match answer {
+        Answer::Proved(found) => push_proved(&mut out, found)?,
+        Answer::Infeasible => push_line(&mut out, "infeasible")?,
+        Answer::Stopped(stop, incumbent, bound) => {
+            push_stopped(&mut out, *stop, incumbent, *bound)?
+        }
+        Answer::Digest(digest) => push_digest(&mut out, alloc, digest)?,
+        Answer::Refused(error) => push_fault(&mut out, error)?,
+        Answer::TooLong => push_line(&mut out, "input too-long")?,
+        Answer::Usage => push_line(&mut out, "words usage")?,
+        Answer::ReadFault => push_line(&mut out, "read fault")?,
+        Answer::OutOfMemory => push_line(&mut out, "out of memory")?,
+    }
+    Ok(out)
+}
+
+/// Appends a line.
+fn push_line(out: &mut Vec<u8>, text: &str) -> Result<(), OutOfMemory>
+    ensures { OnOk result (out.new.items ≡ out.old.items ++ line text.now) }
+{
+    push_text(out, text)?;
+    push_text(out, "\n")
+}
+
+/// Appends a line of a word and a number.
+fn push_number_line(out: &mut Vec<u8>, word: &str, value: i64) -> Result<(), OutOfMemory>
+    ensures { OnOk result (out.new.items ≡ out.old.items ++ number_line word.now value) }
+{
+    push_text(out, word)?;
+    push_text(out, " ")?;
+    push_number(out, value)?;
+    push_text(out, "\n")
+}
+
+/// Appends each decision behind a space.
+fn push_spaced(out: &mut Vec<u8>, decisions: &[u32]) -> Result<(), OutOfMemory>
+    ensures { OnOk result (out.new.items ≡ out.old.items ++ spaced decisions.now) }
+{
+    for d in decisions {
+        push_text(out, " ")?;
+        push_number(out, i64::from(*d))?;
+    }
+    Ok(())
+}
+
+/// Appends the value and the assignment of a solution.
+fn push_solution(out: &mut Vec<u8>, found: &Solution) -> Result<(), OutOfMemory>
+    ensures { OnOk result (out.new.items ≡ out.old.items ++ solution_lines found.now) }
+{
+    push_number_line(out, "value", found.value())?;
+    push_text(out, "assignment")?;
+    push_spaced(out, found.decisions())?;
+    push_text(out, "\n")
+}
+
+/// Appends the report of a best solution.
+fn push_proved(out: &mut Vec<u8>, found: &Solution) -> Result<(), OutOfMemory>
+    ensures { OnOk result (out.new.items ≡ out.old.items ++ (line (codes "proved") ++ solution_lines found.now)) }
+{
+    push_line(out, "proved")?;
+    push_solution(out, found)
+}
+
+/// Appends the report of a search that ended early.
+fn push_stopped(
+    out: &mut Vec<u8>,
+    stop: Stop,
+    incumbent: &Option<Solution>,
+    bound: i64,
+) -> Result<(), OutOfMemory>
+    ensures { OnOk result (out.new.items ≡ out.old.items ++ (stop_line stop ++ incumbent_lines incumbent.now ++ number_line (codes "bound") bound)) }
+{
+    push_stop(out, stop)?;
+    push_incumbent(out, incumbent)?;
+    push_number_line(out, "bound", bound)
+}
+
+/// Appends why a search ended early.
+fn push_stop(out: &mut Vec<u8>, stop: Stop) -> Result<(), OutOfMemory>
+    ensures { OnOk result (out.new.items ≡ out.old.items ++ stop_line stop) }
+{
+    match stop {
+        Stop::Budget => push_line(out, "stopped budget"),
+        Stop::Memory => push_line(out, "stopped memory"),
+    }
+}
+
+/// Appends the incumbent, or that there is none.
+fn push_incumbent(out: &mut Vec<u8>, incumbent: &Option<Solution>) -> Result<(), OutOfMemory>
+    ensures { OnOk result (out.new.items ≡ out.old.items ++ incumbent_lines incumbent.now) }
+{
+    match incumbent {
+        Some(found) => push_solution(out, found),
+        None => push_line(out, "value none"),
+    }
+}
+
+/// Appends a digest in hexadecimal digits.
+fn push_digest(out: &mut Vec<u8>, alloc: Global, digest: &[u8; 32]) -> Result<(), OutOfMemory>
+    ensures { OnOk result (out.new.items ≡ out.old.items ++ line (encode_lower digest.now)) }
+{
+    let digits = hex::encode(alloc, digest.as_slice())?;
+    push_line(out, digits.as_str())
+}
+
+/// Appends a fault of an instance text and its place.
+fn push_fault(out: &mut Vec<u8>, error: &InstanceError) -> Result<(), OutOfMemory>
+    ensures { OnOk result (out.new.items ≡ out.old.items ++ fault_line error.now) }
+{
+    push_text(out, "instance ")?;
+    push_text(out, word_of(error.fault))?;
+    push_text(out, " ")?;
+    push_number(out, i64::from(error.place.line))?;
+    push_text(out, " ")?;
+    push_number(out, i64::from(error.place.column))?;
+    push_text(out, "\n")
+}
+
+/// The word for a fault.
+fn word_of(fault: InstanceFault) -> &'static str
+    ensures { result.now ≡ fault_word fault }
+{
+    match fault {
+        InstanceFault::NotNumber => "not-number",
+        InstanceFault::OutOfRange => "out-of-range",
+        InstanceFault::EndOfText => "end-of-text",
+        InstanceFault::Trailing => "trailing",
+        InstanceFault::NotAscii => "not-ascii",
+        InstanceFault::Count => "count",
+        InstanceFault::Limit => "limit",
+        InstanceFault::ThreeLiterals => "three-literals",
+        InstanceFault::Hard => "hard",
+        InstanceFault::Vertex => "vertex",
+        InstanceFault::Window => "window",
+        InstanceFault::Word => "word",
+    }
+}

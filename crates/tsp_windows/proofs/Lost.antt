@@ -1,0 +1,71 @@
+-- The least ways to the nodes that must be visited, as the code adds them up.
+use Rattle.std.proofs.Common.{◌≡◌, ◌≢◌, ℕ, zero, suc, ◌+◌, ◌*◌, ◌<◌, ◌≤◌, ℤ, Bool, true, false, cond, not, ◌&&◌, ◌||◌, nat_eq, nat_lt, nat_le, List, length, get_or, refl, sym, ap, ap₂, ◌∙◌, subst, arith, inl, inr, ◌⊎◌}
+use Rattle.std.proofs.lemmas.Bool.{cases_lt, false≢true}
+use Rattle.node_sets.specs.Sums.{all_below, sum_below, count_below}
+use Rattle.node_sets.specs.Sets.{IsSet, has, words_for}
+use Rattle.node_sets.proofs.Below.{all_below-gives, all_below-from, sum_below-skip, sum_below-same, count_below-le}
+use Rattle.tsp_windows.specs.Instance.{Instance, IsSmall, Window, no_window, closing, near}
+use Rattle.tsp_windows.specs.States.{TourState, must_of, shown, is_lost, way_left}
+use Rattle.tsp_windows.specs.Tours.{or_left, or_right, true_lt, false_lt}
+use Rattle.tsp_windows.specs.ProgramLaws.{way-most}
+use Rattle.tsp_windows.proofs.StateLemmas.{must-shown}
+use Rattle.tsp_windows.proofs.WayLemmas.{in_time}
+
+pub count_shown : (n w : ℕ) (s m : List ℤ) → m ≡ must_of w s → IsSet n m → count_below (32 * length m) (has m) ≡ count_below n (shown w s).must
+count_shown n w s m e set =
+    sum_below-skip n (32 * length m) (has m) (λ _. 1) (omega (arith, set.words)) (λ v a b. set.within v a) ∙ sum_below-same n (has m) (shown w s).must (λ _. 1) (λ v l. must-shown w s m v e)
+
+pub count_few : (n : ℕ) (m : List ℤ) → n ≤ 300 → IsSet n m → count_below (32 * length m) (has m) ≤ 331
+count_few n m few set = let most = count_below-le (32 * length m) (has m) in omega (arith, most, set.words)
+
+sum_below-both : (n : ℕ) (p q : ℕ → Bool) (f g : ℕ → ℕ) → ((v : ℕ) → v < n → p v ≡ q v) → ((v : ℕ) → v < n → f v ≡ g v) → sum_below n p f ≡ sum_below n q g
+sum_below-both zero p q f g h k = refl
+sum_below-both (suc n) p q f g h k =
+    ap₂ ◌+◌ (sum_below-both n p q f g (λ v l. h v (omega arith)) (λ v l. k v (omega arith))) (ap₂ (λ b x. cond b x 0) (h n (omega arith)) (k n (omega arith)))
+
+all_below-same : (n : ℕ) (p q : ℕ → Bool) → ((v : ℕ) → v < n → p v ≡ q v) → all_below n p ≡ all_below n q
+all_below-same zero p q h = refl
+all_below-same (suc n) p q h = ap₂ ◌&&◌ (h n (omega arith)) (all_below-same n p q (λ v l. h v (omega arith)))
+
+-- what the code asks of the nodes that must be visited is what the state is asked
+pub times_shown : (i : Instance) (w : ℕ) (s m : List ℤ) (nearest : List ℕ) (windows : List Window) (time : ℕ) → length nearest ≡ i.nodes → ((v : ℕ) → v < i.nodes → get_or nearest v 0 ≡ near i v) → windows ≡ i.windows → m ≡ must_of w s → time ≡ (shown w s).time → all_below (length nearest) (in_time nearest windows m time) ≡ all_below i.nodes (λ v. nat_le ((shown w s).time + near i v) (closing i v) || not ((shown w s).must v))
+times_shown i w s m nearest windows time l each ws e t =
+    ap (λ n. all_below n (in_time nearest windows m time)) l
+    ∙ all_below-same i.nodes (in_time nearest windows m time) (λ v. nat_le ((shown w s).time + near i v) (closing i v) || not ((shown w s).must v))
+    (λ v a. ap₂ (λ x y. x || not y) (ap₂ nat_le (ap₂ ◌+◌ t (each v a)) (ap (λ ws. (get_or ws v no_window).closing) ws)) (must-shown w s m v e))
+
+pub ways_shown : (i : Instance) (w : ℕ) (s m : List ℤ) (nearest : List ℕ) → length nearest ≡ i.nodes → ((v : ℕ) → v < i.nodes → get_or nearest v 0 ≡ near i v) → m ≡ must_of w s → sum_below (length nearest) (has m) (λ v. get_or nearest v 0) ≡ sum_below i.nodes (shown w s).must (near i)
+ways_shown i w s m nearest l each e =
+    ap (λ n. sum_below n (has m) (λ v. get_or nearest v 0)) l ∙ sum_below-both i.nodes (has m) (shown w s).must (λ v. get_or nearest v 0) (near i) (λ v a. must-shown w s m v e) each
+
+pub lost_many : (i : Instance) (k : ℕ) (t : TourState) (count : ℕ) → count ≡ count_below i.nodes t.must → i.nodes < count + k + 1 → is_lost i k t ≡ true
+lost_many i k t count e l = or_left (nat_lt i.nodes (count_below i.nodes t.must + k + 1)) _ (true_lt i.nodes (count_below i.nodes t.must + k + 1) (omega (arith, e)))
+
+pub lost_late : (i : Instance) (k : ℕ) (t : TourState) → all_below i.nodes (λ v. nat_le (t.time + near i v) (closing i v) || not (t.must v)) ≡ false → is_lost i k t ≡ true
+lost_late i k t e =
+    or_right (nat_lt i.nodes (count_below i.nodes t.must + k + 1)) _ (or_left (not (all_below i.nodes (λ v. nat_le (t.time + near i v) (closing i v) || not (t.must v)))) _ (ap not e))
+
+pub not_lost : (i : Instance) (k : ℕ) (t : TourState) (count home : ℕ) → count ≡ count_below i.nodes t.must → count + k + 1 ≤ i.nodes → all_below i.nodes (λ v. nat_le (t.time + near i v) (closing i v) || not (t.must v)) ≡ true → home ≡ near i 0 → t.time + home ≤ closing i 0 → is_lost i k t ≡ false
+not_lost i k t count home e few times h late =
+    ap₂ ◌||◌ (false_lt i.nodes (count_below i.nodes t.must + k + 1) (omega (arith, e)))
+    (ap₂ ◌||◌ (ap not times) (false_lt (closing i 0) (t.time + near i 0) (omega (arith, h))))
+
+-- what is left to go from a state that is not lost
+pub record IsLeft (i : Instance) (k : ℕ) (t : TourState) (way : ℕ) : Type 0 where
+  pub found : is_lost i k t ≡ false
+  pub left : way ≡ way_left i t
+  pub small : way ≤ 301000000000
+
+pub left_is : (i : Instance) (k w : ℕ) (s m : List ℤ) (nearest : List ℕ) (windows : List Window) (time count ways home close : ℕ) → IsSmall i → length nearest ≡ i.nodes → ((v : ℕ) → v < i.nodes → get_or nearest v 0 ≡ near i v) → windows ≡ i.windows → m ≡ must_of w s → IsSet i.nodes m → time ≡ (shown w s).time
+    → count ≡ count_below (32 * length m) (has m) → count + k + 1 ≤ i.nodes → home ≡ get_or nearest 0 0 → close ≡ (get_or windows 0 no_window).closing → time + home ≤ close
+    → all_below (length nearest) (in_time nearest windows m time) ≡ true → ways ≡ sum_below (length nearest) (has m) (λ v. get_or nearest v 0) → IsLeft i k (shown w s) (ways + home)
+left_is i k w s m nearest windows time count ways home close small l each ws e set t c few h cl late all sum =
+    let at_home : home ≡ near i 0 = h ∙ each 0 (omega (arith, small.some)) in
+    let shut : close ≡ closing i 0 = cl ∙ ap (λ ws. (get_or ws 0 no_window).closing) ws in
+    let total : ways + home ≡ way_left i (shown w s) = ap₂ ◌+◌ (sum ∙ ways_shown i w s m nearest l each e) at_home in
+    let most = way-most i (shown w s) small in
+    record {
+      found = not_lost i k (shown w s) count home (c ∙ count_shown i.nodes w s m e set) few (sym (times_shown i w s m nearest windows time l each ws e t) ∙ all) at_home (omega (arith, late, shut, t));
+      left = total;
+      small = omega (arith, total, most);
+    }

@@ -1,0 +1,94 @@
+-- Loops over the members of a set: what the next member adds.
+use Rattle.std.proofs.Common.{◌≡◌, ◌≢◌, ℕ, ◌+◌, ◌*◌, ◌^◌, ◌<◌, ◌≤◌, ℤ, Bool, true, false, not, ◌&&◌, ◌||◌, nat_eq, nat_le, List, length, get_or, Option, Some, None, refl, sym, ap, ap₂, ◌∙◌, arith, inl, inr, ◌⊎◌, eq-eqb}
+use Rattle.std.proofs.lemmas.Bool.{cases_eq, cases_lt, false≢true}
+use Rattle.std.proofs.lemmas.Bool.Decides.{nat_tests}
+use Rattle.node_sets.specs.Sums.{all_below, sum_below, lesser, least_amount}
+use Rattle.node_sets.specs.Sets.{IsNext, IsSet, has}
+use Rattle.node_sets.proofs.Below.{all_below-gives, all_below-from, sum_below-skip, sum_below-next, sum_below-le, least_amount-skip, least_amount-next}
+use Rattle.tsp_windows.specs.Instance.{Window, no_window}
+use Rattle.tsp_windows.specs.Tours.{differ, true_le, or_left, or_right}
+
+-- a member is one of the nodes
+pub member_inside : (n : ℕ) (row : List ℤ) (from v : ℕ) → IsSet n row → IsNext (has row) from v → v < n
+member_inside n row from v set next =
+    elim (cases_lt v n) [
+      | inl l ↦ l
+      | inr l ↦ absurd (false≢true (sym (set.within v l) ∙ next.passes))
+    ]
+
+-- the next member that counts
+pub leg_takes : (row : List ℤ) (f : ℕ → ℕ) (from p to way : ℕ) (least : Option ℕ) → IsNext (has row) from p → p ≢ to → way ≡ f p → least ≡ least_amount from (λ p. has row p && not (nat_eq p to)) f → lesser way least ≡ least_amount (p + 1) (λ p. has row p && not (nat_eq p to)) f
+leg_takes row f from p to way least next apart e l =
+    ap₂ lesser e l
+    ∙ sym (least_amount-next from p (λ p. has row p && not (nat_eq p to)) f next.reached (λ u a b. ap (λ x. x && not (nat_eq u to)) (next.skipped u a b)) (ap₂ (λ x y. x && not y) next.passes (differ p to apart)))
+
+-- the member that does not count
+pub leg_skips : (row : List ℤ) (f : ℕ → ℕ) (from p to : ℕ) (least : Option ℕ) → IsNext (has row) from p → p ≡ to → least ≡ least_amount from (λ p. has row p && not (nat_eq p to)) f → least ≡ least_amount (p + 1) (λ p. has row p && not (nat_eq p to)) f
+leg_skips row f from p to least next same l =
+    l ∙ sym (least_amount-skip from (p + 1) (λ p. has row p && not (nat_eq p to)) f (let r = next.reached in omega (arith, r)) passed)
+  where
+    none : (x y : Bool) → y ≡ true → (x && not y) ≡ false
+    none true true e = refl
+    none false true e = refl
+    none x false e = absurd (false≢true e)
+
+    passed : (u : ℕ) → from ≤ u → u < p + 1 → (has row u && not (nat_eq u to)) ≡ false
+    passed u a b = elim (cases_eq u p) [
+      | inl s ↦ none (has row u) (nat_eq u to) (eq-eqb u to (s ∙ same))
+      | inr s ↦ ap (λ x. x && not (nat_eq u to)) (next.skipped u a (omega arith))
+    ]
+
+-- no member is left
+pub leg_ends : (n : ℕ) (row : List ℤ) (f : ℕ → ℕ) (from to : ℕ) (least : Option ℕ) → from ≤ n → ((v : ℕ) → from ≤ v → has row v ≡ false) → least ≡ least_amount from (λ p. has row p && not (nat_eq p to)) f → least ≡ least_amount n (λ p. has row p && not (nat_eq p to)) f
+leg_ends n row f from to least inside none l =
+    l ∙ sym (least_amount-skip from n (λ p. has row p && not (nat_eq p to)) f inside (λ u a b. ap (λ x. x && not (nat_eq u to)) (none u a)))
+
+-- whether a member is reached on its least way
+abbrev pub in_time : List ℕ → List Window → List ℤ → ℕ → ℕ → Bool
+in_time nearest windows members time v = nat_le (time + get_or nearest v 0) (get_or windows v no_window).closing || not (has members v)
+
+late_one : (a b : ℕ) (x : Bool) → b < a → x ≡ true → (nat_le a b || not x) ≡ false
+late_one a b true l e = ap (λ y. y || false) (late a b l)
+  where
+    late : (a b : ℕ) → b < a → nat_le a b ≡ false
+    late a b l = grind (arith, nat_tests)
+late_one a b false l e = absurd (false≢true e)
+
+-- a member that is reached too late
+pub members_late : (n : ℕ) (nearest : List ℕ) (windows : List Window) (members : List ℤ) (time from v way close : ℕ) → v < n → IsNext (has members) from v → way ≡ get_or nearest v 0 → close ≡ (get_or windows v no_window).closing → close < time + way → all_below n (in_time nearest windows members time) ≡ false
+members_late n nearest windows members time from v way close inside next e f late =
+    not_all (all_below n (in_time nearest windows members time)) (λ all. false≢true (sym (late_one (time + get_or nearest v 0) (get_or windows v no_window).closing (has members v) (omega (arith, e, f)) next.passes) ∙ all_below-gives n (in_time nearest windows members time) all v inside))
+  where
+    not_all : (b : Bool) → (b ≡ true → ⊥) → b ≡ false
+    not_all true h = absurd (h refl)
+    not_all false h = refl
+
+pub members_early : (nearest : List ℕ) (windows : List Window) (members : List ℤ) (time from v way close : ℕ) → IsNext (has members) from v → way ≡ get_or nearest v 0 → close ≡ (get_or windows v no_window).closing → time + way ≤ close → ((u : ℕ) → u < from → in_time nearest windows members time u ≡ true) → (u : ℕ) → u < v + 1 → in_time nearest windows members time u ≡ true
+members_early nearest windows members time from v way close next e f early before u l =
+    elim (cases_lt u from) [
+      | inl a ↦ before u a
+      | inr a ↦ (elim (cases_eq u v) [
+        | inl s ↦ ap (in_time nearest windows members time) s ∙ or_left (nat_le (time + get_or nearest v 0) (get_or windows v no_window).closing) (not (has members v)) (true_le (time + get_or nearest v 0) (get_or windows v no_window).closing (omega (arith, e, f)))
+        | inr s ↦ or_right (nat_le (time + get_or nearest u 0) (get_or windows u no_window).closing) (not (has members u)) (ap not (next.skipped u a (omega arith)))
+      ])
+    ]
+
+pub members_end : (n : ℕ) (nearest : List ℕ) (windows : List Window) (members : List ℤ) (time from : ℕ) → ((v : ℕ) → from ≤ v → has members v ≡ false) → ((u : ℕ) → u < from → in_time nearest windows members time u ≡ true) → all_below n (in_time nearest windows members time) ≡ true
+members_end n nearest windows members time from none before =
+    all_below-from n (in_time nearest windows members time) (λ u l. elim (cases_lt u from) [
+      | inl a ↦ before u a
+      | inr a ↦ or_right (nat_le (time + get_or nearest u 0) (get_or windows u no_window).closing) (not (has members u)) (ap not (none u a))
+    ])
+
+pub members_add : (nearest : List ℕ) (members : List ℤ) (from v total way : ℕ) → IsNext (has members) from v → way ≡ get_or nearest v 0 → total ≡ sum_below from (has members) (λ v. get_or nearest v 0) → total + way ≡ sum_below (v + 1) (has members) (λ v. get_or nearest v 0)
+members_add nearest members from v total way next e t =
+    ap₂ ◌+◌ t e ∙ sym (sum_below-next from v (has members) (λ v. get_or nearest v 0) next.reached next.skipped next.passes)
+
+pub members_total : (n : ℕ) (nearest : List ℕ) (members : List ℤ) (from total : ℕ) → from ≤ n → ((v : ℕ) → from ≤ v → has members v ≡ false) → total ≡ sum_below from (has members) (λ v. get_or nearest v 0) → total ≡ sum_below n (has members) (λ v. get_or nearest v 0)
+members_total n nearest members from total inside none t =
+    t ∙ sym (sum_below-skip from n (has members) (λ v. get_or nearest v 0) inside (λ u a b. none u a))
+
+-- sums of ways stay small
+pub members_small : (nearest : List ℕ) (members : List ℤ) (from total : ℕ) → ((v : ℕ) → get_or nearest v 0 < 4294967296) → total ≡ sum_below from (has members) (λ v. get_or nearest v 0) → total ≤ from * 4294967296
+members_small nearest members from total small t =
+    let most = sum_below-le from (has members) (λ v. get_or nearest v 0) 4294967296 (λ v l. let s = small v in omega (arith, s)) in omega (arith, t, most)

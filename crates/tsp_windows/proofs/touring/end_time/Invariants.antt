@@ -1,0 +1,13 @@
+use Rattle.std.proofs.Common.{length, ◌≡◌, ℕ, ◌<◌, ◌≤◌, true, nat_lt}
+use Rattle.std.specs.List.{list_all}
+use Rattle.tsp_windows.specs.Instance.{opening}
+use Rattle.tsp_windows.specs.OwnWords.{end_time}
+use Rattle.tsp_windows.specs.Shown.{instance_in}
+use Rattle.tsp_windows.specs.Kept.{IsOnTheWay}
+use Rattle.tsp_windows.proofs.touring.end_time.Given as goal
+
+abbrev pub invariant-visits : goal.invariant-visits
+invariant-visits l = IsOnTheWay (instance_in l.model) l.here l.time l.rest l.visits
+
+abbrev pub decreases-visits : goal.decreases-visits
+decreases-visits l = length l.rest

@@ -1,0 +1,10 @@
+-- What makes three sets those of a state.
+use Rattle.std.specs.Prelude.{◌≡◌, ℕ, true, false, List, ℤ}
+use Rattle.node_sets.specs.Sets.{has}
+
+-- some position, no node in both other sets, and node 0 in neither
+pub record IsApart (positions must may : List ℤ) : Type 0 where
+  pub some : ((v : ℕ) → has positions v ≡ false) → ⊥
+  pub apart : (v : ℕ) → has must v ≡ true → has may v ≡ false
+  pub no_must : has must 0 ≡ false
+  pub no_may : has may 0 ≡ false

@@ -1,0 +1,468 @@
+-- A tour in the problem's own words is a feasible solution of the dynamic program, and the other way round.
+use Rattle.std.proofs.Common.{◌≡◌, ◌≢◌, ℕ, zero, suc, ◌+◌, ◌-◌, ◌*◌, ◌<◌, ◌≤◌, ℤ, pos, ◌+ℤ◌, ◌-ℤ◌, ◌≤ℤ◌, neg_ℤ, min, max, Bool, true, false, cond, not, ◌&&◌, ◌||◌, nat_eq, nat_lt, nat_le, List, [], ◌∷◌, length, Option, Some, None, refl, sym, ap, ap₂, ◌∙◌, subst, arith, inl, inr, ◌⊎◌, eq-eqb, add-one}
+use Rattle.std.specs.Prelude.{IsTrue, is_some, unwrap_or}
+use Rattle.std.specs.List.{list_any, list_all}
+use Rattle.std.proofs.lemmas.Int.{ints}
+use Rattle.std.proofs.lemmas.Bool.{cases_eq, cases_lt, false≢true, eqb-true}
+use Rattle.node_sets.specs.Sums.{all_below, sum_below, count_below, lesser, least_amount}
+use Rattle.node_sets.specs.Sets.{words_for}
+use Rattle.node_sets.proofs.Below.{and_left, and_right, sum_below-same, sum_below-removed, sum_below-none, least_amount-none, least_amount-same, least_amount-skip, least_amount-next}
+use Rattle.dp_model.specs.Prefixes.{IsPath, IsSolution, gain_of, value_of}
+use Rattle.tsp_windows.specs.Instance.{Instance, IsSmall, distance, opening, closing}
+use Rattle.tsp_windows.specs.States.{TourState, from_elsewhere, leg, arrival, departure, may_go, moved, start, shown, row_for}
+use Rattle.tsp_windows.specs.Rows.{IsBounded, shown-row_for, words_enough}
+use Rattle.tsp_windows.specs.Program.{program_of}
+use Rattle.tsp_windows.specs.OwnWords.{are_different, ends_at_home, is_order, end_time, negated, tour_value}
+use Rattle.dp_model.specs.Worth.{IsWorth, SolutionGives}
+use Rattle.tsp_windows.specs.Tours.{and_both, or_left, cases_Bool, not_true, not_false, differ, apart, le_true, true_le, lt_true, true_lt, false_lt, leg-alone, Visits, Returns, visits, returns, may_visit-from, may_return-from, goes_on, goes_home, start-bounded}
+use Rattle.tsp_windows.specs.Walks.{IsGone, IsTour, last_time, tour-of_path, path-of_tour, gain-of_tour}
+
+-- ---- a state of one position, as every state is that a tour reaches
+
+-- at one node, with no node that may be left out
+pub record IsAt (n here : ℕ) (t : TourState) : Type 0 where
+  pub inside : here < n
+  pub there : (p : ℕ) → t.positions p ≡ nat_eq p here
+  pub none : (v : ℕ) → t.may v ≡ false
+  pub left : t.must here ≡ false
+  pub home : t.must 0 ≡ false
+
+elsewhere-at : (n here d p : ℕ) (t : TourState) → IsAt n here t → here ≢ d → from_elsewhere t d p ≡ nat_eq p here
+elsewhere-at n here d p t a apart_ =
+    elim (cases_eq p here) [
+      | inl s ↦ ap₂ ◌&&◌ (a.there p ∙ eq-eqb p here s) (ap not (differ p d (λ e. apart_ (sym s ∙ e)))) ∙ sym (eq-eqb p here s)
+      | inr s ↦ ap (λ b. b && not (nat_eq p d)) (a.there p ∙ differ p here s) ∙ sym (differ p here s)
+    ]
+
+-- from there each other node is reached on one way
+leg-at : (i : Instance) (here d : ℕ) (t : TourState) → IsAt i.nodes here t → here ≢ d → leg i t d ≡ Some (distance i here d)
+unfolding leg
+leg-at i here d t a far =
+    least_amount-same i.nodes (from_elsewhere t d) (λ p. nat_eq p here) (λ p. distance i p d) (λ v l. elsewhere-at i.nodes here d v t a far)
+    ∙ least_amount-skip (here + 1) i.nodes (λ p. nat_eq p here) (λ p. distance i p d) (omega (arith, a.inside)) (λ v l m. differ v here (omega arith))
+    ∙ least_amount-next 0 here (λ p. nat_eq p here) (λ p. distance i p d) (omega arith) (λ v l m. differ v here (omega arith)) (eq-eqb here here refl)
+
+pub arrival-at : (i : Instance) (here d : ℕ) (t : TourState) → IsAt i.nodes here t → here ≢ d → arrival i t d ≡ t.time + distance i here d
+arrival-at i here d t a far = ap (λ o. t.time + unwrap_or o 0) (leg-at i here d t a far)
+
+leg-same : (i : Instance) (here : ℕ) (t : TourState) → IsAt i.nodes here t → leg i t here ≡ None
+unfolding leg
+leg-same i here t a = least_amount-none i.nodes (from_elsewhere t here) (λ p. distance i p here) (λ v l.
+    elim (cases_eq v here) [
+      | inl s ↦ right (t.positions v) (nat_eq v here) (eq-eqb v here s)
+      | inr s ↦ ap (λ b. b && not (nat_eq v here)) (a.there v ∙ differ v here s)
+    ])
+  where
+    right : (x y : Bool) → y ≡ true → (x && not y) ≡ false
+    right true true e = refl
+    right false true e = refl
+    right x false e = absurd (false≢true e)
+
+pub moved-at : (i : Instance) (here d : ℕ) (t : TourState) → IsAt i.nodes here t → d < i.nodes → IsAt i.nodes d (moved i t d)
+unfolding moved
+moved-at i here d t a l = record {
+  inside = l;
+  there = λ p. refl;
+  none = λ v. ap (λ b. b && not (nat_eq v d)) (a.none v);
+  left = self (t.must d) (nat_eq d d) (eq-eqb d d refl);
+  home = ap (λ b. b && not (nat_eq 0 d)) a.home;
+}
+  where
+    self : (x y : Bool) → y ≡ true → (x && not y) ≡ false
+    self true true e = refl
+    self false true e = refl
+    self x false e = absurd (false≢true e)
+
+-- ---- the visits that are left
+
+-- the visits are the nodes that must be visited, each once, and then node 0
+pub record Lists (n : ℕ) (must : ℕ → Bool) (ds : List ℕ) : Type 0 where
+  pub whole : length ds ≡ count_below n must + 1
+  pub inside : list_all (λ v. nat_lt v n) ds ≡ true
+  pub different : are_different ds ≡ true
+  pub home : ends_at_home ds ≡ true
+  pub wanted : list_all (λ v. must v || nat_eq v 0) ds ≡ true
+
+any-none : (d : ℕ) (ds : List ℕ) → list_any (λ u. nat_eq u d) ds ≡ false → (test : ℕ → Bool) → list_all (λ v. test v || nat_eq v 0) ds ≡ true → list_all (λ v. (test v && not (nat_eq v d)) || nat_eq v 0) ds ≡ true
+any-none d [] e test h = refl
+any-none d (v ∷ vs) e test h =
+    and_both ((test v && not (nat_eq v d)) || nat_eq v 0) _ (kept (test v) (nat_eq v d) (nat_eq v 0) (first (nat_eq v d) (list_any (λ u. nat_eq u d) vs) e) (and_left (test v || nat_eq v 0) (list_all (λ v. test v || nat_eq v 0) vs) h))
+    (any-none d vs (second (nat_eq v d) (list_any (λ u. nat_eq u d) vs) e) test (and_right (test v || nat_eq v 0) (list_all (λ v. test v || nat_eq v 0) vs) h))
+  where
+    first : (a b : Bool) → (a || b) ≡ false → a ≡ false
+    first true b e = absurd (false≢true (sym e))
+    first false b e = refl
+
+    second : (a b : Bool) → (a || b) ≡ false → b ≡ false
+    second true b e = absurd (false≢true (sym e))
+    second false b e = e
+
+    kept : (x y z : Bool) → y ≡ false → (x || z) ≡ true → ((x && not y) || z) ≡ true
+    kept x true z e h = absurd (false≢true (sym e))
+    kept true false z e h = refl
+    kept false false z e h = h
+
+-- the other way round: a list of nodes other than one does not hold it
+none-any : (d : ℕ) (ds : List ℕ) (test : ℕ → Bool) → d ≢ 0 → list_all (λ v. (test v && not (nat_eq v d)) || nat_eq v 0) ds ≡ true → list_any (λ u. nat_eq u d) ds ≡ false
+none-any d [] test n h = refl
+none-any d (v ∷ vs) test n h =
+    let first : nat_eq v d ≡ false = elim (cases_eq v d) [
+      | inl s ↦ absurd (false≢true (sym (hit (test v) (nat_eq v d) (nat_eq v 0) (eq-eqb v d s) (differ v 0 (λ z. n (sym s ∙ z)))) ∙ and_left ((test v && not (nat_eq v d)) || nat_eq v 0) (list_all (λ v. (test v && not (nat_eq v d)) || nat_eq v 0) vs) h))
+      | inr s ↦ differ v d s
+    ] in
+    ap₂ ◌||◌ first (none-any d vs test n (and_right ((test v && not (nat_eq v d)) || nat_eq v 0) (list_all (λ v. (test v && not (nat_eq v d)) || nat_eq v 0) vs) h))
+  where
+    hit : (x y z : Bool) → y ≡ true → z ≡ false → ((x && not y) || z) ≡ false
+    hit x false z e f = absurd (false≢true e)
+    hit x true true e f = absurd (false≢true (sym f))
+    hit true true false e f = refl
+    hit false true false e f = refl
+
+wider : (d : ℕ) (ds : List ℕ) (test : ℕ → Bool) → list_all (λ v. (test v && not (nat_eq v d)) || nat_eq v 0) ds ≡ true → list_all (λ v. test v || nat_eq v 0) ds ≡ true
+wider d [] test h = refl
+wider d (v ∷ vs) test h =
+    and_both (test v || nat_eq v 0) _ (drop_not (test v) (nat_eq v d) (nat_eq v 0) (and_left ((test v && not (nat_eq v d)) || nat_eq v 0) (list_all (λ v. (test v && not (nat_eq v d)) || nat_eq v 0) vs) h))
+    (wider d vs test (and_right ((test v && not (nat_eq v d)) || nat_eq v 0) (list_all (λ v. (test v && not (nat_eq v d)) || nat_eq v 0) vs) h))
+  where
+    drop_not : (x y z : Bool) → ((x && not y) || z) ≡ true → (x || z) ≡ true
+    drop_not true y z e = refl
+    drop_not false y z e = e
+
+-- one node less must be visited
+count-moved : (i : Instance) (t : TourState) (d : ℕ) → d < i.nodes → t.must d ≡ true → count_below i.nodes t.must ≡ count_below i.nodes (moved i t d).must + 1
+unfolding moved
+count-moved i t d l e =
+    sum_below-removed i.nodes d t.must (λ v. t.must v && not (nat_eq v d)) (λ _. 1) l e (gone (t.must d) (nat_eq d d) (eq-eqb d d refl)) (λ v n. kept (t.must v) (nat_eq v d) (differ v d n))
+  where
+    gone : (x y : Bool) → y ≡ true → (x && not y) ≡ false
+    gone true true e = refl
+    gone false true e = refl
+    gone x false e = absurd (false≢true e)
+
+    kept : (x y : Bool) → y ≡ false → (x && not y) ≡ x
+    kept true false e = refl
+    kept false false e = refl
+    kept x true e = absurd (false≢true (sym e))
+
+must-moved-is : (i : Instance) (t : TourState) (d v : ℕ) → (moved i t d).must v ≡ (t.must v && not (nat_eq v d))
+unfolding moved
+must-moved-is i t d v = refl
+
+time-moved-is : (i : Instance) (t : TourState) (d : ℕ) → (moved i t d).time ≡ departure i t d
+unfolding moved
+time-moved-is i t d = refl
+
+-- ---- a tour is such a list that is kept within the windows
+
+pub record IsKept (i : Instance) (here : ℕ) (t : TourState) (ds : List ℕ) : Type 0 where
+  pub visits : Lists i.nodes t.must ds
+  pub time : end_time i here t.time ds ≡ Some (last_time i t ds)
+
+on_time : (i : Instance) (here d : ℕ) (time : ℕ) (vs : List ℕ) → time + distance i here d ≤ closing i d → end_time i here time (d ∷ vs) ≡ end_time i d (max (time + distance i here d) (opening i d)) vs
+on_time i here d time vs l = ap (λ b. cond b (end_time i d (max (time + distance i here d) (opening i d)) vs) None) (true_le (time + distance i here d) (closing i d) l)
+
+all-same : (ds : List ℕ) (p q : ℕ → Bool) → ((v : ℕ) → p v ≡ q v) → list_all p ds ≡ list_all q ds
+all-same [] p q h = refl
+all-same (v ∷ vs) p q h = ap₂ ◌&&◌ (h v) (all-same vs p q h)
+
+far : (t : TourState) (here d : ℕ) → t.must here ≡ false → t.must d ≡ true → here ≢ d
+far t here d e f s = false≢true (sym e ∙ ap t.must s ∙ f)
+
+pending-must : (n here : ℕ) (t : TourState) (d : ℕ) → IsAt n here t → (t.must d || t.may d) ≡ true → t.must d ≡ true
+pending-must n here t d a e = only (t.must d) (t.may d) (a.none d) e
+  where
+    only : (x y : Bool) → y ≡ false → (x || y) ≡ true → x ≡ true
+    only true y e h = refl
+    only false y e h = absurd (false≢true (sym e ∙ h))
+
+-- the last decision
+kept-last : (i : Instance) (here : ℕ) (t : TourState) (d k : ℕ) → IsSmall i → IsAt i.nodes here t → i.nodes ≤ k + 1 → IsGone i k t d → IsKept i here t (d ∷ [])
+kept-last i here t d k small a l g =
+    let r = returns i t d (sym (goes_home i k t d l) ∙ g.test) in
+    let way : arrival i t d ≡ t.time + distance i here d = elim (cases_eq here d) [
+      | inl s ↦ (let none = ap (λ v. leg i t v) (sym s) ∙ leg-same i here t a in
+          let zero_way : distance i here d ≡ 0 = ap (distance i here) (sym s) ∙ small.home here a.inside in
+          ap (λ o. t.time + unwrap_or o 0) none ∙ ap (λ x. t.time + x) (sym zero_way))
+      | inr s ↦ arrival-at i here d t a s
+    ] in
+    record {
+      visits = record {
+        whole = ap (λ c. c + 1) (sym (sum_below-none i.nodes t.must (λ _. 1) r.done));
+        inside = and_both (nat_lt d i.nodes) true (true_lt d i.nodes g.choice) refl;
+        different = refl;
+        home = eq-eqb d 0 r.home;
+        wanted = and_both (t.must d || nat_eq d 0) true (right (t.must d) (nat_eq d 0) (eq-eqb d 0 r.home)) refl;
+      };
+      time = on_time i here d t.time [] (omega (arith, way, r.on_time)) ∙ ap (λ x. Some (max x (opening i d))) (sym way) ∙ ap Some (sym (time-moved-is i t d));
+    }
+  where
+    right : (x y : Bool) → y ≡ true → (x || y) ≡ true
+    right true y e = refl
+    right false y e = e
+
+kept-more : (i : Instance) (here : ℕ) (t : TourState) (d k : ℕ) (ds : List ℕ) → IsAt i.nodes here t → k + 1 < i.nodes → IsGone i k t d → ends_at_home ds ≡ true → IsKept i d (moved i t d) ds → ends_at_home (d ∷ ds) ≡ true → IsKept i here t (d ∷ ds)
+kept-more i here t d k ds a l g tail rest home =
+    let v = visits i t d (sym (goes_on i k t d l) ∙ g.test) in
+    let must = pending-must i.nodes here t d a v.pending in
+    let apart_ = far t here d a.left must in
+    let way = arrival-at i here d t a apart_ in
+    let wanted = sym (all-same ds (λ v. (moved i t d).must v || nat_eq v 0) (λ v. (t.must v && not (nat_eq v d)) || nat_eq v 0) (λ v. ap (λ b. b || nat_eq v 0) (must-moved-is i t d v))) ∙ rest.visits.wanted in
+    record {
+      visits = record {
+        whole = (let count = count-moved i t d g.choice must in omega (arith, count, rest.visits.whole));
+        inside = and_both (nat_lt d i.nodes) _ (true_lt d i.nodes g.choice) rest.visits.inside;
+        different = and_both (not (list_any (λ u. nat_eq u d) ds)) _ (not_false _ (none-any d ds t.must v.away wanted)) rest.visits.different;
+        home = home;
+        wanted = and_both (t.must d || nat_eq d 0) _ (or_left (t.must d) (nat_eq d 0) must) (wider d ds t.must wanted);
+      };
+      time = on_time i here d t.time ds (omega (arith, way, v.on_time))
+          ∙ ap (λ x. end_time i d (max x (opening i d)) ds) (sym way) ∙ ap (λ x. end_time i d x ds) (sym (time-moved-is i t d)) ∙ rest.time;
+    }
+
+pub kept-of_tour : (i : Instance) (k here : ℕ) (t : TourState) (ds : List ℕ) → IsSmall i → IsAt i.nodes here t → k < i.nodes → k + length ds ≡ i.nodes → IsTour i k t ds → IsKept i here t ds
+kept-of_tour i k here t [] small a l e w = absurd (omega arith)
+kept-of_tour i k here t (d ∷ []) small a l e w = kept-last i here t d k small a (omega arith) w.0
+kept-of_tour i k here t (d ∷ f ∷ ds) small a l e w =
+    let rest = kept-of_tour i (k + 1) d (moved i t d) (f ∷ ds) small (moved-at i here d t a w.0.choice) (omega arith) (omega arith) w.1 in
+    kept-more i here t d k (f ∷ ds) a (omega arith) w.0 rest.visits.home rest rest.visits.home
+
+-- ---- and the other way round
+
+late : (i : Instance) (here d time last : ℕ) (vs : List ℕ) → end_time i here time (d ∷ vs) ≡ Some last → time + distance i here d ≤ closing i d
+late i here d time last vs e =
+    elim (cases_lt (closing i d) (time + distance i here d)) [
+      | inl l ↦ absurd (let none : None ≡ Some last = sym (ap (λ b. cond b (end_time i d (max (time + distance i here d) (opening i d)) vs) None) (never l)) ∙ e in cc)
+      | inr l ↦ l
+    ]
+  where
+    never : closing i d < time + distance i here d → nat_le (time + distance i here d) (closing i d) ≡ false
+    never l = elim (cases_Bool (nat_le (time + distance i here d) (closing i d))) [
+      | inl t ↦ absurd (let m = le_true (time + distance i here d) (closing i d) t in omega arith)
+      | inr f ↦ f
+    ]
+
+-- the list, and its end in time
+pub record IsMade (i : Instance) (k : ℕ) (t : TourState) (ds : List ℕ) (last : ℕ) : Type 0 where
+  pub tour : IsTour i k t ds
+  pub last_is : last_time i t ds ≡ last
+
+none-must : (n : ℕ) (p : ℕ → Bool) → count_below n p ≡ 0 → (v : ℕ) → v < n → p v ≡ false
+none-must zero p e v l = absurd (omega arith)
+none-must (suc n) p e v l =
+    let parts : count_below n p + cond {A = ℕ} (p n) 1 0 ≡ 0 = e in
+    let rest : count_below n p ≡ 0 = omega (arith, parts) in
+    let here : cond {A = ℕ} (p n) 1 0 ≡ 0 = omega (arith, parts) in
+    elim (cases_eq v n) [
+      | inl s ↦ ap p s ∙ off (p n) here
+      | inr s ↦ none-must n p rest v (omega arith)
+    ]
+  where
+    off : (b : Bool) → cond {A = ℕ} b 1 0 ≡ 0 → b ≡ false
+    off true e = absurd (omega arith)
+    off false e = refl
+
+made-last : (i : Instance) (k here : ℕ) (t : TourState) (d last : ℕ) → IsSmall i → IsAt i.nodes here t → k + 1 ≡ i.nodes → (here ≡ 0 → i.nodes ≡ 1) → Lists i.nodes t.must (d ∷ []) → end_time i here t.time (d ∷ []) ≡ Some last → IsMade i k t (d ∷ []) last
+made-last i k here t d last small a l single h e =
+    let home : d ≡ 0 = eqb-true d 0 h.home in
+    let soon = late i here d t.time last [] e in
+    let finish : Some (max (t.time + distance i here d) (opening i d)) ≡ Some last = sym (on_time i here d t.time [] soon) ∙ e in
+    let last_is : max (t.time + distance i here d) (opening i d) ≡ last = cc in
+    let way : arrival i t d ≡ t.time + distance i here d = elim (cases_eq here d) [
+      | inl s ↦ (let none = ap (λ v. leg i t v) (sym s) ∙ leg-same i here t a in
+          let zero_way : distance i here d ≡ 0 = ap (distance i here) (sym s) ∙ small.home here a.inside in
+          ap (λ o. t.time + unwrap_or o 0) none ∙ ap (λ x. t.time + x) (sym zero_way))
+      | inr s ↦ arrival-at i here d t a s
+    ] in
+    record {
+      tour = (
+        record {
+          layer = omega arith;
+          choice = lt_true d i.nodes (and_left (nat_lt d i.nodes) true h.inside);
+          test = goes_home i k t d (omega arith) ∙ may_return-from i t d (record {
+            home = home;
+            done = none-must i.nodes t.must (omega (arith, h.whole));
+            reached = elim (cases_eq here d) [
+              | inl s ↦ inr (single (s ∙ home))
+              | inr s ↦ inl (ap is_some (leg-at i here d t a s))
+            ];
+            on_time = omega (arith, way, soon);
+          });
+        },
+        tt,
+      );
+      last_is = time-moved-is i t d ∙ ap (λ x. max x (opening i d)) way ∙ last_is;
+    }
+
+home-behind : (d : ℕ) (ds : List ℕ) → ends_at_home ds ≡ true → list_any (λ u. nat_eq u d) ds ≡ false → d ≢ 0
+home-behind d [] e n s = false≢true e
+home-behind d (v ∷ []) e n s = false≢true (sym n ∙ or_left (nat_eq v d) false (eq-eqb v d (eqb-true v 0 e ∙ sym s)))
+home-behind d (v ∷ u ∷ vs) e n s = home-behind d (u ∷ vs) e (second (nat_eq v d) (list_any (λ u. nat_eq u d) (u ∷ vs)) n) s
+  where
+    second : (a b : Bool) → (a || b) ≡ false → b ≡ false
+    second true b e = absurd (false≢true (sym e))
+    second false b e = e
+
+-- the rest of the list is one of the nodes that must be visited behind it
+lists-rest : (i : Instance) (t : TourState) (d f : ℕ) (ds : List ℕ) → Lists i.nodes t.must (d ∷ f ∷ ds) → d < i.nodes → t.must d ≡ true → Lists i.nodes (moved i t d).must (f ∷ ds)
+lists-rest i t d f ds h l must =
+    let different = not_true (list_any (λ u. nat_eq u d) (f ∷ ds)) (and_left (not (list_any (λ u. nat_eq u d) (f ∷ ds))) (are_different (f ∷ ds)) h.different) in
+    record {
+      whole = (let count = count-moved i t d l must in omega (arith, count, h.whole));
+      inside = and_right (nat_lt d i.nodes) (list_all (λ v. nat_lt v i.nodes) (f ∷ ds)) h.inside;
+      different = and_right (not (list_any (λ u. nat_eq u d) (f ∷ ds))) (are_different (f ∷ ds)) h.different;
+      home = h.home;
+      wanted = all-same (f ∷ ds) (λ v. (moved i t d).must v || nat_eq v 0) (λ v. (t.must v && not (nat_eq v d)) || nat_eq v 0) (λ v. ap (λ b. b || nat_eq v 0) (must-moved-is i t d v))
+          ∙ any-none d (f ∷ ds) different t.must (and_right (t.must d || nat_eq d 0) (list_all (λ v. t.must v || nat_eq v 0) (f ∷ ds)) h.wanted);
+    }
+
+pub made : (i : Instance) (k here : ℕ) (t : TourState) (ds : List ℕ) (last : ℕ) → IsSmall i → IsAt i.nodes here t → k + length ds ≡ i.nodes → (here ≡ 0 → k ≡ 0) → Lists i.nodes t.must ds → end_time i here t.time ds ≡ Some last → IsMade i k t ds last
+made i k here t [] last small a l single h e = absurd (omega (arith, h.whole))
+made i k here t (d ∷ []) last small a l single h e = made-last i k here t d last small a (omega arith) (λ z. omega (arith, single z)) h e
+made i k here t (d ∷ f ∷ ds) last small a l single h e =
+    let choice = lt_true d i.nodes (and_left (nat_lt d i.nodes) (list_all (λ v. nat_lt v i.nodes) (f ∷ ds)) h.inside) in
+    let different = not_true (list_any (λ u. nat_eq u d) (f ∷ ds)) (and_left (not (list_any (λ u. nat_eq u d) (f ∷ ds))) (are_different (f ∷ ds)) h.different) in
+    let away = home-behind d (f ∷ ds) h.home different in
+    let must = only (t.must d) (nat_eq d 0) (differ d 0 away) (and_left (t.must d || nat_eq d 0) (list_all (λ v. t.must v || nat_eq v 0) (f ∷ ds)) h.wanted) in
+    let apart_ = far t here d a.left must in
+    let way = arrival-at i here d t a apart_ in
+    let soon = late i here d t.time last (f ∷ ds) e in
+    let go : IsGone i k t d = record {
+      layer = omega arith;
+      choice = choice;
+      test = goes_on i k t d (omega arith) ∙ may_visit-from i t d (record {
+        away = away;
+        pending = or_left (t.must d) (t.may d) must;
+        reached = ap is_some (leg-at i here d t a apart_);
+        on_time = omega (arith, way, soon);
+      });
+    } in
+    let then = ap (λ x. end_time i d x (f ∷ ds)) (time-moved-is i t d ∙ ap (λ x. max x (opening i d)) way) ∙ sym (on_time i here d t.time (f ∷ ds) soon) ∙ e in
+    let rest = made i (k + 1) d (moved i t d) (f ∷ ds) last small (moved-at i here d t a choice) (omega arith) (λ z. absurd (away z)) (lists-rest i t d f ds h choice must) then in
+    record { tour = (go, rest.tour); last_is = rest.last_is }
+  where
+    only : (x y : Bool) → y ≡ false → (x || y) ≡ true → x ≡ true
+    only true y e h = refl
+    only false y e h = absurd (false≢true (sym e ∙ h))
+
+-- ---- from the start
+
+start-at : (i : Instance) → 1 ≤ i.nodes → IsAt i.nodes 0 (start i)
+unfolding start
+start-at i some = record {
+  inside = some;
+  there = λ p. refl;
+  none = λ v. refl;
+  left = no_home (nat_lt 0 i.nodes);
+  home = no_home (nat_lt 0 i.nodes);
+}
+  where
+    no_home : (b : Bool) → (b && not (nat_eq 0 0)) ≡ false
+    no_home true = refl
+    no_home false = refl
+
+others : ℕ → ℕ → Bool
+others n v = nat_lt v n && not (nat_eq v 0)
+
+count_others : (n m : ℕ) → m ≤ n → count_below m (others n) ≡ m - 1
+unfolding others
+count_others n zero l = refl
+count_others n (suc zero) l = ap (λ b. 0 + cond {A = ℕ} b 1 0) (no_home (nat_lt 0 n))
+  where
+    no_home : (b : Bool) → (b && not (nat_eq 0 0)) ≡ false
+    no_home true = refl
+    no_home false = refl
+count_others n (suc (suc m)) l =
+    ap₂ (λ s b. s + cond b 1 0) (count_others n (suc m) (omega arith)) (and_both (nat_lt (suc m) n) (not (nat_eq (suc m) 0)) (true_lt (suc m) n (omega arith)) (ap not (differ (suc m) 0 (λ z. absurd (omega arith)))))
+    ∙ (let e : suc m - 1 + 1 ≡ suc (suc m) - 1 = omega arith in e)
+
+start-must : (i : Instance) → (start i).must ≡ others i.nodes
+unfolding start others
+start-must i = refl
+
+start-count : (i : Instance) → 1 ≤ i.nodes → count_below i.nodes (start i).must + 1 ≡ i.nodes
+start-count i some = ap (λ p. count_below i.nodes p + 1) (start-must i) ∙ (let c = count_others i.nodes i.nodes (omega arith) in omega (arith, c))
+
+start-time : (i : Instance) → (start i).time ≡ opening i 0
+unfolding start
+start-time i = refl
+
+all-wanted : (n : ℕ) (ds : List ℕ) → list_all (λ v. nat_lt v n) ds ≡ true → list_all (λ v. others n v || nat_eq v 0) ds ≡ true
+unfolding others
+all-wanted n [] e = refl
+all-wanted n (v ∷ vs) e =
+    and_both ((nat_lt v n && not (nat_eq v 0)) || nat_eq v 0) _ (either (nat_lt v n) (nat_eq v 0) (and_left (nat_lt v n) (list_all (λ v. nat_lt v n) vs) e)) (all-wanted n vs (and_right (nat_lt v n) (list_all (λ v. nat_lt v n) vs) e))
+  where
+    either : (x y : Bool) → x ≡ true → ((x && not y) || y) ≡ true
+    either true true e = refl
+    either true false e = refl
+    either false y e = absurd (false≢true e)
+
+order-gives : (i : Instance) (ds : List ℕ) → 1 ≤ i.nodes → is_order i.nodes ds ≡ true → Lists i.nodes (start i).must ds
+order-gives i ds some e =
+    let e1 = and_right (nat_eq (length ds) i.nodes) (list_all (λ v. nat_lt v i.nodes) ds && (are_different ds && ends_at_home ds)) e in
+    let e2 = and_right (list_all (λ v. nat_lt v i.nodes) ds) (are_different ds && ends_at_home ds) e1 in
+    let inside = and_left (list_all (λ v. nat_lt v i.nodes) ds) (are_different ds && ends_at_home ds) e1 in
+    record {
+      whole = eqb-true (length ds) i.nodes (and_left (nat_eq (length ds) i.nodes) _ e) ∙ sym (start-count i some);
+      inside = inside;
+      different = and_left (are_different ds) (ends_at_home ds) e2;
+      home = and_right (are_different ds) (ends_at_home ds) e2;
+      wanted = ap (λ (p : ℕ → Bool). list_all (λ v. p v || nat_eq v 0) ds) (start-must i) ∙ all-wanted i.nodes ds inside;
+    }
+
+order-from : (i : Instance) (ds : List ℕ) → 1 ≤ i.nodes → Lists i.nodes (start i).must ds → is_order i.nodes ds ≡ true
+order-from i ds some h =
+    and_both (nat_eq (length ds) i.nodes) _ (eq-eqb (length ds) i.nodes (h.whole ∙ start-count i some))
+    (and_both (list_all (λ v. nat_lt v i.nodes) ds) _ h.inside (and_both (are_different ds) (ends_at_home ds) h.different h.home))
+
+root-shown : (i : Instance) → 1 ≤ i.nodes → shown (words_for i.nodes) (row_for (words_for i.nodes) (start i)) ≡ start i
+root-shown i some = shown-row_for (words_for i.nodes) i.nodes (start i) (words_enough i.nodes) (start-bounded i some)
+
+root-bounded : (i : Instance) → 1 ≤ i.nodes → IsBounded i.nodes (shown (words_for i.nodes) (row_for (words_for i.nodes) (start i)))
+root-bounded i some = subst (IsBounded i.nodes) (sym (root-shown i some)) (start-bounded i some)
+
+-- the value of a tour from the start is the negated time of its end
+value-is : (i : Instance) (ds : List ℕ) (last : ℕ) → IsSmall i → IsTour i 0 (start i) ds → last_time i (start i) ds ≡ last → neg_ℤ (pos last) ≡ value_of (program_of i) ds
+value-is i ds last small tour e =
+    let same = root-shown i small.some in
+    let at_root = subst (λ t. IsTour i 0 t ds) (sym same) tour in
+    let gain = gain-of_tour i 0 (row_for (words_for i.nodes) (start i)) ds (root-bounded i small.some) at_root in
+    let gain' = gain ∙ ap (λ t. pos t.time -ℤ pos (last_time i t ds)) same ∙ ap₂ (λ x y. pos x -ℤ pos y) (start-time i) e in
+    sum (opening i 0) last (gain_of (program_of i) 0 (row_for (words_for i.nodes) (start i)) ds) gain'
+  where
+    sum : (a b : ℕ) (g : ℤ) → g ≡ pos a -ℤ pos b → neg_ℤ (pos b) ≡ neg_ℤ (pos a) +ℤ g
+    sum a b g e = omega (arith, ints, e)
+
+solution-kept : (i : Instance) (ds : List ℕ) → IsSmall i → IsSolution (program_of i) ds → IsTour i 0 (start i) ds × IsKept i 0 (start i) ds
+solution-kept i ds small x =
+    let tour = subst (λ t. IsTour i 0 t ds) (root-shown i small.some) (tour-of_path i 0 (row_for (words_for i.nodes) (start i)) ds (root-bounded i small.some) x.prefix) in
+    (tour, kept-of_tour i 0 0 (start i) ds small (start-at i small.some) small.some (omega (arith, x.whole)) tour)
+
+-- a tour within the windows is a feasible solution with its value
+order-worth : (i : Instance) (ds : List ℕ) (last : ℕ) → IsSmall i → is_order i.nodes ds ≡ true → end_time i 0 (opening i 0) ds ≡ Some last → IsWorth (program_of i) ds (neg_ℤ (pos last))
+order-worth i ds last small order e =
+    let lists = order-gives i ds small.some order in
+    let whole : length ds ≡ i.nodes = lists.whole ∙ start-count i small.some in
+    let m = made i 0 0 (start i) ds last small (start-at i small.some) (omega (arith, whole)) (λ _. refl) lists (ap (λ x. end_time i 0 x ds) (start-time i) ∙ e) in
+    record {
+      solution = record {
+        prefix = path-of_tour i 0 (row_for (words_for i.nodes) (start i)) ds (root-bounded i small.some) (subst (λ t. IsTour i 0 t ds) (sym (root-shown i small.some)) m.tour);
+        whole = whole;
+      };
+      value = value-is i ds last small m.tour m.last_is;
+    }
+
+negated-gives : (i : Instance) (ds : List ℕ) (o : Option ℕ) → IsSmall i → is_order i.nodes ds ≡ true → end_time i 0 (opening i 0) ds ≡ o → SolutionGives (program_of i) ds (negated o)
+negated-gives i ds None small order e =
+    λ x. let kept = solution-kept i ds small x in
+    let both : None ≡ Some (last_time i (start i) ds) = sym e ∙ ap (λ x. end_time i 0 x ds) (sym (start-time i)) ∙ kept.1.time in cc
+negated-gives i ds (Some last) small order e = order-worth i ds last small order e
+
+-- the theorem: the own words give a value exactly where the program has a feasible solution, and the same value
+pub solution_gives : (i : Instance) (ds : List ℕ) → IsSmall i → SolutionGives (program_of i) ds (tour_value i ds)
+solution_gives i ds small =
+    elim (cases_Bool (is_order i.nodes ds)) [
+      | inl order ↦ subst (SolutionGives (program_of i) ds) (sym (ap (λ b. cond b (negated (end_time i 0 (opening i 0) ds)) None) order)) (negated-gives i ds (end_time i 0 (opening i 0) ds) small order refl)
+      | inr disorder ↦ subst (SolutionGives (program_of i) ds) (sym (ap (λ b. cond b (negated (end_time i 0 (opening i 0) ds)) None) disorder))
+          (λ x. false≢true (sym disorder ∙ order-from i ds small.some (solution-kept i ds small x).1.visits))
+    ]

@@ -1,0 +1,334 @@
+-- The dynamic program of an instance within the limits meets the laws.
+use Rattle.std.proofs.Common.{◌≡◌, ◌≢◌, ℕ, zero, suc, ◌+◌, ◌-◌, ◌*◌, ◌/◌, ◌<◌, ◌≤◌, ◌^◌, ℤ, pos, negsuc, ◌+ℤ◌, ◌-ℤ◌, ◌≤ℤ◌, neg_ℤ, nat_abs, min, max, Bool, true, false, cond, not, ◌&&◌, ◌||◌, nat_eq, nat_lt, nat_le, List, [], ◌∷◌, length, take, drop, get_or, Option, Some, None, refl, sym, ap, ap₂, ◌∙◌, subst, arith, inl, inr, ◌⊎◌, eq-eqb}
+use Rattle.std.specs.Prelude.{IsTrue, int_le}
+use Rattle.std.proofs.lemmas.Int.{ints}
+use Rattle.std.proofs.lemmas.Bool.{cases_eq, cases_lt, false≢true, eqb-true}
+use Rattle.std.proofs.lemmas.List.{get_or-take, get_or-drop, length-take, length-drop, get_or_default}
+use Rattle.node_sets.specs.Sums.{all_below, sum_below, count_below}
+use Rattle.node_sets.specs.Sets.{IsWord, AreWords, IsSet, has, is_set, row_of, words_for}
+use Rattle.node_sets.proofs.Below.{and_left, and_right, all_below-gives, all_below-from, sum_below-le}
+use Rattle.node_sets.proofs.Tests.{has-past}
+use Rattle.node_sets.proofs.Counts.{is_set-gives, is_set-from}
+use Rattle.node_sets.proofs.Made.{length-row_of, AreWords-row_of, has-row_of}
+use Rattle.dp_model.specs.Lists.{Each}
+use Rattle.dp_model.specs.Dp.{Dp, IsAllowed}
+use Rattle.dp_model.specs.Prefixes.{IsPath, IsContinuation, gain_of}
+use Rattle.dp_model.specs.Gaps.{IsStateOf, IsSoundGap, HasGap, HasGapWithin, Matches}
+use Rattle.dp_model.specs.Numbers.{AtMost, IsSmall as IsSmallNumber}
+use Rattle.dp_model.specs.Laws.{StepsAreStates, GapsAreSound, RoughBounds, SizesHold, IsLawful, IsChained}
+use Rattle.tsp_windows.specs.Instance.{Instance, IsSmall, distance, opening, closing, near, least_way}
+use Rattle.tsp_windows.specs.States.{TourState, positions_of, must_of, may_of, time_of, shown, row_for, leg, arrival, departure, may_visit, may_return, may_go, moved, is_open, joined, covers, is_lost, way_left, start, is_sound, is_state_row}
+use Rattle.tsp_windows.specs.Rows.{IsBounded, shown-row_for, positions_of-row_for, must_of-row_for, may_of-row_for, time_of-row_for, length-row_for, words_enough}
+use Rattle.tsp_windows.specs.Program.{program_of, rough_of, gap_of}
+use Rattle.tsp_windows.specs.Tours.{and_both, or_left, or_right, or_cases, cases_Bool, not_true, not_false, le_true, true_le, lt_true, true_lt, false_lt, within-gives, IsSound, sound-gives, sound-from, moved-sound, joined-sound, start-sound, moved-bounded, joined-bounded, start-bounded, least_amount-most, visits, returns, goes_on, goes_home}
+use Rattle.tsp_windows.specs.Walks.{IsGone, IsTour, last_time, Covers, covers-gives, covers-from, Covers-self, Covers-chain, joined-covers-left, joined-covers-right, tour-covered, Costs, costs, tour-of_path, path-of_tour, gain-of_tour}
+
+-- ---- rows that are states
+
+pub record IsStateRow (n : ℕ) (s : List ℤ) : Type 0 where
+  pub cells : length s ≡ 3 * words_for n + 1
+  pub positions : IsSet n (positions_of (words_for n) s)
+  pub must : IsSet n (must_of (words_for n) s)
+  pub may : IsSet n (may_of (words_for n) s)
+  pub sound : IsSound n (shown (words_for n) s)
+  pub time : time_of (words_for n) s ≡ pos (shown (words_for n) s).time
+  pub in_time : (shown (words_for n) s).time ≤ 1000000000000
+  pub bounded : IsBounded n (shown (words_for n) s)
+
+record IsTime (z : ℤ) : Type 0 where
+  is : z ≡ pos (nat_abs z)
+  most : nat_abs z ≤ 1000000000000
+
+time-gives : (z : ℤ) → int_le (pos 0) z ≡ true → int_le z (pos 1000000000000) ≡ true → IsTime z
+time-gives (pos n) p q = record { is = refl; most = le_true n 1000000000000 q }
+time-gives (negsuc n) p q = absurd (false≢true p)
+
+pub state_row-gives : (n : ℕ) (s : List ℤ) → is_state_row n s ≡ true → IsStateRow n s
+unfolding shown
+state_row-gives n s e0 =
+    let w = words_for n in
+    let e1 = and_right (nat_eq (length s) (3 * words_for n + 1)) (is_set n (positions_of (words_for n) s) && (is_set n (must_of (words_for n) s) && (is_set n (may_of (words_for n) s) && (is_sound n (shown (words_for n) s) && (int_le (pos 0) (time_of (words_for n) s) && int_le (time_of (words_for n) s) (pos 1000000000000)))))) e0 in
+    let e2 = and_right (is_set n (positions_of (words_for n) s)) (is_set n (must_of (words_for n) s) && (is_set n (may_of (words_for n) s) && (is_sound n (shown (words_for n) s) && (int_le (pos 0) (time_of (words_for n) s) && int_le (time_of (words_for n) s) (pos 1000000000000))))) e1 in
+    let e3 = and_right (is_set n (must_of (words_for n) s)) (is_set n (may_of (words_for n) s) && (is_sound n (shown (words_for n) s) && (int_le (pos 0) (time_of (words_for n) s) && int_le (time_of (words_for n) s) (pos 1000000000000)))) e2 in
+    let e4 = and_right (is_set n (may_of (words_for n) s)) (is_sound n (shown (words_for n) s) && (int_le (pos 0) (time_of (words_for n) s) && int_le (time_of (words_for n) s) (pos 1000000000000))) e3 in
+    let e5 = and_right (is_sound n (shown (words_for n) s)) (int_le (pos 0) (time_of (words_for n) s) && int_le (time_of (words_for n) s) (pos 1000000000000)) e4 in
+    let time = time-gives (time_of (words_for n) s) (and_left (int_le (pos 0) (time_of (words_for n) s)) _ e5) (and_right (int_le (pos 0) (time_of (words_for n) s)) _ e5) in
+    let p = is_set-gives n (positions_of (words_for n) s) (and_left (is_set n (positions_of (words_for n) s)) _ e1) in
+    let m = is_set-gives n (must_of (words_for n) s) (and_left (is_set n (must_of (words_for n) s)) _ e2) in
+    let y = is_set-gives n (may_of (words_for n) s) (and_left (is_set n (may_of (words_for n) s)) _ e3) in
+    record {
+      cells = eqb-true (length s) (3 * words_for n + 1) (and_left (nat_eq (length s) (3 * words_for n + 1)) _ e0);
+      positions = p;
+      must = m;
+      may = y;
+      sound = sound-gives n (shown (words_for n) s) (and_left (is_sound n (shown (words_for n) s)) _ e4);
+      time = time.is;
+      in_time = time.most;
+      bounded = record { positions = p.within; must = m.within; may = y.within };
+    }
+
+set-row_of : (n : ℕ) (test : ℕ → Bool) → ((v : ℕ) → n ≤ v → test v ≡ false) → is_set n (row_of (words_for n) test) ≡ true
+set-row_of n test h = is_set-from n (row_of (words_for n) test) (record {
+  words = length-row_of (words_for n) test;
+  cells = AreWords-row_of (words_for n) test;
+  within = λ v m. elim (cases_lt v (32 * words_for n)) [
+    | inl l ↦ has-row_of (words_for n) test v l ∙ h v m
+    | inr l ↦ has-past (row_of (words_for n) test) v (omega (arith, length-row_of (words_for n) test))
+  ];
+})
+
+pub state_row-from : (n : ℕ) (t : TourState) → IsBounded n t → IsSound n t → t.time ≤ 1000000000000 → is_state_row n (row_for (words_for n) t) ≡ true
+state_row-from n t b s l =
+    and_both (nat_eq (length (row_for (words_for n) t)) (3 * words_for n + 1)) _ (eq-eqb (length (row_for (words_for n) t)) (3 * words_for n + 1) (length-row_for (words_for n) t))
+    (and_both (is_set n (positions_of (words_for n) (row_for (words_for n) t))) _ (ap (is_set n) (positions_of-row_for (words_for n) t) ∙ set-row_of n t.positions b.positions)
+    (and_both (is_set n (must_of (words_for n) (row_for (words_for n) t))) _ (ap (is_set n) (must_of-row_for (words_for n) t) ∙ set-row_of n t.must b.must)
+    (and_both (is_set n (may_of (words_for n) (row_for (words_for n) t))) _ (ap (is_set n) (may_of-row_for (words_for n) t) ∙ set-row_of n t.may b.may)
+    (and_both (is_sound n (shown (words_for n) (row_for (words_for n) t))) _ (ap (is_sound n) (shown-row_for (words_for n) n t (words_enough n) b) ∙ sound-from n t s)
+    (ap (λ z. int_le (pos 0) z && int_le z (pos 1000000000000)) (time_of-row_for (words_for n) t) ∙ and_both (int_le (pos 0) (pos t.time)) _ (true_le 0 t.time (omega arith)) (true_le t.time 1000000000000 l))))))
+
+-- ---- steps are states
+
+departure-most : (i : Instance) (k : ℕ) (t : TourState) (d : ℕ) → IsSmall i → IsGone i k t d → departure i t d ≤ 1000000000000
+departure-most i k t d small g =
+    let late : arrival i t d ≤ closing i d = elim (cases_lt (k + 1) i.nodes) [
+      | inl l ↦ (visits i t d (sym (goes_on i k t d l) ∙ g.test)).on_time
+      | inr l ↦ (returns i t d (sym (goes_home i k t d l) ∙ g.test)).on_time
+    ] in
+    let shut = small.closes d in
+    let order = small.opens d in
+    omega (arith, late, shut, order)
+
+moved-time : (i : Instance) (t : TourState) (d : ℕ) → (moved i t d).time ≡ departure i t d
+unfolding moved
+moved-time i t d = refl
+
+start-time : (i : Instance) → (start i).time ≡ opening i 0
+unfolding start
+start-time i = refl
+
+joined-time : (a b : TourState) → (joined a b).time ≤ a.time
+unfolding joined
+joined-time a b = omega arith
+
+gone : (i : Instance) (k : ℕ) (s : List ℤ) (d : ℕ) → IsAllowed (program_of i) k s d → IsGone i k (shown (words_for i.nodes) s) d
+gone i k s d a = record { layer = a.layer; choice = a.choice; test = a.test }
+
+pub steps_are_states : (i : Instance) → IsSmall i → StepsAreStates (program_of i)
+steps_are_states i small = record {
+  root = (let at = small.opens 0 in let shut = small.closes 0 in
+      state_row-from i.nodes (start i) (start-bounded i small.some) (start-sound i small.some) (omega (arith, at, shut, start-time i)));
+  step = λ k s d state allowed.
+      let row = state_row-gives i.nodes s state.test in
+      let g = gone i k s d allowed in
+      let most = departure-most i k (shown (words_for i.nodes) s) d small g in
+      state_row-from i.nodes (moved i (shown (words_for i.nodes) s) d) (moved-bounded i (shown (words_for i.nodes) s) d g.choice row.bounded) (moved-sound i (shown (words_for i.nodes) s) d g.choice row.sound) (omega (arith, most, moved-time i (shown (words_for i.nodes) s) d));
+  merged = λ k a s left right.
+      let one = state_row-gives i.nodes a left.test in
+      let two = state_row-gives i.nodes s right.test in
+      let earlier = joined-time (shown (words_for i.nodes) a) (shown (words_for i.nodes) s) in
+      state_row-from i.nodes (joined (shown (words_for i.nodes) a) (shown (words_for i.nodes) s)) (joined-bounded i.nodes (shown (words_for i.nodes) a) (shown (words_for i.nodes) s) one.bounded two.bounded) (joined-sound i.nodes (shown (words_for i.nodes) a) (shown (words_for i.nodes) s) one.sound two.sound) (omega (arith, one.in_time, earlier));
+}
+
+-- ---- gaps
+
+record IsGap (n : ℕ) (a b : TourState) (g : ℤ) : Type 0 where
+  covered : Covers n a b
+  is : g ≡ pos b.time -ℤ pos a.time
+
+gap-gives : (n : ℕ) (a b : TourState) (g : ℤ) → gap_of n a b ≡ Some g → IsGap n a b g
+gap-gives n a b g e =
+    elim (cases_Bool (covers n a b)) [
+      | inl c ↦ record { covered = covers-gives n a b c; is = (let same : Some (pos b.time -ℤ pos a.time) ≡ Some g = sym (ap (λ x. cond x (Some (pos b.time -ℤ pos a.time)) None) c) ∙ e in cc) }
+      | inr c ↦ absurd (let same : None ≡ Some g = sym (ap (λ x. cond x (Some (pos b.time -ℤ pos a.time)) None) c) ∙ e in cc)
+    ]
+
+gap-from : (n : ℕ) (a b : TourState) → Covers n a b → gap_of n a b ≡ Some (pos b.time -ℤ pos a.time)
+gap-from n a b c = ap (λ x. cond x (Some (pos b.time -ℤ pos a.time)) None) (covers-from n a b c)
+
+enough : (ta tb la lb : ℕ) (x y g : ℤ) → x ≡ pos tb -ℤ pos lb → y ≡ pos ta -ℤ pos la → g ≡ pos tb -ℤ pos ta → la ≤ lb → x ≤ℤ (y +ℤ g)
+enough ta tb la lb x y g p q r l = omega (arith, ints, p, q, r)
+
+sound_gap : (i : Instance) (k : ℕ) (a s : List ℤ) (g : ℤ) → IsStateOf (program_of i) k a → IsStateOf (program_of i) k s → gap_of i.nodes (shown (words_for i.nodes) a) (shown (words_for i.nodes) s) ≡ Some g → IsSoundGap (program_of i) k a s g
+sound_gap i k a s g left right e c way =
+    let one = state_row-gives i.nodes a left.test in
+    let two = state_row-gives i.nodes s right.test in
+    let gap = gap-gives i.nodes (shown (words_for i.nodes) a) (shown (words_for i.nodes) s) g e in
+    let tour = tour-of_path i k s c two.bounded way.path in
+    let other = tour-covered i k (shown (words_for i.nodes) a) (shown (words_for i.nodes) s) c gap.covered tour in
+    record {
+      by = c;
+      continuation = record { path = path-of_tour i k a c one.bounded other.0; whole = way.whole };
+      enough = enough (shown (words_for i.nodes) a).time (shown (words_for i.nodes) s).time (last_time i (shown (words_for i.nodes) a) c) (last_time i (shown (words_for i.nodes) s) c) (gain_of (program_of i) k s c) (gain_of (program_of i) k a c) g
+          (gain-of_tour i k s c two.bounded tour) (gain-of_tour i k a c one.bounded other.0) gap.is other.1;
+    }
+
+own_gap : (n : ℕ) (t : TourState) → gap_of n t t ≡ Some (pos 0)
+own_gap n t = gap-from n t t (Covers-self n t) ∙ (let z : pos t.time -ℤ pos t.time ≡ pos 0 = omega (arith, ints) in ap Some z)
+
+has_gap : (i : Instance) (k : ℕ) (a s u : List ℤ) → IsStateOf (program_of i) k a → IsStateOf (program_of i) k s → Covers i.nodes (joined (shown (words_for i.nodes) a) (shown (words_for i.nodes) s)) (shown (words_for i.nodes) u) → HasGap (program_of i) k ((program_of i).merged k a s) u
+has_gap i k a s u left right c =
+    let one = state_row-gives i.nodes a left.test in
+    let two = state_row-gives i.nodes s right.test in
+    let same = shown-row_for (words_for i.nodes) i.nodes (joined (shown (words_for i.nodes) a) (shown (words_for i.nodes) s)) (words_enough i.nodes) (joined-bounded i.nodes (shown (words_for i.nodes) a) (shown (words_for i.nodes) s) one.bounded two.bounded) in
+    record {
+      gap = pos (shown (words_for i.nodes) u).time -ℤ pos (joined (shown (words_for i.nodes) a) (shown (words_for i.nodes) s)).time;
+      is = ap (λ t. gap_of i.nodes t (shown (words_for i.nodes) u)) same ∙ gap-from i.nodes (joined (shown (words_for i.nodes) a) (shown (words_for i.nodes) s)) (shown (words_for i.nodes) u) c;
+    }
+
+pub gaps_are_sound : (i : Instance) → GapsAreSound (program_of i)
+gaps_are_sound i = record {
+  sound = sound_gap i;
+  own = λ k s state. own_gap i.nodes (shown (words_for i.nodes) s);
+  merge_new = λ k a s left right. has_gap i k a s s left right (joined-covers-right i.nodes (shown (words_for i.nodes) a) (shown (words_for i.nodes) s));
+  merge_old = λ k a s u left right other h.
+      has_gap i k a s u left right (Covers-chain i.nodes (joined (shown (words_for i.nodes) a) (shown (words_for i.nodes) s)) (shown (words_for i.nodes) a) (shown (words_for i.nodes) u)
+      (joined-covers-left i.nodes (shown (words_for i.nodes) a) (shown (words_for i.nodes) s)) (gap-gives i.nodes (shown (words_for i.nodes) a) (shown (words_for i.nodes) u) h.gap h.is).covered);
+}
+
+pub chained_program : (i : Instance) → IsChained (program_of i)
+chained_program i k a b c g h p q r e f =
+    let one = gap-gives i.nodes (shown (words_for i.nodes) a) (shown (words_for i.nodes) b) g e in
+    let two = gap-gives i.nodes (shown (words_for i.nodes) b) (shown (words_for i.nodes) c) h f in
+    record {
+      gap = pos (shown (words_for i.nodes) c).time -ℤ pos (shown (words_for i.nodes) a).time;
+      is = gap-from i.nodes (shown (words_for i.nodes) a) (shown (words_for i.nodes) c) (Covers-chain i.nodes (shown (words_for i.nodes) a) (shown (words_for i.nodes) b) (shown (words_for i.nodes) c) one.covered two.covered);
+      within = chain (shown (words_for i.nodes) a).time (shown (words_for i.nodes) b).time (shown (words_for i.nodes) c).time g h one.is two.is;
+    }
+  where
+    chain : (x y z : ℕ) (g h : ℤ) → g ≡ pos y -ℤ pos x → h ≡ pos z -ℤ pos y → (pos z -ℤ pos x) ≤ℤ (g +ℤ h)
+    chain x y z g h p q = omega (arith, ints, p, q)
+
+-- ---- the rough bound
+
+not_lost : (i : Instance) (k : ℕ) (t : TourState) (ds : List ℕ) → Costs i k t ds → is_lost i k t ≡ false
+not_lost i k t ds c =
+    ap₂ ◌||◌ (false_lt i.nodes (count_below i.nodes t.must + k + 1) c.few)
+    (ap₂ ◌||◌ (ap not (all_below-from i.nodes (λ v. nat_le (t.time + near i v) (closing i v) || not (t.must v)) (λ v l. on_time v l (cases_Bool (t.must v)))))
+    (false_lt (closing i 0) (t.time + near i 0) c.home))
+  where
+    on_time : (v : ℕ) → v < i.nodes → (t.must v ≡ true) ⊎ (t.must v ≡ false) → (nat_le (t.time + near i v) (closing i v) || not (t.must v)) ≡ true
+    on_time v l (inl m) = or_left (nat_le (t.time + near i v) (closing i v)) (not (t.must v)) (true_le (t.time + near i v) (closing i v) (c.on_time v l m))
+    on_time v l (inr m) = or_right (nat_le (t.time + near i v) (closing i v)) (not (t.must v)) (ap not m)
+
+rough-inside : (i : Instance) (k : ℕ) (t : TourState) (ds : List ℕ) → k < i.nodes → Costs i k t ds → rough_of i k t ≡ Some (neg_ℤ (pos (way_left i t)))
+rough-inside i k t ds l c =
+    ap (λ b. cond b (cond (is_lost i k t) None (Some (neg_ℤ (pos (way_left i t))))) (Some (pos 0))) (true_lt k i.nodes l)
+    ∙ ap (λ b. cond b None (Some (neg_ℤ (pos (way_left i t))))) (not_lost i k t ds c)
+
+rough-last : (i : Instance) (k : ℕ) (t : TourState) → i.nodes ≤ k → rough_of i k t ≡ Some (pos 0)
+rough-last i k t l = ap (λ b. cond b (cond (is_lost i k t) None (Some (neg_ℤ (pos (way_left i t))))) (Some (pos 0))) (false_lt k i.nodes l)
+
+at_most : (t last way : ℕ) (gain : ℤ) → gain ≡ pos t -ℤ pos last → t + way ≤ last → gain ≤ℤ neg_ℤ (pos way)
+at_most t last way gain e l = omega (arith, ints, e)
+
+pub rough_bounds : (i : Instance) → RoughBounds (program_of i)
+rough_bounds i = record {
+  bounds = bounds;
+  last = λ s state. rough-last i i.nodes (shown (words_for i.nodes) s) (omega arith);
+}
+  where
+    bounds : (k : ℕ) (s : List ℤ) (c : List ℕ) → IsStateOf (program_of i) k s → IsContinuation (program_of i) k s c → AtMost (gain_of (program_of i) k s c) (rough_of i k (shown (words_for i.nodes) s))
+    bounds k s c state way =
+        let row = state_row-gives i.nodes s state.test in
+        let tour = tour-of_path i k s c row.bounded way.path in
+        let gain = gain-of_tour i k s c row.bounded tour in
+        elim (cases_lt k i.nodes) [
+          | inl l ↦ (let cost = costs i k (shown (words_for i.nodes) s) c l way.whole tour in
+              subst (AtMost (gain_of (program_of i) k s c)) (sym (rough-inside i k (shown (words_for i.nodes) s) c l cost))
+              (at_most (shown (words_for i.nodes) s).time (last_time i (shown (words_for i.nodes) s) c) (way_left i (shown (words_for i.nodes) s)) (gain_of (program_of i) k s c) gain cost.later))
+          | inr l ↦ subst (AtMost (gain_of (program_of i) k s c)) (sym (rough-last i k (shown (words_for i.nodes) s) l)) (ended s c (shown (words_for i.nodes) s) gain (omega (arith, way.whole)))
+        ]
+      where
+        ended : (s : List ℤ) (c : List ℕ) (t : TourState) → gain_of (program_of i) k s c ≡ pos t.time -ℤ pos (last_time i t c) → length c ≡ 0 → gain_of (program_of i) k s c ≤ℤ pos 0
+        ended s [] t e l = omega (arith, ints, e)
+        ended s (d ∷ ds) t e l = absurd (omega arith)
+
+-- ---- sizes
+
+pub near-most : (i : Instance) (v : ℕ) → IsSmall i → near i v ≤ 1000000000
+unfolding least_way
+near-most i v small = least_amount-most i.nodes (λ u. not (nat_eq u v)) (λ u. distance i u v) 1000000000 (λ u. small.short (u * i.nodes + v))
+
+pub way-most : (i : Instance) (t : TourState) → IsSmall i → way_left i t ≤ 301000000000
+way-most i t small =
+    let ways = sum_below-le i.nodes t.must (near i) 1000000000 (λ v l. near-most i v small) in
+    let home = near-most i 0 small in
+    let few = small.few in
+    let product : i.nodes * 1000000000 ≤ 300000000000 = omega (arith, few) in
+    omega (arith, ways, home, product)
+
+each_from : (s : List ℤ) → ((k : ℕ) → k < length s → IsSmallNumber (get_or s k (pos 0))) → Each IsSmallNumber s
+each_from [] h = tt
+each_from (z ∷ s) h = (h 0 (omega arith), each_from s (λ k l. h (suc k) (omega arith)))
+
+word_small : (z : ℤ) → IsWord z → IsSmallNumber z
+word_small z w = record { low = omega (arith, ints, w.low); high = omega (arith, ints, w.high) }
+
+time_small : (n : ℕ) → n ≤ 1000000000000 → IsSmallNumber (pos n)
+time_small n l = record { low = omega (arith, ints); high = omega (arith, ints) }
+
+difference_small : (a b : ℕ) → a ≤ 1000000000000 → b ≤ 1000000000000 → IsSmallNumber (pos a -ℤ pos b)
+difference_small a b p q = record { low = omega (arith, ints); high = omega (arith, ints) }
+
+negated_small : (a : ℕ) → a ≤ 1000000000000 → IsSmallNumber (neg_ℤ (pos a))
+negated_small a p = record { low = omega (arith, ints); high = omega (arith, ints) }
+
+cell_small : (n : ℕ) (s : List ℤ) → IsStateRow n s → (k : ℕ) → k < length s → IsSmallNumber (get_or s k (pos 0))
+cell_small n s row k l =
+    let w = words_for n in
+    elim (cases_lt k (words_for n)) [
+      | inl a ↦ subst IsSmallNumber (get_or-take (words_for n) s k (pos 0) a) (word_small (get_or (positions_of (words_for n) s) k (pos 0)) (row.positions.cells k))
+      | inr a ↦ (elim (cases_lt k (2 * words_for n)) [
+        | inl b ↦ (let at : words_for n + (k - words_for n) ≡ k = omega arith in
+            subst IsSmallNumber (get_or-take (words_for n) (drop (words_for n) s) (k - words_for n) (pos 0) (omega arith) ∙ get_or-drop (words_for n) s (k - words_for n) (pos 0) ∙ ap (λ j. get_or s j (pos 0)) at)
+            (word_small (get_or (must_of (words_for n) s) (k - words_for n) (pos 0)) (row.must.cells (k - words_for n))))
+        | inr b ↦ (elim (cases_lt k (3 * words_for n)) [
+          | inl c ↦ (let at : 2 * words_for n + (k - 2 * words_for n) ≡ k = omega arith in
+              subst IsSmallNumber (get_or-take (words_for n) (drop (2 * words_for n) s) (k - 2 * words_for n) (pos 0) (omega arith) ∙ get_or-drop (2 * words_for n) s (k - 2 * words_for n) (pos 0) ∙ ap (λ j. get_or s j (pos 0)) at)
+              (word_small (get_or (may_of (words_for n) s) (k - 2 * words_for n) (pos 0)) (row.may.cells (k - 2 * words_for n))))
+          | inr c ↦ (let at : 3 * words_for n ≡ k = omega (arith, row.cells) in
+              subst IsSmallNumber (sym row.time ∙ ap (λ j. get_or s j (pos 0)) at) (time_small (shown (words_for n) s).time row.in_time))
+        ])
+      ])
+    ]
+
+gap_size : (a b : ℕ) (g : ℤ) → a ≤ b → b ≤ 1000000000000 → g ≡ pos b -ℤ pos a → (pos 0 ≤ℤ g) × IsSmallNumber g
+gap_size a b g p q e = (omega (arith, ints, e), record { low = omega (arith, ints, e); high = omega (arith, ints, e) })
+
+rough_size : (i : Instance) (k : ℕ) (t : TourState) (r : ℤ) → IsSmall i → rough_of i k t ≡ Some r → IsSmallNumber r
+rough_size i k t r small e =
+    elim (cases_lt k i.nodes) [
+      | inl l ↦ (elim (cases_Bool (is_lost i k t)) [
+        | inl f ↦ absurd (let none : None ≡ Some r = sym (ap (λ b. cond b (cond (is_lost i k t) None (Some (neg_ℤ (pos (way_left i t))))) (Some (pos 0))) (true_lt k i.nodes l) ∙ ap (λ b. cond b None (Some (neg_ℤ (pos (way_left i t))))) f) ∙ e in cc)
+        | inr f ↦ (let some : Some (neg_ℤ (pos (way_left i t))) ≡ Some r = sym (ap (λ b. cond b (cond (is_lost i k t) None (Some (neg_ℤ (pos (way_left i t))))) (Some (pos 0))) (true_lt k i.nodes l) ∙ ap (λ b. cond b None (Some (neg_ℤ (pos (way_left i t))))) f) ∙ e in
+            let same : neg_ℤ (pos (way_left i t)) ≡ r = cc in
+            let most = way-most i t small in
+            subst IsSmallNumber same (negated_small (way_left i t) (omega (arith, most))))
+      ])
+      | inr l ↦ (let some : Some (pos 0) ≡ Some r = sym (rough-last i k t l) ∙ e in let same : pos 0 ≡ r = cc in subst IsSmallNumber same (time_small 0 (omega arith)))
+    ]
+
+pub sizes_hold : (i : Instance) → IsSmall i → SizesHold (program_of i)
+sizes_hold i small = record {
+  vars = omega (arith, small.few);
+  some_words = omega arith;
+  words = omega (arith, small.few);
+  some_choices = λ k l. small.some;
+  choices = λ k l. omega (arith, small.few);
+  root_value = (let at = small.opens 0 in let shut = small.closes 0 in negated_small (opening i 0) (omega (arith, at, shut)));
+  cells = λ k s state. (state_row-gives i.nodes s state.test).cells;
+  state = λ k s state. each_from s (cell_small i.nodes s (state_row-gives i.nodes s state.test));
+  gain = λ k s d state allowed. difference_small (shown (words_for i.nodes) s).time (departure i (shown (words_for i.nodes) s) d) (state_row-gives i.nodes s state.test).in_time (departure-most i k (shown (words_for i.nodes) s) d small (gone i k s d allowed));
+  gap = λ k a s g left right e.
+      let gap = gap-gives i.nodes (shown (words_for i.nodes) a) (shown (words_for i.nodes) s) g e in
+      gap_size (shown (words_for i.nodes) a).time (shown (words_for i.nodes) s).time g gap.covered.time (state_row-gives i.nodes s right.test).in_time gap.is;
+  rough = λ k s r state e. rough_size i k (shown (words_for i.nodes) s) r small e;
+}
+
+pub lawful_program : (i : Instance) → IsSmall i → IsLawful (program_of i)
+lawful_program i small = record {
+  states = steps_are_states i small;
+  gaps = gaps_are_sound i;
+  rough = rough_bounds i;
+  sizes = sizes_hold i small;
+}

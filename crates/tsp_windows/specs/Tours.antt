@@ -1,0 +1,355 @@
+-- Tours from a state on, and what one state's tours tell of another's.
+use Rattle.std.proofs.Common.{◌≡◌, ◌≢◌, ℕ, zero, suc, ◌+◌, ◌-◌, ◌*◌, ◌<◌, ◌≤◌, min, max, Bool, true, false, cond, not, ◌&&◌, ◌||◌, nat_eq, nat_lt, nat_le, List, [], ◌∷◌, length, Option, Some, None, refl, sym, ap, ap₂, ◌∙◌, subst, arith, inl, inr, ◌⊎◌, eq-eqb, add-one}
+use Rattle.std.specs.Prelude.{IsTrue, is_some, unwrap_or}
+use Rattle.std.proofs.Math.Path.{fun_ext}
+use Rattle.std.proofs.lemmas.Bool.{cases_eq, cases_lt, false≢true, eqb-true}
+use Rattle.std.proofs.lemmas.Bool.Decides.{nat_tests}
+use Rattle.node_sets.specs.Sums.{all_below, sum_below, count_below, lesser, least_amount}
+use Rattle.node_sets.proofs.Below.{and_left, and_right, all_below-gives, all_below-from, sum_below-same, sum_below-removed, sum_below-none, count_below-le}
+use Rattle.tsp_windows.specs.Instance.{Instance, IsSmall, distance, opening, closing, near, least_way}
+use Rattle.tsp_windows.specs.States.{TourState, from_elsewhere, leg, arrival, departure, may_visit, may_return, may_go, moved, is_open, joined, is_within, covers, is_lost, way_left, start, is_sound}
+use Rattle.tsp_windows.specs.Rows.{IsBounded}
+
+-- ---- tests
+
+pub and_both : (a b : Bool) → a ≡ true → b ≡ true → (a && b) ≡ true
+and_both a b p q = ap₂ ◌&&◌ p q
+
+pub or_left : (a b : Bool) → a ≡ true → (a || b) ≡ true
+or_left true b e = refl
+or_left false b e = absurd (false≢true e)
+
+pub or_right : (a b : Bool) → b ≡ true → (a || b) ≡ true
+or_right true b e = refl
+or_right false b e = e
+
+pub or_cases : (a b : Bool) → (a || b) ≡ true → (a ≡ true) ⊎ (b ≡ true)
+or_cases true b e = inl refl
+or_cases false b e = inr e
+
+pub not_true : (a : Bool) → not a ≡ true → a ≡ false
+not_true true e = absurd (false≢true e)
+not_true false e = refl
+
+pub not_false : (a : Bool) → a ≡ false → not a ≡ true
+not_false true e = absurd (false≢true (sym e))
+not_false false e = refl
+
+pub cases_Bool : (b : Bool) → (b ≡ true) ⊎ (b ≡ false)
+cases_Bool true = inl refl
+cases_Bool false = inr refl
+
+pub differ : (u v : ℕ) → u ≢ v → nat_eq u v ≡ false
+differ u v n = grind (arith, nat_tests)
+
+pub apart : (u v : ℕ) → nat_eq u v ≡ false → u ≢ v
+apart u v e s = false≢true (sym e ∙ eq-eqb u v s)
+
+pub le_true : (a b : ℕ) → nat_le a b ≡ true → a ≤ b
+le_true a b e = grind (arith, nat_tests)
+
+pub true_le : (a b : ℕ) → a ≤ b → nat_le a b ≡ true
+true_le a b e = grind (arith, nat_tests)
+
+pub lt_true : (a b : ℕ) → nat_lt a b ≡ true → a < b
+lt_true a b e = grind (arith, nat_tests)
+
+pub true_lt : (a b : ℕ) → a < b → nat_lt a b ≡ true
+true_lt a b e = grind (arith, nat_tests)
+
+pub false_lt : (a b : ℕ) → b ≤ a → nat_lt a b ≡ false
+false_lt a b e = grind (arith, nat_tests)
+
+pub lt_false : (a b : ℕ) → nat_lt a b ≡ false → b ≤ a
+lt_false a b e = grind (arith, nat_tests)
+
+pub within-gives : (n : ℕ) (part whole : ℕ → Bool) → is_within n part whole ≡ true → (v : ℕ) → v < n → part v ≡ true → whole v ≡ true
+within-gives n part whole e v l p =
+    elim (or_cases (whole v) (not (part v)) (all_below-gives n (λ v. whole v || not (part v)) e v l)) [
+      | inl w ↦ w
+      | inr q ↦ absurd (false≢true (sym (not_true (part v) q) ∙ p))
+    ]
+
+within-one : (a b : Bool) → (a ≡ true → b ≡ true) → (b || not a) ≡ true
+within-one true b h = or_left b false (h refl)
+within-one false b h = or_right b true refl
+
+pub within-from : (n : ℕ) (part whole : ℕ → Bool) → ((v : ℕ) → v < n → part v ≡ true → whole v ≡ true) → is_within n part whole ≡ true
+within-from n part whole h = all_below-from n (λ v. whole v || not (part v)) (λ v l. within-one (part v) (whole v) (h v l))
+
+pub all_below-not : (n : ℕ) (test : ℕ → Bool) → all_below n test ≡ false → (v : ℕ) × (v < n) × (test v ≡ false)
+all_below-not zero test e = absurd (false≢true (sym e))
+all_below-not (suc n) test e =
+    elim (cases_Bool (test n)) [
+      | inl t ↦ (let rest = all_below-not n test (sym (ap (λ b. b && all_below n test) t) ∙ e) in (rest.0, omega (arith, rest.1), rest.2))
+      | inr f ↦ (n, omega arith, f)
+    ]
+
+-- ---- least ways
+
+-- the one option is at most the other, where none is above every number
+abbrev pub NoMore : Option ℕ → Option ℕ → Type 0
+NoMore a None = Unit {0}
+NoMore None (Some y) = ⊥
+NoMore (Some x) (Some y) = x ≤ y
+
+lesser-both : (x : ℕ) (a b : Option ℕ) → NoMore a b → NoMore (lesser x a) (lesser x b)
+lesser-both x None None h = omega arith
+lesser-both x (Some y) None h = omega arith
+lesser-both x None (Some z) h = absurd h
+lesser-both x (Some y) (Some z) h = omega arith
+
+lesser-one : (x : ℕ) (a b : Option ℕ) → NoMore a b → NoMore (lesser x a) b
+lesser-one x a None h = tt
+lesser-one x None (Some z) h = absurd h
+lesser-one x (Some y) (Some z) h = omega arith
+
+-- the least amount of more numbers is no more
+pub least_amount-wider : (n : ℕ) (p q : ℕ → Bool) (f : ℕ → ℕ) → ((v : ℕ) → v < n → q v ≡ true → p v ≡ true) → NoMore (least_amount n p f) (least_amount n q f)
+least_amount-wider zero p q f h = tt
+least_amount-wider (suc n) p q f h =
+    let rest = least_amount-wider n p q f (λ v l. h v (omega arith)) in
+    step (p n) (q n) (h n (omega arith)) rest
+  where
+    step : (a b : Bool) → (b ≡ true → a ≡ true) → NoMore (least_amount n p f) (least_amount n q f) → NoMore (cond a (lesser (f n) (least_amount n p f)) (least_amount n p f)) (cond b (lesser (f n) (least_amount n q f)) (least_amount n q f))
+    step true true k r = lesser-both (f n) (least_amount n p f) (least_amount n q f) r
+    step true false k r = lesser-one (f n) (least_amount n p f) (least_amount n q f) r
+    step false true k r = absurd (false≢true (k refl))
+    step false false k r = r
+
+pub NoMore-or : (a b : Option ℕ) → NoMore a b → is_some b ≡ true → unwrap_or a 0 ≤ unwrap_or b 0
+NoMore-or a None h e = absurd (false≢true e)
+NoMore-or None (Some y) h e = absurd h
+NoMore-or (Some x) (Some y) h e = h
+
+pub NoMore-some : (a b : Option ℕ) → NoMore a b → is_some b ≡ true → is_some a ≡ true
+NoMore-some a None h e = absurd (false≢true e)
+NoMore-some None (Some y) h e = absurd h
+NoMore-some (Some x) (Some y) h e = refl
+
+or_least : (a : Option ℕ) (most : ℕ) → NoMore a (Some most) → unwrap_or a 0 ≤ most
+or_least None most h = absurd h
+or_least (Some x) most h = h
+
+-- the least amount is at most one that passes, and one that passes has it
+pub least_amount-at : (n : ℕ) (p : ℕ → Bool) (f : ℕ → ℕ) (v : ℕ) → v < n → p v ≡ true → NoMore (least_amount n p f) (Some (f v))
+least_amount-at zero p f v l e = absurd (omega arith)
+least_amount-at (suc n) p f v l e =
+    elim (cases_eq v n) [
+      | inl s ↦ subst (λ b. NoMore (cond b (lesser (f n) (least_amount n p f)) (least_amount n p f)) (Some (f v))) (sym (sym (ap p s) ∙ e)) (first (least_amount n p f) (ap f s))
+      | inr s ↦ step (p n) (least_amount-at n p f v (omega arith) e)
+    ]
+  where
+    first : (o : Option ℕ) → f v ≡ f n → NoMore (lesser (f n) o) (Some (f v))
+    first None g = omega arith
+    first (Some x) g = omega arith
+
+    step : (b : Bool) → NoMore (least_amount n p f) (Some (f v)) → NoMore (cond b (lesser (f n) (least_amount n p f)) (least_amount n p f)) (Some (f v))
+    step true r = lesser-one (f n) (least_amount n p f) (Some (f v)) r
+    step false r = r
+
+lesser-le : (x most : ℕ) (o : Option ℕ) → x ≤ most → unwrap_or o 0 ≤ most → unwrap_or (lesser x o) 0 ≤ most
+lesser-le x most None p q = p
+lesser-le x most (Some y) p q = omega arith
+
+pub least_amount-most : (n : ℕ) (p : ℕ → Bool) (f : ℕ → ℕ) (most : ℕ) → ((v : ℕ) → f v ≤ most) → unwrap_or (least_amount n p f) 0 ≤ most
+least_amount-most zero p f most h = omega arith
+least_amount-most (suc n) p f most h =
+    let rest = least_amount-most n p f most h in
+    elim (p n) as (λ b. unwrap_or (cond b (lesser (f n) (least_amount n p f)) (least_amount n p f)) 0 ≤ most) [
+      | true ↦ lesser-le (f n) most (least_amount n p f) (h n) rest
+      | false ↦ rest
+    ]
+
+-- ---- one step
+
+pub near-le-leg : (i : Instance) (t : TourState) (d : ℕ) → is_some (leg i t d) ≡ true → near i d ≤ unwrap_or (leg i t d) 0
+unfolding least_way leg
+near-le-leg i t d e =
+    NoMore-or (least_amount i.nodes (λ u. not (nat_eq u d)) (λ u. distance i u d)) (least_amount i.nodes (from_elsewhere t d) (λ p. distance i p d))
+    (least_amount-wider i.nodes (λ u. not (nat_eq u d)) (from_elsewhere t d) (λ u. distance i u d) (λ v l. and_right (t.positions v) (not (nat_eq v d)))) e
+
+-- a single node has no other node near
+pub near-alone : (i : Instance) → i.nodes ≡ 1 → near i 0 ≡ 0
+unfolding least_way
+near-alone i e = ap (λ n. unwrap_or (least_amount n (λ u. not (nat_eq u 0)) (λ u. distance i u 0)) 0) e
+
+pub leg-alone : (i : Instance) (t : TourState) → i.nodes ≡ 1 → leg i t 0 ≡ None
+unfolding leg
+leg-alone i t e =
+    ap (λ n. least_amount n (from_elsewhere t 0) (λ p. distance i p 0)) e
+    ∙ (elim (t.positions 0) as (λ b. cond (b && false) (lesser (distance i 0 0) None) None ≡ None) [ true ↦ refl | false ↦ refl ])
+
+-- what a decision asks
+
+pub record Visits (i : Instance) (t : TourState) (d : ℕ) : Type 0 where
+  pub away : d ≢ 0
+  pub pending : (t.must d || t.may d) ≡ true
+  pub reached : is_some (leg i t d) ≡ true
+  pub on_time : arrival i t d ≤ closing i d
+
+pub record Returns (i : Instance) (t : TourState) (d : ℕ) : Type 0 where
+  pub home : d ≡ 0
+  pub done : (v : ℕ) → v < i.nodes → t.must v ≡ false
+  pub reached : (is_some (leg i t d) ≡ true) ⊎ (i.nodes ≡ 1)
+  pub on_time : arrival i t d ≤ closing i d
+
+pub visits : (i : Instance) (t : TourState) (d : ℕ) → may_visit i t d ≡ true → Visits i t d
+visits i t d e =
+    let rest = and_right (not (nat_eq d 0)) ((t.must d || t.may d) && (is_some (leg i t d) && nat_le (arrival i t d) (closing i d))) e in
+    let last = and_right (t.must d || t.may d) (is_some (leg i t d) && nat_le (arrival i t d) (closing i d)) rest in
+    record {
+      away = apart d 0 (not_true (nat_eq d 0) (and_left (not (nat_eq d 0)) _ e));
+      pending = and_left (t.must d || t.may d) _ rest;
+      reached = and_left (is_some (leg i t d)) _ last;
+      on_time = le_true (arrival i t d) (closing i d) (and_right (is_some (leg i t d)) _ last);
+    }
+
+pub may_visit-from : (i : Instance) (t : TourState) (d : ℕ) → Visits i t d → may_visit i t d ≡ true
+may_visit-from i t d v =
+    and_both (not (nat_eq d 0)) _ (not_false (nat_eq d 0) (differ d 0 v.away))
+    (and_both (t.must d || t.may d) _ v.pending (and_both (is_some (leg i t d)) _ v.reached (true_le (arrival i t d) (closing i d) v.on_time)))
+
+pub returns : (i : Instance) (t : TourState) (d : ℕ) → may_return i t d ≡ true → Returns i t d
+returns i t d e =
+    let rest = and_right (nat_eq d 0) (all_below i.nodes (λ v. not (t.must v)) && ((is_some (leg i t d) || nat_eq i.nodes 1) && nat_le (arrival i t d) (closing i d))) e in
+    let last = and_right (all_below i.nodes (λ v. not (t.must v))) ((is_some (leg i t d) || nat_eq i.nodes 1) && nat_le (arrival i t d) (closing i d)) rest in
+    record {
+      home = eqb-true d 0 (and_left (nat_eq d 0) _ e);
+      done = λ v l. not_true (t.must v) (all_below-gives i.nodes (λ v. not (t.must v)) (and_left (all_below i.nodes (λ v. not (t.must v))) _ rest) v l);
+      reached = elim (or_cases (is_some (leg i t d)) (nat_eq i.nodes 1) (and_left (is_some (leg i t d) || nat_eq i.nodes 1) _ last)) [ inl s ↦ inl s | inr s ↦ inr (eqb-true i.nodes 1 s) ];
+      on_time = le_true (arrival i t d) (closing i d) (and_right (is_some (leg i t d) || nat_eq i.nodes 1) _ last);
+    }
+
+pub may_return-from : (i : Instance) (t : TourState) (d : ℕ) → Returns i t d → may_return i t d ≡ true
+may_return-from i t d r =
+    and_both (nat_eq d 0) _ (eq-eqb d 0 r.home)
+    (and_both (all_below i.nodes (λ v. not (t.must v))) _ (all_below-from i.nodes (λ v. not (t.must v)) (λ v l. not_false (t.must v) (r.done v l)))
+    (and_both (is_some (leg i t d) || nat_eq i.nodes 1) _
+    (elim r.reached [ inl s ↦ or_left (is_some (leg i t d)) (nat_eq i.nodes 1) s | inr s ↦ or_right (is_some (leg i t d)) (nat_eq i.nodes 1) (eq-eqb i.nodes 1 s) ])
+    (true_le (arrival i t d) (closing i d) r.on_time)))
+
+pub goes_on : (i : Instance) (k : ℕ) (t : TourState) (d : ℕ) → k + 1 < i.nodes → may_go i k t d ≡ may_visit i t d
+goes_on i k t d l = ap (λ b. cond b (may_visit i t d) (may_return i t d)) (true_lt (k + 1) i.nodes l)
+
+pub goes_home : (i : Instance) (k : ℕ) (t : TourState) (d : ℕ) → i.nodes ≤ k + 1 → may_go i k t d ≡ may_return i t d
+goes_home i k t d l = ap (λ b. cond b (may_visit i t d) (may_return i t d)) (false_lt (k + 1) i.nodes l)
+
+-- however it is reached, a node is left no earlier than on the least way to it
+pub near-le-arrival : (i : Instance) (t : TourState) (d : ℕ) → is_some (leg i t d) ≡ true → t.time + near i d ≤ arrival i t d
+near-le-arrival i t d e = let least = near-le-leg i t d e in omega (arith, least)
+
+-- ---- the state behind a step
+
+pub moved-bounded : (i : Instance) (t : TourState) (d : ℕ) → d < i.nodes → IsBounded i.nodes t → IsBounded i.nodes (moved i t d)
+unfolding moved
+moved-bounded i t d l b = record {
+  positions = λ v m. differ v d (omega arith);
+  must = λ v m. ap (λ x. x && not (nat_eq v d)) (b.must v m);
+  may = λ v m. ap (λ x. x && not (nat_eq v d)) (b.may v m);
+}
+
+pub joined-bounded : (n : ℕ) (a b : TourState) → IsBounded n a → IsBounded n b → IsBounded n (joined a b)
+unfolding joined
+joined-bounded n a b p q = record {
+  positions = λ v m. ap₂ ◌||◌ (p.positions v m) (q.positions v m);
+  must = λ v m. ap₂ ◌&&◌ (p.must v m) (q.must v m);
+  may = λ v m. ap (λ x. x && not (a.must v && b.must v)) (ap₂ ◌||◌ (ap₂ ◌||◌ (p.must v m) (p.may v m)) (ap₂ ◌||◌ (q.must v m) (q.may v m)));
+}
+
+pub start-bounded : (i : Instance) → 1 ≤ i.nodes → IsBounded i.nodes (start i)
+unfolding start
+start-bounded i some = record {
+  positions = λ v m. differ v 0 (omega arith);
+  must = λ v m. ap (λ x. x && not (nat_eq v 0)) (false_lt v i.nodes m);
+  may = λ v m. refl;
+}
+
+-- ---- what a state is
+
+pub record IsSound (n : ℕ) (t : TourState) : Type 0 where
+  pub position : ℕ
+  pub inside : position < n
+  pub there : t.positions position ≡ true
+  pub either : (v : ℕ) → v < n → t.must v ≡ true → t.may v ≡ false
+  pub no_must : t.must 0 ≡ false
+  pub no_may : t.may 0 ≡ false
+
+one_of : (a b : Bool) → not (a && b) ≡ true → a ≡ true → b ≡ false
+one_of true b e p = not_true b e
+one_of false b e p = absurd (false≢true p)
+
+one_of-from : (a b : Bool) → (a ≡ true → b ≡ false) → not (a && b) ≡ true
+one_of-from true b h = not_false b (h refl)
+one_of-from false b h = refl
+
+pub sound-gives : (n : ℕ) (t : TourState) → is_sound n t ≡ true → IsSound n t
+sound-gives n t e =
+    let first = and_left (not (all_below n (λ p. not (t.positions p)))) (all_below n (λ v. not (t.must v && t.may v)) && (not (t.must 0) && not (t.may 0))) e in
+    let rest = and_right (not (all_below n (λ p. not (t.positions p)))) (all_below n (λ v. not (t.must v && t.may v)) && (not (t.must 0) && not (t.may 0))) e in
+    let last = and_right (all_below n (λ v. not (t.must v && t.may v))) (not (t.must 0) && not (t.may 0)) rest in
+    let some = all_below-not n (λ p. not (t.positions p)) (not_true (all_below n (λ p. not (t.positions p))) first) in
+    record {
+      position = some.0;
+      inside = some.1;
+      there = still (t.positions some.0) some.2;
+      either = λ v l. one_of (t.must v) (t.may v) (all_below-gives n (λ v. not (t.must v && t.may v)) (and_left (all_below n (λ v. not (t.must v && t.may v))) _ rest) v l);
+      no_must = not_true (t.must 0) (and_left (not (t.must 0)) (not (t.may 0)) last);
+      no_may = not_true (t.may 0) (and_right (not (t.must 0)) (not (t.may 0)) last);
+    }
+  where
+    still : (b : Bool) → not b ≡ false → b ≡ true
+    still true e = refl
+    still false e = absurd (false≢true (sym e))
+
+pub sound-from : (n : ℕ) (t : TourState) → IsSound n t → is_sound n t ≡ true
+sound-from n t s =
+    and_both (not (all_below n (λ p. not (t.positions p)))) _ (not_false _ (some (cases_Bool (all_below n (λ p. not (t.positions p))))))
+    (and_both (all_below n (λ v. not (t.must v && t.may v))) _ (all_below-from n (λ v. not (t.must v && t.may v)) (λ v l. one_of-from (t.must v) (t.may v) (s.either v l)))
+    (and_both (not (t.must 0)) (not (t.may 0)) (not_false (t.must 0) s.no_must) (not_false (t.may 0) s.no_may)))
+  where
+    some : (all_below n (λ p. not (t.positions p)) ≡ true) ⊎ (all_below n (λ p. not (t.positions p)) ≡ false) → all_below n (λ p. not (t.positions p)) ≡ false
+    some (inl e) = absurd (false≢true (sym (not_true (t.positions s.position) (all_below-gives n (λ p. not (t.positions p)) e s.position s.inside)) ∙ s.there))
+    some (inr e) = e
+
+pub moved-sound : (i : Instance) (t : TourState) (d : ℕ) → d < i.nodes → IsSound i.nodes t → IsSound i.nodes (moved i t d)
+unfolding moved
+moved-sound i t d l s = record {
+  position = d;
+  inside = l;
+  there = eq-eqb d d refl;
+  either = λ v m e. ap (λ x. x && not (nat_eq v d)) (s.either v m (and_left (t.must v) (not (nat_eq v d)) e));
+  no_must = ap (λ x. x && not (nat_eq 0 d)) s.no_must;
+  no_may = ap (λ x. x && not (nat_eq 0 d)) s.no_may;
+}
+
+pub joined-sound : (n : ℕ) (a b : TourState) → IsSound n a → IsSound n b → IsSound n (joined a b)
+unfolding joined
+joined-sound n a b p q = record {
+  position = p.position;
+  inside = p.inside;
+  there = or_left (a.positions p.position) (b.positions p.position) p.there;
+  either = λ v m e. neither (is_open a v || is_open b v) (a.must v && b.must v) e;
+  no_must = ap (λ x. x && b.must 0) p.no_must;
+  no_may = ap (λ x. x && not (a.must 0 && b.must 0)) (ap₂ ◌||◌ (ap₂ ◌||◌ p.no_must p.no_may) (ap₂ ◌||◌ q.no_must q.no_may));
+}
+  where
+    neither : (x y : Bool) → y ≡ true → (x && not y) ≡ false
+    neither true true e = refl
+    neither false true e = refl
+    neither x false e = absurd (false≢true e)
+
+pub start-sound : (i : Instance) → 1 ≤ i.nodes → IsSound i.nodes (start i)
+unfolding start
+start-sound i some = record {
+  position = 0;
+  inside = omega arith;
+  there = refl;
+  either = λ v m e. refl;
+  no_must = no_home (nat_lt 0 i.nodes);
+  no_may = refl;
+}
+  where
+    no_home : (b : Bool) → (b && not (nat_eq 0 0)) ≡ false
+    no_home true = refl
+    no_home false = refl

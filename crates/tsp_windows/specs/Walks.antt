@@ -1,0 +1,311 @@
+-- Tours as lists of decisions, from a state on: what they say of the states that cover it, and what they cost at least.
+use Rattle.std.proofs.Common.{◌≡◌, ◌≢◌, ℕ, zero, suc, ◌+◌, ◌-◌, ◌*◌, ◌<◌, ◌≤◌, ℤ, pos, ◌+ℤ◌, ◌-ℤ◌, ◌≤ℤ◌, neg_ℤ, min, max, Bool, true, false, cond, not, ◌&&◌, ◌||◌, nat_eq, nat_lt, nat_le, List, [], ◌∷◌, length, Option, Some, None, refl, sym, ap, ap₂, ◌∙◌, subst, arith, inl, inr, ◌⊎◌, eq-eqb, add-one}
+use Rattle.std.specs.Prelude.{IsTrue, is_some, unwrap_or}
+use Rattle.std.proofs.lemmas.Int.{ints}
+use Rattle.std.proofs.lemmas.Bool.{cases_eq, cases_lt, false≢true, eqb-true}
+use Rattle.node_sets.specs.Sums.{all_below, sum_below, count_below, lesser, least_amount}
+use Rattle.node_sets.specs.Sets.{words_for}
+use Rattle.node_sets.proofs.Below.{and_left, and_right, all_below-gives, all_below-from, sum_below-same, sum_below-removed, sum_below-none, count_below-le}
+use Rattle.dp_model.specs.Dp.{Dp, IsAllowed}
+use Rattle.dp_model.specs.Prefixes.{IsPath, gain_of}
+use Rattle.tsp_windows.specs.Instance.{Instance, IsSmall, distance, opening, closing, near}
+use Rattle.tsp_windows.specs.States.{TourState, from_elsewhere, leg, arrival, departure, may_visit, may_return, may_go, moved, is_open, joined, is_within, covers, is_lost, way_left, start, shown, row_for}
+use Rattle.tsp_windows.specs.Rows.{IsBounded, shown-row_for, words_enough}
+use Rattle.tsp_windows.specs.Program.{program_of}
+use Rattle.tsp_windows.specs.Tours.{and_both, or_left, or_right, or_cases, cases_Bool, differ, apart, le_true, true_le, lt_true, true_lt, within-gives, within-from, NoMore, least_amount-wider, NoMore-or, NoMore-some, near-le-arrival, near-alone, leg-alone, Visits, Returns, visits, returns, may_visit-from, may_return-from, goes_on, goes_home, moved-bounded}
+
+-- the decision may be taken
+pub record IsGone (i : Instance) (k : ℕ) (t : TourState) (d : ℕ) : Type 0 where
+  pub layer : k < i.nodes
+  pub choice : d < i.nodes
+  pub test : may_go i k t d ≡ true
+
+-- the decisions may be taken one after another
+abbrev pub IsTour : Instance → ℕ → TourState → List ℕ → Type 0
+IsTour i k t [] = Unit {0}
+IsTour i k t (d ∷ ds) = IsGone i k t d × IsTour i (k + 1) (moved i t d) ds
+
+-- the time behind them
+abbrev pub last_time : Instance → TourState → List ℕ → ℕ
+last_time i t [] = t.time
+last_time i t (d ∷ ds) = last_time i (moved i t d) ds
+
+-- ---- states that cover others
+
+pub record Covers (n : ℕ) (a b : TourState) : Type 0 where
+  pub positions : (v : ℕ) → v < n → b.positions v ≡ true → a.positions v ≡ true
+  pub must : (v : ℕ) → v < n → a.must v ≡ true → b.must v ≡ true
+  pub pending : (v : ℕ) → v < n → is_open b v ≡ true → is_open a v ≡ true
+  pub time : a.time ≤ b.time
+
+pub covers-gives : (n : ℕ) (a b : TourState) → covers n a b ≡ true → Covers n a b
+covers-gives n a b e =
+    let rest = and_right (is_within n b.positions a.positions) (is_within n a.must b.must && (is_within n (is_open b) (is_open a) && nat_le a.time b.time)) e in
+    let last = and_right (is_within n a.must b.must) (is_within n (is_open b) (is_open a) && nat_le a.time b.time) rest in
+    record {
+      positions = within-gives n b.positions a.positions (and_left (is_within n b.positions a.positions) _ e);
+      must = within-gives n a.must b.must (and_left (is_within n a.must b.must) _ rest);
+      pending = within-gives n (is_open b) (is_open a) (and_left (is_within n (is_open b) (is_open a)) _ last);
+      time = le_true a.time b.time (and_right (is_within n (is_open b) (is_open a)) _ last);
+    }
+
+pub covers-from : (n : ℕ) (a b : TourState) → Covers n a b → covers n a b ≡ true
+covers-from n a b c =
+    and_both (is_within n b.positions a.positions) _ (within-from n b.positions a.positions c.positions)
+    (and_both (is_within n a.must b.must) _ (within-from n a.must b.must c.must)
+    (and_both (is_within n (is_open b) (is_open a)) _ (within-from n (is_open b) (is_open a) c.pending) (true_le a.time b.time c.time)))
+
+pub Covers-self : (n : ℕ) (a : TourState) → Covers n a a
+Covers-self n a = record { positions = λ v l e. e; must = λ v l e. e; pending = λ v l e. e; time = omega arith }
+
+pub Covers-chain : (n : ℕ) (a b c : TourState) → Covers n a b → Covers n b c → Covers n a c
+Covers-chain n a b c p q = record {
+  positions = λ v l e. p.positions v l (q.positions v l e);
+  must = λ v l e. q.must v l (p.must v l e);
+  pending = λ v l e. p.pending v l (q.pending v l e);
+  time = omega (arith, p.time, q.time);
+}
+
+open_joined : (a b c d : Bool) → (a || b) ≡ true ⊎ ((c || d) ≡ true) → ((a && c) || (((a || b) || (c || d)) && not (a && c))) ≡ true
+open_joined true b true d h = refl
+open_joined true b false d h = refl
+open_joined false true c d h = refl
+open_joined false false true d h = refl
+open_joined false false false true h = refl
+open_joined false false false false (inl e) = absurd (false≢true e)
+open_joined false false false false (inr e) = absurd (false≢true e)
+
+pub joined-covers-left : (n : ℕ) (a b : TourState) → Covers n (joined a b) a
+unfolding joined
+joined-covers-left n a b = record {
+  positions = λ v l e. or_left (a.positions v) (b.positions v) e;
+  must = λ v l e. and_left (a.must v) (b.must v) e;
+  pending = λ v l e. open_joined (a.must v) (a.may v) (b.must v) (b.may v) (inl e);
+  time = omega arith;
+}
+
+pub joined-covers-right : (n : ℕ) (a b : TourState) → Covers n (joined a b) b
+unfolding joined
+joined-covers-right n a b = record {
+  positions = λ v l e. or_right (a.positions v) (b.positions v) e;
+  must = λ v l e. and_right (a.must v) (b.must v) e;
+  pending = λ v l e. open_joined (a.must v) (a.may v) (b.must v) (b.may v) (inr e);
+  time = omega arith;
+}
+
+leg-within : (i : Instance) (a b : TourState) (d : ℕ) → Covers i.nodes a b → NoMore (leg i a d) (leg i b d)
+unfolding leg
+leg-within i a b d c =
+    least_amount-wider i.nodes (from_elsewhere a d) (from_elsewhere b d) (λ p. distance i p d)
+    (λ v l e. and_both (a.positions v) (not (nat_eq v d)) (c.positions v l (and_left (b.positions v) (not (nat_eq v d)) e)) (and_right (b.positions v) (not (nat_eq v d)) e))
+
+arrival-reached : (i : Instance) (a b : TourState) (d : ℕ) → Covers i.nodes a b → is_some (leg i b d) ≡ true → arrival i a d ≤ arrival i b d
+arrival-reached i a b d c e = let least = NoMore-or (leg i a d) (leg i b d) (leg-within i a b d c) e in omega (arith, least, c.time)
+
+arrival-alone : (i : Instance) (a b : TourState) (d : ℕ) → Covers i.nodes a b → d ≡ 0 → i.nodes ≡ 1 → arrival i a d ≤ arrival i b d
+arrival-alone i a b d c h e =
+    let left : unwrap_or (leg i a d) 0 ≡ 0 = ap (λ v. unwrap_or (leg i a v) 0) h ∙ ap (λ o. unwrap_or o 0) (leg-alone i a e) in
+    omega (arith, left, c.time)
+
+-- what may be taken in the one state may be taken in each that covers it, and no later
+pub record Follows (i : Instance) (k : ℕ) (a b : TourState) (d : ℕ) : Type 0 where
+  pub gone : IsGone i k a d
+  pub covered : Covers i.nodes (moved i a d) (moved i b d)
+
+moved-covers : (i : Instance) (a b : TourState) (d : ℕ) → Covers i.nodes a b → arrival i a d ≤ arrival i b d → Covers i.nodes (moved i a d) (moved i b d)
+unfolding moved
+moved-covers i a b d c l = record {
+  positions = λ v m e. e;
+  must = λ v m e. and_both (b.must v) (not (nat_eq v d)) (c.must v m (and_left (a.must v) (not (nat_eq v d)) e)) (and_right (a.must v) (not (nat_eq v d)) e);
+  pending = λ v m e. part (a.must v) (a.may v) (b.must v) (b.may v) (not (nat_eq v d)) (c.pending v m) e;
+  time = omega arith;
+}
+  where
+    part : (x y z w keep : Bool) → ((z || w) ≡ true → (x || y) ≡ true) → ((z && keep) || (w && keep)) ≡ true → ((x && keep) || (y && keep)) ≡ true
+    part x y true w true h e = both x y (h refl)
+      where
+        both : (x y : Bool) → (x || y) ≡ true → ((x && true) || (y && true)) ≡ true
+        both true y e = refl
+        both false true e = refl
+        both false false e = e
+    part x y false true true h e = both x y (h refl)
+      where
+        both : (x y : Bool) → (x || y) ≡ true → ((x && true) || (y && true)) ≡ true
+        both true y e = refl
+        both false true e = refl
+        both false false e = e
+    part x y false false true h e = absurd (false≢true e)
+    part x y true true false h e = absurd (false≢true e)
+    part x y true false false h e = absurd (false≢true e)
+    part x y false true false h e = absurd (false≢true e)
+    part x y false false false h e = absurd (false≢true e)
+
+follows-visit : (i : Instance) (k : ℕ) (a b : TourState) (d : ℕ) → Covers i.nodes a b → IsGone i k b d → k + 1 < i.nodes → Follows i k a b d
+follows-visit i k a b d c g l =
+    let v = visits i b d (sym (goes_on i k b d l) ∙ g.test) in
+    let earlier = arrival-reached i a b d c v.reached in
+    record {
+      gone = record {
+        layer = g.layer;
+        choice = g.choice;
+        test = goes_on i k a d l ∙ may_visit-from i a d (record {
+          away = v.away;
+          pending = c.pending d g.choice v.pending;
+          reached = NoMore-some (leg i a d) (leg i b d) (leg-within i a b d c) v.reached;
+          on_time = omega (arith, earlier, v.on_time);
+        });
+      };
+      covered = moved-covers i a b d c earlier;
+    }
+
+follows-return : (i : Instance) (k : ℕ) (a b : TourState) (d : ℕ) → Covers i.nodes a b → IsGone i k b d → i.nodes ≤ k + 1 → Follows i k a b d
+follows-return i k a b d c g l =
+    let r = returns i b d (sym (goes_home i k b d l) ∙ g.test) in
+    let earlier : arrival i a d ≤ arrival i b d = elim r.reached [ inl e ↦ arrival-reached i a b d c e | inr e ↦ arrival-alone i a b d c r.home e ] in
+    record {
+      gone = record {
+        layer = g.layer;
+        choice = g.choice;
+        test = goes_home i k a d l ∙ may_return-from i a d (record {
+          home = r.home;
+          done = λ v m. none (a.must v) (b.must v) (c.must v m) (r.done v m);
+          reached = elim r.reached [ inl e ↦ inl (NoMore-some (leg i a d) (leg i b d) (leg-within i a b d c) e) | inr e ↦ inr e ];
+          on_time = omega (arith, earlier, r.on_time);
+        });
+      };
+      covered = moved-covers i a b d c earlier;
+    }
+  where
+    none : (x y : Bool) → (x ≡ true → y ≡ true) → y ≡ false → x ≡ false
+    none true y h e = absurd (false≢true (sym e ∙ h refl))
+    none false y h e = refl
+
+pub follows : (i : Instance) (k : ℕ) (a b : TourState) (d : ℕ) → Covers i.nodes a b → IsGone i k b d → Follows i k a b d
+follows i k a b d c g =
+    elim (cases_lt (k + 1) i.nodes) [ inl l ↦ follows-visit i k a b d c g l | inr l ↦ follows-return i k a b d c g l ]
+
+-- each tour from a state is one from each state that covers it, and ends no later
+pub tour-covered : (i : Instance) (k : ℕ) (a b : TourState) (ds : List ℕ) → Covers i.nodes a b → IsTour i k b ds → IsTour i k a ds × (last_time i a ds ≤ last_time i b ds)
+tour-covered i k a b [] c w = (tt, c.time)
+tour-covered i k a b (d ∷ ds) c w =
+    let f = follows i k a b d c w.0 in
+    let rest = tour-covered i (k + 1) (moved i a d) (moved i b d) ds f.covered w.1 in
+    ((f.gone, rest.0), rest.1)
+
+-- ---- what a tour costs at least
+
+pub record Costs (i : Instance) (k : ℕ) (t : TourState) (ds : List ℕ) : Type 0 where
+  pub few : count_below i.nodes t.must + k + 1 ≤ i.nodes
+  pub on_time : (v : ℕ) → v < i.nodes → t.must v ≡ true → t.time + near i v ≤ closing i v
+  pub home : t.time + near i 0 ≤ closing i 0
+  pub later : t.time + way_left i t ≤ last_time i t ds
+
+-- a visit takes at most one node from those that must be visited
+sum-moved : (i : Instance) (t : TourState) (d : ℕ) (f : ℕ → ℕ) → d < i.nodes → sum_below i.nodes t.must f ≤ sum_below i.nodes (moved i t d).must f + f d
+unfolding moved
+sum-moved i t d f l =
+    elim (cases_Bool (t.must d)) [
+      | inl e ↦ (let removed = sum_below-removed i.nodes d t.must (λ v. t.must v && not (nat_eq v d)) f l e (gone (t.must d) d) (λ v n. kept (t.must v) v n) in omega (arith, removed))
+      | inr e ↦ (let same = sum_below-same i.nodes t.must (λ v. t.must v && not (nat_eq v d)) f (λ v m. still v e) in omega (arith, same))
+    ]
+  where
+    gone : (b : Bool) (v : ℕ) → (b && not (nat_eq v v)) ≡ false
+    gone true v = ap not (eq-eqb v v refl)
+    gone false v = refl
+
+    kept : (b : Bool) (v : ℕ) → v ≢ d → (b && not (nat_eq v d)) ≡ b
+    kept true v n = ap not (differ v d n)
+    kept false v n = refl
+
+    still : (v : ℕ) → t.must d ≡ false → t.must v ≡ (t.must v && not (nat_eq v d))
+    still v e = elim (cases_eq v d) [
+      | inl s ↦ ap t.must s ∙ e ∙ sym (ap (λ b. b && not (nat_eq v d)) (ap t.must s ∙ e))
+      | inr n ↦ sym (kept (t.must v) v n)
+    ]
+
+must-moved : (i : Instance) (t : TourState) (d v : ℕ) → v ≢ d → t.must v ≡ true → (moved i t d).must v ≡ true
+unfolding moved
+must-moved i t d v n e = and_both (t.must v) (not (nat_eq v d)) e (ap not (differ v d n))
+
+time-moved : (i : Instance) (t : TourState) (d : ℕ) → arrival i t d ≤ (moved i t d).time
+unfolding moved
+time-moved i t d = omega arith
+
+costs-visit : (i : Instance) (k : ℕ) (t : TourState) (d : ℕ) (ds : List ℕ) → k + 1 < i.nodes → IsGone i k t d → Costs i (k + 1) (moved i t d) ds → Costs i k t (d ∷ ds)
+costs-visit i k t d ds l g rest =
+    let v = visits i t d (sym (goes_on i k t d l) ∙ g.test) in
+    let least = near-le-arrival i t d v.reached in
+    let later = time-moved i t d in
+    record {
+      few = (let count = sum-moved i t d (λ _. 1) g.choice in omega (arith, count, rest.few));
+      on_time = λ u m e. elim (cases_eq u d) [
+        | inl s ↦ subst (λ x. t.time + near i x ≤ closing i x) (sym s) (omega (arith, least, v.on_time))
+        | inr n ↦ (let next = rest.on_time u m (must-moved i t d u n e) in omega (arith, next, least, later))
+      ];
+      home = omega (arith, rest.home, least, later);
+      later = (let ways = sum-moved i t d (near i) g.choice in omega (arith, ways, rest.later, least, later));
+    }
+
+costs-return : (i : Instance) (k : ℕ) (t : TourState) (d : ℕ) → k + 1 ≡ i.nodes → IsGone i k t d → Costs i k t (d ∷ [])
+costs-return i k t d l g =
+    let r = returns i t d (sym (goes_home i k t d (omega arith)) ∙ g.test) in
+    let least : t.time + near i d ≤ arrival i t d = elim r.reached [
+      | inl e ↦ near-le-arrival i t d e
+      | inr e ↦ (let alone : near i d ≡ 0 = ap (near i) r.home ∙ near-alone i e in omega (arith, alone))
+    ] in
+    let here : near i d ≡ near i 0 = ap (near i) r.home in
+    let shut : closing i d ≡ closing i 0 = ap (closing i) r.home in
+    let later = time-moved i t d in
+    let none = sum_below-none i.nodes t.must (λ _. 1) r.done in
+    let ways = sum_below-none i.nodes t.must (near i) r.done in
+    record {
+      few = omega (arith, none);
+      on_time = λ v m e. absurd (false≢true (sym (r.done v m) ∙ e));
+      home = omega (arith, least, here, shut, r.on_time);
+      later = omega (arith, least, here, later, ways);
+    }
+
+pub costs : (i : Instance) (k : ℕ) (t : TourState) (ds : List ℕ) → k < i.nodes → k + length ds ≡ i.nodes → IsTour i k t ds → Costs i k t ds
+costs i k t [] l e w = absurd (omega arith)
+costs i k t (d ∷ []) l e w = costs-return i k t d (omega arith) w.0
+costs i k t (d ∷ f ∷ ds) l e w =
+    costs-visit i k t d (f ∷ ds) (omega arith) w.0 (costs i (k + 1) (moved i t d) (f ∷ ds) (omega arith) (omega arith) w.1)
+
+-- ---- paths of the program are tours
+
+pub tour-of_path : (i : Instance) (k : ℕ) (s : List ℤ) (ds : List ℕ) → IsBounded i.nodes (shown (words_for i.nodes) s) → IsPath (program_of i) k s ds → IsTour i k (shown (words_for i.nodes) s) ds
+tour-of_path i k s [] b p = tt
+tour-of_path i k s (d ∷ ds) b p =
+    let next = moved-bounded i (shown (words_for i.nodes) s) d p.0.choice b in
+    let same = shown-row_for (words_for i.nodes) i.nodes (moved i (shown (words_for i.nodes) s) d) (words_enough i.nodes) next in (
+      record { layer = p.0.layer; choice = p.0.choice; test = p.0.test },
+      subst (λ t. IsTour i (k + 1) t ds) same (tour-of_path i (k + 1) (row_for (words_for i.nodes) (moved i (shown (words_for i.nodes) s) d)) ds (subst (IsBounded i.nodes) (sym same) next) p.1),
+    )
+
+pub path-of_tour : (i : Instance) (k : ℕ) (s : List ℤ) (ds : List ℕ) → IsBounded i.nodes (shown (words_for i.nodes) s) → IsTour i k (shown (words_for i.nodes) s) ds → IsPath (program_of i) k s ds
+path-of_tour i k s [] b w = tt
+path-of_tour i k s (d ∷ ds) b w =
+    let next = moved-bounded i (shown (words_for i.nodes) s) d w.0.choice b in
+    let same = shown-row_for (words_for i.nodes) i.nodes (moved i (shown (words_for i.nodes) s) d) (words_enough i.nodes) next in (
+      record { layer = w.0.layer; choice = w.0.choice; test = w.0.test },
+      path-of_tour i (k + 1) (row_for (words_for i.nodes) (moved i (shown (words_for i.nodes) s) d)) ds (subst (IsBounded i.nodes) (sym same) next) (subst (λ t. IsTour i (k + 1) t ds) (sym same) w.1),
+    )
+
+time-moved-is : (i : Instance) (t : TourState) (d : ℕ) → (moved i t d).time ≡ departure i t d
+unfolding moved
+time-moved-is i t d = refl
+
+-- what they gain is the time that they begin at less the time that they end at
+pub gain-of_tour : (i : Instance) (k : ℕ) (s : List ℤ) (ds : List ℕ) → IsBounded i.nodes (shown (words_for i.nodes) s) → IsTour i k (shown (words_for i.nodes) s) ds → gain_of (program_of i) k s ds ≡ pos (shown (words_for i.nodes) s).time -ℤ pos (last_time i (shown (words_for i.nodes) s) ds)
+gain-of_tour i k s [] b w = omega (arith, ints)
+gain-of_tour i k s (d ∷ ds) b w =
+    let t = shown (words_for i.nodes) s in
+    let next = moved-bounded i (shown (words_for i.nodes) s) d w.0.choice b in
+    let same = shown-row_for (words_for i.nodes) i.nodes (moved i (shown (words_for i.nodes) s) d) (words_enough i.nodes) next in
+    let rest = gain-of_tour i (k + 1) (row_for (words_for i.nodes) (moved i (shown (words_for i.nodes) s) d)) ds (subst (IsBounded i.nodes) (sym same) next) (subst (λ t. IsTour i (k + 1) t ds) (sym same) w.1) in
+    let rest' = subst (λ t. gain_of (program_of i) (k + 1) (row_for (words_for i.nodes) (moved i (shown (words_for i.nodes) s) d)) ds ≡ pos t.time -ℤ pos (last_time i t ds)) same rest in
+    let left = time-moved-is i (shown (words_for i.nodes) s) d in
+    joined_gain (shown (words_for i.nodes) s).time (departure i (shown (words_for i.nodes) s) d) (last_time i (moved i (shown (words_for i.nodes) s) d) ds) (gain_of (program_of i) (k + 1) (row_for (words_for i.nodes) (moved i (shown (words_for i.nodes) s) d)) ds) (rest' ∙ ap (λ x. pos x -ℤ pos (last_time i (moved i (shown (words_for i.nodes) s) d) ds)) left)
+  where
+    joined_gain : (a b c : ℕ) (g : ℤ) → g ≡ pos b -ℤ pos c → (pos a -ℤ pos b) +ℤ g ≡ pos a -ℤ pos c
+    joined_gain a b c g e = omega (arith, ints, e)

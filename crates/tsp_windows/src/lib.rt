@@ -1,0 +1,31 @@
+//! The travelling salesman with time windows, as a dynamic program.
+//!
+//! A tour leaves node 0 at its opening, visits each other node once and returns to node 0. An arrival after the closing of
+//! a node is too late, and an early one waits for the opening. The value of a tour is the negated time of its return; no
+//! triangle inequality is asked of the distances. `read` and `print` turn texts into problems and back, `value_of` says
+//! what a list of visits is worth in the problem's own words, and `TspWindows` is a `DpModel`.
+//!
+//! The crate stands on `dp_model`, on `dd_text` for texts, and on `node_sets` for the sets of nodes in a state.
+//!
+//! Promised: the program meets the laws of `dp_model`, a list is worth something exactly where it is a feasible solution
+//! of the program, with the same value, and a printed problem is read as it was.
+#![tactic(auto)]
+
+mod model;
+mod parts;
+mod printing;
+mod problem;
+mod reading;
+mod sets;
+mod touring;
+mod ways;
+mod window;
+
+pub use printing::print;
+pub use problem::TspWindows;
+pub use reading::read;
+pub use touring::value_of;
+pub use window::Window;
+
+#[cfg(test)]
+mod tests;

@@ -1,0 +1,326 @@
+ghost use Rattle.std.specs.Prelude.{◌≡◌, ◌+◌, ◌*◌, ◌^◌, ◌<◌, ◌≤◌, ◌↔◌, ◌||◌, true, false, IsTrue, IsNone, IfSome, length};
+ghost use Rattle.node_sets.specs.Sets as sets;
+ghost use Rattle.node_sets.specs.Sets.{AreWords, has};
+ghost use Rattle.tsp_windows.specs.States as states;
+ghost use Rattle.tsp_windows.specs.States.{shown, row_for, is_state_row};
+ghost use Rattle.tsp_windows.specs.Apart.{IsApart};
+ghost use Rattle.tsp_windows.specs.Shown.{instance_in};
+
+use crate::parts::{parts_of, sets_of};
+use crate::problem::TspWindows;
+use crate::sets::{join, unite, write_none, write_one, write_others, write_without};
+use crate::ways::{least_leg, ways_within};
+use dp_model::DpModel;
+use node_sets::{
+    contains, count, is_disjoint, is_empty, is_set, is_subset, is_union_subset, least, words_for,
+};
+
+/// Whether each way on from the one state is one from the other, and no later.
+fn covers(nodes: usize, a: &[i64], s: &[i64]) -> bool
+    requires few { nodes ≤ 300 }
+    requires covering { IsTrue (is_state_row nodes a.now) }
+    requires state { IsTrue (is_state_row nodes s.now) }
+    ensures { result ≡ states.covers nodes (shown (sets.words_for nodes) a.now) (shown (sets.words_for nodes) s.now) }
+{
+    let wide = parts_of(nodes, a);
+    let part = parts_of(nodes, s);
+    if wide.time > part.time {
+        return false;
+    }
+    let positions_within = is_subset(part.positions, wide.positions);
+    if !positions_within {
+        return false;
+    }
+    let must_within = is_subset(wide.must, part.must);
+    if !must_within {
+        return false;
+    }
+    is_union_subset(part.must, part.may, wide.must, wide.may)
+}
+
+/// Whether there is a position, no node must and may be visited both, and node 0 need not and may not be.
+fn is_sound(positions: &[i64], must: &[i64], may: &[i64]) -> bool
+    requires positions_cells { AreWords positions.now }
+    requires must_cells { AreWords must.now }
+    requires may_cells { AreWords may.now }
+    requires same { length must.now ≡ length may.now }
+    requires some { 1 ≤ length must.now }
+    ensures { IsTrue result ↔ IsApart positions.now must.now may.now }
+{
+    !is_empty(positions) && is_disjoint(must, may) && !contains(must, 0) && !contains(may, 0)
+}
+
+/// Whether a node stands in one of two sets.
+fn is_listed(must: &[i64], may: &[i64], node: usize) -> bool
+    requires must_cells { AreWords must.now }
+    requires may_cells { AreWords may.now }
+    requires must_inside { node < 32 * length must.now }
+    requires may_inside { node < 32 * length may.now }
+    ensures { result ≡ (has must.now node || has may.now node) }
+{
+    contains(must, node) || contains(may, node)
+}
+
+/// Whether a row of the right length is a state.
+fn is_state_of(nodes: usize, s: &[i64]) -> bool
+    requires some { 1 ≤ nodes }
+    requires few { nodes ≤ 300 }
+    requires cells { length s.now ≡ 3 * sets.words_for nodes + 1 }
+    ensures { result ≡ is_state_row nodes s.now }
+{
+    let words = words_for(nodes);
+    let (positions, must, may) = sets_of(words, s);
+    let time = s[3 * words];
+    if !is_set(positions, nodes) {
+        return false;
+    }
+    let must_set = is_set(must, nodes);
+    if !must_set {
+        return false;
+    }
+    let may_set = is_set(may, nodes);
+    if !may_set {
+        return false;
+    }
+    let sound = is_sound(positions, must, may);
+    if !sound {
+        return false;
+    }
+    time >= 0 && time <= 1_000_000_000_000
+}
+
+impl TspWindows {
+    /// The least distance to a node from a position other than it, or none where there is no such position.
+    fn leg(&self, s: &[i64], to: usize) -> Option<u32>
+        requires state { IsTrue (is_state_row self.now.nodes s.now) }
+        requires inside { to < self.now.nodes }
+        ensures { result ≡ states.leg (instance_in self.now) (shown (sets.words_for self.now.nodes) s.now) to }
+    {
+        least_leg(
+            self.nodes,
+            &self.distances,
+            parts_of(self.nodes, s).positions,
+            to,
+        )
+    }
+
+    /// When a node is reached at the earliest.
+    fn arrival(&self, s: &[i64], to: usize) -> u64
+        requires state { IsTrue (is_state_row self.now.nodes s.now) }
+        requires inside { to < self.now.nodes }
+        ensures value { result ≡ states.arrival (instance_in self.now) (shown (sets.words_for self.now.nodes) s.now) to }
+        ensures small { result < 2 ^ 62 }
+    {
+        let way = self.leg(s, to).unwrap_or(0);
+        parts_of(self.nodes, s).time + u64::from(way)
+    }
+
+    /// When a node is left at the earliest.
+    fn departure(&self, s: &[i64], to: usize) -> u64
+        requires state { IsTrue (is_state_row self.now.nodes s.now) }
+        requires inside { to < self.now.nodes }
+        ensures value { result ≡ states.departure (instance_in self.now) (shown (sets.words_for self.now.nodes) s.now) to }
+        ensures small { result < 2 ^ 62 }
+    {
+        self.arrival(s, to).max(self.windows[to].opening)
+    }
+
+    /// Whether a node other than 0 that must or may be visited is reached in time.
+    fn may_visit(&self, s: &[i64], to: usize) -> bool
+        requires state { IsTrue (is_state_row self.now.nodes s.now) }
+        requires inside { to < self.now.nodes }
+        ensures { result ≡ states.may_visit (instance_in self.now) (shown (sets.words_for self.now.nodes) s.now) to }
+    {
+        let state = parts_of(self.nodes, s);
+        if to == 0 {
+            return false;
+        }
+        let listed = is_listed(state.must, state.may, to);
+        if !listed {
+            return false;
+        }
+        match self.leg(s, to) {
+            Some(way) => state.time + u64::from(way) <= self.windows[to].closing,
+            None => false,
+        }
+    }
+
+    /// Whether node 0 is reached in time, and no other node must be visited.
+    fn may_return(&self, s: &[i64], to: usize) -> bool
+        requires state { IsTrue (is_state_row self.now.nodes s.now) }
+        requires inside { to < self.now.nodes }
+        ensures { result ≡ states.may_return (instance_in self.now) (shown (sets.words_for self.now.nodes) s.now) to }
+    {
+        let state = parts_of(self.nodes, s);
+        if to != 0 {
+            return false;
+        }
+        if !is_empty(state.must) {
+            return false;
+        }
+        match self.leg(s, to) {
+            Some(way) => state.time + u64::from(way) <= self.windows[to].closing,
+            None => self.nodes == 1 && state.time <= self.windows[to].closing,
+        }
+    }
+
+    /// The sum of the least ways to the nodes that must be visited and home, or none where the state is lost.
+    fn way_left(&self, k: usize, s: &[i64]) -> Option<u64>
+        requires layer { k < self.now.nodes }
+        requires state { IsTrue (is_state_row self.now.nodes s.now) }
+        ensures lost { IsNone result → states.is_lost (instance_in self.now) k (shown (sets.words_for self.now.nodes) s.now) ≡ true }
+        ensures left { IfSome result (λ way. (states.is_lost (instance_in self.now) k (shown (sets.words_for self.now.nodes) s.now) ≡ false)
+            × (way ≡ states.way_left (instance_in self.now) (shown (sets.words_for self.now.nodes) s.now))) }
+        ensures small { IfSome result (λ way. way < 2 ^ 62) }
+    {
+        let state = parts_of(self.nodes, s);
+        if count(state.must) + k + 1 > self.nodes {
+            return None;
+        }
+        let home = u64::from(self.nearest[0]);
+        if state.time + home > self.windows[0].closing {
+            return None;
+        }
+        let ways = ways_within(&self.nearest, &self.windows, state.must, state.time)?;
+        Some(ways + home)
+    }
+}
+
+/// Writes the root state.
+fn write_root(out: &mut [i64], model: &TspWindows)
+    requires { length out.old ≡ 3 * sets.words_for model.now.nodes + 1 }
+    ensures { out.new ≡ row_for (sets.words_for model.now.nodes) (states.start (instance_in model.now)) }
+{
+    let words = words_for(model.nodes);
+    let (positions, rest) = out.split_at_mut(words);
+    let (must, rest) = rest.split_at_mut(words);
+    let (may, time) = rest.split_at_mut(words);
+    write_one(positions, 0);
+    write_others(must, model.nodes);
+    write_none(may);
+    time[0] = model.windows[0].opening as i64;
+}
+
+/// Writes the state behind a visit.
+fn write_moved(out: &mut [i64], model: &TspWindows, s: &[i64], to: usize)
+    requires cells { length out.old ≡ 3 * sets.words_for model.now.nodes + 1 }
+    requires state { IsTrue (is_state_row model.now.nodes s.now) }
+    requires inside { to < model.now.nodes }
+    ensures { out.new ≡ row_for (sets.words_for model.now.nodes) (states.moved (instance_in model.now) (shown (sets.words_for model.now.nodes) s.now) to) }
+{
+    let words = words_for(model.nodes);
+    let state = parts_of(model.nodes, s);
+    let departure = model.departure(s, to);
+    let (positions, rest) = out.split_at_mut(words);
+    let (must, rest) = rest.split_at_mut(words);
+    let (may, time) = rest.split_at_mut(words);
+    write_one(positions, to);
+    write_without(must, state.must, to);
+    write_without(may, state.may, to);
+    time[0] = departure as i64;
+}
+
+/// Makes a state what it has together with another one.
+fn write_joined(acc: &mut [i64], nodes: usize, s: &[i64])
+    requires few { nodes ≤ 300 }
+    requires kept { IsTrue (is_state_row nodes acc.old) }
+    requires state { IsTrue (is_state_row nodes s.now) }
+    ensures { acc.new ≡ row_for (sets.words_for nodes) (states.joined (shown (sets.words_for nodes) acc.old) (shown (sets.words_for nodes) s.now)) }
+{
+    let words = words_for(nodes);
+    let state = parts_of(nodes, s);
+    let earlier = parts_of(nodes, acc).time.min(state.time);
+    let (positions, rest) = acc.split_at_mut(words);
+    let (must, rest) = rest.split_at_mut(words);
+    let (may, time) = rest.split_at_mut(words);
+    unite(positions, state.positions);
+    join(must, may, state.must, state.may);
+    time[0] = earlier as i64;
+}
+
+impl DpModel for TspWindows {
+    ghost use Rattle.tsp_windows.specs.Instance.{numbers_of};
+    ghost use Rattle.tsp_windows.specs.Program.{program};
+    ghost use Rattle.tsp_windows.specs.Shown.{instance_in};
+    ghost use Rattle.tsp_windows.specs.Instances.{lawful_numbers, chained_numbers};
+
+    ghost numbers = { λ m. numbers_of (instance_in m) };
+
+    ghost meaning = { program };
+
+    ghost lawful = { λ m. lawful_numbers (instance_in m) m.small m.spelled };
+
+    ghost chained = { λ m. chained_numbers (instance_in m) m.spelled };
+
+    fn vars(&self) -> usize {
+        self.nodes
+    }
+
+    fn words(&self) -> usize {
+        3 * words_for(self.nodes) + 1
+    }
+
+    fn choices(&self, _k: usize) -> u32 {
+        self.nodes as u32
+    }
+
+    fn root(&self, out: &mut [i64]) {
+        write_root(out, self);
+    }
+
+    fn root_value(&self) -> i64 {
+        -(self.windows[0].opening as i64)
+    }
+
+    fn allowed(&self, k: usize, s: &[i64], d: u32) -> bool {
+        if k + 1 < self.nodes {
+            return self.may_visit(s, d as usize);
+        }
+        self.may_return(s, d as usize)
+    }
+
+    fn step(&self, _k: usize, s: &[i64], d: u32, out: &mut [i64]) {
+        write_moved(out, self, s, d as usize);
+    }
+
+    fn gain(&self, _k: usize, s: &[i64], d: u32) -> i64 {
+        parts_of(self.nodes, s).time as i64 - self.departure(s, d as usize) as i64
+    }
+
+    fn merge_into(&self, _k: usize, acc: &mut [i64], s: &[i64]) {
+        write_joined(acc, self.nodes, s);
+    }
+
+    fn gap(&self, _k: usize, a: &[i64], s: &[i64]) -> Option<i64> {
+        if covers(self.nodes, a, s) {
+            Some(parts_of(self.nodes, s).time as i64 - parts_of(self.nodes, a).time as i64)
+        } else {
+            None
+        }
+    }
+
+    fn rough(&self, k: usize, s: &[i64]) -> Option<i64> {
+        if k >= self.nodes {
+            return Some(0);
+        }
+        match self.way_left(k, s) {
+            Some(way) => Some(-(way as i64)),
+            None => None,
+        }
+    }
+
+    fn rank(&self, _k: usize, s: &[i64]) -> i64 {
+        count(parts_of(self.nodes, s).must) as i64
+    }
+
+    fn bucket(&self, _k: usize, s: &[i64]) -> u64 {
+        match least(parts_of(self.nodes, s).positions) {
+            Some(position) => position as u64,
+            None => 0,
+        }
+    }
+
+    fn is_state(&self, _k: usize, s: &[i64]) -> bool {
+        is_state_of(self.nodes, s)
+    }
+}

@@ -1,0 +1,109 @@
+//! Least ways, over rows of distances.
+
+ghost use Rattle.std.specs.Prelude.{◌≡◌, ℕ, ◌+◌, ◌*◌, ◌^◌, ◌<◌, ◌≤◌, ◌&&◌, ◌||◌, not, nat_eq, nat_le, true, false, length, get_or, Option, unwrap_or, MatchOption, IfOk};
+ghost use Rattle.node_sets.specs.Sums.{all_below, sum_below, lesser, least_amount};
+ghost use Rattle.node_sets.specs.Sets.{IsSet, has};
+ghost use Rattle.tsp_windows.specs.Instance as instance;
+ghost use Rattle.tsp_windows.specs.Instance.{no_window};
+
+use crate::window::Window;
+use node_sets::next_member;
+use std::alloc::{AllocError, Global};
+
+/// The lesser of a way and the least one so far.
+#[inline]
+fn lesser(least: Option<u32>, way: u32) -> Option<u32>
+    ensures { result ≡ lesser way least }
+{
+    match least {
+        Some(other) => Some(other.min(way)),
+        None => Some(way),
+    }
+}
+
+/// The least distance to a node from a position other than it, or none where there is no such position.
+pub(crate) fn least_leg(
+    nodes: usize,
+    distances: &[u32],
+    positions: &[i64],
+    to: usize,
+) -> Option<u32>
+    requires few { nodes ≤ 300 }
+    requires square { length distances.now ≡ nodes * nodes }
+    requires set { IsSet nodes positions.now }
+    requires inside { to < nodes }
+    ensures { result ≡ least_amount nodes (λ p. has positions.now p && not (nat_eq p to)) (λ p. get_or distances.now (p * nodes + to) 0) }
+{
+    let mut least = None;
+    let mut from = 0;
+    'positions: while let Some(position) = next_member(positions, from) {
+        if position != to {
+            least = lesser(least, distances[position * nodes + to]);
+        }
+        from = position + 1;
+    }
+    least
+}
+
+/// The least distance to a node from another one, or 0 where there is no other.
+fn least_way(nodes: usize, distances: &[u32], to: usize) -> u32
+    requires few { nodes ≤ 300 }
+    requires square { length distances.now ≡ nodes * nodes }
+    requires inside { to < nodes }
+    ensures { result ≡ instance.least_way nodes distances.now to }
+{
+    let mut least = None;
+    'others: for from in 0..nodes {
+        if from != to {
+            least = lesser(least, distances[from * nodes + to]);
+        }
+    }
+    least.unwrap_or(0)
+}
+
+/// The least distance to each node from another one.
+pub(crate) fn least_ways(
+    alloc: Global,
+    nodes: usize,
+    distances: &[u32],
+) -> Result<Vec<u32>, AllocError>
+    requires few { nodes ≤ 300 }
+    requires square { length distances.now ≡ nodes * nodes }
+    ensures all { IfOk result (λ ways. length ways.items ≡ nodes) }
+    ensures each { IfOk result (λ ways. (v : ℕ) → v < nodes → get_or ways.items v 0 ≡ instance.least_way nodes distances.now v) }
+{
+    let mut ways = Vec::with_capacity(alloc, nodes)?;
+    'nodes: for to in 0..nodes {
+        ways.push(least_way(nodes, distances, to))?;
+    }
+    Ok(ways)
+}
+
+/// The sum of the least ways to all members, or none where one of them can't be reached in time.
+pub(crate) fn ways_within(
+    nearest: &[u32],
+    windows: &[Window],
+    members: &[i64],
+    time: u64,
+) -> Option<u64>
+    requires few { length nearest.now ≤ 300 }
+    requires same { length windows.now ≡ length nearest.now }
+    requires set { IsSet (length nearest.now) members.now }
+    requires early { time ≤ 1000000000000 }
+    ensures { MatchOption result
+        (all_below (length nearest.now) (λ v. nat_le (time + get_or nearest.now v 0) (get_or windows.now v no_window).closing || not (has members.now v)) ≡ false)
+        (λ total. (all_below (length nearest.now) (λ v. nat_le (time + get_or nearest.now v 0) (get_or windows.now v no_window).closing || not (has members.now v)) ≡ true)
+        × (total ≡ sum_below (length nearest.now) (has members.now) (λ v. get_or nearest.now v 0))) }
+{
+    let mut total = 0;
+    let mut from = 0;
+    'members: while let Some(member) = next_member(members, from) {
+        let way = u64::from(nearest[member]);
+        if time + way > windows[member].closing {
+            return None;
+        }
+        total += way;
+        from = member + 1;
+    }
+    Some(total)
+}
