@@ -2,11 +2,11 @@
 use Rattle.std.specs.Prelude.{◌≡◌, ℕ, ℤ, List, IsTrue}
 use Rattle.std.proofs.Common.{sym, subst}
 use Rattle.dp_model.specs.Worth.{SolutionGives}
-use Rattle.tsp_windows.specs.Instance.{Instance, is_small}
-use Rattle.tsp_windows.specs.Instances.{numbers_of, instance_of, program, is_small-gives}
+use Rattle.tsp_windows.specs.Instance.{Instance, is_small, numbers_of, instance_of}
+use Rattle.tsp_windows.specs.Instances.{is_small-gives}
 use Rattle.tsp_windows.specs.OwnWords.{tour_value}
 use Rattle.tsp_windows.specs.OwnWordsLaws.{solution_gives}
-use Rattle.tsp_windows.specs.Program.{program_of}
+use Rattle.tsp_windows.specs.Program.{program, program_of}
 use Rattle.tsp_windows.specs.Texts.{spelled, printed}
 use Rattle.problems.specs.Theory.{Theory, Agrees, with_numbers}
 
