@@ -1,8 +1,8 @@
-pub mod CutValues
 pub mod Passes
 pub mod Crossings
 pub mod LimitsAt
 pub mod Places
 pub mod Totals
 pub mod Rereading
+pub mod TextLengths
 pub mod StateFacts

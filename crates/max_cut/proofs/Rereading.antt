@@ -177,7 +177,7 @@ most_of_pair : (b : Bool) (some all : ℕ) → some ≤ all → cond b 0 1 + som
 most_of_pair true some all h = omega arith
 most_of_pair false some all h = omega arith
 
-edges_in-most : (ws : List ℤ) → edges_in ws ≤ length ws
+pub edges_in-most : (ws : List ℤ) → edges_in ws ≤ length ws
 edges_in-most [] = omega arith
 edges_in-most (w ∷ ws) = most_of_pair (is_none w) (edges_in ws) (length ws) (edges_in-most ws)
 

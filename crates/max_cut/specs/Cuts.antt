@@ -1,8 +1,6 @@
 -- Maximum cut in its own words: a side for each vertex, and the weight across.
 use Rattle.std.specs.Prelude.{◌≡◌, ℕ, ℤ, pos, ◌+ℤ◌, List, [], ◌∷◌, length, take, drop, Bool, true, ◌&&◌, ◌==◌, nat_lt, if◌then◌else◌, Option, Some, None}
 use Rattle.std.specs.List.{list_all}
-use Rattle.dp_model.specs.Dp.{Dp}
-use Rattle.dp_model.specs.Prefixes.{IsSolution, value_of}
 use Rattle.max_cut.specs.Graph.{Graph}
 
 -- the weight between a vertex on the side d and the later vertices on another side
@@ -28,8 +26,3 @@ is_cut g sides = length sides == g.vertices && (begins_on_S sides && list_all (�
 -- the weight across, or none where the sides are no cut
 abbrev pub cut_value : Graph → List ℕ → Option ℤ
 cut_value g sides = if is_cut g sides then Some (weight_across g.weights sides) else None
-
--- the number is the value of the decisions as a feasible solution; none where they are no feasible solution
-abbrev pub AgreesWith : Dp → List ℕ → Option ℤ → Type 0
-AgreesWith dp x None = IsSolution dp x → ⊥
-AgreesWith dp x (Some v) = IsSolution dp x × (v ≡ value_of dp x)

@@ -1,7 +1,8 @@
 -- The text of a graph: how many vertices and how many edges, then for each edge two vertices and a weight.
 use Rattle.std.specs.Prelude.{ℕ, ◌+◌, ◌-◌, ◌^◌, ℤ, pos, negsuc, ◌+ℤ◌, int_le, nat_abs, List, slice_index_or, slice_set, ◌==◌, nat_lt, if◌then◌else◌, Result, Ok, Err}
 use Rattle.benefit_rows.specs.Benefits.{size_of}
-use Rattle.dd_text.specs.Text.{TextState, number_at, place_of, after_token}
+use Rattle.dd_text.specs.Text.{TextState, text_start, number_at, place_of, after_token}
+use Rattle.dd_text.specs.declared.comment.Comment.TheVariants.{Never}
 use Rattle.dd_text.specs.declared.place.Place.{Place}
 use Rattle.dd_text.specs.declared.text_error.TextError.{TextError}
 use Rattle.dd_text.specs.declared.text_error.TextError.TheVariants.{NotNumber, OutOfRange, EndOfText, Trailing, NotAscii}
@@ -64,3 +65,7 @@ graph_at s =
     number_then (pos 0) (pos (2 ^ 20)) t (λ m u.
     part_then (times (edge_at (nat_abs n)) (nat_abs m) (zeros (pairs_of (nat_abs n))) u) (λ totals v.
     end_then v (Ok (record { vertices = nat_abs n; weights = totals })))))
+
+-- the graph that a text spells, or its first fault
+abbrev pub instance_text : List ℕ → Result Graph InstanceError
+instance_text bytes = graph_at (text_start Never bytes)

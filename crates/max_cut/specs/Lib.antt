@@ -8,3 +8,7 @@ pub mod GraphLaws
 pub mod PullLaws
 pub mod StateLaws
 pub mod ProgramLaws
+pub mod CutLaws
+pub use Rattle.dd_text.specs.Grammar
+pub use Rattle.dp_model.specs.Dp
+pub use Rattle.dp_model.specs.Worth

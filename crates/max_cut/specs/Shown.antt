@@ -3,5 +3,5 @@ use Rattle.max_cut.specs.declared.model.MaxCut.{MaxCut}
 use Rattle.max_cut.specs.Graph.{Graph}
 
 -- its graph
-abbrev pub graph_shown : MaxCut → Graph
-graph_shown m = record { vertices = m.vertices; weights = m.weights.items }
+abbrev pub instance_in : MaxCut → Graph
+instance_in m = record { vertices = m.vertices; weights = m.weights.items }

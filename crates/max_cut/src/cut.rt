@@ -1,9 +1,10 @@
 //! The problem's own words: a side for each vertex, and the weight across.
 
 ghost use Rattle.std.specs.Prelude.{◌≡◌};
-ghost use Rattle.max_cut.specs.Cuts.{AgreesWith, cut_value};
+ghost use Rattle.dp_model.specs.Worth.{SolutionGives};
+ghost use Rattle.max_cut.specs.Cuts.{cut_value};
 ghost use Rattle.max_cut.specs.Program.{program_of};
-ghost use Rattle.max_cut.specs.Shown.{graph_shown};
+ghost use Rattle.max_cut.specs.Shown.{instance_in};
 
 use crate::model::MaxCut;
 use crate::sides::{are_sides, weight_of_cut};
@@ -12,8 +13,8 @@ use crate::sides::{are_sides, weight_of_cut};
 /// and 1 for T, with vertex 0 on S. `None` exactly where they are not. The cuts are the feasible
 /// solutions of the program, with this value.
 pub fn value_of(model: &MaxCut, decisions: &[u32]) -> Option<i64>
-    ensures value { result ≡ cut_value (graph_shown model.now) decisions.now }
-    ensures solution { AgreesWith (program_of (graph_shown model.now)) decisions.now result }
+    ensures own_words { result ≡ cut_value (instance_in model.now) decisions.now }
+    ensures solution { SolutionGives (program_of (instance_in model.now)) decisions.now result }
 {
     if are_sides(model.vertices, decisions) {
         Some(weight_of_cut(model.weights.as_slice(), decisions))

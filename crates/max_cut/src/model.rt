@@ -22,12 +22,12 @@ pub struct MaxCut {
 impl MaxCut {
     ghost use Rattle.std.specs.Prelude.{◌≡◌, ◌<◌};
     ghost use Rattle.max_cut.specs.Graph.{row_of, weight_at};
-    ghost use Rattle.max_cut.specs.Shown.{graph_shown};
+    ghost use Rattle.max_cut.specs.Shown.{instance_in};
 
     /// The weights of the pairs of `k` and each later vertex.
     fn row(&self, k: usize) -> &[i64]
         requires { k < self.now.vertices }
-        ensures { result.now ≡ row_of (graph_shown self.now) k }
+        ensures { result.now ≡ row_of (instance_in self.now) k }
     {
         row_of_pairs(self.vertices, self.weights.as_slice(), k)
     }

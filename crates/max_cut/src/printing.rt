@@ -1,11 +1,9 @@
 //! The canonical text of an instance.
 
-ghost use Rattle.std.specs.Prelude.{◌≡◌, IfOk, Ok};
-ghost use Rattle.dd_text.specs.Text.{text_start};
-ghost use Rattle.dd_text.specs.declared.comment.Comment.TheVariants.{Never};
-ghost use Rattle.max_cut.specs.Edges.{graph_at};
+ghost use Rattle.std.specs.Prelude.{◌≡◌, ◌^◌, ◌≤◌, length, IfOk, Ok};
+ghost use Rattle.max_cut.specs.Edges.{instance_text};
 ghost use Rattle.max_cut.specs.EdgeLines.{text_of};
-ghost use Rattle.max_cut.specs.Shown.{graph_shown};
+ghost use Rattle.max_cut.specs.Shown.{instance_in};
 
 use crate::lines::{count_edges, push_ended, push_lines, push_spaced};
 use crate::model::MaxCut;
@@ -14,8 +12,9 @@ use std::alloc::{AllocError, Global};
 /// The canonical text, which reads as the instance: the number of vertices and of edges, then a line for
 /// each pair `i < j` of weight other than 0, by `i`, then `j`.
 pub fn print(alloc: Global, model: &MaxCut) -> Result<Vec<u8>, AllocError>
-    ensures text { IfOk result (λ v. v.items ≡ text_of (graph_shown model.now)) }
-    ensures reads { IfOk result (λ v. graph_at (text_start Never v.items) ≡ Ok (graph_shown model.now)) }
+    ensures text { IfOk result (λ v. v.items ≡ text_of (instance_in model.now)) }
+    ensures short { IfOk result (λ v. length v.items ≤ 2 ^ 30) }
+    ensures reads_back { IfOk result (λ v. instance_text v.items ≡ Ok (instance_in model.now)) }
 {
     let mut out = Vec::new(alloc);
     push_spaced(&mut out, model.vertices)?;

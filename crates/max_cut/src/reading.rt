@@ -1,11 +1,9 @@
 //! The text of an instance, read.
 
 ghost use Rattle.std.specs.Prelude.{◌^◌, ◌<◌, ◌-◌, length};
-ghost use Rattle.dd_text.specs.Text.{text_start};
 ghost use Rattle.dd_text.specs.Grammar.{Reads};
-ghost use Rattle.dd_text.specs.declared.comment.Comment.TheVariants.{Never};
-ghost use Rattle.max_cut.specs.Edges.{graph_at};
-ghost use Rattle.max_cut.specs.Shown.{graph_shown};
+ghost use Rattle.max_cut.specs.Edges.{instance_text};
+ghost use Rattle.max_cut.specs.Shown.{instance_in};
 
 use crate::edges::read_totals;
 use crate::model::MaxCut;
@@ -25,7 +23,7 @@ const MOST_EDGES: i64 = 1_048_576;
 #[tactic(auto, unfolding(crate::specs::Edges::graph_at), using(dd_text::proofs::Chains::part_fails))]
 pub fn read(alloc: Global, bytes: &[u8]) -> Result<MaxCut, ReadModelError>
     requires { length bytes.now < 2 ^ 32 - 1 }
-    ensures { Reads graph_shown result (graph_at (text_start Never bytes.now)) }
+    ensures { Reads instance_in result (instance_text bytes.now) }
 {
     let mut tokens = Tokens::new(bytes, Comment::Never);
     let vertices = tokens.next_number(0, MOST_VERTICES)? as usize;

@@ -22,13 +22,6 @@ pub not-above : (inc : Option ℤ) (z : ℤ) → is_above inc z ≡ false → At
 not-above None z h = absurd (cc)
 not-above (Some b) z h = grind (arith, ints)
 
-pub is-above : (b z : ℤ) → is_above (Some b) z ≡ true → AtMost z (Some b) → ⊥
-is-above b z h le = absurd (grind (arith, ints))
-
-pub above-not : (inc : Option ℤ) (z : ℤ) → is_above inc z ≡ true → AtMost z inc → ⊥
-above-not None z h le = le
-above-not (Some b) z h le = is-above b z h le
-
 pub at-most-then : (a b : ℤ) (inc : Option ℤ) → a ≤ℤ b → AtMost b inc → AtMost a inc
 at-most-then a b None le h = h
 at-most-then a b (Some c) le h = omega (arith, ints)

@@ -1,6 +1,6 @@
 -- What the fields of a board keep under each step.
 use Rattle.std.proofs.Common.{◌≡◌, ◌≢◌, ℕ, zero, suc, ◌+◌, ◌<◌, ◌≤◌, ℤ, List, [], ◌∷◌, length, set, get_or, Bool, true, false, cond, Option, Some, None, refl, sym, ◌∙◌, ap, subst, IsTrue, length-set, length-append, arith}
-use Rattle.std.proofs.lemmas.Option.{slice_get_read, slice_get_within}
+use Rattle.std.proofs.lemmas.Option.{slice_get_read}
 use Rattle.std.specs.List.{slice_get, remove}
 use Rattle.std.specs.Prelude.{is_some, IsSome, int_lt, ◌^◌}
 use Rattle.dp_model.specs.Dp.{Dp}
@@ -18,13 +18,13 @@ use Rattle.search_core.specs.Fates.{fate_of, ticket_after, fates_on, fates_from,
 use Rattle.search_core.specs.Finishing.{contents, MayFinish}
 use Rattle.search_core.specs.GoodBoard.{IsGood}
 use Rattle.search_core.specs.Kept.{best_of, board_of, IsKept}
-use Rattle.search_core.specs.Steps.{above_value, finished_by, given_back_from, given_back, by_ticket, back_among, halted, first_board, empty_slots, first_incumbent, first_open}
+use Rattle.search_core.specs.Steps.{above_value, finished_by, given_back_from, given_back, by_ticket, back_among, first_board, empty_slots, first_incumbent, first_open}
 use Rattle.search_core.specs.Taking.{first_taken, take_gives, take_unless, take_open, is_budget_up, checked_out, after_answer, after_take}
 use Rattle.search_core.proofs.First.{first-good, full-none, slots-many}
 use Rattle.search_core.proofs.Kids.{kids-few}
 use Rattle.search_core.proofs.Lists.{each-back}
 use Rattle.search_core.proofs.Slots.{slot-full, filled, emptied, removed, without-removed, with-by_ticket, at-ticket}
-use Rattle.search_core.proofs.Steps.{take-good, improve-good, finish-good, give-back-good, halt-good}
+use Rattle.search_core.proofs.Steps.{take-good, improve-good, finish-good, give-back-good}
 use Rattle.search_core.proofs.With.{length-with}
 use Rattle.search_core.proofs.Lists.{two-back}
 
@@ -176,10 +176,6 @@ finish-many dp b who cs fs m =
     let long = length-append b.open_ones (entering cs (fates_on b cs)) in
     omega arith
 
--- the worker has a slot
-pub finish-within : (dp : Dp) (b : BoardState) (who : ℕ) (cs : List Subproblem) (fs : List Fate) → MayFinish dp b who cs fs → who < length b.slots
-finish-within dp b who cs fs m = slice_get_within b.slots who (Some m.parent) (slot-full (slice_get b.slots who) m.parent m.full)
-
 -- tickets stay far below the greatest, and one more finished is no more than were taken
 pub record Fits (b : BoardState) (n : ℕ) : Type 0 where
   pub tickets : b.next_ticket + n < 2 ^ 64
@@ -221,15 +217,9 @@ slot-within [] who h = absurd (cc)
 slot-within (slot ∷ slots) zero h = omega arith
 slot-within (slot ∷ slots) (suc who) h = let rest = slot-within slots who h in omega arith
 
-pub some-true : {X : Type 0} (x : Option X) → IsSome x → IsTrue (is_some x)
-some-true x h = h
-
 -- what stands in the worker's slot
 pub back-at : (slots : List (Option Ticketed)) (who : ℕ) (x : Option Ticketed) (one : Ticketed) → IsSome (slot_of (slice_get slots who)) → x ≡ get_or slots who x → x ≡ Some one → slice_get slots who ≡ Some (Some one)
 back-at slots who x one full is some = slice_get_read slots (length slots) who x refl (slot-within slots who full) is ∙ ap (λ y. Some y) some
-
-pub back-within : (slots : List (Option Ticketed)) (who : ℕ) → IsSome (slot_of (slice_get slots who)) → who < length slots
-back-within slots who full = slot-within slots who full
 
 -- there is room for one that is out
 pub back-spare : (dp : Dp) (b : BoardState) (who : ℕ) (o : Ticketed) (for_best for_open cells spare_cells : ℕ) → IsKept dp b for_best for_open cells spare_cells
@@ -250,14 +240,6 @@ back-many slots who o at = length-with o (full_slots (set slots who None)) (full
 -- that is the step
 pub back-step : (b : BoardState) (who : ℕ) (o : Ticketed) → slice_get b.slots who ≡ Some (Some o) → given_back_from b who (Some o) ≡ given_back b who
 back-step b who o at = ap (given_back_from b who) (sym (ap slot_of at))
-
--- Halt.
-
-pub halt-kept : (dp : Dp) (b : BoardState) (cause : Cause) (for_best for_open cells spare_cells : ℕ) → IsKept dp b for_best for_open cells spare_cells → IsKept dp (halted b cause) for_best for_open cells spare_cells
-halt-kept dp b cause for_best for_open cells spare_cells k = record {
-  good = halt-good dp b cause k.good;
-  room = record { best = k.room.best; listed = k.room.listed; row = k.room.row; spare = k.room.spare; few_slots = k.room.few_slots };
-}
 
 -- The first board.
 

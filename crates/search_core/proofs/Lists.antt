@@ -9,10 +9,6 @@ pub each-then : {X : Type 0} (P Q : X → Type 0) → ((x : X) → P x → Q x) 
 each-then P Q f [] h = tt
 each-then P Q f (x ∷ xs) h = (f x h.0, each-then P Q f xs h.1)
 
-pub each-both : {X : Type 0} (P Q : X → Type 0) (xs : List X) → Each P xs → Each Q xs → Each (λ x. P x × Q x) xs
-each-both P Q [] h k = tt
-each-both P Q (x ∷ xs) h k = ((h.0, k.0), each-both P Q xs h.1 k.1)
-
 pub each-append : {X : Type 0} (P : X → Type 0) (xs ys : List X) → Each P xs → Each P ys → Each P (xs ++ ys)
 each-append P [] ys h k = k
 each-append P (x ∷ xs) ys h k = (h.0, each-append P xs ys h.1 k)
@@ -91,10 +87,6 @@ pub one-out : {X : Type 0} (P : X → Type 0) (A : Type 0) → ((x : X) → P x 
 one-out P A f [] h = absurd h
 one-out P A f (x ∷ xs) (inl h) = f x h
 one-out P A f (x ∷ xs) (inr h) = one-out P A f xs h
-
-pub two-then : {X : Type 0} (R S : X → X → Type 0) → ((x y : X) → R x y → S x y) → (xs : List X) → EachTwo R xs → EachTwo S xs
-two-then R S f [] h = tt
-two-then R S f (x ∷ xs) h = (each-then (R x) (S x) (f x) xs h.0, two-then R S f xs h.1)
 
 pub two-filter : {X : Type 0} (R : X → X → Type 0) (p : X → Bool) (xs : List X) → EachTwo R xs → EachTwo R (filter p xs)
 two-filter R p [] h = tt

@@ -1,17 +1,15 @@
 -- What a good board says of the feasible solutions and of the counts.
-use Rattle.std.proofs.Common.{◌≡◌, ◌≢◌, ℕ, ◌+◌, ◌<◌, ◌≤◌, ℤ, ◌≤ℤ◌, List, [], ◌∷◌, ◌++◌, length, Bool, true, false, cond, Option, Some, None, ◌⊎◌, inl, inr, refl, sym, subst, length-append, arith}
-use Rattle.std.proofs.lemmas.Bool.Decides.{nat_tests}
+use Rattle.std.proofs.Common.{◌≡◌, ◌≢◌, ℕ, ◌<◌, ◌≤◌, ℤ, ◌≤ℤ◌, List, [], ◌∷◌, ◌++◌, length, Bool, true, false, cond, Option, Some, None, ◌⊎◌, inl, inr, refl, length-append, arith}
 use Rattle.std.proofs.lemmas.Int.{ints}
 use Rattle.std.specs.Prelude.{int_lt}
-use Rattle.dp_model.specs.Best.{Best, IsBest}
 use Rattle.dp_model.specs.Counts.{tree}
 use Rattle.dp_model.specs.Dp.{Dp}
-use Rattle.dp_model.specs.Lists.{Each, OneOf}
+use Rattle.dp_model.specs.Lists.{Each}
 use Rattle.dp_model.specs.Numbers.{AtMost}
 use Rattle.dp_model.specs.Prefixes.{IsSolution, value_of}
-use Rattle.search_core.specs.Board.{Ticketed, BoardState, incumbent_value, value_held, full_slots, frontier, is_explored}
+use Rattle.search_core.specs.Board.{Ticketed, BoardState, incumbent_value, value_held, full_slots, frontier}
 use Rattle.search_core.specs.Bound.{raised, raised_by, bound_of}
-use Rattle.search_core.specs.GoodBoard.{IncumbentHolds, IsGood}
+use Rattle.search_core.specs.GoodBoard.{IsGood}
 use Rattle.search_core.specs.Kept.{best_of}
 use Rattle.search_core.proofs.Counting.{pots-many}
 use Rattle.search_core.proofs.Frontier.{MatchedBy, HeldBy, covers-by, matched-below}
@@ -62,31 +60,6 @@ bound-holds dp b g x s =
 pub raised-append : (most : Option ℤ) (xs ys : List Ticketed) → raised_by (raised_by most xs) ys ≡ raised_by most (xs ++ ys)
 raised-append most [] ys = refl
 raised-append most (x ∷ xs) ys = raised-append (raised most x.subproblem.bound) xs ys
-
--- Where nothing is out or open.
-
-none-left : (os : List Ticketed) → length os ≡ 0 → os ≡ []
-none-left [] h = refl
-none-left (o ∷ os) h = absurd (omega arith)
-
-pub explored-none : (b : BoardState) → is_explored b ≡ true → frontier b ≡ []
-explored-none b h =
-    let sum : length b.open_ones + length (full_slots b.slots) ≡ 0 = grind (arith, nat_tests) in
-    let long = length-append (full_slots b.slots) b.open_ones in
-    none-left (frontier b) (omega arith)
-
-best-of : (dp : Dp) (best : Option Best) → IncumbentHolds dp best → ((x : List ℕ) → IsSolution dp x → AtMost (value_of dp x) (value_held best)) → IsBest dp (value_held best)
-best-of dp None holds most = most
-best-of dp (Some best) holds most = record { by = best.decisions; solution = holds.solution; value = sym holds.value; most = most }
-
-pub explored-best : (dp : Dp) (b : BoardState) → IsGood dp b → is_explored b ≡ true → IsBest dp (incumbent_value b)
-explored-best dp b g h =
-    let none = explored-none b h in
-    best-of dp b.incumbent g.incumbent (λ x s.
-    elim (covers-by dp (incumbent_value b) (frontier b) g.covers x s) as (λ _. AtMost (value_of dp x) (incumbent_value b)) [
-      | inl a ↦ a
-      | inr m ↦ absurd (subst (λ l. OneOf (MatchedBy dp x) l) none m)
-    ])
 
 -- The counts.
 

@@ -11,13 +11,11 @@ use Rattle.dp_model.specs.Lists.{Each, OneOf}
 use Rattle.dp_model.specs.Numbers.{AtMost, is_above}
 use Rattle.dp_model.specs.Prefixes.{IsSolution, IsCompletion, IsMatched, value_of}
 use Rattle.dp_model.specs.Subproblem.{Subproblem, IsOwn, IsChild}
-use Rattle.search_core.specs.declared.cause.Cause.{Cause}
-use Rattle.search_core.specs.declared.cause.Cause.TheVariants.{Budget, Memory, Journal}
 use Rattle.search_core.specs.declared.fate.Fate.{Fate}
 use Rattle.search_core.specs.Board.{Ticketed, BoardState, incumbent_value, full_slots, frontier, prefixes}
 use Rattle.search_core.specs.Finishing.{MayFinish}
 use Rattle.search_core.specs.GoodBoard.{EachTwo, AreApart, IsGood, pot_of, rest_of}
-use Rattle.search_core.specs.Steps.{finished_by, given_back_from, by_ticket, cause_after, halted, above_value}
+use Rattle.search_core.specs.Steps.{finished_by, given_back_from, by_ticket, above_value}
 use Rattle.search_core.specs.Taking.{without, is_budget_up, checked_out}
 use Rattle.search_core.proofs.Counting.{children-below, pots-split}
 use Rattle.search_core.proofs.Frontier.{not-above, at-most-then, at-most-above, each-moved, one-moved, two-moved, sum-moved, tickets-flip, apart-flip, MatchedBy, HeldBy, covers-by, covers-from, matched-below, apart-child}
@@ -339,32 +337,3 @@ back-good dp b who o g at held false low =
 
 pub give-back-good : (dp : Dp) (b : BoardState) (who : ℕ) (o : Ticketed) → IsGood dp b → slice_get b.slots who ≡ Some (Some o) → IsTrue (is_some b.cause) → IsGood dp (given_back_from b who (Some o))
 give-back-good dp b who o g at held = back-good dp b who o g at held (is_above (incumbent_value b) o.subproblem.bound) refl
-
--- Halt.
-
-cause-none : (held : Option Cause) (cause : Cause) → cause_after held cause ≡ None → held ≡ None
-cause-none held Budget h = h
-cause-none held Journal h = absurd (cc)
-cause-none None Memory h = refl
-cause-none (Some held) Memory h = absurd (cc)
-
-pub halt-good : (dp : Dp) (b : BoardState) (cause : Cause) → IsGood dp b → IsGood dp (halted b cause)
-halt-good dp b cause g =
-    let c = g.counts in
-    record {
-      incumbent = g.incumbent;
-      covers = g.covers;
-      own = g.own;
-      held = g.held;
-      above = g.above;
-      apart = g.apart;
-      tickets = record { distinct = g.tickets.distinct; given = g.tickets.given };
-      counts = record {
-        ends = c.ends;
-        out = c.out;
-        balanced = λ none. c.balanced (cause-none b.cause cause none);
-        budget = c.budget;
-        tickets = c.tickets;
-        room = c.room;
-      };
-    }

@@ -7,18 +7,14 @@ use Rattle.dp_model.specs.Decisions.{begins}
 use Rattle.dp_model.specs.Dp.{Dp}
 use Rattle.dp_model.specs.Lists.{Each}
 use Rattle.dp_model.specs.Numbers.{is_above}
-use Rattle.dp_model.specs.Prefixes.{IsSolution, value_of}
 use Rattle.dp_model.specs.Subproblem.{Subproblem, IsOwn}
+use Rattle.dp_model.specs.Worth.{IsWorth}
 use Rattle.search_core.specs.Board.{Ticketed, BoardState, incumbent_value, full_slots, frontier, prefixes}
 
--- a feasible solution with its value
-pub record IsIncumbent (dp : Dp) (best : Best) : Type 0 where
-  pub solution : IsSolution dp best.decisions
-  pub value : best.value ≡ value_of dp best.decisions
-
+-- the incumbent, where there is one, is a feasible solution with its value
 abbrev pub IncumbentHolds : Dp → Option Best → Type 0
 IncumbentHolds dp None = Unit {0}
-IncumbentHolds dp (Some best) = IsIncumbent dp best
+IncumbentHolds dp (Some best) = IsWorth dp best.decisions best.value
 
 -- a fact of each two members of a list, the earlier one first
 abbrev pub EachTwo : {X : Type 0} → (X → X → Type 0) → List X → Type 0

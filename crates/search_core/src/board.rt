@@ -67,8 +67,8 @@ impl<M: DpModel> Model for Board<M> {
 }
 
 impl<M: DpModel> Board<M> {
-    /// The board at the start of a search: the root is open, or, without variables, the empty solution is the incumbent.
-    /// Fails only for want of memory.
+    /// The board at the start of a search: the root is open with ticket 0, unless it is known to have no completion; without
+    /// variables the empty solution is the incumbent instead. There are from 1 to 16 workers. Fails only for want of memory.
     pub fn begin(alloc: Global, model: Arc<M>, settings: Settings) -> Result<Board<M>, OutOfMemory>
         requires some { 1 ≤ settings.workers }
         requires few { settings.workers ≤ 16 }
@@ -102,6 +102,8 @@ impl<M: DpModel> Board<M> {
     /// held (`Halted`); nothing is open (`WaitForOthers`); the budget is taken up (`Halted(Budget)`); otherwise the open one
     /// with the greatest bound, then the greatest value, then the least ticket goes to the worker's slot and is copied to
     /// `into`. It takes no memory.
+    ///
+    /// The worker's slot is empty, and `into` has room for the decisions of all variables and a row of `words` cells.
     pub fn take(&mut self, who: u32, into: &mut Sub) -> Taken
         requires empty { slice_get self.old.board.slots who ≡ Some None }
         requires room { (M.meaning self.old.numbers).vars ≤ into.old.room }
@@ -163,7 +165,8 @@ impl<M: DpModel> Board<M> {
     }
 
     /// Offers a solution. It becomes the incumbent where it is feasible and its value is greater than the incumbent's, and
-    /// then every open subproblem whose bound is at most its value is dropped. It takes no memory.
+    /// then every open subproblem whose bound is at most its value is dropped. `NoSolution` exactly where the decisions are no
+    /// feasible solution, `NotBetter` exactly where the value is at most the incumbent's. It takes no memory.
     pub fn improve(&mut self, decisions: &[u32]) -> Improved
         ensures answer { ImproveGives (M.meaning self.old.numbers) self.old.board decisions.now result }
         ensures step { self.new.board ≡ after_offer result self.old.board decisions.now (value_of (M.meaning self.old.numbers) decisions.now) }
@@ -205,7 +208,9 @@ impl<M: DpModel> Board<M> {
         self.listed.reserve(more)
     }
 
-    /// Decides the fates of children, all on the board as it is.
+    /// Decides the fates of children, all on the board as it is. It takes no memory.
+    ///
+    /// A slot is full, there are at most 2^24 children, and `into` is empty and has room for their fates.
     pub fn fates(&self, subs: &[Sub], into: &mut Vec<Fate>)
         requires full { 1 ≤ length (full_slots self.now.board.slots) }
         requires few { length subs.now ≤ 2 ^ 24 }
@@ -218,6 +223,11 @@ impl<M: DpModel> Board<M> {
     }
 
     /// The worker's slot becomes empty, and the children enter by their fates, in order. `subs` is emptied. It takes no memory.
+    ///
+    /// The slot is full, `room` is at least the number of children, there are at most 2^24 of them, and `fates` are those of
+    /// this board. Each child properly extends the slot's prefix, is shorter than a solution, and has its own state and value;
+    /// none begins with another; each bound is at most 2^62 in size, and no completion of the child exceeds both it and the
+    /// incumbent. Each completion of the slot's prefix is at most the incumbent or matched by a child.
     pub fn finish(&mut self, who: u32, subs: &mut Vec<Sub>, fates: &[Fate])
         requires may { MayFinish (M.meaning self.old.numbers) self.old.board who (contents subs.old.items) fates.now }
         requires room { length subs.old.items ≤ self.old.room }
@@ -234,6 +244,8 @@ impl<M: DpModel> Board<M> {
 
     /// The worker hands its subproblem back, after a halt: it is open again under its own ticket, or dropped where its bound is
     /// at most the incumbent's value. It takes no memory.
+    ///
+    /// The slot is full, and a cause is held.
     pub fn give_back(&mut self, who: u32)
         requires full { IsSome (slot_at self.old.board who) }
         requires halted { IsSome self.old.board.cause }
@@ -250,7 +262,7 @@ impl<M: DpModel> Board<M> {
     }
 
     /// Halts the search. `Memory` becomes the cause only where none is held; `Journal` becomes it always. The budget is no
-    /// cause that a board keeps.
+    /// cause that a board keeps, so it is not passed here.
     pub fn halt(&mut self, cause: Cause)
         requires { cause ≢ Cause.Budget }
         ensures step { self.new.board ≡ halted self.old.board cause }
@@ -265,7 +277,7 @@ impl<M: DpModel> Board<M> {
         }
     }
 
-    /// What the worker has out.
+    /// What the worker has out, or `None` exactly where its slot is empty.
     pub fn slot(&self, who: u32) -> Option<&Sub>
         requires { who < length self.now.board.slots }
         ensures { option_map (λ s. s.now.subproblem) result ≡ option_map (λ o. o.subproblem) (slot_at self.now.board who) }
@@ -276,7 +288,7 @@ impl<M: DpModel> Board<M> {
         }
     }
 
-    /// The ticket of what the worker has out.
+    /// The ticket of what the worker has out, or `None` exactly where its slot is empty.
     pub fn slot_ticket(&self, who: u32) -> Option<u64>
         requires { who < length self.now.board.slots }
         ensures { result ≡ option_map (λ o. o.ticket) (slot_at self.now.board who) }
@@ -318,7 +330,7 @@ impl<M: DpModel> Board<M> {
         raised_by_listed(most, self.listed.as_slice())
     }
 
-    /// How many subproblems were taken.
+    /// How many subproblems were taken. Where something is open and no cause is held, there are more prefixes than that.
     pub fn taken(&self) -> u64
         ensures taken { result ≡ self.now.board.taken }
         ensures fewer { self.now.board.cause ≡ None → self.now.board.open_ones ≢ [] → result < tree (M.meaning self.now.numbers) }
@@ -326,7 +338,7 @@ impl<M: DpModel> Board<M> {
         self.taken
     }
 
-    /// How many of them were finished.
+    /// How many of them were finished: no more than there are prefixes shorter than a solution.
     pub fn finished(&self) -> u64
         ensures finished { result ≡ self.now.board.finished }
         ensures counts { result ≤ self.now.board.taken }

@@ -5,12 +5,12 @@ use Rattle.dp_model.specs.Counts.{tree}
 use Rattle.dp_model.specs.Dp.{Dp}
 use Rattle.dp_model.specs.Numbers.{AtMost}
 use Rattle.dp_model.specs.Prefixes.{IsSolution, value_of}
-use Rattle.dp_model.specs.Subproblem.{Subproblem}
+use Rattle.dp_model.specs.Worth.{IsWorth}
 use Rattle.dp_model.proofs.Solutions.{best-is_best, IsBest-unique, given_value, given_none}
 use Rattle.problems.specs.Theory.{Agrees}
 use Rattle.search_core.specs.Board.{BoardState, Ticketed, full_slots, value_held, incumbent_value, is_explored, frontier}
 use Rattle.search_core.specs.Bound.{bound_of, raised, raised_by}
-use Rattle.search_core.specs.GoodBoard.{IsGood, IsIncumbent, IncumbentHolds}
+use Rattle.search_core.specs.GoodBoard.{IncumbentHolds}
 use Rattle.search_core.specs.Taking.{is_budget_up}
 use Rattle.search_core.specs.declared.cause.Cause.{Cause}
 use Rattle.search_core.specs.declared.cause.Cause.TheVariants as causes
@@ -20,7 +20,7 @@ use Rattle.solver_jobs.specs.Answers.{IsFound, FoundHolds, IsProved, IsInfeasibl
 use Rattle.solver_jobs.specs.Over.{IsOver}
 
 -- an incumbent is a solution in the problem's own words too
-pub found_one : (dp : Dp) (own : List ℕ → Option ℤ) → Agrees dp own → (found : Best) → IsIncumbent dp found → IsFound dp own found
+pub found_one : (dp : Dp) (own : List ℕ → Option ℤ) → Agrees dp own → (found : Best) → IsWorth dp found.decisions found.value → IsFound dp own found
 found_one dp own agrees found h = record {
   solution = h.solution;
   value = h.value;

@@ -1,4 +1,4 @@
-use Rattle.std.proofs.Common.{◌≡◌, ◌<◌, ◌^◌, ◌++◌, [], ℕ, ℤ, List, pos, to_z, w64, length, arith, ap, ◌∙◌, append_assoc}
+use Rattle.std.proofs.Common.{◌≡◌, ◌≤◌, ◌<◌, ◌^◌, ◌++◌, [], ℕ, ℤ, List, pos, to_z, w64, length, arith, sym, ap, ◌∙◌, refl, subst, append_assoc}
 use Rattle.std.proofs.lemmas.Int.{ints}
 use Rattle.dd_text.specs.Text.{text_start}
 use Rattle.dd_text.specs.declared.comment.Comment.TheVariants.{Never}
@@ -7,6 +7,7 @@ use Rattle.max_cut.specs.GraphLaws.{pairs_of-most}
 use Rattle.max_cut.specs.Edges.{graph_at}
 use Rattle.max_cut.specs.EdgeLines.{spaced, ended, edges_in, lines_from, text_of}
 use Rattle.max_cut.proofs.Rereading.{rereads}
+use Rattle.max_cut.proofs.TextLengths.{text_short}
 use Rattle.max_cut.proofs.printing.print.Goals as goal
 
 pub overflow_cast-count_edges : goal.overflow_cast-count_edges
@@ -37,4 +38,4 @@ returns c =
     let count : to_z w64 c.count_edges.result ≡ pos c.count_edges.result = omega (arith, ints) in
     let ends = c.in_ok-push_ended.ensures ∙ ap (λ z. c.push_spaced.new.out.items ++ ended z) count in
     let text = appended g c.push_spaced.new.out.items c.push_ended.new.out.items c.push_lines.new.out.items c.new-out.result.items c.count_edges.result c.as_slice.result.now c.new-out.ensures.items c.as_slice.ensures.value c.count_edges.ensures.edges c.in_ok-push_spaced.ensures ends lines in
-    record { text = text; reads = ap (λ bytes. graph_at (text_start Never bytes)) text ∙ rereads g c.args.model.now.prepared.graph Never }
+    record { text = text; short = subst (λ bytes. length bytes ≤ 2 ^ 30) (sym text) (text_short g c.args.model.now.prepared.graph); reads_back = ap (λ bytes. graph_at (text_start Never bytes)) text ∙ rereads g c.args.model.now.prepared.graph Never }

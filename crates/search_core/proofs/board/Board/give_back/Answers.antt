@@ -2,7 +2,7 @@ use Rattle.std.proofs.Common.{length, sym, ◌∙◌, ap, subst, arith}
 use Rattle.std.specs.Prelude.{IsSome}
 use Rattle.search_core.specs.Board.{BoardView, slot_at}
 use Rattle.search_core.specs.Steps.{back_among, given_back}
-use Rattle.search_core.proofs.Keeping.{back-kept, back-at, back-spare, back-open, back-many, back-step, some-true}
+use Rattle.search_core.proofs.Keeping.{back-kept, back-at, back-spare, back-open, back-many, back-step}
 use Rattle.search_core.proofs.Reading.{held-value}
 use Rattle.search_core.proofs.board.Board.give_back.Goals as goal
 
@@ -21,7 +21,7 @@ invariant_of-self g c =
     let at = back-at c.self.inside.slots.items c.args.who c.index_mut.result.now c.in-Some.one full c.index_mut.ensures.value (sym c.in-Some.ensures.value) in
     let put = c.put_back.ensures.put ∙ ap (λ v. back_among v c.in-Some.one c.self.inside.listed.items) (sym (held-value c.self.inside.best.items c.self.inside.best_value)) in
     rw (c.replace-slot.ensures.after, put)
-    (back-kept _ _ c.args.who c.in-Some.one _ _ _ _ _ c.self.invariant at (some-true _ halted) c.put_back.ensures.capacity)
+    (back-kept _ _ c.args.who c.in-Some.one _ _ _ _ _ c.self.invariant at halted c.put_back.ensures.capacity)
 
 pub returns-clause-step : goal.returns-clause-step
 returns-clause-step g c =

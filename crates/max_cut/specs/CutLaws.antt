@@ -8,13 +8,14 @@ use Rattle.std.proofs.lemmas.Bool.{and_parts, and_from}
 use Rattle.std.proofs.lemmas.Bool.Decides.{nat_tests}
 use Rattle.benefit_rows.specs.Benefits.{gain_of, gains_of}
 use Rattle.dp_model.specs.Prefixes.{IsPath, IsSolution, value_of}
+use Rattle.dp_model.specs.Worth.{IsWorth, SolutionGives}
 use Rattle.max_cut.specs.Graph.{Graph, IsGraph, row_of, weights_from, negatives_of}
 use Rattle.max_cut.specs.GraphLaws.{length-row_of, weights_from-none, weights_from-next, weights_from-split}
 use Rattle.max_cut.specs.Program.{zeros, pulls_of, words_of, stepped, program_of}
 use Rattle.max_cut.specs.PullLaws.{gains_of-zeros}
 use Rattle.max_cut.specs.StateLaws.{is_within-zeros}
 use Rattle.max_cut.specs.ProgramLaws.{pair_gains, gain-split}
-use Rattle.max_cut.specs.Cuts.{across_from, weight_across, begins_on_S, is_cut, cut_value, AgreesWith}
+use Rattle.max_cut.specs.Cuts.{across_from, weight_across, begins_on_S, is_cut, cut_value}
 
 -- whether each side is S or T
 abbrev are_sides : List ℕ → Bool
@@ -136,12 +137,13 @@ value_of_cut g h x cut =
     let none = gains_of-zeros (words_of g) x in
     omega (arith, ints)
 
-pub agrees : (g : Graph) → IsGraph g → (x : List ℕ) → AgreesWith (program_of g) x (cut_value g x)
-agrees g h x = agrees_by (is_cut g x) refl
-  where
-    agrees_by : (b : Bool) → is_cut g x ≡ b → AgreesWith (program_of g) x (cond b (Some (weight_across g.weights x)) None)
-    agrees_by true e = (solution_of_cut g x e, value_of_cut g h x e)
-    agrees_by false e = λ solution. let cut = cut_of_solution g x solution in cc
+own_words_by : (g : Graph) → IsGraph g → (x : List ℕ) (b : Bool) → is_cut g x ≡ b → SolutionGives (program_of g) x (cond b (Some (weight_across g.weights x)) None)
+own_words_by g h x true e = record { solution = solution_of_cut g x e; value = value_of_cut g h x e }
+own_words_by g h x false e = λ solution. let cut = cut_of_solution g x solution in cc
+
+-- the weight across is the value of the feasible solution, and there is none where there is no cut
+pub own_words_solve : (g : Graph) → IsGraph g → (x : List ℕ) → SolutionGives (program_of g) x (cut_value g x)
+own_words_solve g h x = own_words_by g h x (is_cut g x) refl
 
 pub cut_value-some : (g : Graph) (x : List ℕ) → is_cut g x ≡ true → cut_value g x ≡ Some (weight_across g.weights x)
 cut_value-some g x h = ap (λ b. cond b (Some (weight_across g.weights x)) None) h
