@@ -7,3 +7,6 @@ pub mod Weighing
 pub mod Gathering
 pub mod Summing
 pub mod PrintedLines
+pub mod RoundTrip
+pub mod Folding
+pub mod ReadsBack

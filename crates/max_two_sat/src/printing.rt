@@ -1,8 +1,11 @@
 //! The canonical text of an instance.
 
-ghost use Rattle.std.specs.Prelude.{◌≡◌, ◌++◌, length, IfOk, OnOk};
+ghost use Rattle.std.specs.Prelude.{◌≡◌, ◌++◌, length, IfOk, OnOk, Ok};
 ghost use Rattle.std.specs.List.{flat_map};
+ghost use Rattle.dd_text.specs.Text.{text_start};
+ghost use Rattle.dd_text.specs.declared.comment.Comment.TheVariants.{LetterC};
 ghost use Rattle.max_two_sat.specs.Instance.{rows_of};
+ghost use Rattle.max_two_sat.specs.Texts.{instance_at};
 ghost use Rattle.max_two_sat.specs.Lines.{rows_lines};
 ghost use Rattle.max_two_sat.specs.Model.{instance_in};
 ghost use Rattle.max_two_sat.specs.Printed.{first_line_of, line_of, text_of};
@@ -18,8 +21,10 @@ use std::alloc::{AllocError, Global};
 /// `i < j` those of the four signs.
 pub fn print(alloc: Global, model: &MaxTwoSat) -> Result<Vec<u8>, AllocError>
     ensures text { IfOk result (λ v. v.items ≡ text_of (instance_in model.now)) }
+    ensures reads_back { IfOk result (λ v. instance_at (text_start LetterC v.items) ≡ Ok (instance_in model.now)) }
 {
-    printed(alloc, model)
+    let text = printed(alloc, model)?;
+    Ok(text)
 }
 
 fn printed(alloc: Global, model: &MaxTwoSat) -> Result<Vec<u8>, AllocError>

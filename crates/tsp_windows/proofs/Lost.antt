@@ -1,9 +1,8 @@
 -- The least ways to the nodes that must be visited, as the code adds them up.
-use Rattle.std.proofs.Common.{◌≡◌, ◌≢◌, ℕ, zero, suc, ◌+◌, ◌*◌, ◌<◌, ◌≤◌, ℤ, Bool, true, false, cond, not, ◌&&◌, ◌||◌, nat_eq, nat_lt, nat_le, List, length, get_or, refl, sym, ap, ap₂, ◌∙◌, subst, arith, inl, inr, ◌⊎◌}
-use Rattle.std.proofs.lemmas.Bool.{cases_lt, false≢true}
+use Rattle.std.proofs.Common.{◌≡◌, ℕ, zero, suc, ◌+◌, ◌*◌, ◌<◌, ◌≤◌, ℤ, Bool, true, false, cond, not, ◌&&◌, ◌||◌, nat_lt, nat_le, List, length, get_or, refl, sym, ap, ap₂, ◌∙◌, arith}
 use Rattle.node_sets.specs.Sums.{all_below, sum_below, count_below}
-use Rattle.node_sets.specs.Sets.{IsSet, has, words_for}
-use Rattle.node_sets.proofs.Below.{all_below-gives, all_below-from, sum_below-skip, sum_below-same, count_below-le}
+use Rattle.node_sets.specs.Sets.{IsSet, has}
+use Rattle.node_sets.proofs.Below.{sum_below-skip, sum_below-same, count_below-le}
 use Rattle.tsp_windows.specs.Instance.{Instance, IsSmall, Window, no_window, closing, near}
 use Rattle.tsp_windows.specs.States.{TourState, must_of, shown, is_lost, way_left}
 use Rattle.tsp_windows.specs.Tours.{or_left, or_right, true_lt, false_lt}

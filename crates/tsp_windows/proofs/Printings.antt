@@ -1,8 +1,8 @@
 -- A printed instance is read as it was.
-use Rattle.std.proofs.Common.{◌≡◌, ◌≢◌, ℕ, zero, suc, ◌+◌, ◌*◌, ◌/◌, ◌%◌, ◌^◌, ◌<◌, ◌≤◌, ℤ, pos, nat_abs, ◌≤ℤ◌, Bool, true, false, cond, ◌&&◌, nat_eq, List, [], ◌∷◌, ◌++◌, length, get_or, refl, sym, ap, ap₂, ◌∙◌, subst, arith, inl, inr, ◌⊎◌, add-one, append_assoc, w64, to_z, fold}
-use Rattle.std.specs.Prelude.{Result, Ok, Err, int_lt, int_le}
-use Rattle.std.specs.List.{list_all, flat_map}
-use Rattle.std.proofs.lemmas.Int.{ints, to_z_pos}
+use Rattle.std.proofs.Common.{◌≡◌, ℕ, suc, ◌+◌, ◌*◌, ◌/◌, ◌%◌, ◌<◌, ◌≤◌, ℤ, pos, nat_abs, true, false, cond, nat_eq, List, [], ◌∷◌, ◌++◌, length, get_or, refl, sym, ap, ap₂, ◌∙◌, subst, arith, inl, inr, ◌⊎◌, append_assoc, fold}
+use Rattle.std.specs.Prelude.{Result, Ok, Err, int_lt}
+use Rattle.std.specs.List.{flat_map}
+use Rattle.std.proofs.lemmas.Int.{ints}
 use Rattle.std.proofs.lemmas.Bool.{eqb-true}
 use Rattle.std.proofs.lemmas.List.{get_or_at, length-append, append-nil}
 use Rattle.std.proofs.lemmas.Nat.{div-add-mod'}
@@ -12,8 +12,8 @@ use Rattle.dd_text.specs.declared.comment.Comment.TheVariants.{Hash}
 use Rattle.dd_text.specs.declared.instance_error.InstanceError.{InstanceError}
 use Rattle.dd_text.specs.declared.instance_error.InstanceFault.TheVariants as faults
 use Rattle.dd_text.specs.Decimal.{decimal_of}
-use Rattle.dd_text.specs.Grammar.{number_then, part_then, end_then, times}
-use Rattle.dd_text.specs.Printed.{IsBefore, ReadsNumber, ReadsPart}
+use Rattle.dd_text.specs.Grammar.{part_then, end_then, times}
+use Rattle.dd_text.specs.Printed.{IsBefore, ReadsPart}
 use Rattle.dd_text.proofs.Printing.{before_start, before_behind, reads_number, finishes}
 use Rattle.dd_text.proofs.Chains.{number_then_ok, end_then_ok}
 use Rattle.dd_text.proofs.Repeats.{times_reads}

@@ -1,7 +1,7 @@
 -- Rows that were made step by step are the rows of the sets that they hold.
-use Rattle.std.proofs.Common.{◌≡◌, ◌≢◌, ℕ, suc, ◌+◌, ◌*◌, ◌<◌, ◌≤◌, ℤ, Bool, true, false, not, ◌&&◌, ◌||◌, nat_eq, nat_lt, List, length, refl, sym, ap, ap₂, ◌∙◌, arith, inl, inr, ◌⊎◌, eq-eqb}
+use Rattle.std.proofs.Common.{◌≡◌, ℕ, ◌+◌, ◌≤◌, ℤ, Bool, true, false, not, ◌&&◌, ◌||◌, nat_eq, nat_lt, List, length, refl, sym, ap, ap₂, ◌∙◌, arith, inl, inr, eq-eqb}
 use Rattle.std.proofs.lemmas.Bool.{cases_eq, cases_lt, false≢true}
-use Rattle.node_sets.specs.Sets.{AreWords, HasMembers, has, row_of}
+use Rattle.node_sets.specs.Sets.{AreWords, has, row_of}
 use Rattle.node_sets.proofs.Made.{row_of-is}
 use Rattle.tsp_windows.specs.Tours.{differ, true_lt, false_lt}
 

@@ -1,7 +1,7 @@
 -- What the code reads of a row that is a state.
-use Rattle.std.proofs.Common.{zero, suc, cond, min, Option, ◌≡◌, ℕ, ◌+◌, ◌*◌, ◌<◌, ◌≤◌, ℤ, pos, nat_abs, ◌≤ℤ◌, Bool, true, false, not, ◌&&◌, ◌||◌, nat_eq, nat_le, List, length, Some, ◌≢◌, refl, sym, ap, ap₂, ◌∙◌, arith, w64, to_z, of_z, FitsSigned, inl, inr, ◌⊎◌, eq-eqb}
+use Rattle.std.proofs.Common.{zero, suc, cond, min, Option, ◌≡◌, ℕ, ◌+◌, ◌*◌, ◌<◌, ◌≤◌, ℤ, pos, nat_abs, Bool, true, false, not, ◌&&◌, ◌||◌, nat_eq, nat_le, List, length, Some, ◌≢◌, refl, sym, ap, ap₂, ◌∙◌, arith, w64, to_z, of_z, FitsSigned, inl, inr, ◌⊎◌, eq-eqb}
 use Rattle.std.specs.Prelude.{int_le, is_some, unwrap_or}
-use Rattle.std.proofs.lemmas.Int.{ints, to_z-of_z}
+use Rattle.std.proofs.lemmas.Int.{to_z-of_z}
 use Rattle.std.proofs.lemmas.Bool.{cases_eq, cases_lt, false≢true}
 use Rattle.std.proofs.lemmas.Bool.Decides.{same_from_decides}
 use Rattle.node_sets.specs.Sums.{all_below, lesser, least_amount}

@@ -1,5 +1,5 @@
 -- An instance of the travelling salesman with time windows, and the whole numbers that stand for it.
-use Rattle.std.specs.Prelude.{ℕ, ◌+◌, ◌*◌, ◌<◌, ◌≤◌, ◌≡◌, ℤ, pos, Bool, not, ◌&&◌, nat_le, nat_eq, List, [], ◌∷◌, ◌++◌, length, take, drop, map, get_or, Option, unwrap_or, unsigned_abs}
+use Rattle.std.specs.Prelude.{ℕ, ◌+◌, ◌*◌, ◌<◌, ◌≤◌, ◌≡◌, ℤ, pos, Bool, not, ◌&&◌, nat_le, nat_eq, List, [], ◌∷◌, ◌++◌, length, take, drop, map, get_or, unwrap_or, unsigned_abs}
 use Rattle.std.specs.List.{list_all}
 use Rattle.node_sets.specs.Sums.{all_below, least_amount}
 pub use Rattle.tsp_windows.specs.declared.window.Window.{Window}

@@ -1,15 +1,14 @@
 -- Instances within the limits, and the numbers that stand for them.
-use Rattle.std.proofs.Common.{◌≡◌, ℕ, zero, suc, ◌+◌, ◌*◌, ◌<◌, ◌≤◌, ℤ, pos, nat_abs, Bool, true, false, not, ◌&&◌, nat_eq, nat_le, List, [], ◌∷◌, ◌++◌, length, take, drop, map, get_or, refl, sym, ap, ap₂, ◌∙◌, subst, arith, inl, inr, ◌⊎◌, eq-eqb}
-use Rattle.std.specs.Prelude.{IsTrue}
+use Rattle.std.proofs.Common.{◌≡◌, ℕ, zero, suc, ◌*◌, ◌≤◌, pos, nat_abs, true, ◌&&◌, nat_eq, nat_le, List, [], ◌∷◌, length, map, get_or, refl, sym, ap, ap₂, ◌∙◌, subst, arith}
 use Rattle.std.specs.List.{list_all}
-use Rattle.std.proofs.lemmas.Bool.{cases_lt, false≢true, eqb-true}
-use Rattle.std.proofs.lemmas.List.{take_at, drop_at, length-map, get_or_past, map-id}
+use Rattle.std.proofs.lemmas.Bool.{eqb-true}
+use Rattle.std.proofs.lemmas.List.{take_at, drop_at, length-map}
 use Rattle.node_sets.specs.Sums.{all_below}
-use Rattle.node_sets.proofs.Below.{and_left, and_right, all_below-gives, all_below-from}
+use Rattle.node_sets.proofs.Below.{and_left, and_right, all_below-gives}
 use Rattle.dp_model.specs.Laws.{IsLawful, IsChained}
-use Rattle.tsp_windows.specs.Instance.{Instance, IsSmall, Window, distance, opening, closing, no_window, is_window, is_small, window_numbers, numbers_of, windows_of, instance_with, instance_of}
+use Rattle.tsp_windows.specs.Instance.{Instance, IsSmall, Window, distance, no_window, is_window, is_small, window_numbers, numbers_of, windows_of, instance_of}
 use Rattle.tsp_windows.specs.Program.{program, program_of}
-use Rattle.tsp_windows.specs.Tours.{and_both, le_true, true_le}
+use Rattle.tsp_windows.specs.Tours.{le_true}
 use Rattle.tsp_windows.specs.ProgramLaws.{lawful_program, chained_program}
 
 short_all : (ds : List ℕ) → list_all (λ d. nat_le d 1000000000) ds ≡ true → (k : ℕ) → get_or ds k 0 ≤ 1000000000

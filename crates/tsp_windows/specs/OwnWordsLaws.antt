@@ -1,20 +1,20 @@
 -- A tour in the problem's own words is a feasible solution of the dynamic program, and the other way round.
-use Rattle.std.proofs.Common.{◌≡◌, ◌≢◌, ℕ, zero, suc, ◌+◌, ◌-◌, ◌*◌, ◌<◌, ◌≤◌, ℤ, pos, ◌+ℤ◌, ◌-ℤ◌, ◌≤ℤ◌, neg_ℤ, min, max, Bool, true, false, cond, not, ◌&&◌, ◌||◌, nat_eq, nat_lt, nat_le, List, [], ◌∷◌, length, Option, Some, None, refl, sym, ap, ap₂, ◌∙◌, subst, arith, inl, inr, ◌⊎◌, eq-eqb, add-one}
-use Rattle.std.specs.Prelude.{IsTrue, is_some, unwrap_or}
+use Rattle.std.proofs.Common.{◌≡◌, ◌≢◌, ℕ, zero, suc, ◌+◌, ◌-◌, ◌<◌, ◌≤◌, ℤ, pos, ◌+ℤ◌, ◌-ℤ◌, neg_ℤ, max, Bool, true, false, cond, not, ◌&&◌, ◌||◌, nat_eq, nat_lt, nat_le, List, [], ◌∷◌, length, Option, Some, None, refl, sym, ap, ap₂, ◌∙◌, subst, arith, inl, inr, eq-eqb}
+use Rattle.std.specs.Prelude.{is_some, unwrap_or}
 use Rattle.std.specs.List.{list_any, list_all}
 use Rattle.std.proofs.lemmas.Int.{ints}
 use Rattle.std.proofs.lemmas.Bool.{cases_eq, cases_lt, false≢true, eqb-true}
-use Rattle.node_sets.specs.Sums.{all_below, sum_below, count_below, lesser, least_amount}
+use Rattle.node_sets.specs.Sums.{count_below}
 use Rattle.node_sets.specs.Sets.{words_for}
-use Rattle.node_sets.proofs.Below.{and_left, and_right, sum_below-same, sum_below-removed, sum_below-none, least_amount-none, least_amount-same, least_amount-skip, least_amount-next}
-use Rattle.dp_model.specs.Prefixes.{IsPath, IsSolution, gain_of, value_of}
+use Rattle.node_sets.proofs.Below.{and_left, and_right, sum_below-removed, sum_below-none, least_amount-none, least_amount-same, least_amount-skip, least_amount-next}
+use Rattle.dp_model.specs.Prefixes.{IsSolution, gain_of, value_of}
 use Rattle.tsp_windows.specs.Instance.{Instance, IsSmall, distance, opening, closing}
-use Rattle.tsp_windows.specs.States.{TourState, from_elsewhere, leg, arrival, departure, may_go, moved, start, shown, row_for}
+use Rattle.tsp_windows.specs.States.{TourState, from_elsewhere, leg, arrival, departure, moved, start, shown, row_for}
 use Rattle.tsp_windows.specs.Rows.{IsBounded, shown-row_for, words_enough}
 use Rattle.tsp_windows.specs.Program.{program_of}
 use Rattle.tsp_windows.specs.OwnWords.{are_different, ends_at_home, is_order, end_time, negated, tour_value}
 use Rattle.dp_model.specs.Worth.{IsWorth, SolutionGives}
-use Rattle.tsp_windows.specs.Tours.{and_both, or_left, cases_Bool, not_true, not_false, differ, apart, le_true, true_le, lt_true, true_lt, false_lt, leg-alone, Visits, Returns, visits, returns, may_visit-from, may_return-from, goes_on, goes_home, start-bounded}
+use Rattle.tsp_windows.specs.Tours.{and_both, or_left, cases_Bool, not_true, not_false, differ, le_true, true_le, lt_true, true_lt, visits, returns, may_visit-from, may_return-from, goes_on, goes_home, start-bounded}
 use Rattle.tsp_windows.specs.Walks.{IsGone, IsTour, last_time, tour-of_path, path-of_tour, gain-of_tour}
 
 -- ---- a state of one position, as every state is that a tour reaches

@@ -1,9 +1,9 @@
 -- The tour as a dynamic program: layer k decides the node that is visited next, and the last layer the return to node 0.
-use Rattle.std.specs.Prelude.{ℕ, ◌+◌, ◌*◌, ℤ, pos, ◌-ℤ◌, neg_ℤ, Bool, cond, nat_lt, List, Option, Some, None, unwrap_or}
+use Rattle.std.specs.Prelude.{ℕ, ◌+◌, ◌*◌, ℤ, pos, ◌-ℤ◌, neg_ℤ, cond, nat_lt, List, Option, Some, None, unwrap_or}
 use Rattle.dp_model.specs.Dp.{Dp}
 use Rattle.node_sets.specs.Sums.{count_below, least_amount}
 use Rattle.node_sets.specs.Sets.{words_for}
-use Rattle.tsp_windows.specs.Instance.{Instance, opening, near, instance_of}
+use Rattle.tsp_windows.specs.Instance.{Instance, opening, instance_of}
 use Rattle.tsp_windows.specs.States.{TourState, shown, row_for, departure, may_go, moved, joined, covers, is_lost, way_left, start, is_state_row}
 
 -- no bound where the state is lost, else what the least ways cost; nothing is left to gain at the end

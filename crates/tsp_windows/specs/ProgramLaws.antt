@@ -1,27 +1,27 @@
 -- The dynamic program of an instance within the limits meets the laws.
-use Rattle.std.proofs.Common.{◌≡◌, ◌≢◌, ℕ, zero, suc, ◌+◌, ◌-◌, ◌*◌, ◌/◌, ◌<◌, ◌≤◌, ◌^◌, ℤ, pos, negsuc, ◌+ℤ◌, ◌-ℤ◌, ◌≤ℤ◌, neg_ℤ, nat_abs, min, max, Bool, true, false, cond, not, ◌&&◌, ◌||◌, nat_eq, nat_lt, nat_le, List, [], ◌∷◌, length, take, drop, get_or, Option, Some, None, refl, sym, ap, ap₂, ◌∙◌, subst, arith, inl, inr, ◌⊎◌, eq-eqb}
-use Rattle.std.specs.Prelude.{IsTrue, int_le}
+use Rattle.std.proofs.Common.{◌≡◌, ℕ, suc, ◌+◌, ◌-◌, ◌*◌, ◌<◌, ◌≤◌, ℤ, pos, negsuc, ◌+ℤ◌, ◌-ℤ◌, ◌≤ℤ◌, neg_ℤ, nat_abs, Bool, true, false, cond, not, ◌&&◌, ◌||◌, nat_eq, nat_le, List, [], ◌∷◌, length, drop, get_or, Some, None, refl, sym, ap, ap₂, ◌∙◌, subst, arith, inl, inr, ◌⊎◌, eq-eqb}
+use Rattle.std.specs.Prelude.{int_le}
 use Rattle.std.proofs.lemmas.Int.{ints}
-use Rattle.std.proofs.lemmas.Bool.{cases_eq, cases_lt, false≢true, eqb-true}
-use Rattle.std.proofs.lemmas.List.{get_or-take, get_or-drop, length-take, length-drop, get_or_default}
-use Rattle.node_sets.specs.Sums.{all_below, sum_below, count_below}
-use Rattle.node_sets.specs.Sets.{IsWord, AreWords, IsSet, has, is_set, row_of, words_for}
-use Rattle.node_sets.proofs.Below.{and_left, and_right, all_below-gives, all_below-from, sum_below-le}
+use Rattle.std.proofs.lemmas.Bool.{cases_lt, false≢true, eqb-true}
+use Rattle.std.proofs.lemmas.List.{get_or-take, get_or-drop}
+use Rattle.node_sets.specs.Sums.{count_below}
+use Rattle.node_sets.specs.Sets.{IsWord, IsSet, is_set, row_of, words_for}
+use Rattle.node_sets.proofs.Below.{and_left, and_right, all_below-from, sum_below-le}
 use Rattle.node_sets.proofs.Tests.{has-past}
 use Rattle.node_sets.proofs.Counts.{is_set-gives, is_set-from}
 use Rattle.node_sets.proofs.Made.{length-row_of, AreWords-row_of, has-row_of}
 use Rattle.dp_model.specs.Lists.{Each}
-use Rattle.dp_model.specs.Dp.{Dp, IsAllowed}
-use Rattle.dp_model.specs.Prefixes.{IsPath, IsContinuation, gain_of}
-use Rattle.dp_model.specs.Gaps.{IsStateOf, IsSoundGap, HasGap, HasGapWithin, Matches}
+use Rattle.dp_model.specs.Dp.{IsAllowed}
+use Rattle.dp_model.specs.Prefixes.{IsContinuation, gain_of}
+use Rattle.dp_model.specs.Gaps.{IsStateOf, IsSoundGap, HasGap}
 use Rattle.dp_model.specs.Numbers.{AtMost, IsSmall as IsSmallNumber}
 use Rattle.dp_model.specs.Laws.{StepsAreStates, GapsAreSound, RoughBounds, SizesHold, IsLawful, IsChained}
 use Rattle.tsp_windows.specs.Instance.{Instance, IsSmall, distance, opening, closing, near, least_way}
-use Rattle.tsp_windows.specs.States.{TourState, positions_of, must_of, may_of, time_of, shown, row_for, leg, arrival, departure, may_visit, may_return, may_go, moved, is_open, joined, covers, is_lost, way_left, start, is_sound, is_state_row}
+use Rattle.tsp_windows.specs.States.{TourState, positions_of, must_of, may_of, time_of, shown, row_for, arrival, departure, moved, joined, covers, is_lost, way_left, start, is_sound, is_state_row}
 use Rattle.tsp_windows.specs.Rows.{IsBounded, shown-row_for, positions_of-row_for, must_of-row_for, may_of-row_for, time_of-row_for, length-row_for, words_enough}
 use Rattle.tsp_windows.specs.Program.{program_of, rough_of, gap_of}
-use Rattle.tsp_windows.specs.Tours.{and_both, or_left, or_right, or_cases, cases_Bool, not_true, not_false, le_true, true_le, lt_true, true_lt, false_lt, within-gives, IsSound, sound-gives, sound-from, moved-sound, joined-sound, start-sound, moved-bounded, joined-bounded, start-bounded, least_amount-most, visits, returns, goes_on, goes_home}
-use Rattle.tsp_windows.specs.Walks.{IsGone, IsTour, last_time, Covers, covers-gives, covers-from, Covers-self, Covers-chain, joined-covers-left, joined-covers-right, tour-covered, Costs, costs, tour-of_path, path-of_tour, gain-of_tour}
+use Rattle.tsp_windows.specs.Tours.{and_both, or_left, or_right, cases_Bool, le_true, true_le, true_lt, false_lt, IsSound, sound-gives, sound-from, moved-sound, joined-sound, start-sound, moved-bounded, joined-bounded, start-bounded, least_amount-most, visits, returns, goes_on, goes_home}
+use Rattle.tsp_windows.specs.Walks.{IsGone, last_time, Covers, covers-gives, covers-from, Covers-self, Covers-chain, joined-covers-left, joined-covers-right, tour-covered, Costs, costs, tour-of_path, path-of_tour, gain-of_tour}
 
 -- ---- rows that are states
 

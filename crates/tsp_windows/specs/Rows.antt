@@ -1,18 +1,12 @@
 -- Rows and the states that they stand for.
-use Rattle.std.proofs.Common.{◌≡◌, ◌≢◌, ℕ, zero, suc, ◌+◌, ◌-◌, ◌*◌, ◌/◌, ◌%◌, ◌^◌, ◌<◌, ◌≤◌, ℤ, pos, negsuc, ◌≤ℤ◌, nat_abs, Bool, true, false, cond, not, ◌&&◌, ◌||◌, nat_eq, nat_lt, List, [], ◌∷◌, ◌++◌, length, get_or, take, drop, refl, sym, ap, ap₂, ◌∙◌, subst, arith, inl, inr, ◌⊎◌, eq-eqb}
-use Rattle.std.specs.Prelude.{int_le}
+use Rattle.std.proofs.Common.{◌≡◌, ℕ, ◌+◌, ◌-◌, ◌*◌, ◌≤◌, ℤ, pos, nat_abs, Bool, false, List, [], ◌∷◌, ◌++◌, length, get_or, take, drop, refl, sym, ap, ap₂, ◌∙◌, arith, inl, inr}
 use Rattle.std.proofs.Math.Path.{fun_ext}
-use Rattle.std.proofs.lemmas.Int.{ints}
-use Rattle.std.proofs.lemmas.Bool.{cases_eq, cases_lt, false≢true}
-use Rattle.std.proofs.lemmas.Bool.Decides.{nat_tests}
-use Rattle.std.proofs.lemmas.List.{take_at, drop_at, drop-drop, get_or-append_right, length-append, length-take, length-drop, get_or-take, get_or-drop}
-use Rattle.node_sets.specs.Sums.{all_below}
-use Rattle.node_sets.specs.Sets.{IsWord, AreWords, IsSet, has, is_set, row_of, words_for}
-use Rattle.node_sets.proofs.Below.{and_left, and_right, all_below-gives, all_below-from}
+use Rattle.std.proofs.lemmas.Bool.{cases_lt}
+use Rattle.std.proofs.lemmas.List.{take_at, drop_at, drop-drop, get_or-append_right, length-append}
+use Rattle.node_sets.specs.Sets.{has, row_of, words_for}
 use Rattle.node_sets.proofs.Tests.{has-past}
-use Rattle.node_sets.proofs.Counts.{is_set-gives, is_set-from}
-use Rattle.node_sets.proofs.Made.{length-row_of, AreWords-row_of, has-row_of}
-use Rattle.tsp_windows.specs.States.{TourState, positions_of, must_of, may_of, time_of, shown, row_for, is_sound, is_state_row}
+use Rattle.node_sets.proofs.Made.{length-row_of, has-row_of}
+use Rattle.tsp_windows.specs.States.{TourState, positions_of, must_of, may_of, time_of, shown, row_for}
 
 -- no set of the state has a member at or above n
 pub record IsBounded (n : ℕ) (t : TourState) : Type 0 where

@@ -1,5 +1,5 @@
 -- The states of a tour on its way: where it may stand, which nodes it must and which it may still visit, and the time.
-use Rattle.std.specs.Prelude.{ℕ, ◌+◌, ◌*◌, ℤ, pos, unsigned_abs, min, max, Bool, false, cond, not, ◌&&◌, ◌||◌, nat_eq, nat_lt, nat_le, int_le, List, [], ◌∷◌, ◌++◌, length, take, drop, get_or, Option, Some, None, is_some, unwrap_or}
+use Rattle.std.specs.Prelude.{ℕ, ◌+◌, ◌*◌, ℤ, pos, unsigned_abs, min, max, Bool, false, cond, not, ◌&&◌, ◌||◌, nat_eq, nat_lt, nat_le, int_le, List, [], ◌∷◌, ◌++◌, length, take, drop, get_or, Option, is_some, unwrap_or}
 use Rattle.node_sets.specs.Sums.{all_below, sum_below, count_below, least_amount}
 use Rattle.node_sets.specs.Sets.{has, is_set, row_of, words_for}
 use Rattle.tsp_windows.specs.Instance.{Instance, distance, opening, closing, near}

@@ -1,5 +1,5 @@
 -- Texts of tours: the nodes, the distances by row, and opening and closing of each node's window.
-use Rattle.std.specs.Prelude.{ℕ, ◌+◌, ◌*◌, ◌/◌, ◌%◌, ℤ, pos, unsigned_abs, int_lt, Bool, cond, nat_eq, List, [], ◌∷◌, ◌++◌, length, Result, Ok, Err}
+use Rattle.std.specs.Prelude.{ℕ, ◌+◌, ◌*◌, ◌/◌, ◌%◌, pos, unsigned_abs, int_lt, cond, nat_eq, List, [], ◌∷◌, ◌++◌, length, Result, Ok, Err}
 use Rattle.std.specs.List.{flat_map}
 use Rattle.dd_text.specs.Text.{TextState, text_start, place_of}
 use Rattle.dd_text.specs.declared.instance_error.InstanceError.{InstanceError}

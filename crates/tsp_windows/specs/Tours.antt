@@ -1,13 +1,12 @@
 -- Tours from a state on, and what one state's tours tell of another's.
-use Rattle.std.proofs.Common.{◌≡◌, ◌≢◌, ℕ, zero, suc, ◌+◌, ◌-◌, ◌*◌, ◌<◌, ◌≤◌, min, max, Bool, true, false, cond, not, ◌&&◌, ◌||◌, nat_eq, nat_lt, nat_le, List, [], ◌∷◌, length, Option, Some, None, refl, sym, ap, ap₂, ◌∙◌, subst, arith, inl, inr, ◌⊎◌, eq-eqb, add-one}
-use Rattle.std.specs.Prelude.{IsTrue, is_some, unwrap_or}
-use Rattle.std.proofs.Math.Path.{fun_ext}
-use Rattle.std.proofs.lemmas.Bool.{cases_eq, cases_lt, false≢true, eqb-true}
+use Rattle.std.proofs.Common.{◌≡◌, ◌≢◌, ℕ, zero, suc, ◌+◌, ◌<◌, ◌≤◌, Bool, true, false, cond, not, ◌&&◌, ◌||◌, nat_eq, nat_lt, nat_le, Option, Some, None, refl, sym, ap, ap₂, ◌∙◌, subst, arith, inl, inr, ◌⊎◌, eq-eqb}
+use Rattle.std.specs.Prelude.{is_some, unwrap_or}
+use Rattle.std.proofs.lemmas.Bool.{cases_eq, false≢true, eqb-true}
 use Rattle.std.proofs.lemmas.Bool.Decides.{nat_tests}
-use Rattle.node_sets.specs.Sums.{all_below, sum_below, count_below, lesser, least_amount}
-use Rattle.node_sets.proofs.Below.{and_left, and_right, all_below-gives, all_below-from, sum_below-same, sum_below-removed, sum_below-none, count_below-le}
-use Rattle.tsp_windows.specs.Instance.{Instance, IsSmall, distance, opening, closing, near, least_way}
-use Rattle.tsp_windows.specs.States.{TourState, from_elsewhere, leg, arrival, departure, may_visit, may_return, may_go, moved, is_open, joined, is_within, covers, is_lost, way_left, start, is_sound}
+use Rattle.node_sets.specs.Sums.{all_below, lesser, least_amount}
+use Rattle.node_sets.proofs.Below.{and_left, and_right, all_below-gives, all_below-from}
+use Rattle.tsp_windows.specs.Instance.{Instance, distance, closing, near, least_way}
+use Rattle.tsp_windows.specs.States.{TourState, from_elsewhere, leg, arrival, may_visit, may_return, may_go, moved, is_open, joined, is_within, start, is_sound}
 use Rattle.tsp_windows.specs.Rows.{IsBounded}
 
 -- ---- tests

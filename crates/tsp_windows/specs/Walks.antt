@@ -1,18 +1,17 @@
 -- Tours as lists of decisions, from a state on: what they say of the states that cover it, and what they cost at least.
-use Rattle.std.proofs.Common.{◌≡◌, ◌≢◌, ℕ, zero, suc, ◌+◌, ◌-◌, ◌*◌, ◌<◌, ◌≤◌, ℤ, pos, ◌+ℤ◌, ◌-ℤ◌, ◌≤ℤ◌, neg_ℤ, min, max, Bool, true, false, cond, not, ◌&&◌, ◌||◌, nat_eq, nat_lt, nat_le, List, [], ◌∷◌, length, Option, Some, None, refl, sym, ap, ap₂, ◌∙◌, subst, arith, inl, inr, ◌⊎◌, eq-eqb, add-one}
-use Rattle.std.specs.Prelude.{IsTrue, is_some, unwrap_or}
+use Rattle.std.proofs.Common.{◌≡◌, ◌≢◌, ℕ, ◌+◌, ◌<◌, ◌≤◌, ℤ, pos, ◌+ℤ◌, ◌-ℤ◌, Bool, true, false, not, ◌&&◌, ◌||◌, nat_eq, nat_le, List, [], ◌∷◌, length, refl, sym, ap, ◌∙◌, subst, arith, inl, inr, ◌⊎◌, eq-eqb}
+use Rattle.std.specs.Prelude.{is_some, unwrap_or}
 use Rattle.std.proofs.lemmas.Int.{ints}
-use Rattle.std.proofs.lemmas.Bool.{cases_eq, cases_lt, false≢true, eqb-true}
-use Rattle.node_sets.specs.Sums.{all_below, sum_below, count_below, lesser, least_amount}
+use Rattle.std.proofs.lemmas.Bool.{cases_eq, cases_lt, false≢true}
+use Rattle.node_sets.specs.Sums.{sum_below, count_below}
 use Rattle.node_sets.specs.Sets.{words_for}
-use Rattle.node_sets.proofs.Below.{and_left, and_right, all_below-gives, all_below-from, sum_below-same, sum_below-removed, sum_below-none, count_below-le}
-use Rattle.dp_model.specs.Dp.{Dp, IsAllowed}
+use Rattle.node_sets.proofs.Below.{and_left, and_right, sum_below-same, sum_below-removed, sum_below-none}
 use Rattle.dp_model.specs.Prefixes.{IsPath, gain_of}
-use Rattle.tsp_windows.specs.Instance.{Instance, IsSmall, distance, opening, closing, near}
-use Rattle.tsp_windows.specs.States.{TourState, from_elsewhere, leg, arrival, departure, may_visit, may_return, may_go, moved, is_open, joined, is_within, covers, is_lost, way_left, start, shown, row_for}
+use Rattle.tsp_windows.specs.Instance.{Instance, distance, closing, near}
+use Rattle.tsp_windows.specs.States.{TourState, from_elsewhere, leg, arrival, departure, may_go, moved, is_open, joined, is_within, covers, way_left, shown, row_for}
 use Rattle.tsp_windows.specs.Rows.{IsBounded, shown-row_for, words_enough}
 use Rattle.tsp_windows.specs.Program.{program_of}
-use Rattle.tsp_windows.specs.Tours.{and_both, or_left, or_right, or_cases, cases_Bool, differ, apart, le_true, true_le, lt_true, true_lt, within-gives, within-from, NoMore, least_amount-wider, NoMore-or, NoMore-some, near-le-arrival, near-alone, leg-alone, Visits, Returns, visits, returns, may_visit-from, may_return-from, goes_on, goes_home, moved-bounded}
+use Rattle.tsp_windows.specs.Tours.{and_both, or_left, or_right, cases_Bool, differ, le_true, true_le, within-gives, within-from, NoMore, least_amount-wider, NoMore-or, NoMore-some, near-le-arrival, near-alone, leg-alone, visits, returns, may_visit-from, may_return-from, goes_on, goes_home, moved-bounded}
 
 -- the decision may be taken
 pub record IsGone (i : Instance) (k : ℕ) (t : TourState) (d : ℕ) : Type 0 where

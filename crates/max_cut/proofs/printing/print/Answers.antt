@@ -1,4 +1,4 @@
-use Rattle.std.proofs.Common.{◌≡◌, ◌≤◌, ◌<◌, ◌^◌, ◌++◌, [], ℕ, ℤ, List, pos, to_z, w64, length, arith, sym, ap, ◌∙◌, refl, subst, append_assoc}
+use Rattle.std.proofs.Common.{◌≡◌, ◌≤◌, ◌<◌, ◌^◌, ◌++◌, [], ℕ, ℤ, List, pos, to_z, w64, length, arith, sym, ap, ◌∙◌, subst, append_assoc}
 use Rattle.std.proofs.lemmas.Int.{ints}
 use Rattle.dd_text.specs.Text.{text_start}
 use Rattle.dd_text.specs.declared.comment.Comment.TheVariants.{Never}

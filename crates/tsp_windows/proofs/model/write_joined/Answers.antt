@@ -1,4 +1,4 @@
-use Rattle.std.proofs.Common.{ℕ, ℤ, List, ◌&&◌, ◌||◌, not, length, take, min, sym, ap, ap₂, ◌∙◌, subst, arith}
+use Rattle.std.proofs.Common.{ℤ, List, ◌&&◌, ◌||◌, not, length, take, min, sym, ap, ap₂, ◌∙◌, subst, arith}
 use Rattle.node_sets.specs.Sets.{AreWords, words_for, row_of, has}
 use Rattle.tsp_windows.specs.States.{shown, joined}
 use Rattle.tsp_windows.specs.ProgramLaws.{state_row-gives}

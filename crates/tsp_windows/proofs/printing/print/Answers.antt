@@ -1,4 +1,4 @@
-use Rattle.std.proofs.Common.{◌≡◌, ◌<◌, ◌^◌, List, ℕ, w64, sym, subst, arith}
+use Rattle.std.proofs.Common.{◌≡◌, List, ℕ, w64, sym, subst, arith}
 use Rattle.std.proofs.lemmas.Int.{to_z_pos}
 use Rattle.std.specs.Prelude.{Ok}
 use Rattle.tsp_windows.specs.Shown.{instance_in}

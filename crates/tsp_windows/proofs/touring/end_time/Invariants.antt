@@ -1,7 +1,4 @@
-use Rattle.std.proofs.Common.{length, ◌≡◌, ℕ, ◌<◌, ◌≤◌, true, nat_lt}
-use Rattle.std.specs.List.{list_all}
-use Rattle.tsp_windows.specs.Instance.{opening}
-use Rattle.tsp_windows.specs.OwnWords.{end_time}
+use Rattle.std.proofs.Common.{length}
 use Rattle.tsp_windows.specs.Shown.{instance_in}
 use Rattle.tsp_windows.specs.Kept.{IsOnTheWay}
 use Rattle.tsp_windows.proofs.touring.end_time.Given as goal

@@ -1,4 +1,4 @@
-use Rattle.std.proofs.Common.{◌+◌, length, get_or, refl, arith}
+use Rattle.std.proofs.Common.{length, refl, arith}
 use Rattle.tsp_windows.proofs.WayLemmas.{member_inside, members_late, members_early, members_end, members_add, members_total, members_small}
 use Rattle.tsp_windows.proofs.ways.ways_within.Goals as goal
 

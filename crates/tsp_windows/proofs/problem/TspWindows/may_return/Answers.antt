@@ -1,4 +1,4 @@
-use Rattle.std.proofs.Common.{◌+◌, nat_le, length, sym, ap, ap₂, ◌∙◌, arith, inl, inr}
+use Rattle.std.proofs.Common.{◌+◌, nat_le, sym, ap, ap₂, ◌∙◌, arith, inl, inr}
 use Rattle.std.proofs.lemmas.Bool.{cases_lt, false≢true}
 use Rattle.std.proofs.lemmas.List.{get_or_read}
 use Rattle.node_sets.specs.Sets.{words_for}

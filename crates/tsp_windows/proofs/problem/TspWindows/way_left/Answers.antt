@@ -1,4 +1,4 @@
-use Rattle.std.proofs.Common.{◌+◌, List, length, get_or, sym, ap, ◌∙◌, arith}
+use Rattle.std.proofs.Common.{List, length, get_or, sym, ap, ◌∙◌, arith}
 use Rattle.std.proofs.lemmas.List.{get_or_read}
 use Rattle.node_sets.specs.Sets.{words_for}
 use Rattle.tsp_windows.specs.States.{shown}

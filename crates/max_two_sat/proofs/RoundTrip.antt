@@ -1,0 +1,191 @@
+-- A printed clause is read.
+use Rattle.std.proofs.Common.{◌≡◌, ℕ, suc, ◌+◌, ◌^◌, ◌<◌, ◌≤◌, ℤ, pos, ◌+ℤ◌, ◌≤ℤ◌, Bool, true, false, cond, List, [], ◌∷◌, ◌++◌, refl, arith, ap, sym, subst, ◌∙◌, append_assoc}
+use Rattle.std.specs.Prelude.{Ok, Option, Some, None, nat_abs, neg_ℤ, int_lt, ◌==◌}
+use Rattle.std.specs.Fmt.{digits}
+use Rattle.std.proofs.lemmas.Int.{ints}
+use Rattle.std.proofs.lemmas.Bool.{eqb-true}
+use Rattle.dd_text.specs.Text.{TextState, is_blank, token, after_token, number_at, number_in, number_of, place_of}
+use Rattle.dd_text.specs.declared.place.Place.{Place}
+use Rattle.dd_text.specs.Decimal.{decimal_of}
+use Rattle.dd_text.specs.Printed.{IsBefore, ReadsPart}
+use Rattle.dd_text.proofs.Printing.{before_behind, reads_number}
+use Rattle.max_two_sat.specs.declared.clause.Literal.{Literal}
+use Rattle.max_two_sat.specs.declared.clause.Literals.{Literals}
+use Rattle.max_two_sat.specs.declared.clause.Literals.TheVariants.{Empty, One, Two}
+use Rattle.max_two_sat.specs.declared.header.Header.{Header}
+use Rattle.max_two_sat.specs.declared.header.Form.TheVariants.{Weighted}
+use Rattle.max_two_sat.specs.Clauses.{Gathered, gathered_with}
+use Rattle.max_two_sat.specs.Lines.{Clause}
+use Rattle.max_two_sat.specs.Printed.{line_of, literal_text, literals_text, number_of_literal}
+use Rattle.max_two_sat.specs.Texts.{clause_at, ends_clauses, ends_token, literal_at, literal_of, literals_at, behind_first, end_of_clause, weight_at}
+
+-- a literal is read from its number
+literal_of-number : (a : Literal) → literal_of (number_of_literal a) ≡ Some a
+literal_of-number a =
+    let one : a.variable + 1 ≡ suc a.variable = omega arith in
+    elim a.positive as (λ sign. literal_of (cond sign (pos (a.variable + 1)) (neg_ℤ (pos (a.variable + 1)))) ≡ Some (record { variable = a.variable; positive = sign })) [
+      | true ↦ rw one refl
+      | false ↦ rw one refl
+    ]
+
+record LiteralSize (n : ℕ) (a : Literal) : Type 0 where
+  small : nat_abs (number_of_literal a) < 2 ^ 64
+  low : neg_ℤ (pos n) ≤ℤ number_of_literal a
+  high : number_of_literal a ≤ℤ pos n
+
+number-size : (n v : ℕ) (sign : Bool) → n ≤ 1024 → v < n →
+    (nat_abs (cond sign (pos (suc v)) (neg_ℤ (pos (suc v)))) < 2 ^ 64) × ((neg_ℤ (pos n) ≤ℤ cond sign (pos (suc v)) (neg_ℤ (pos (suc v)))) × (cond sign (pos (suc v)) (neg_ℤ (pos (suc v))) ≤ℤ pos n))
+number-size n v true few fits = (omega arith, (omega (arith, ints), omega (arith, ints)))
+number-size n v false few fits = (omega arith, (omega (arith, ints), omega (arith, ints)))
+
+literal-size : (n : ℕ) (a : Literal) → n ≤ 1024 → a.variable < n → LiteralSize n a
+literal-size n a few fits =
+    let one : suc a.variable ≡ a.variable + 1 = omega arith in
+    let sizes = number-size n a.variable a.positive few fits in
+    record {
+      small = subst (λ (m : ℕ). nat_abs (cond a.positive (pos m) (neg_ℤ (pos m))) < 2 ^ 64) one sizes.0;
+      low = subst (λ (m : ℕ). neg_ℤ (pos n) ≤ℤ cond a.positive (pos m) (neg_ℤ (pos m))) one sizes.1.0;
+      high = subst (λ (m : ℕ). cond a.positive (pos m) (neg_ℤ (pos m)) ≤ℤ pos n) one sizes.1.1;
+    }
+
+-- a printed literal is read, and reading stands right behind it
+record ReadsLiteral (n : ℕ) (read : Option Literal) (behind : List ℕ) (s : TextState) : Type 0 where
+  value : literal_at n s ≡ Ok (read, after_token s)
+  rest_is : (after_token s).rest ≡ behind
+  comment_is : (after_token s).comment ≡ s.comment
+
+reads_literal : (n : ℕ) (a : Literal) (b : ℕ) (more : List ℕ) (s : TextState) → n ≤ 1024 → a.variable < n → is_blank b ≡ true → IsBefore (decimal_of (number_of_literal a) ++ b ∷ more) s → ReadsLiteral n (Some a) (b ∷ more) s
+unfolding literal_at
+reads_literal n a b more s few fits blank before =
+    let size = literal-size n a few fits in
+    let r = reads_number (number_of_literal a) (neg_ℤ (pos n)) (pos n) b more s size.small size.low size.high blank before in
+    record {
+      value = rw (r.value, literal_of-number a) refl;
+      rest_is = r.rest_is;
+      comment_is = r.comment_is;
+    }
+
+zero_digits : 48 ∷ [] ≡ decimal_of (pos 0)
+unfolding digits
+zero_digits = refl
+
+reads_zero : (n : ℕ) (more : List ℕ) (s : TextState) → IsBefore (48 ∷ 10 ∷ more) s → ReadsLiteral n None (10 ∷ more) s
+unfolding literal_at
+reads_zero n more s before =
+    let ahead : IsBefore (decimal_of (pos 0) ++ 10 ∷ more) s = subst (λ (zero_text : List ℕ). IsBefore (zero_text ++ 10 ∷ more) s) zero_digits before in
+    let r = reads_number (pos 0) (neg_ℤ (pos n)) (pos n) 10 more s (omega arith) (omega (arith, ints)) (omega (arith, ints)) refl ahead in
+    record {
+      value = rw r.value refl;
+      rest_is = r.rest_is;
+      comment_is = r.comment_is;
+    }
+
+-- a number that stands ahead is no end of the clauses
+goes-on : (least greatest z : ℤ) (place : Place) (bytes : List ℕ) → number_in least greatest place bytes ≡ Ok z → ends_token bytes ≡ false
+unfolding number_of
+goes-on least greatest z place [] h = cc
+goes-on least greatest z place (b ∷ bs) h =
+    elim (b == 37) as (λ t. (b == 37) ≡ t → t ≡ false) [
+      | true ↦ λ e.
+          let percent : b ≡ 37 = eqb-true b 37 e in
+          let refused = subst (λ (c : ℕ). number_in least greatest place (c ∷ bs) ≡ Ok z) percent h in
+          cc
+      | false ↦ λ e. refl
+    ] refl
+
+number-goes-on : (least greatest z : ℤ) (s : TextState) → number_at least greatest s ≡ Ok z → ends_clauses s ≡ false
+unfolding number_at
+number-goes-on least greatest z s e = goes-on least greatest z (place_of s) (token s) e
+
+-- printed literals and the zero behind them are read to the line's end
+record ReadsLiterals (n : ℕ) (literals : Literals) (tail : List ℕ) (s : TextState) : Type 0 where
+  behind : TextState
+  read : literals_at n s ≡ Ok (literals, behind)
+  before : IsBefore tail behind
+  comment_is : behind.comment ≡ s.comment
+
+reads_one : (n : ℕ) (a : Literal) (tail : List ℕ) (s : TextState) → n ≤ 1024 → a.variable < n →
+    s.rest ≡ 32 ∷ (decimal_of (number_of_literal a) ++ (32 ∷ 48 ∷ 10 ∷ tail)) → ReadsLiterals n (One a) tail s
+unfolding literals_at behind_first
+reads_one n a tail s few fits at =
+    let one = reads_literal n a 32 (48 ∷ 10 ∷ tail) s few fits refl (before_behind 32 (decimal_of (number_of_literal a) ++ (32 ∷ 48 ∷ 10 ∷ tail)) s refl at) in
+    let t : TextState = after_token s in
+    let last = reads_zero n tail t (before_behind 32 (48 ∷ 10 ∷ tail) t refl one.rest_is) in
+    let u : TextState = after_token t in
+    record {
+      behind = u;
+      read = rw (one.value, last.value) refl;
+      before = before_behind 10 tail u refl last.rest_is;
+      comment_is = last.comment_is ∙ one.comment_is;
+    }
+
+reads_two : (n : ℕ) (a b : Literal) (tail : List ℕ) (s : TextState) → n ≤ 1024 → a.variable < n → b.variable < n →
+    s.rest ≡ 32 ∷ (decimal_of (number_of_literal a) ++ (32 ∷ (decimal_of (number_of_literal b) ++ (32 ∷ 48 ∷ 10 ∷ tail)))) → ReadsLiterals n (Two a b) tail s
+unfolding literals_at behind_first end_of_clause
+reads_two n a b tail s few first second at =
+    let rest : List ℕ = decimal_of (number_of_literal b) ++ (32 ∷ 48 ∷ 10 ∷ tail) in
+    let one = reads_literal n a 32 rest s few first refl (before_behind 32 (decimal_of (number_of_literal a) ++ (32 ∷ rest)) s refl at) in
+    let t : TextState = after_token s in
+    let two = reads_literal n b 32 (48 ∷ 10 ∷ tail) t few second refl (before_behind 32 rest t refl one.rest_is) in
+    let u : TextState = after_token t in
+    let last = reads_zero n tail u (before_behind 32 (48 ∷ 10 ∷ tail) u refl two.rest_is) in
+    let v : TextState = after_token u in
+    record {
+      behind = v;
+      read = rw (one.value, two.value, last.value) refl;
+      before = before_behind 10 tail v refl last.rest_is;
+      comment_is = last.comment_is ∙ (two.comment_is ∙ one.comment_is);
+    }
+
+-- a clause of the canonical text, of n variables
+abbrev pub LiteralsStand : ℕ → Literals → Type 0
+LiteralsStand n Empty = ⊥
+LiteralsStand n (One a) = a.variable < n
+LiteralsStand n (Two a b) = (a.variable < n) × (b.variable < n)
+
+pub record ClauseStands (n : ℕ) (x : Clause) : Type 0 where
+  pub low : pos 0 ≤ℤ x.weight
+  pub literals : LiteralsStand n x.literals
+
+-- the literals stand behind a blank
+record LiteralsAhead (literals : Literals) (tail : List ℕ) : Type 0 where
+  more : List ℕ
+  is : literals_text literals ++ (32 ∷ 48 ∷ 10 ∷ tail) ≡ 32 ∷ more
+
+literals-ahead : (n : ℕ) (literals : Literals) (tail : List ℕ) → LiteralsStand n literals → LiteralsAhead literals tail
+literals-ahead n Empty tail h = absurd h
+literals-ahead n (One a) tail h = record { more = decimal_of (number_of_literal a) ++ (32 ∷ 48 ∷ 10 ∷ tail); is = refl }
+literals-ahead n (Two a b) tail h = record { more = (decimal_of (number_of_literal a) ++ literal_text b) ++ (32 ∷ 48 ∷ 10 ∷ tail); is = refl }
+
+reads_literals : (n : ℕ) (literals : Literals) (tail : List ℕ) (s : TextState) → n ≤ 1024 → LiteralsStand n literals →
+    s.rest ≡ literals_text literals ++ (32 ∷ 48 ∷ 10 ∷ tail) → ReadsLiterals n literals tail s
+reads_literals n Empty tail s few h at = absurd h
+reads_literals n (One a) tail s few h at = reads_one n a tail s few h at
+reads_literals n (Two a b) tail s few h at =
+    reads_two n a b tail s few h.0 h.1 (at ∙ ap (λ (bytes : List ℕ). 32 ∷ bytes) (append_assoc (decimal_of (number_of_literal a)) (literal_text b) (32 ∷ 48 ∷ 10 ∷ tail)))
+
+line_before : (x : Clause) (tail : List ℕ) → line_of x ++ tail ≡ decimal_of x.weight ++ (literals_text x.literals ++ (32 ∷ 48 ∷ 10 ∷ tail))
+line_before x tail = simp append_assoc
+
+-- the header that is printed
+abbrev pub header_of : ℕ → ℕ → Header
+header_of n m = record { variables = n; clauses = m; form = Weighted None }
+
+-- a printed clause is read
+pub reads_clause : (n m : ℕ) (x : Clause) (made : Gathered) (tail : List ℕ) (s : TextState) → n ≤ 1024 → ClauseStands n x → pos 0 ≤ℤ made.total → (made.total +ℤ x.weight) ≤ℤ pos (2 ^ 48) →
+    IsBefore (line_of x ++ tail) s → ReadsPart (clause_at (header_of n m)) made (gathered_with made x.weight x.literals) tail s
+unfolding clause_at weight_at
+reads_clause n m x made tail s few stands low most before =
+    let ahead = literals-ahead n x.literals tail stands.literals in
+    let line : line_of x ++ tail ≡ decimal_of x.weight ++ (32 ∷ ahead.more) = line_before x tail ∙ ap (λ (bytes : List ℕ). decimal_of x.weight ++ bytes) ahead.is in
+    let weight = reads_number x.weight (pos 0) (pos (2 ^ 48)) 32 ahead.more s (omega (arith, ints, stands.low)) stands.low (omega (arith, ints)) refl (subst (λ (bytes : List ℕ). IsBefore bytes s) line before) in
+    let t : TextState = after_token s in
+    let starts : ends_clauses s ≡ false = number-goes-on (pos 0) (pos (2 ^ 48)) x.weight s weight.value in
+    let within_limit : int_lt (pos (2 ^ 48)) (made.total +ℤ x.weight) ≡ false = grind (arith, ints) in
+    let literals = reads_literals n x.literals tail t few stands.literals (weight.rest_is ∙ sym ahead.is) in
+    record {
+      behind = literals.behind;
+      read = rw (starts, weight.value, within_limit, literals.read) refl;
+      before = literals.before;
+      comment_is = literals.comment_is ∙ weight.comment_is;
+    }
