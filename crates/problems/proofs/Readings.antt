@@ -1,5 +1,5 @@
 -- What is read as an instance is read as its numbers.
-use Rattle.std.proofs.Common.{◌≡◌, ℤ, List, ap}
+use Rattle.std.proofs.Common.{ℤ, List, ap}
 use Rattle.std.specs.Prelude.{Result, Ok, Err}
 use Rattle.dd_text.specs.Grammar.{Reads}
 use Rattle.dd_text.specs.declared.instance_error.InstanceError.{InstanceError}

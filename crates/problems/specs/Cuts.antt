@@ -1,5 +1,4 @@
 -- Maximum cut as a problem of the program.
-use Rattle.std.specs.Prelude.{ℕ, ℤ, List}
 use Rattle.max_cut.specs.CutLaws.{own_words_solve}
 use Rattle.max_cut.specs.Cuts.{cut_value}
 use Rattle.max_cut.specs.EdgeLines.{text_of}

@@ -1,7 +1,5 @@
 -- The bounded knapsack as a problem of the program.
-use Rattle.std.specs.Prelude.{◌≡◌, ℕ, ℤ, List, Option, Result, Ok, Err}
 use Rattle.std.proofs.Common.{sym, subst}
-use Rattle.dd_text.specs.declared.instance_error.InstanceError.{InstanceError}
 use Rattle.dp_model.specs.Worth.{SolutionGives}
 use Rattle.knapsack.specs.Instance.{Instance, instance_of, numbers_of}
 use Rattle.knapsack.specs.OwnWords.{packed_value}

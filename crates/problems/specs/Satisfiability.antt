@@ -1,5 +1,5 @@
 -- Weighted MAX-2SAT as a problem of the program.
-use Rattle.std.specs.Prelude.{◌≡◌, ℕ, ℤ, List, Option, Some, None}
+use Rattle.std.specs.Prelude.{ℕ, ℤ, List, Option, Some, None}
 use Rattle.std.proofs.Common.{sym, subst}
 use Rattle.dd_text.specs.Text.{text_start}
 use Rattle.dd_text.specs.declared.comment.Comment.TheVariants.{LetterC}

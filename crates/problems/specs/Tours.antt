@@ -1,5 +1,5 @@
 -- Tours with time windows as a problem of the program.
-use Rattle.std.specs.Prelude.{◌≡◌, ℕ, ℤ, List, IsTrue}
+use Rattle.std.specs.Prelude.{◌≡◌, IsTrue}
 use Rattle.std.proofs.Common.{sym, subst}
 use Rattle.dp_model.specs.Worth.{SolutionGives}
 use Rattle.tsp_windows.specs.Instance.{Instance, is_small, numbers_of, instance_of}

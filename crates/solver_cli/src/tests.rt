@@ -39,13 +39,48 @@ fn run_line(
 #[test]
 fn prints_what_it_must(rt: HostRuntime) -> Result<(), Fail> {
     let cases = [
-        ("solve knapsack", THREE_ITEMS, "proved\nvalue 120\nassignment 0 1 1\n", 0u8),
-        ("solve knapsack", "2 7\n10 3 2\n7 2 3\n", "proved\nvalue 24\nassignment 1 2\n", 0),
-        ("solve knapsack", "0 5\n", "proved\nvalue 0\nassignment\n", 0),
-        ("solve knapsack", "2 0\n5 0\n9 1\n", "proved\nvalue 5\nassignment 1 0\n", 0),
-        ("solve knapsack --budget 0", THREE_ITEMS, "stopped budget\nvalue none\nbound 121\n", 2),
-        ("solve maxcut", "3 3\n1 2 3\n2 3 1\n1 3 2\n", "proved\nvalue 5\nassignment 0 1 1\n", 0),
-        ("solve maxcut", "2 1\n1 2 -4\n", "proved\nvalue 0\nassignment 0 0\n", 0),
+        (
+            "solve knapsack",
+            THREE_ITEMS,
+            "proved\nvalue 120\nassignment 0 1 1\n",
+            0u8,
+        ),
+        (
+            "solve knapsack",
+            "2 7\n10 3 2\n7 2 3\n",
+            "proved\nvalue 24\nassignment 1 2\n",
+            0,
+        ),
+        (
+            "solve knapsack",
+            "0 5\n",
+            "proved\nvalue 0\nassignment\n",
+            0,
+        ),
+        (
+            "solve knapsack",
+            "2 0\n5 0\n9 1\n",
+            "proved\nvalue 5\nassignment 1 0\n",
+            0,
+        ),
+        (
+            "solve knapsack --budget 0",
+            THREE_ITEMS,
+            "stopped budget\nvalue none\nbound 121\n",
+            2,
+        ),
+        (
+            "solve maxcut",
+            "3 3\n1 2 3\n2 3 1\n1 3 2\n",
+            "proved\nvalue 5\nassignment 0 1 1\n",
+            0,
+        ),
+        (
+            "solve maxcut",
+            "2 1\n1 2 -4\n",
+            "proved\nvalue 0\nassignment 0 0\n",
+            0,
+        ),
         (
             "solve max2sat",
             "p wcnf 2 4\n3 1 2 0\n2 -1 2 0\n4 1 -2 0\n1 -1 -2 0\n",
@@ -58,7 +93,12 @@ fn prints_what_it_must(rt: HostRuntime) -> Result<(), Fail> {
             "proved\nvalue 7\nassignment 0\n",
             0,
         ),
-        ("solve max2sat", "p wcnf 3 1\n1 1 2 3 0\n", "instance three-literals 2 7\n", 3),
+        (
+            "solve max2sat",
+            "p wcnf 3 1\n1 1 2 3 0\n",
+            "instance three-literals 2 7\n",
+            3,
+        ),
         (
             "solve max2sat",
             "c a comment\np cnf 2 3\n1 2 0\n-1 2 0\n1 -2 0\n%\n0\n",
@@ -71,14 +111,24 @@ fn prints_what_it_must(rt: HostRuntime) -> Result<(), Fail> {
             "proved\nvalue -12\nassignment 1 2 0\n",
             0,
         ),
-        ("solve tsptw", "3\n0 2 9\n2 0 3\n4 3 0\n0 100\n5 20\n0 1\n", "infeasible\n", 1),
+        (
+            "solve tsptw",
+            "3\n0 2 9\n2 0 3\n4 3 0\n0 100\n5 20\n0 1\n",
+            "infeasible\n",
+            1,
+        ),
         (
             "solve tsptw",
             "3\n0 2 9\n2 0 3\n4 3 0\n0 100\n5 20\n0 8\n",
             "proved\nvalue -12\nassignment 1 2 0\n",
             0,
         ),
-        ("solve tsptw", "1\n0\n0 10\n", "proved\nvalue 0\nassignment 0\n", 0),
+        (
+            "solve tsptw",
+            "1\n0\n0 10\n",
+            "proved\nvalue 0\nassignment 0\n",
+            0,
+        ),
     ];
     for (line, input, text, status) in cases {
         let printed = run_line(rt.alloc(), line, input, &[], &[])?;
@@ -93,15 +143,40 @@ fn refuses_at_the_place(rt: HostRuntime) -> Result<(), Fail> {
     let cases = [
         ("solve knapsack", "", "instance end-of-text 1 1\n", 3u8),
         ("solve knapsack", "x\n", "instance not-number 1 1\n", 3),
-        ("solve knapsack", "1001 5\n", "instance out-of-range 1 1\n", 3),
-        ("digest knapsack", "3 10\n60 5\n", "instance end-of-text 3 1\n", 3),
+        (
+            "solve knapsack",
+            "1001 5\n",
+            "instance out-of-range 1 1\n",
+            3,
+        ),
+        (
+            "digest knapsack",
+            "3 10\n60 5\n",
+            "instance end-of-text 3 1\n",
+            3,
+        ),
         ("solve knapsack", "0 5\n7\n", "instance trailing 2 1\n", 3),
         ("solve knapsack", "\u{e9}\n", "instance not-ascii 1 1\n", 3),
         ("solve maxcut", "2 1\n1 3 5\n", "instance vertex 2 3\n", 3),
         ("solve tsptw", "1\n0\n5 4\n", "instance window 3 3\n", 3),
-        ("solve max2sat", "p cnf 1 2\n1 0\n", "instance count 3 1\n", 3),
-        ("solve max2sat", "p wcnf 1 1 10\n10 1 0\n", "instance hard 2 1\n", 3),
-        ("solve max2sat", "p wcnf 1 1 10\n9 1 0\n", "proved\nvalue 9\nassignment 1\n", 0),
+        (
+            "solve max2sat",
+            "p cnf 1 2\n1 0\n",
+            "instance count 3 1\n",
+            3,
+        ),
+        (
+            "solve max2sat",
+            "p wcnf 1 1 10\n10 1 0\n",
+            "instance hard 2 1\n",
+            3,
+        ),
+        (
+            "solve max2sat",
+            "p wcnf 1 1 10\n9 1 0\n",
+            "proved\nvalue 9\nassignment 1\n",
+            0,
+        ),
         (
             "solve max2sat",
             "p wcnf 1 2\n281474976710656 1 0\n1 -1 0\n",
@@ -114,9 +189,24 @@ fn refuses_at_the_place(rt: HostRuntime) -> Result<(), Fail> {
         ("solve knapsak", THREE_ITEMS, "words usage\n", 4),
         ("solve knapsack knapsack", THREE_ITEMS, "words usage\n", 4),
         ("solve knapsack --budget", THREE_ITEMS, "words usage\n", 4),
-        ("solve knapsack --budget 1 --budget 2", THREE_ITEMS, "words usage\n", 4),
-        ("solve knapsack --budget 18446744073709551616", THREE_ITEMS, "words usage\n", 4),
-        ("digest knapsack --budget 1", THREE_ITEMS, "words usage\n", 4),
+        (
+            "solve knapsack --budget 1 --budget 2",
+            THREE_ITEMS,
+            "words usage\n",
+            4,
+        ),
+        (
+            "solve knapsack --budget 18446744073709551616",
+            THREE_ITEMS,
+            "words usage\n",
+            4,
+        ),
+        (
+            "digest knapsack --budget 1",
+            THREE_ITEMS,
+            "words usage\n",
+            4,
+        ),
         ("solve --budget 1 knapsack", THREE_ITEMS, "words usage\n", 4),
     ];
     for (line, input, text, status) in cases {

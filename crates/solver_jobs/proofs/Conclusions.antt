@@ -1,22 +1,14 @@
 -- What a search that is over may answer.
-use Rattle.std.proofs.Common.{◌≡◌, ◌≢◌, ℕ, ◌+◌, ◌^◌, ◌≤◌, ◌<◌, ℤ, ◌≤ℤ◌, int_lt, List, [], ◌∷◌, ◌++◌, length, map, Bool, true, false, cond, nat_eq, Option, Some, None, IsTrue, ◌⊎◌, inl, inr, refl, sym, ◌∙◌, ap, subst, arith}
+use Rattle.std.proofs.Common.{◌≡◌, ◌≢◌, ℕ, ◌+◌, ℤ, List, [], ◌∷◌, ◌++◌, length, false, nat_eq, Option, Some, None, refl, sym, ◌∙◌, ap, subst, arith}
 use Rattle.dp_model.specs.Best.{Best, best, IsBest}
-use Rattle.dp_model.specs.Counts.{tree}
 use Rattle.dp_model.specs.Dp.{Dp}
-use Rattle.dp_model.specs.Numbers.{AtMost}
-use Rattle.dp_model.specs.Prefixes.{IsSolution, value_of}
 use Rattle.dp_model.specs.Worth.{IsWorth}
 use Rattle.dp_model.proofs.Solutions.{best-is_best, IsBest-unique, given_value, given_none}
 use Rattle.problems.specs.Theory.{Agrees}
-use Rattle.search_core.specs.Board.{BoardState, Ticketed, full_slots, value_held, incumbent_value, is_explored, frontier}
+use Rattle.search_core.specs.Board.{BoardState, Ticketed, full_slots, value_held, incumbent_value, is_explored}
 use Rattle.search_core.specs.Bound.{bound_of, raised, raised_by}
 use Rattle.search_core.specs.GoodBoard.{IncumbentHolds}
-use Rattle.search_core.specs.Taking.{is_budget_up}
-use Rattle.search_core.specs.declared.cause.Cause.{Cause}
-use Rattle.search_core.specs.declared.cause.Cause.TheVariants as causes
-use Rattle.search_rounds.specs.Later.{HasEnded, IsComplete, IsCauseAfter}
-use Rattle.solver_report.specs.declared.answer.Stop.TheVariants.{Budget, Memory}
-use Rattle.solver_jobs.specs.Answers.{IsFound, FoundHolds, IsProved, IsInfeasible, IsStopped, StopHolds}
+use Rattle.solver_jobs.specs.Answers.{IsFound, FoundHolds, IsProved, IsInfeasible}
 use Rattle.solver_jobs.specs.Over.{IsOver}
 
 -- an incumbent is a solution in the problem's own words too

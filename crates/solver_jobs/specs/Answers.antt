@@ -1,5 +1,5 @@
 -- When what a job answers for an instance is right.
-use Rattle.std.specs.Prelude.{◌≡◌, ◌≢◌, ℕ, ◌^◌, ◌≤◌, ℤ, List, [], Option, Some, None, Result, Ok, Err, IsTrue, ◌⊎◌}
+use Rattle.std.specs.Prelude.{◌≡◌, ◌≢◌, ℕ, ◌^◌, ◌≤◌, ℤ, List, [], Option, Some, None, Result, Ok, Err, IsTrue}
 use Rattle.dd_text.specs.declared.instance_error.InstanceError.{InstanceError}
 use Rattle.dp_model.specs.Best.{Best, best}
 use Rattle.dp_model.specs.Counts.{tree}

@@ -1,7 +1,6 @@
 -- The words of a command.
 use Rattle.std.specs.Prelude.{ℕ, ◌-◌, ◌^◌, nat_le, nat_eq, Bool, cond, codes, List, [], ◌∷◌, length, find, Option, Some, None, option_map, option_and_then}
 use Rattle.std.specs.Cmp.Lexicographic.{pointwise}
-use Rattle.std.specs.Str.{all_ascii_digits}
 use Rattle.dd_text.specs.Text.{natural_of}
 use Rattle.dp_model.specs.declared.names.ModelName.{ModelName}
 use Rattle.dp_model.specs.declared.names.ModelName.TheVariants.{Knapsack, MaxCut, MaxTwoSat, TspWindows}

@@ -1,4 +1,4 @@
-use Rattle.std.proofs.Common.{◌≡◌, ℕ, ◌∙◌, sym, ap, subst}
+use Rattle.std.proofs.Common.{◌∙◌, sym, subst}
 use Rattle.dp_model.specs.Best.{IsBest}
 use Rattle.problems.specs.Theory.{Agrees}
 use Rattle.search_core.specs.Board.{incumbent_value}

@@ -1,4 +1,4 @@
-use Rattle.std.proofs.Common.{◌≡◌, ◌≤◌, length, arith, sym, ◌∙◌}
+use Rattle.std.proofs.Common.{◌∙◌}
 use Rattle.dd_text.proofs.Values.{digits_behind}
 use Rattle.solver_words.proofs.Digits.{value_behind, refused, finished, kept_within, within_is}
 use Rattle.solver_words.proofs.reading.natural.Goals as goal
