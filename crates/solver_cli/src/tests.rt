@@ -15,6 +15,7 @@ fn words_of(alloc: Global, line: &str) -> Result<Vec<String>, AllocError> {
 }
 
 /// What a run prints, and its status.
+#[derive(Drop)]
 struct Printed {
     text: MemSink,
     status: u8,
