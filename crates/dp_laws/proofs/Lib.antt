@@ -1,1 +1,4 @@
 pub mod Examples
+pub mod Keeping
+pub mod Matching
+pub mod Prefixes
