@@ -1,4 +1,10 @@
+pub mod Counting
+pub mod Covering
+pub mod Differing
 pub mod Examples
+pub mod Found
+pub mod Joining
 pub mod Keeping
 pub mod Matching
+pub mod Orders
 pub mod Prefixes

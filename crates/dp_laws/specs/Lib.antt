@@ -3,6 +3,12 @@ pub mod ReductionOrder
 pub mod Leaders
 pub mod Beam
 pub mod Beams
+pub mod Pairs
+pub mod Ordered
+pub mod BestOfState
+pub mod BeamGives
+pub mod Covering
 pub mod GapChains
 pub mod Dominance
 pub mod Members
+pub mod Antichains

@@ -1,0 +1,5 @@
+use Rattle.dp_laws.proofs.Covering.{last_exact-cover}
+use Rattle.dp_laws.proofs.covers.last_exact_layers_cover.Goals as goal
+
+pub returns : goal.returns
+returns c = last_exact-cover

@@ -1,0 +1,5 @@
+use Rattle.dp_laws.proofs.Covering.{layers-cover}
+use Rattle.dp_laws.proofs.covers.whole_layers_cover.Goals as goal
+
+pub returns : goal.returns
+returns c = layers-cover
