@@ -1,0 +1,13 @@
+pub mod Places
+pub mod Following
+pub mod Suffixes
+pub mod Walks
+pub mod ChildFacts
+pub mod Apart
+pub mod Starts
+pub mod Found
+pub mod LastExact
+pub mod Outermost
+pub mod Borders
+pub mod Frontier
+pub mod Deep
