@@ -7,4 +7,6 @@ pub mod Joining
 pub mod Keeping
 pub mod Matching
 pub mod Orders
+pub mod Permutations
 pub mod Prefixes
+pub mod Sorting

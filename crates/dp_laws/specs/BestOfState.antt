@@ -1,5 +1,5 @@
 -- Which candidates a layer keeps.
-use Rattle.std.specs.Prelude.{◌≡◌, ℕ, ◌<◌, ◌<ℤ◌, ◌≤ℤ◌, List, ◌∷◌, ◌++◌, [], slice_get, Some}
+use Rattle.std.specs.Prelude.{◌≡◌, ℕ, ◌<ℤ◌, ◌≤ℤ◌, List, ◌∷◌, ◌++◌, []}
 use Rattle.dp_model.specs.Dp.{Dp}
 use Rattle.dp_model.specs.Lists.{Each, OneOf}
 use Rattle.dp_model.specs.Reached.{Reached}
@@ -14,12 +14,6 @@ pub record IsBestOfState (cs : List Reached) (r : Reached) : Type 0 where
   pub split : cs ≡ before ++ r ∷ after
   pub earlier : Each (λ c. c.row ≡ r.row → c.value <ℤ r.value) before
   pub later : Each (λ c. c.row ≡ r.row → c.value ≤ℤ r.value) after
-
--- the same by places
-pub record IsBestAt (cs : List Reached) (place : ℕ) (r : Reached) : Type 0 where
-  pub is : slice_get cs place ≡ Some r
-  pub earlier : (j : ℕ) (c : Reached) → j < place → slice_get cs j ≡ Some c → c.row ≡ r.row → c.value <ℤ r.value
-  pub later : (j : ℕ) (c : Reached) → place < j → slice_get cs j ≡ Some c → c.row ≡ r.row → c.value ≤ℤ r.value
 
 -- the list has the best candidate of each state
 pub record HasBest (cs rs : List Reached) : Type 0 where

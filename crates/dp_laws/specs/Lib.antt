@@ -12,3 +12,4 @@ pub mod GapChains
 pub mod Dominance
 pub mod Members
 pub mod Antichains
+pub mod Sorting

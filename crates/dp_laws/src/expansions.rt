@@ -4,6 +4,7 @@ ghost use Rattle.std.specs.Prelude.{ℕ};
 ghost use Rattle.dp_model.specs.Dp.{Dp};
 ghost use Rattle.dp_laws.specs.BestOfState.{ExpansionsAreUnique};
 ghost use Rattle.dp_laws.specs.Ordered.{IsReductionOrder, OrderIsUnique};
+ghost use Rattle.dp_laws.specs.Sorting.{SortingExpands};
 
 /// The reduction order is strict, and of two prefixes with different states one stands before the other.
 pub fn reduction_order_is_total()
@@ -19,4 +20,10 @@ pub fn order_is_unique()
 /// list that is that is equal to them.
 pub fn expansions_are_unique()
     ensures { (dp : Dp) → ExpansionsAreUnique dp }
+{}
+
+/// The candidates' places sorted by state, of each state the first, and these sorted by the reduction order, are the
+/// candidates joined and put in order.
+pub fn sorting_expands()
+    ensures { (dp : Dp) → SortingExpands dp }
 {}

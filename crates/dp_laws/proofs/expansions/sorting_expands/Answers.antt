@@ -1,0 +1,5 @@
+use Rattle.dp_laws.proofs.Sorting.{sorting-expands}
+use Rattle.dp_laws.proofs.expansions.sorting_expands.Goals as goal
+
+pub returns : goal.returns
+returns c = sorting-expands
