@@ -57,18 +57,18 @@ Has-filter_map-from f (z ∷ xs) y h =
 
 -- the number at a place of the numbers below n
 
-slice_get-append : {X : Type 0} (xs ys : List X) (i : ℕ) (x : X) → slice_get xs i ≡ Some x → slice_get (xs ++ ys) i ≡ Some x
+pub slice_get-append : {X : Type 0} (xs ys : List X) (i : ℕ) (x : X) → slice_get xs i ≡ Some x → slice_get (xs ++ ys) i ≡ Some x
 slice_get-append [] ys i x e = absurd (let none : None ≡ Some x = e in cc)
 slice_get-append (z ∷ xs) ys zero x e = e
 slice_get-append (z ∷ xs) ys (suc i) x e = slice_get-append xs ys i x e
 
-slice_get-last : {X : Type 0} (xs : List X) (x : X) (i : ℕ) → length xs ≡ i → slice_get (xs ++ x ∷ []) i ≡ Some x
+pub slice_get-last : {X : Type 0} (xs : List X) (x : X) (i : ℕ) → length xs ≡ i → slice_get (xs ++ x ∷ []) i ≡ Some x
 slice_get-last [] x zero e = refl
 slice_get-last [] x (suc i) e = absurd (omega arith)
 slice_get-last (z ∷ xs) x zero e = absurd (omega arith)
 slice_get-last (z ∷ xs) x (suc i) e = slice_get-last xs x i (omega arith)
 
-length-below : (n : ℕ) → length (below n) ≡ n
+pub length-below : (n : ℕ) → length (below n) ≡ n
 length-below zero = refl
 length-below (suc n) = let rest = length-below n in length-append (below n) (n ∷ []) ∙ omega arith
 

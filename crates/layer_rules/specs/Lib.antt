@@ -1,0 +1,5 @@
+pub mod Landings
+pub mod Expanding
+pub mod Pruning
+pub mod Reducing
+pub mod Compiling
