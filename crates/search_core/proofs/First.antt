@@ -15,10 +15,11 @@ use Rattle.dp_model.specs.Numbers.{AtMost, is_above, add_some}
 use Rattle.dp_model.specs.Prefixes.{IsSolution, IsContinuation, value_of, gain_of}
 use Rattle.dp_model.specs.Subproblem.{IsOwn}
 use Rattle.search_core.specs.Board.{Ticketed, value_held, full_slots, prefixes}
-use Rattle.search_core.specs.GoodBoard.{EachTwo, AreApart, IncumbentHolds, IsGood, pot_of, rest_of}
+use Rattle.search_core.specs.GoodBoard.{EachTwo, AreApart, IncumbentHolds, IsEarlier, IsGood, pot_of, rest_of}
 use Rattle.search_core.specs.Steps.{root_with, root_of, opened, empty_slots, first_incumbent, first_open, first_board}
 use Rattle.search_core.proofs.Counting.{pot-some}
 use Rattle.search_core.proofs.Frontier.{HeldBy}
+use Rattle.search_core.proofs.Lists.{two-then}
 
 pub full-none : (n : ℕ) → full_slots (empty_slots n) ≡ []
 full-none zero = refl
@@ -36,7 +37,7 @@ record Begins (dp : Dp) (best : Option Best) (os : List Ticketed) : Type 0 where
   pub held : Each (HeldBy dp (value_held best)) os
   pub above : Each (λ o. IsTrue (is_above (value_held best) o.subproblem.bound)) os
   pub apart : EachTwo (λ a o. AreApart a.subproblem o.subproblem) os
-  pub distinct : EachTwo (λ (a o : Ticketed). a.ticket ≢ o.ticket) os
+  pub ordered : EachTwo IsEarlier os
   pub given : Each (λ o. o.ticket < length os) os
   pub ends : sum_by (pot_of dp) os ≤ tree dp
   pub shares : length os + sum_by (rest_of dp) os ≤ tree dp
@@ -55,9 +56,10 @@ begin dp best os slots budget none s =
       own = subst (λ (l : List Ticketed). Each (λ o. IsOwn dp o.subproblem) l) same s.own;
       held = subst (λ (l : List Ticketed). Each (HeldBy dp (value_held best)) l) same s.held;
       above = s.above;
+      ordered = s.ordered;
       apart = subst (λ (l : List Ticketed). EachTwo (λ a o. AreApart a.subproblem o.subproblem) l) same s.apart;
       tickets = record {
-        distinct = subst (λ (l : List Ticketed). EachTwo (λ a o. a.ticket ≢ o.ticket) l) same s.distinct;
+        distinct = subst (λ (l : List Ticketed). EachTwo (λ a o. a.ticket ≢ o.ticket) l) same (two-then IsEarlier (λ a o. a.ticket ≢ o.ticket) (λ a o h. let less : a.ticket < o.ticket = h in omega arith) os s.ordered);
         given = subst (λ (l : List Ticketed). Each (λ o. o.ticket < length os) l) same s.given;
       };
       counts = record {
@@ -68,6 +70,7 @@ begin dp best os slots budget none s =
         tickets = omega arith;
         room = λ some. absurd (omega arith);
       };
+      cause = λ e. absurd (cc);
     }
 
 no-decisions : (x : List ℕ) → length x ≡ 0 → x ≡ []
@@ -84,35 +87,34 @@ from-root dp x s = let whole = s.whole in record { path = s.prefix; whole = omeg
 pub root-state : (dp : Dp) → IsLawful dp → IsStateOf dp 0 dp.root
 root-state dp laws = record { layer = omega arith; test = laws.states.root }
 
-begins-whole : (dp : Dp) → dp.vars ≡ 0 → Begins dp (Some (record { decisions = []; value = dp.root_value })) []
-begins-whole dp none = record {
-  incumbent = record { solution = record { prefix = tt; whole = sym none }; value = root_value-is dp };
-  covers = λ x s. (let whole : length x ≡ 0 = s.whole ∙ none in let is = no-decisions x whole in
-      let same : value_of dp x ≡ value_of dp [] = ap (value_of dp) is in let root = root_value-is dp in
-      let most : value_of dp x ≤ℤ dp.root_value = omega (arith, ints) in inl most);
+-- where nothing is open, the incumbent alone covers
+begins-none : (dp : Dp) (best : Option Best) → IncumbentHolds dp best → Covers dp (value_held best) [] → Begins dp best []
+begins-none dp best incumbent covers = record {
+  incumbent = incumbent;
+  covers = covers;
   own = tt;
   held = tt;
   above = tt;
+  ordered = tt;
   apart = tt;
-  distinct = tt;
   given = tt;
   ends = omega arith;
   shares = omega arith;
 }
 
+begins-whole : (dp : Dp) → dp.vars ≡ 0 → Begins dp (Some (record { decisions = []; value = dp.root_value })) []
+begins-whole dp none =
+    begins-none dp (Some (record { decisions = []; value = dp.root_value }))
+    (record { solution = record { prefix = tt; whole = sym none }; value = root_value-is dp })
+    (λ x s.
+    let whole : length x ≡ 0 = s.whole ∙ none in
+    let same : value_of dp x ≡ value_of dp [] = ap (value_of dp) (no-decisions x whole) in
+    let root = root_value-is dp in
+    let most : value_of dp x ≤ℤ dp.root_value = omega (arith, ints) in inl most)
+
 begins-root : (dp : Dp) → IsLawful dp → 0 < dp.vars → (rough : Option ℤ) → dp.rough 0 dp.root ≡ rough → Begins dp None (opened (root_with dp (add_some dp.root_value rough)))
-begins-root dp laws some None is = record {
-  incumbent = tt;
-  covers = λ x s. absurd (subst (λ r. AtMost (gain_of dp 0 dp.root x) r) is (laws.rough.bounds 0 dp.root x (root-state dp laws) (from-root dp x s)));
-  own = tt;
-  held = tt;
-  above = tt;
-  apart = tt;
-  distinct = tt;
-  given = tt;
-  ends = omega arith;
-  shares = omega arith;
-}
+begins-root dp laws some None is =
+    begins-none dp None tt (λ x s. absurd (subst (λ r. AtMost (gain_of dp 0 dp.root x) r) is (laws.rough.bounds 0 dp.root x (root-state dp laws) (from-root dp x s))))
 begins-root dp laws some (Some rough) is =
     let root : Ticketed = record { ticket = 0; subproblem = record { decisions = []; row = dp.root; value = dp.root_value; bound = dp.root_value +ℤ rough } } in
     let ends = sum_by-cons (pot_of dp) root [] in
@@ -129,8 +131,8 @@ begins-root dp laws some (Some rough) is =
         tt,
       );
       above = (refl, tt);
+      ordered = (tt, tt);
       apart = (tt, tt);
-      distinct = (tt, tt);
       given = (omega arith, tt);
       ends = omega arith;
       shares = omega arith;

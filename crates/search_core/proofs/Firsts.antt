@@ -1,10 +1,14 @@
--- The first one so far, and the rest of the list.
-use Rattle.std.proofs.Common.{◌≡◌, ℕ, ◌+◌, ◌<◌, List, ◌∷◌, length, drop, get_or, Bool, true, false, cond, Option, Some, None, refl, sym, ◌∙◌, ap}
+-- The one to take: the first one so far and the rest of the list, and what it is.
+use Rattle.std.proofs.Common.{◌≡◌, ℕ, ◌+◌, ◌<◌, ℤ, List, [], ◌∷◌, length, drop, get_or, Bool, true, false, cond, ◌&&◌, ◌||◌, nat_lt, Option, Some, None, inl, inr, refl, sym, ◌∙◌, ap, subst, arith}
+use Rattle.std.proofs.lemmas.Bool.Decides.{nat_tests}
+use Rattle.std.proofs.lemmas.Int.{ints}
 use Rattle.std.proofs.lemmas.List.{drop_more}
 use Rattle.std.proofs.lemmas.Option.{slice_get_read}
 use Rattle.std.specs.List.{slice_get}
+use Rattle.std.specs.Prelude.{int_lt, int_le}
+use Rattle.dp_model.specs.Lists.{OneOf}
 use Rattle.search_core.specs.Board.{Ticketed}
-use Rattle.search_core.specs.Taking.{is_taken_before, first_from, first_taken}
+use Rattle.search_core.specs.Taking.{is_taken_before, first_from, first_taken, IsFirst}
 
 -- the one to take of the first so far and others
 abbrev pub first_more : Option Ticketed → List Ticketed → Option Ticketed
@@ -31,3 +35,62 @@ pub first-else : (os : List Ticketed) (first place : ℕ) (best one : Ticketed) 
     → first_more (slice_get os first) (drop place os) ≡ first_taken os → b ≡ is_taken_before one best → b ≡ false → first_more (slice_get os first) (drop (place + 1) os) ≡ first_taken os
 first-else os first place best one b within more best-is one-is h is so =
     ap (λ x. first_more x (drop (place + 1) os)) (slice_get_read os (length os) first best refl within best-is) ∙ first-step os first place best one false within more best-is one-is h (sym so ∙ is)
+
+-- The order.
+
+before-self : (a : Ticketed) → is_taken_before a a ≡ false
+before-self a = grind (arith, ints, nat_tests)
+
+-- two keys, of which the first decides unless it is the same
+lex-else : (x y z : ℤ) (p q r : Bool) → (int_lt y x || (int_le y x && p)) ≡ false → (int_lt z y || (int_le z y && q)) ≡ false → (p ≡ false → q ≡ false → r ≡ false) → (int_lt z x || (int_le z x && r)) ≡ false
+lex-else x y z false false r h k then =
+    let low : (int_lt z x || (int_le z x && false)) ≡ false = grind (arith, ints) in subst (λ v. (int_lt z x || (int_le z x && v)) ≡ false) (sym (then refl refl)) low
+lex-else x y z true q r h k then = grind (arith, ints)
+lex-else x y z false true r h k then = grind (arith, ints)
+
+lex-turned : (x y : ℤ) (p q : Bool) → (int_lt y x || (int_le y x && p)) ≡ true → (p ≡ true → q ≡ false) → (int_lt x y || (int_le x y && q)) ≡ false
+lex-turned x y true q h then =
+    let low : (int_lt x y || (int_le x y && false)) ≡ false = grind (arith, ints) in subst (λ v. (int_lt x y || (int_le x y && v)) ≡ false) (sym (then refl)) low
+lex-turned x y false q h then = grind (arith, ints)
+
+later-else : (a b c : ℕ) → nat_lt a b ≡ false → nat_lt b c ≡ false → nat_lt a c ≡ false
+later-else a b c h k = grind (arith, nat_tests)
+
+later-turned : (a b : ℕ) → nat_lt a b ≡ true → nat_lt b a ≡ false
+later-turned a b h = grind (arith, nat_tests)
+
+before-else : (a b c : Ticketed) → is_taken_before a b ≡ false → is_taken_before b c ≡ false → is_taken_before a c ≡ false
+before-else a b c h k =
+    lex-else a.subproblem.bound b.subproblem.bound c.subproblem.bound _ _ _ h k
+    (λ h2 k2. lex-else a.subproblem.value b.subproblem.value c.subproblem.value _ _ _ h2 k2 (later-else a.ticket b.ticket c.ticket))
+
+before-turned : (a b : Ticketed) → is_taken_before a b ≡ true → is_taken_before b a ≡ false
+before-turned a b h =
+    lex-turned a.subproblem.bound b.subproblem.bound _ _ h (λ h2. lex-turned a.subproblem.value b.subproblem.value _ _ h2 (later-turned a.ticket b.ticket))
+
+-- what is not before a third one is not before what comes before it
+before-then : (a b c : Ticketed) → is_taken_before a b ≡ true → is_taken_before a c ≡ false → is_taken_before b c ≡ false
+before-then a b c h k =
+    let go : (v : Bool) → is_taken_before b c ≡ v → v ≡ false = λ v. elim v as (λ v. is_taken_before b c ≡ v → v ≡ false) [
+      | true ↦ λ e. (let no = before-else a c b k (before-turned b c e) in absurd (cc))
+      | false ↦ λ e. refl
+    ] in
+    go (is_taken_before b c) refl
+
+first_from-is : (first : Ticketed) (os : List Ticketed) → IsFirst (first ∷ os) (first_from first os)
+first_from-is first [] = record { one = inl refl; first = (before-self first, tt) }
+first_from-is first (o ∷ os) =
+    let Goal : Bool → Type 0 = λ b. IsFirst (first ∷ o ∷ os) (first_from (cond b o first) os) in
+    let go : (b : Bool) → is_taken_before o first ≡ b → Goal b = λ b. elim b as (λ b. is_taken_before o first ≡ b → Goal b) [
+      | true ↦ λ e. (let rest = first_from-is o os in record { one = inr rest.one; first = (before-then o first (first_from o os) e rest.first.0, rest.first) })
+      | false ↦ λ e. (let rest = first_from-is first os in record {
+        one = elim rest.one as (λ _. OneOf (λ a. a ≡ first_from first os) (first ∷ o ∷ os)) [ inl a ↦ inl a | inr m ↦ inr (inr m) ];
+        first = (rest.first.0, (before-else o first (first_from first os) e rest.first.0, rest.first.1));
+      })
+    ] in
+    go (is_taken_before o first) refl
+
+-- the one to take is first
+pub first_taken-is : (os : List Ticketed) (o : Ticketed) → Some o ≡ first_taken os → IsFirst os o
+first_taken-is [] o h = absurd (cc)
+first_taken-is (first ∷ os) o h = let same : first_from first os ≡ o = cc in subst (IsFirst (first ∷ os)) same (first_from-is first os)

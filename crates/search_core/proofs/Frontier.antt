@@ -1,5 +1,5 @@
 -- The parts of a good board over lists of what is out or open.
-use Rattle.std.proofs.Common.{◌≡◌, ◌≢◌, ℕ, ℤ, ◌≤ℤ◌, List, [], ◌∷◌, Bool, true, false, ◌&&◌, nat_eq, Option, Some, None, ◌⊎◌, inl, inr, refl, sym, ◌∙◌, arith}
+use Rattle.std.proofs.Common.{◌≡◌, ◌≢◌, ℕ, ◌<◌, ℤ, ◌≤ℤ◌, List, [], ◌∷◌, Bool, true, false, ◌&&◌, nat_eq, Option, Some, None, ◌⊎◌, inl, inr, refl, sym, ◌∙◌, arith}
 use Rattle.std.proofs.lemmas.Int.{ints}
 use Rattle.std.proofs.lemmas.Bool.Decides.{nat_tests}
 use Rattle.std.specs.List.{sum_by}
@@ -9,9 +9,9 @@ use Rattle.dp_model.specs.Dp.{Dp}
 use Rattle.dp_model.specs.Lists.{Each, OneOf}
 use Rattle.dp_model.specs.Numbers.{AtMost, is_above}
 use Rattle.dp_model.specs.Prefixes.{IsSolution, IsMatched, value_of}
-use Rattle.dp_model.specs.Subproblem.{Subproblem}
-use Rattle.search_core.specs.Board.{Ticketed, prefixes}
-use Rattle.search_core.specs.GoodBoard.{EachTwo, AreApart}
+use Rattle.dp_model.specs.Subproblem.{Subproblem, IsOwn}
+use Rattle.search_core.specs.Board.{Ticketed, BoardState, incumbent_value, frontier, prefixes}
+use Rattle.search_core.specs.GoodBoard.{EachTwo, AreApart, TicketsHold, IsGood}
 use Rattle.search_core.proofs.Lists.{one-map, one-mapped}
 use Rattle.search_core.proofs.With.{IsWith, each-out, each-in, one-out_of, one-in, two-out, two-in, sum-with}
 
@@ -80,6 +80,36 @@ matched-below dp x inc p bound m held low =
       | inl le ↦ at-most-then (value_of dp x) bound inc (let least = m.least in omega (arith, ints)) low
       | inr most ↦ at-most-then (value_of dp x) (value_of dp m.by) inc m.least most
     ]
+
+-- The frontier whole.
+
+-- what a good board keeps of all that is out or open
+pub record FrontierHolds (dp : Dp) (inc : Option ℤ) (next : ℕ) (os : List Ticketed) : Type 0 where
+  pub covers : Covers dp inc (prefixes os)
+  pub own : Each (λ o. IsOwn dp o.subproblem) os
+  pub held : Each (HeldBy dp inc) os
+  pub apart : EachTwo (λ a o. AreApart a.subproblem o.subproblem) os
+  pub tickets : TicketsHold next os
+
+pub frontier-holds : (dp : Dp) (b : BoardState) → IsGood dp b → FrontierHolds dp (incumbent_value b) b.next_ticket (frontier b)
+frontier-holds dp b g = record { covers = g.covers; own = g.own; held = g.held; apart = g.apart; tickets = g.tickets }
+
+-- it stays where one moves between slots and open ones
+pub frontier-moved : (dp : Dp) (inc : Option ℤ) (next : ℕ) (o : Ticketed) (rest xs ys : List Ticketed) → IsWith o rest xs → IsWith o rest ys → FrontierHolds dp inc next xs → FrontierHolds dp inc next ys
+frontier-moved dp inc next o rest xs ys from to f = record {
+  covers = covers-from dp inc ys (λ x s.
+      elim (covers-by dp inc xs f.covers x s) as (λ _. AtMost (value_of dp x) inc ⊎ OneOf (MatchedBy dp x) ys) [
+        | inl a ↦ inl a
+        | inr m ↦ inr (one-moved (MatchedBy dp x) o rest xs ys from to m)
+      ]);
+  own = each-moved (λ o. IsOwn dp o.subproblem) o rest xs ys from to f.own;
+  held = each-moved (HeldBy dp inc) o rest xs ys from to f.held;
+  apart = two-moved (λ a o. AreApart a.subproblem o.subproblem) apart-flip o rest xs ys from to f.apart;
+  tickets = record {
+    distinct = two-moved (λ a o. a.ticket ≢ o.ticket) tickets-flip o rest xs ys from to f.tickets.distinct;
+    given = each-moved (λ o. o.ticket < next) o rest xs ys from to f.tickets.given;
+  };
+}
 
 -- Prefixes that are apart.
 

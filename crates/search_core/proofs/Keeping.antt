@@ -17,7 +17,7 @@ use Rattle.search_core.specs.Board.{Ticketed, BoardState, incumbent_value, full_
 use Rattle.search_core.specs.Fates.{fate_of, ticket_after, fates_on, fates_from, entering}
 use Rattle.search_core.specs.Finishing.{contents, MayFinish}
 use Rattle.search_core.specs.GoodBoard.{IsGood}
-use Rattle.search_core.specs.Kept.{best_of, board_of, IsKept}
+use Rattle.search_core.specs.Kept.{best_of, board_of, HasRoom, IsKept}
 use Rattle.search_core.specs.Steps.{above_value, finished_by, given_back_from, given_back, by_ticket, back_among, first_board, empty_slots, first_incumbent, first_open}
 use Rattle.search_core.specs.Taking.{first_taken, take_gives, take_unless, take_open, is_budget_up, checked_out, after_answer, after_take}
 use Rattle.search_core.proofs.First.{first-good, full-none, slots-many}
@@ -28,7 +28,22 @@ use Rattle.search_core.proofs.Steps.{take-good, improve-good, finish-good, give-
 use Rattle.search_core.proofs.With.{length-with}
 use Rattle.search_core.proofs.Lists.{two-back}
 
+-- what is out or open still has room, and so have the incumbent and the states
+room-after : (dp : Dp) (b later : BoardState) (for_best for_best2 for_open for_open2 cells spare_cells : ℕ) → HasRoom dp b for_best for_open cells spare_cells → for_best ≤ for_best2
+    → length later.open_ones + length (full_slots later.slots) ≤ for_open2 → length later.slots ≡ length b.slots → HasRoom dp later for_best2 for_open2 cells spare_cells
+room-after dp b later for_best for_best2 for_open for_open2 cells spare_cells room more fits many = record {
+  best = (let old = room.best in omega arith);
+  listed = fits;
+  row = room.row;
+  spare = room.spare;
+  few_slots = (let old = room.few_slots in omega arith);
+}
+
 -- Take.
+
+-- what was read at a place of the list stood there
+pub stood-at : (os read : List Ticketed) (place : ℕ) (one : Ticketed) → read ≡ os → place < length read → one ≡ get_or os place one → slice_get os place ≡ Some one
+stood-at os read place one same within is = slice_get_read os (length os) place one refl (subst (λ l. place < length l) same within) is
 
 -- where Take hands one out, something is open and the budget is not taken up
 pub record Hands (b : BoardState) : Type 0 where
@@ -71,26 +86,6 @@ pub take-step : (dp : Dp) (b : BoardState) → IsGood dp b → (who i : ℕ) (o 
 take-step dp b g who i o may at first =
     sym (out-same dp b g who i o at) ∙ (ap (checked_out b who) (sym at ∙ first) ∙ ap (after_answer b who) (sym may))
 
-pub take-kept : (dp : Dp) (b : BoardState) (who i : ℕ) (o : Ticketed) (for_best for_open cells spare_cells : ℕ) → IsKept dp b for_best for_open cells spare_cells
-    → take_gives b ≡ Sub → slice_get b.slots who ≡ Some None → slice_get b.open_ones i ≡ Some o → IsKept dp (taken_out b who i o) for_best for_open cells spare_cells
-take-kept dp b who i o for_best for_open cells spare_cells k may empty at =
-    let given = hands b may in
-    let good = take-good dp b who i o k.good k.room.few_slots empty at given.left in
-    let room = k.room in
-    let less = length-with o (remove b.open_ones i) b.open_ones (removed b.open_ones i o at) in
-    let more = length-with o (full_slots b.slots) (full_slots (set b.slots who (Some o))) (filled b.slots who o empty) in
-    let many = length-set b.slots who (Some o) in
-    record {
-      good = subst (IsGood dp) (out-same dp b k.good who i o at) good;
-      room = record {
-        best = room.best;
-        listed = (let old = room.listed in omega arith);
-        row = room.row;
-        spare = room.spare;
-        few_slots = (let old = room.few_slots in omega arith);
-      };
-    }
-
 -- how many are out or open stays
 pub take-many : (dp : Dp) (b : BoardState) → IsGood dp b → (who i : ℕ) (o : Ticketed) → slice_get b.slots who ≡ Some None → slice_get b.open_ones i ≡ Some o
     → length (remove b.open_ones i) + length (full_slots (set b.slots who (Some o))) ≡ length b.open_ones + length (full_slots b.slots)
@@ -98,6 +93,18 @@ take-many dp b g who i o empty at =
     let less = length-with o (remove b.open_ones i) b.open_ones (removed b.open_ones i o at) in
     let more = length-with o (full_slots b.slots) (full_slots (set b.slots who (Some o))) (filled b.slots who o empty) in
     omega arith
+
+pub take-kept : (dp : Dp) (b : BoardState) (who i : ℕ) (o : Ticketed) (for_best for_open cells spare_cells : ℕ) → IsKept dp b for_best for_open cells spare_cells
+    → take_gives b ≡ Sub → slice_get b.slots who ≡ Some None → slice_get b.open_ones i ≡ Some o → IsKept dp (taken_out b who i o) for_best for_open cells spare_cells
+take-kept dp b who i o for_best for_open cells spare_cells k may empty at =
+    let given = hands b may in
+    let good = take-good dp b who i o k.good k.room.few_slots empty at given.left in
+    let many = take-many dp b k.good who i o empty at in
+    let listed = k.room.listed in
+    record {
+      good = subst (IsGood dp) (out-same dp b k.good who i o at) good;
+      room = room-after dp b (taken_out b who i o) for_best for_best for_open for_open cells spare_cells k.room (omega arith) (omega arith) (length-set b.slots who (Some o));
+    }
 
 -- what is open fits a caller's subproblem
 pub record Copies (dp : Dp) (o : Ticketed) : Type 0 where
@@ -124,18 +131,13 @@ pub improve-kept : (dp : Dp) (b : BoardState) (x : List ℕ) (value : ℤ) (for_
     → is_above (incumbent_value b) value ≡ true → for_best ≤ for_best2
     → IsKept dp (record b { incumbent = Some (record { decisions = x; value = value }); open_ones = above_value value b.open_ones }) for_best2 for_open cells spare_cells
 improve-kept dp b x value for_best for_best2 for_open cells spare_cells k solution is up more =
-    let room = k.room in
+    let later : BoardState = record b { incumbent = Some (record { decisions = x; value = value }); open_ones = above_value value b.open_ones } in
     let fewer = filter-few value b.open_ones in
+    let listed = k.room.listed in
     record {
       good = subst (λ v. IsGood dp (record b { incumbent = Some (record { decisions = x; value = v }); open_ones = above_value v b.open_ones })) (sym is)
           (improve-good dp b x k.good solution (subst (λ v. is_above (incumbent_value b) v ≡ true) is up));
-      room = record {
-        best = (let old = room.best in omega arith);
-        listed = (let old = room.listed in omega arith);
-        row = room.row;
-        spare = room.spare;
-        few_slots = room.few_slots;
-      };
+      room = room-after dp b later for_best for_best2 for_open for_open cells spare_cells k.room more (omega arith) refl;
     }
 
 -- Finish.
@@ -148,25 +150,6 @@ pub fates-many : (inc : Option ℤ) (ticket : ℕ) (cs : List Subproblem) → le
 fates-many inc ticket [] = refl
 fates-many inc ticket (c ∷ cs) = let rest = fates-many inc (ticket_after ticket (fate_of inc ticket c)) cs in omega arith
 
-pub finish-kept : (dp : Dp) (b : BoardState) (who : ℕ) (cs : List Subproblem) (fs : List Fate) (for_best for_open cells spare_cells : ℕ) → IsKept dp b for_best for_open cells spare_cells → MayFinish dp b who cs fs
-    → length b.open_ones + length (full_slots b.slots) + length cs ≤ for_open → IsKept dp (finished_by b who cs) for_best for_open cells spare_cells
-finish-kept dp b who cs fs for_best for_open cells spare_cells k m fits =
-    let room = k.room in
-    let less = length-with m.parent (full_slots (set b.slots who None)) (full_slots b.slots) (emptied b.slots who m.parent (slot-full (slice_get b.slots who) m.parent m.full)) in
-    let few = kids-few (incumbent_value b) b.next_ticket cs in
-    let long = length-append b.open_ones (entering cs (fates_on b cs)) in
-    let many = length-set b.slots who None in
-    record {
-      good = finish-good dp b who cs fs k.good m;
-      room = record {
-        best = room.best;
-        listed = omega arith;
-        row = room.row;
-        spare = room.spare;
-        few_slots = (let old = room.few_slots in omega arith);
-      };
-    }
-
 -- no more are out or open than before and children
 pub finish-many : (dp : Dp) (b : BoardState) (who : ℕ) (cs : List Subproblem) (fs : List Fate) → MayFinish dp b who cs fs
     → length (finished_by b who cs).open_ones + length (full_slots (finished_by b who cs).slots) ≤ length b.open_ones + length (full_slots b.slots) + length cs
@@ -175,6 +158,15 @@ finish-many dp b who cs fs m =
     let few = kids-few (incumbent_value b) b.next_ticket cs in
     let long = length-append b.open_ones (entering cs (fates_on b cs)) in
     omega arith
+
+pub finish-kept : (dp : Dp) (b : BoardState) (who : ℕ) (cs : List Subproblem) (fs : List Fate) (for_best for_open cells spare_cells : ℕ) → IsKept dp b for_best for_open cells spare_cells → MayFinish dp b who cs fs
+    → length b.open_ones + length (full_slots b.slots) + length cs ≤ for_open → IsKept dp (finished_by b who cs) for_best for_open cells spare_cells
+finish-kept dp b who cs fs for_best for_open cells spare_cells k m fits =
+    let many = finish-many dp b who cs fs m in
+    record {
+      good = finish-good dp b who cs fs k.good m;
+      room = room-after dp b (finished_by b who cs) for_best for_best for_open for_open cells spare_cells k.room (omega arith) (omega arith) (length-set b.slots who None);
+    }
 
 -- tickets stay far below the greatest, and one more finished is no more than were taken
 pub record Fits (b : BoardState) (n : ℕ) : Type 0 where
@@ -192,24 +184,24 @@ finish-fits dp b who cs fs g m =
 
 -- GiveBack.
 
+-- the open ones with it
+pub back-open : (best : Option ℤ) (o : Ticketed) (os : List Ticketed) → length (back_among best o os) ≤ length os + 1
+back-open best o os =
+    let put = length-with o os (by_ticket o os) (with-by_ticket o os) in
+    elim (is_above best o.subproblem.bound) as (λ up. length (cond up (by_ticket o os) os) ≤ length os + 1) [ true ↦ omega arith | false ↦ omega arith ]
+
+pub back-many : (slots : List (Option Ticketed)) (who : ℕ) (o : Ticketed) → slice_get slots who ≡ Some (Some o) → length (full_slots slots) ≡ length (full_slots (set slots who None)) + 1
+back-many slots who o at = length-with o (full_slots (set slots who None)) (full_slots slots) (emptied slots who o at)
+
 pub back-kept : (dp : Dp) (b : BoardState) (who : ℕ) (o : Ticketed) (for_best for_open for_open2 cells spare_cells : ℕ) → IsKept dp b for_best for_open cells spare_cells
     → slice_get b.slots who ≡ Some (Some o) → IsTrue (is_some b.cause) → for_open ≤ for_open2 → IsKept dp (given_back_from b who (Some o)) for_best for_open2 cells spare_cells
 back-kept dp b who o for_best for_open for_open2 cells spare_cells k at held more =
-    let room = k.room in
-    let less = length-with o (full_slots (set b.slots who None)) (full_slots b.slots) (emptied b.slots who o at) in
-    let put = length-with o b.open_ones (by_ticket o b.open_ones) (with-by_ticket o b.open_ones) in
-    let many = length-set b.slots who None in
-    let few : length (back_among (incumbent_value b) o b.open_ones) ≤ length b.open_ones + 1 =
-    elim (is_above (incumbent_value b) o.subproblem.bound) as (λ up. length (cond up (by_ticket o b.open_ones) b.open_ones) ≤ length b.open_ones + 1) [ true ↦ omega arith | false ↦ omega arith ] in
+    let less = back-many b.slots who o at in
+    let few = back-open (incumbent_value b) o b.open_ones in
+    let listed = k.room.listed in
     record {
       good = give-back-good dp b who o k.good at held;
-      room = record {
-        best = room.best;
-        listed = (let old = room.listed in omega arith);
-        row = room.row;
-        spare = room.spare;
-        few_slots = (let old = room.few_slots in omega arith);
-      };
+      room = room-after dp b (given_back_from b who (Some o)) for_best for_best for_open for_open2 cells spare_cells k.room (omega arith) (omega arith) (length-set b.slots who None);
     }
 
 slot-within : (slots : List (Option Ticketed)) (who : ℕ) → IsSome (slot_of (slice_get slots who)) → who < length slots
@@ -225,17 +217,8 @@ back-at slots who x one full is some = slice_get_read slots (length slots) who x
 pub back-spare : (dp : Dp) (b : BoardState) (who : ℕ) (o : Ticketed) (for_best for_open cells spare_cells : ℕ) → IsKept dp b for_best for_open cells spare_cells
     → slice_get b.slots who ≡ Some (Some o) → length b.open_ones < for_open
 back-spare dp b who o for_best for_open cells spare_cells k at =
-    let less = length-with o (full_slots (set b.slots who None)) (full_slots b.slots) (emptied b.slots who o at) in
+    let less = back-many b.slots who o at in
     let listed = k.room.listed in omega arith
-
--- the open ones with it
-pub back-open : (best : Option ℤ) (o : Ticketed) (os : List Ticketed) → length (back_among best o os) ≤ length os + 1
-back-open best o os =
-    let put = length-with o os (by_ticket o os) (with-by_ticket o os) in
-    elim (is_above best o.subproblem.bound) as (λ up. length (cond up (by_ticket o os) os) ≤ length os + 1) [ true ↦ omega arith | false ↦ omega arith ]
-
-pub back-many : (slots : List (Option Ticketed)) (who : ℕ) (o : Ticketed) → slice_get slots who ≡ Some (Some o) → length (full_slots slots) ≡ length (full_slots (set slots who None)) + 1
-back-many slots who o at = length-with o (full_slots (set slots who None)) (full_slots slots) (emptied slots who o at)
 
 -- that is the step
 pub back-step : (b : BoardState) (who : ℕ) (o : Ticketed) → slice_get b.slots who ≡ Some (Some o) → given_back_from b who (Some o) ≡ given_back b who

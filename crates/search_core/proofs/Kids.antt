@@ -1,12 +1,12 @@
 -- The children that enter.
-use Rattle.std.proofs.Common.{◌≡◌, ◌≢◌, ℕ, ◌+◌, ◌<◌, ◌≤◌, ℤ, List, [], ◌∷◌, length, Bool, true, false, cond, Option, ◌⊎◌, inl, inr, refl, IsTrue, arith}
+use Rattle.std.proofs.Common.{◌≡◌, ℕ, ◌+◌, ◌<◌, ◌≤◌, ℤ, List, [], ◌∷◌, length, Bool, true, false, cond, Option, ◌⊎◌, inl, inr, refl, IsTrue, arith}
 use Rattle.dp_model.specs.Lists.{Each, OneOf}
 use Rattle.dp_model.specs.Numbers.{is_above}
 use Rattle.dp_model.specs.Subproblem.{Subproblem}
 use Rattle.search_core.specs.declared.fate.Fate.TheVariants.{Below, Entered}
 use Rattle.search_core.specs.Board.{Ticketed}
 use Rattle.search_core.specs.Fates.{ticket_after, fates_from, let_in, entering, tickets_after}
-use Rattle.search_core.specs.GoodBoard.{EachTwo}
+use Rattle.search_core.specs.GoodBoard.{EachTwo, IsEarlier}
 use Rattle.search_core.proofs.Lists.{each-then}
 
 -- the children that enter beside an incumbent's value, from a ticket on
@@ -67,12 +67,12 @@ kids-given inc ticket (c ∷ cs) =
     by_fate (λ os next. Each (λ o. o.ticket < next) os) inc ticket c cs
     (λ e. let many = next-many inc (ticket + 1) cs in (omega arith, kids-given inc (ticket + 1) cs)) (λ e. kids-given inc ticket cs)
 
-pub kids-differ : (inc : Option ℤ) (ticket : ℕ) (cs : List Subproblem) → EachTwo (λ a o. a.ticket ≢ o.ticket) (kids inc ticket cs)
-kids-differ inc ticket [] = tt
-kids-differ inc ticket (c ∷ cs) =
-    by_fate (λ os _. EachTwo (λ a o. a.ticket ≢ o.ticket) os) inc ticket c cs
-    (λ e. (each-then (λ (o : Ticketed). ticket + 1 ≤ o.ticket) (λ o. ticket ≢ o.ticket) (λ o h. omega arith) (kids inc (ticket + 1) cs) (kids-from inc (ticket + 1) cs), kids-differ inc (ticket + 1) cs))
-    (λ e. kids-differ inc ticket cs)
+pub kids-ordered : (inc : Option ℤ) (ticket : ℕ) (cs : List Subproblem) → EachTwo IsEarlier (kids inc ticket cs)
+kids-ordered inc ticket [] = tt
+kids-ordered inc ticket (c ∷ cs) =
+    by_fate (λ os _. EachTwo IsEarlier os) inc ticket c cs
+    (λ e. (each-then (λ (o : Ticketed). ticket + 1 ≤ o.ticket) (λ o. ticket < o.ticket) (λ o h. omega arith) (kids inc (ticket + 1) cs) (kids-from inc (ticket + 1) cs), kids-ordered inc (ticket + 1) cs))
+    (λ e. kids-ordered inc ticket cs)
 
 -- one of the children enters, or its bound is at most the incumbent's value
 pub kids-one : (P : Subproblem → Type 0) (inc : Option ℤ) (ticket : ℕ) (cs : List Subproblem) → OneOf P cs

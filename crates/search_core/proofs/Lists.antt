@@ -88,6 +88,10 @@ one-out P A f [] h = absurd h
 one-out P A f (x ∷ xs) (inl h) = f x h
 one-out P A f (x ∷ xs) (inr h) = one-out P A f xs h
 
+pub two-then : {X : Type 0} (R S : X → X → Type 0) → ((x y : X) → R x y → S x y) → (xs : List X) → EachTwo R xs → EachTwo S xs
+two-then R S f [] h = tt
+two-then R S f (x ∷ xs) h = (each-then (R x) (S x) (f x) xs h.0, two-then R S f xs h.1)
+
 pub two-filter : {X : Type 0} (R : X → X → Type 0) (p : X → Bool) (xs : List X) → EachTwo R xs → EachTwo R (filter p xs)
 two-filter R p [] h = tt
 two-filter R p (x ∷ xs) h =

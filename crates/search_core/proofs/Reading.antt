@@ -1,14 +1,14 @@
 -- What a good board says of the feasible solutions and of the counts.
-use Rattle.std.proofs.Common.{◌≡◌, ◌≢◌, ℕ, ◌<◌, ◌≤◌, ℤ, ◌≤ℤ◌, List, [], ◌∷◌, ◌++◌, length, Bool, true, false, cond, Option, Some, None, ◌⊎◌, inl, inr, refl, length-append, arith}
+use Rattle.std.proofs.Common.{◌≡◌, ◌≢◌, ℕ, ◌<◌, ◌≤◌, ℤ, ◌≤ℤ◌, List, [], ◌∷◌, ◌++◌, length, Bool, true, false, cond, Option, Some, None, ◌⊎◌, inl, inr, refl, ◌∙◌, length-append, arith}
 use Rattle.std.proofs.lemmas.Int.{ints}
 use Rattle.std.specs.Prelude.{int_lt}
 use Rattle.dp_model.specs.Counts.{tree}
 use Rattle.dp_model.specs.Dp.{Dp}
-use Rattle.dp_model.specs.Lists.{Each}
-use Rattle.dp_model.specs.Numbers.{AtMost}
+use Rattle.dp_model.specs.Lists.{Each, OneOf}
+use Rattle.dp_model.specs.Numbers.{AtMost, OptionAtMost}
 use Rattle.dp_model.specs.Prefixes.{IsSolution, value_of}
 use Rattle.search_core.specs.Board.{Ticketed, BoardState, incumbent_value, value_held, full_slots, frontier}
-use Rattle.search_core.specs.Bound.{raised, raised_by, bound_of}
+use Rattle.search_core.specs.Bound.{raised, raised_by, bound_of, IsGreatest}
 use Rattle.search_core.specs.GoodBoard.{IsGood}
 use Rattle.search_core.specs.Kept.{best_of}
 use Rattle.search_core.proofs.Counting.{pots-many}
@@ -37,6 +37,32 @@ raised-each : (os : List Ticketed) (most : Option ℤ) → Each (λ o. AtMost o.
 raised-each [] most = tt
 raised-each (o ∷ os) most =
     (raised-keeps os (raised most o.subproblem.bound) o.subproblem.bound (raised-here most o.subproblem.bound), raised-each os (raised most o.subproblem.bound))
+
+raised-cases : (most : Option ℤ) (y : ℤ) → (raised most y ≡ most) ⊎ (raised most y ≡ Some y)
+raised-cases None y = inr refl
+raised-cases (Some m) y = elim (int_lt m y) as (λ b. (Some (cond b y m) ≡ Some m) ⊎ (Some (cond b y m) ≡ Some y)) [ true ↦ inr refl | false ↦ inl refl ]
+
+raised-one : (os : List Ticketed) (most : Option ℤ) → (raised_by most os ≡ most) ⊎ OneOf (λ o. raised_by most os ≡ Some o.subproblem.bound) os
+raised-one [] most = inl refl
+raised-one (o ∷ os) most =
+    let y = o.subproblem.bound in
+    let Answer : Type 0 = (raised_by most (o ∷ os) ≡ most) ⊎ OneOf (λ o2. raised_by most (o ∷ os) ≡ Some o2.subproblem.bound) (o ∷ os) in
+    elim (raised-one os (raised most y)) as (λ _. Answer) [
+      | inl same ↦ elim (raised-cases most y) as (λ _. Answer) [ inl kept ↦ inl (same ∙ kept) | inr here ↦ inr (inl (same ∙ here)) ]
+      | inr later ↦ inr (inr later)
+    ]
+
+option-most : (inc : Option ℤ) (most : Option ℤ) → ((z : ℤ) → AtMost z inc → AtMost z most) → OptionAtMost inc most
+option-most None most up = tt
+option-most (Some z) most up = up z (omega (arith, ints))
+
+-- the bound is the greatest of the incumbent's value and the bounds of all that is out or open
+pub bound-greatest : (b : BoardState) → IsGreatest b (bound_of b)
+bound-greatest b = record {
+  incumbent = option-most (incumbent_value b) (bound_of b) (raised-keeps (frontier b) (incumbent_value b));
+  each = raised-each (frontier b) (incumbent_value b);
+  one = raised-one (frontier b) (incumbent_value b);
+}
 
 held-by-more : (dp : Dp) (inc more : Option ℤ) → ((z : ℤ) → AtMost z inc → AtMost z more) → (o : Ticketed) → HeldBy dp inc o → HeldBy dp more o
 held-by-more dp inc more up o h x c =

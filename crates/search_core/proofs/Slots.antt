@@ -1,13 +1,14 @@
 -- Slots that are filled and emptied, and the open list by place and by ticket.
-use Rattle.std.proofs.Common.{◌≡◌, ◌≢◌, ℕ, zero, suc, ◌≤◌, List, [], ◌∷◌, length, set, true, false, cond, not, nat_eq, nat_lt, Option, Some, None, refl, sym, ◌∙◌, ap, subst, arith}
+use Rattle.std.proofs.Common.{◌≡◌, ◌≢◌, ℕ, zero, suc, ◌<◌, ◌≤◌, List, [], ◌∷◌, length, set, Bool, true, false, cond, not, nat_eq, nat_lt, Option, Some, None, refl, sym, ◌∙◌, ap, subst, arith}
 use Rattle.std.specs.List.{slice_get, remove}
 use Rattle.std.proofs.lemmas.Bool.Decides.{nat_tests}
 use Rattle.dp_model.specs.Lists.{Each}
 use Rattle.search_core.specs.Board.{Ticketed, full_slots, slot_of}
-use Rattle.search_core.specs.GoodBoard.{EachTwo}
+use Rattle.search_core.specs.GoodBoard.{EachTwo, IsEarlier}
 use Rattle.search_core.specs.Steps.{by_ticket}
 use Rattle.search_core.specs.Taking.{without}
-use Rattle.search_core.proofs.With.{IsWith, with-here, with-there}
+use Rattle.search_core.proofs.Lists.{each-then}
+use Rattle.search_core.proofs.With.{IsWith, with-here, with-there, each-in}
 
 -- a slot that has something
 pub slot-full : (slot : Option (Option Ticketed)) (o : Ticketed) → slot_of slot ≡ Some o → slot ≡ Some (Some o)
@@ -74,3 +75,19 @@ with-by_ticket o (x ∷ os) =
       | true ↦ with-here o (x ∷ os)
       | false ↦ with-there o x os (by_ticket o os) (with-by_ticket o os)
     ]
+
+-- a list in order of ticket stays so with one more at its place
+pub ordered-with : (o : Ticketed) (os : List Ticketed) → EachTwo IsEarlier os → Each (λ x. o.ticket ≢ x.ticket) os → EachTwo IsEarlier (by_ticket o os)
+ordered-with o [] ordered differ = (tt, tt)
+ordered-with o (x ∷ os) ordered differ =
+    let Goal : Bool → Type 0 = λ b. EachTwo IsEarlier (cond b (o ∷ x ∷ os) (x ∷ by_ticket o os)) in
+    let go : (b : Bool) → nat_lt o.ticket x.ticket ≡ b → Goal b = λ b. elim b as (λ b. nat_lt o.ticket x.ticket ≡ b → Goal b) [
+      | true ↦ λ e.
+          let first : o.ticket < x.ticket = grind (arith, nat_tests) in
+          ((first, each-then (λ (y : Ticketed). x.ticket < y.ticket) (λ (y : Ticketed). o.ticket < y.ticket) (λ y h. omega arith) os ordered.0), ordered)
+      | false ↦ λ e.
+          let other : o.ticket ≢ x.ticket = differ.0 in
+          let later : x.ticket < o.ticket = grind (arith, nat_tests) in
+          (each-in (λ (y : Ticketed). x.ticket < y.ticket) o os (by_ticket o os) (with-by_ticket o os) later ordered.0, ordered-with o os ordered.1 differ.1)
+    ] in
+    go (nat_lt o.ticket x.ticket) refl

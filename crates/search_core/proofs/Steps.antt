@@ -14,14 +14,14 @@ use Rattle.dp_model.specs.Subproblem.{Subproblem, IsOwn, IsChild}
 use Rattle.search_core.specs.declared.fate.Fate.{Fate}
 use Rattle.search_core.specs.Board.{Ticketed, BoardState, incumbent_value, full_slots, frontier, prefixes}
 use Rattle.search_core.specs.Finishing.{MayFinish}
-use Rattle.search_core.specs.GoodBoard.{EachTwo, AreApart, IsGood, pot_of, rest_of}
+use Rattle.search_core.specs.GoodBoard.{EachTwo, AreApart, IsEarlier, IsGood, pot_of, rest_of}
 use Rattle.search_core.specs.Steps.{finished_by, given_back_from, by_ticket, above_value}
 use Rattle.search_core.specs.Taking.{without, is_budget_up, checked_out}
 use Rattle.search_core.proofs.Counting.{children-below, pots-split}
-use Rattle.search_core.proofs.Frontier.{not-above, at-most-then, at-most-above, each-moved, one-moved, two-moved, sum-moved, tickets-flip, apart-flip, MatchedBy, HeldBy, covers-by, covers-from, matched-below, apart-child}
-use Rattle.search_core.proofs.Kids.{kids, next_after, kids-each, kids-two, kids-above, kids-from, next-many, kids-few, kids-given, kids-differ, kids-one}
-use Rattle.search_core.proofs.Lists.{each-then, each-append, each-front, each-back, each-filter, each-passes, one-then, one-map, one-left, one-right, one-cases, one-filter, one-each, one-out, two-filter, two-append, two-front, two-back, two-across, sum-filter}
-use Rattle.search_core.proofs.Slots.{slot-full, filled, emptied, full-few, removed, without-removed, with-by_ticket}
+use Rattle.search_core.proofs.Frontier.{not-above, at-most-then, at-most-above, sum-moved, tickets-flip, apart-flip, MatchedBy, HeldBy, covers-by, covers-from, matched-below, FrontierHolds, frontier-holds, frontier-moved, apart-child}
+use Rattle.search_core.proofs.Kids.{kids, next_after, kids-each, kids-two, kids-above, kids-from, next-many, kids-few, kids-given, kids-ordered, kids-one}
+use Rattle.search_core.proofs.Lists.{each-then, each-append, each-front, each-back, each-filter, each-passes, one-then, one-map, one-left, one-right, one-cases, one-filter, one-each, one-out, two-then, two-filter, two-append, two-front, two-back, two-across, sum-filter}
+use Rattle.search_core.proofs.Slots.{slot-full, filled, emptied, full-few, removed, without-removed, with-by_ticket, ordered-with}
 use Rattle.search_core.proofs.With.{IsWith, with-left, with-right, each-out, each-in, one-out_of, two-out, sum-with, length-with}
 
 neither : (x y : Bool) → (x || y) ≡ false → (x ≡ false) × (y ≡ false)
@@ -66,21 +66,16 @@ take-good dp b who i o g few empty at left =
     let c = g.counts in
     let ends = sum-moved (pot_of dp) o base (frontier b) (full2 ++ rest) from to in
     let shares = sum-moved (rest_of dp) o base (frontier b) (full2 ++ rest) from to in
+    let f = frontier-moved dp (incumbent_value b) b.next_ticket o base (frontier b) (full2 ++ rest) from to (frontier-holds dp b g) in
     record {
       incumbent = g.incumbent;
-      covers = covers-from dp (incumbent_value b) (full2 ++ rest) (λ x s.
-          elim (covers-by dp (incumbent_value b) (frontier b) g.covers x s) as (λ _. AtMost (value_of dp x) (incumbent_value b) ⊎ OneOf (MatchedBy dp x) (full2 ++ rest)) [
-            | inl a ↦ inl a
-            | inr m ↦ inr (one-moved (MatchedBy dp x) o base (frontier b) (full2 ++ rest) from to m)
-          ]);
-      own = each-moved (λ o. IsOwn dp o.subproblem) o base (frontier b) (full2 ++ rest) from to g.own;
-      held = each-moved (HeldBy dp (incumbent_value b)) o base (frontier b) (full2 ++ rest) from to g.held;
+      covers = f.covers;
+      own = f.own;
+      held = f.held;
       above = each-filter (λ o. IsTrue (is_above (incumbent_value b) o.subproblem.bound)) (λ a. not-same a.ticket o.ticket) b.open_ones g.above;
-      apart = two-moved (λ a o. AreApart a.subproblem o.subproblem) apart-flip o base (frontier b) (full2 ++ rest) from to g.apart;
-      tickets = record {
-        distinct = two-moved (λ a o. a.ticket ≢ o.ticket) tickets-flip o base (frontier b) (full2 ++ rest) from to g.tickets.distinct;
-        given = each-moved (λ o. o.ticket < b.next_ticket) o base (frontier b) (full2 ++ rest) from to g.tickets.given;
-      };
+      ordered = two-filter IsEarlier (λ a. not-same a.ticket o.ticket) b.open_ones g.ordered;
+      apart = f.apart;
+      tickets = f.tickets;
       counts = record {
         ends = (let old = c.ends in omega arith);
         out = (let old = c.out in omega arith);
@@ -89,6 +84,7 @@ take-good dp b who i o g few empty at left =
         tickets = (let old = c.tickets in omega arith);
         room = λ some. omega arith;
       };
+      cause = g.cause;
     }
 
 -- Improve.
@@ -139,6 +135,7 @@ improve-good dp b x g solution up =
       own = each (λ o. IsOwn dp o.subproblem) g.own;
       held = each (HeldBy dp (Some value)) (each-then (HeldBy dp inc) (HeldBy dp (Some value)) (held-better dp inc value up) (frontier b) g.held);
       above = each-passes p b.open_ones;
+      ordered = two-filter IsEarlier p b.open_ones g.ordered;
       apart = two (λ a o. AreApart a.subproblem o.subproblem) g.apart;
       tickets = record {
         distinct = two (λ a o. a.ticket ≢ o.ticket) g.tickets.distinct;
@@ -152,9 +149,13 @@ improve-good dp b x g solution up =
         tickets = (let old = c.tickets in omega arith);
         room = c.room;
       };
+      cause = g.cause;
     }
 
 -- Finish.
+
+earlier-differ : (a o : Ticketed) → IsEarlier a o → a.ticket ≢ o.ticket
+earlier-differ a o h = let less : a.ticket < o.ticket = h in omega arith
 
 abbrev CoversOf : Dp → Option ℤ → List Ticketed → Type 0
 CoversOf dp inc os = Covers dp inc (prefixes os)
@@ -206,8 +207,9 @@ finish-good dp b who cs fs g m =
     let apart_across = each-then (λ y. AreApart o.subproblem y.subproblem) (λ y. Each (λ k. AreApart y.subproblem k.subproblem) new)
     (λ y h. each-then (λ k. IsChild dp p k.subproblem) (λ k. AreApart y.subproblem k.subproblem) (λ k child. apart-child o.subproblem y.subproblem k.subproblem h child.extends) new children) base apart_out.0 in
     let from_new = kids-from inc b.next_ticket cs in
-    let tickets_across = each-then (λ (y : Ticketed). y.ticket < b.next_ticket) (λ y. Each (λ k. y.ticket ≢ k.ticket) new)
-    (λ y h. each-then (λ (k : Ticketed). b.next_ticket ≤ k.ticket) (λ k. y.ticket ≢ k.ticket) (λ k later. omega arith) new from_new) base given_out.1 in
+    let ordered_new = kids-ordered inc b.next_ticket cs in
+    let ordered_across = each-then (λ (y : Ticketed). y.ticket < b.next_ticket) (λ y. Each (IsEarlier y) new)
+    (λ y h. each-then (λ (k : Ticketed). b.next_ticket ≤ k.ticket) (IsEarlier y) (λ k later. let less : y.ticket < k.ticket = omega arith in less) new from_new) base given_out.1 in
     let many = next-many inc b.next_ticket cs in
     let few = kids-few inc b.next_ticket cs in
     let limit = m.few in
@@ -234,9 +236,11 @@ finish-good dp b who cs fs g m =
       own = each (λ o. IsOwn dp o.subproblem) own_out.1 own_new;
       held = each (HeldBy dp inc) held_out.1 (kids-each (λ c. IsHeld dp inc c.decisions c.bound) inc b.next_ticket cs m.held);
       above = each-append (λ o. IsTrue (is_above inc o.subproblem.bound)) b.open_ones new g.above (kids-above inc b.next_ticket cs);
+      ordered = two-append IsEarlier b.open_ones new g.ordered ordered_new (each-back (λ y. Each (IsEarlier y) new) full2 b.open_ones ordered_across);
       apart = two (λ a o. AreApart a.subproblem o.subproblem) apart_out.1 apart_new apart_across;
       tickets = record {
-        distinct = two (λ a o. a.ticket ≢ o.ticket) tickets_out.1 (kids-differ inc b.next_ticket cs) tickets_across;
+        distinct = two (λ a o. a.ticket ≢ o.ticket) tickets_out.1 (two-then IsEarlier (λ a o. a.ticket ≢ o.ticket) earlier-differ new ordered_new)
+            (each-then (λ y. Each (IsEarlier y) new) (λ y. Each (λ k. y.ticket ≢ k.ticket) new) (λ y h. each-then (IsEarlier y) (λ k. y.ticket ≢ k.ticket) (earlier-differ y) new h) base ordered_across);
         given = each (λ o. o.ticket < next_after inc b.next_ticket cs)
             (each-then (λ (y : Ticketed). y.ticket < b.next_ticket) (λ y. y.ticket < next_after inc b.next_ticket cs) (λ y h. omega arith) base given_out.1)
             (kids-given inc b.next_ticket cs);
@@ -249,42 +253,28 @@ finish-good dp b who cs fs g m =
         tickets = (let old = c.tickets in omega arith);
         room = λ some. (let old = c.room (omega arith) in omega arith);
       };
+      cause = g.cause;
     }
 
 -- GiveBack.
 
-back-good : (dp : Dp) (b : BoardState) (who : ℕ) (o : Ticketed) → IsGood dp b → slice_get b.slots who ≡ Some (Some o) → IsTrue (is_some b.cause)
-    → (value : Bool) → is_above (incumbent_value b) o.subproblem.bound ≡ value
-    → IsGood dp (record b { open_ones = cond value (by_ticket o b.open_ones) b.open_ones; slots = set b.slots who None })
-back-good dp b who o g at held true up =
-    let inc = incumbent_value b in
-    let full = full_slots b.slots in
-    let full2 = full_slots (set b.slots who None) in
-    let base = full2 ++ b.open_ones in
-    let after = full2 ++ by_ticket o b.open_ones in
-    let empty = emptied b.slots who o at in
-    let from = with-right o full2 full b.open_ones empty in
-    let put = with-by_ticket o b.open_ones in
-    let to = with-left o full2 b.open_ones (by_ticket o b.open_ones) put in
-    let less = length-with o full2 full empty in
-    let ends = sum-moved (pot_of dp) o base (frontier b) after from to in
-    let shares = sum-moved (rest_of dp) o base (frontier b) after from to in
+-- the board with the slot empty and these open, where a cause is held and no more prefixes are left
+back-with : (dp : Dp) (b : BoardState) (who : ℕ) (o : Ticketed) (os : List Ticketed) → IsGood dp b → slice_get b.slots who ≡ Some (Some o) → IsTrue (is_some b.cause)
+    → FrontierHolds dp (incumbent_value b) b.next_ticket (full_slots (set b.slots who None) ++ os) → Each (λ o. IsTrue (is_above (incumbent_value b) o.subproblem.bound)) os → EachTwo IsEarlier os
+    → sum_by (pot_of dp) (full_slots (set b.slots who None) ++ os) ≤ sum_by (pot_of dp) (frontier b) → sum_by (rest_of dp) (full_slots (set b.slots who None) ++ os) ≤ sum_by (rest_of dp) (frontier b)
+    → IsGood dp (record b { open_ones = os; slots = set b.slots who None })
+back-with dp b who o os g at halted f above ordered ends shares =
+    let less = length-with o (full_slots (set b.slots who None)) (full_slots b.slots) (emptied b.slots who o at) in
     let c = g.counts in
     record {
       incumbent = g.incumbent;
-      covers = covers-from dp inc after (λ x s.
-          elim (covers-by dp inc (frontier b) g.covers x s) as (λ _. AtMost (value_of dp x) inc ⊎ OneOf (MatchedBy dp x) after) [
-            | inl a ↦ inl a
-            | inr m ↦ inr (one-moved (MatchedBy dp x) o base (frontier b) after from to m)
-          ]);
-      own = each-moved (λ o. IsOwn dp o.subproblem) o base (frontier b) after from to g.own;
-      held = each-moved (HeldBy dp inc) o base (frontier b) after from to g.held;
-      above = each-in (λ o. IsTrue (is_above inc o.subproblem.bound)) o b.open_ones (by_ticket o b.open_ones) put up g.above;
-      apart = two-moved (λ a o. AreApart a.subproblem o.subproblem) apart-flip o base (frontier b) after from to g.apart;
-      tickets = record {
-        distinct = two-moved (λ a o. a.ticket ≢ o.ticket) tickets-flip o base (frontier b) after from to g.tickets.distinct;
-        given = each-moved (λ o. o.ticket < b.next_ticket) o base (frontier b) after from to g.tickets.given;
-      };
+      covers = f.covers;
+      own = f.own;
+      held = f.held;
+      above = above;
+      ordered = ordered;
+      apart = f.apart;
+      tickets = f.tickets;
       counts = record {
         ends = (let old = c.ends in omega arith);
         out = (let old = c.out in omega arith);
@@ -293,21 +283,37 @@ back-good dp b who o g at held true up =
         tickets = (let old = c.tickets in omega arith);
         room = λ some. (let old = c.room (omega arith) in omega arith);
       };
+      cause = g.cause;
     }
-back-good dp b who o g at held false low =
+
+back-good : (dp : Dp) (b : BoardState) (who : ℕ) (o : Ticketed) → IsGood dp b → slice_get b.slots who ≡ Some (Some o) → IsTrue (is_some b.cause)
+    → (value : Bool) → is_above (incumbent_value b) o.subproblem.bound ≡ value
+    → IsGood dp (record b { open_ones = cond value (by_ticket o b.open_ones) b.open_ones; slots = set b.slots who None })
+back-good dp b who o g at halted true up =
     let inc = incumbent_value b in
-    let full = full_slots b.slots in
     let full2 = full_slots (set b.slots who None) in
     let base = full2 ++ b.open_ones in
-    let empty = emptied b.slots who o at in
-    let out = with-right o full2 full b.open_ones empty in
-    let less = length-with o full2 full empty in
+    let after = full2 ++ by_ticket o b.open_ones in
+    let from = with-right o full2 (full_slots b.slots) b.open_ones (emptied b.slots who o at) in
+    let put = with-by_ticket o b.open_ones in
+    let to = with-left o full2 b.open_ones (by_ticket o b.open_ones) put in
+    let differ = (two-out (λ (a o : Ticketed). a.ticket ≢ o.ticket) tickets-flip o base (frontier b) from g.tickets.distinct).0 in
+    let ends = sum-moved (pot_of dp) o base (frontier b) after from to in
+    let shares = sum-moved (rest_of dp) o base (frontier b) after from to in
+    back-with dp b who o (by_ticket o b.open_ones) g at halted
+    (frontier-moved dp inc b.next_ticket o base (frontier b) after from to (frontier-holds dp b g))
+    (each-in (λ o. IsTrue (is_above inc o.subproblem.bound)) o b.open_ones (by_ticket o b.open_ones) put up g.above)
+    (ordered-with o b.open_ones g.ordered (each-back (λ (x : Ticketed). o.ticket ≢ x.ticket) full2 b.open_ones differ))
+    (omega arith) (omega arith)
+back-good dp b who o g at halted false low =
+    let inc = incumbent_value b in
+    let base = full_slots (set b.slots who None) ++ b.open_ones in
+    let out = with-right o (full_slots (set b.slots who None)) (full_slots b.slots) b.open_ones (emptied b.slots who o at) in
+    let held_out = each-out (HeldBy dp inc) o base (frontier b) out g.held in
     let ends = sum-with (pot_of dp) o base (frontier b) out in
     let shares = sum-with (rest_of dp) o base (frontier b) out in
-    let held_out = each-out (HeldBy dp inc) o base (frontier b) out g.held in
-    let c = g.counts in
-    record {
-      incumbent = g.incumbent;
+    back-with dp b who o b.open_ones g at halted
+    (record {
       covers = covers-from dp inc base (λ x s.
           let Answer : Type 0 = AtMost (value_of dp x) inc ⊎ OneOf (MatchedBy dp x) base in
           elim (covers-by dp inc (frontier b) g.covers x s) as (λ _. Answer) [
@@ -319,21 +325,13 @@ back-good dp b who o g at held false low =
           ]);
       own = (each-out (λ o. IsOwn dp o.subproblem) o base (frontier b) out g.own).1;
       held = held_out.1;
-      above = g.above;
       apart = (two-out (λ a o. AreApart a.subproblem o.subproblem) apart-flip o base (frontier b) out g.apart).1;
       tickets = record {
         distinct = (two-out (λ (a o : Ticketed). a.ticket ≢ o.ticket) tickets-flip o base (frontier b) out g.tickets.distinct).1;
         given = (each-out (λ (o : Ticketed). o.ticket < b.next_ticket) o base (frontier b) out g.tickets.given).1;
       };
-      counts = record {
-        ends = (let old = c.ends in omega arith);
-        out = (let old = c.out in omega arith);
-        balanced = λ none. absurd (cc);
-        budget = c.budget;
-        tickets = (let old = c.tickets in omega arith);
-        room = λ some. (let old = c.room (omega arith) in omega arith);
-      };
-    }
+    })
+    g.above g.ordered (omega arith) (omega arith)
 
 pub give-back-good : (dp : Dp) (b : BoardState) (who : ℕ) (o : Ticketed) → IsGood dp b → slice_get b.slots who ≡ Some (Some o) → IsTrue (is_some b.cause) → IsGood dp (given_back_from b who (Some o))
-give-back-good dp b who o g at held = back-good dp b who o g at held (is_above (incumbent_value b) o.subproblem.bound) refl
+give-back-good dp b who o g at halted = back-good dp b who o g at halted (is_above (incumbent_value b) o.subproblem.bound) refl

@@ -9,6 +9,7 @@ use Rattle.dp_model.specs.Lists.{Each}
 use Rattle.dp_model.specs.Numbers.{is_above}
 use Rattle.dp_model.specs.Subproblem.{Subproblem, IsOwn}
 use Rattle.dp_model.specs.Worth.{IsWorth}
+use Rattle.search_core.specs.declared.cause.Cause.TheVariants.{Budget}
 use Rattle.search_core.specs.Board.{Ticketed, BoardState, incumbent_value, full_slots, frontier, prefixes}
 
 -- the incumbent, where there is one, is a feasible solution with its value
@@ -47,14 +48,21 @@ pub record TicketsHold (next : ℕ) (os : List Ticketed) : Type 0 where
   pub distinct : EachTwo (λ a b. a.ticket ≢ b.ticket) os
   pub given : Each (λ o. o.ticket < next) os
 
+-- the first has the lesser ticket
+abbrev pub IsEarlier : Ticketed → Ticketed → Type 0
+IsEarlier a o = a.ticket < o.ticket
+
 -- the incumbent is feasible, the frontier covers with it, each of the frontier is a prefix of its own whose bound is held,
--- what is open is above the incumbent, no prefix of the frontier begins with another, and tickets and counts hold
+-- what is open is above the incumbent and in order of ticket, no prefix of the frontier begins with another, tickets and counts
+-- hold, and the budget is not held as a cause
 pub record IsGood (dp : Dp) (b : BoardState) : Type 0 where
   pub incumbent : IncumbentHolds dp b.incumbent
   pub covers : Covers dp (incumbent_value b) (prefixes (frontier b))
   pub own : Each (λ o. IsOwn dp o.subproblem) (frontier b)
   pub held : Each (λ o. IsHeld dp (incumbent_value b) o.subproblem.decisions o.subproblem.bound) (frontier b)
   pub above : Each (λ o. IsTrue (is_above (incumbent_value b) o.subproblem.bound)) b.open_ones
+  pub ordered : EachTwo IsEarlier b.open_ones
   pub apart : EachTwo (λ a o. AreApart a.subproblem o.subproblem) (frontier b)
   pub tickets : TicketsHold b.next_ticket (frontier b)
   pub counts : CountsHold dp b (length (full_slots b.slots)) (frontier b)
+  pub cause : b.cause ≢ Some Budget

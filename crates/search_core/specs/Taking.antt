@@ -1,5 +1,6 @@
 -- Which open subproblem is taken, and what Take answers.
-use Rattle.std.specs.Prelude.{ℕ, ◌+◌, ◌-◌, ◌^◌, Bool, cond, not, ◌&&◌, ◌||◌, List, [], ◌∷◌, filter, nat_eq, nat_lt, int_lt, int_le, slice_set, Option, Some, None}
+use Rattle.std.specs.Prelude.{◌≡◌, ℕ, ◌+◌, ◌-◌, ◌^◌, Bool, false, cond, not, ◌&&◌, ◌||◌, List, [], ◌∷◌, filter, nat_eq, nat_lt, int_lt, int_le, slice_set, Option, Some, None}
+use Rattle.dp_model.specs.Lists.{Each, OneOf}
 use Rattle.dp_model.specs.Subproblem.{Subproblem}
 use Rattle.search_core.specs.declared.cause.Cause.{Cause}
 use Rattle.search_core.specs.declared.cause.Cause.TheVariants.{Budget}
@@ -22,6 +23,16 @@ first_from first (o ∷ os) = first_from (cond (is_taken_before o first) o first
 abbrev pub first_taken : List Ticketed → Option Ticketed
 first_taken [] = None
 first_taken (o ∷ os) = Some (first_from o os)
+
+-- it is one of the list, and none of the list is taken before it
+pub record IsFirst (os : List Ticketed) (o : Ticketed) : Type 0 where
+  pub one : OneOf (λ a. a ≡ o) os
+  pub first : Each (λ a. is_taken_before a o ≡ false) os
+
+-- the slot has the first of the list
+abbrev pub HasFirst : List Ticketed → Option Ticketed → Type 0
+HasFirst os None = ⊥
+HasFirst os (Some o) = IsFirst os o
 
 -- the others than the one with the ticket
 abbrev pub without : ℕ → List Ticketed → List Ticketed

@@ -5,13 +5,13 @@ ghost use Rattle.dp_model.specs.Counts.{tree};
 ghost use Rattle.dp_model.specs.Numbers.{AtMost};
 ghost use Rattle.dp_model.specs.Prefixes.{IsSolution, value_of};
 ghost use Rattle.search_core.specs.Board.{incumbent_value, full_slots, slot_at, is_explored, KeepsSettings};
-ghost use Rattle.search_core.specs.Bound.{bound_of};
+ghost use Rattle.search_core.specs.Bound.{bound_of, IsGreatest};
 ghost use Rattle.search_core.specs.Fates.{fates_on};
 ghost use Rattle.search_core.specs.Finishing.{contents, MayFinish};
 ghost use Rattle.search_core.specs.GoodBoard.{IsGood};
 ghost use Rattle.search_core.specs.Solving.{ImproveGives, after_offer};
 ghost use Rattle.search_core.specs.Steps.{first_board, finished_by, given_back, halted};
-ghost use Rattle.search_core.specs.Taking.{take_gives, after_take, handed_out};
+ghost use Rattle.search_core.specs.Taking.{take_gives, after_take, handed_out, HasFirst};
 
 use crate::bounding::{is_above, raised_by_listed, raised_by_slots};
 use crate::cause::Cause;
@@ -110,8 +110,10 @@ impl<M: DpModel> Board<M> {
         requires cells { length into.old.subproblem.row ≡ (M.meaning self.old.numbers).words }
         ensures answer { result ≡ take_gives self.old.board }
         ensures step { self.new.board ≡ after_take self.old.board who }
+        ensures first { result ≡ Taken.Sub → HasFirst self.old.board.open_ones (slot_at self.new.board who) }
         ensures copied { into.new.subproblem ≡ handed_out result self.old.board into.old.subproblem }
         ensures out { result ≡ Taken.Sub → option_map (λ o. o.subproblem) (slot_at self.new.board who) ≡ Some into.new.subproblem }
+        ensures untouched { result ≢ Taken.Sub → into.new ≡ into.old }
         ensures into_room { into.old.room ≤ into.new.room }
         ensures numbers { self.new.numbers ≡ self.old.numbers }
         ensures settings { KeepsSettings self.old.board self.new.board }
@@ -150,6 +152,7 @@ impl<M: DpModel> Board<M> {
         requires room { (M.meaning self.old.numbers).vars ≤ into.old.room }
         requires cells { length into.old.subproblem.row ≡ (M.meaning self.old.numbers).words }
         ensures step { self.new.board ≡ after_take self.old.board who }
+        ensures first { HasFirst self.old.board.open_ones (slot_at self.new.board who) }
         ensures copied { into.new.subproblem ≡ handed_out Taken.Sub self.old.board into.old.subproblem }
         ensures out { option_map (λ o. o.subproblem) (slot_at self.new.board who) ≡ Some into.new.subproblem }
         ensures into_room { into.old.room ≤ into.new.room }
@@ -192,13 +195,15 @@ impl<M: DpModel> Board<M> {
         Improved::Yes
     }
 
-    /// Makes `room` at least `count`: so many children have room beside all that is open or out. A refusal changes nothing.
+    /// Makes `room` at least `count`: so many children have room beside all that is open or out. It fails only where that room
+    /// was missing, and a refusal changes nothing.
     pub fn reserve_for(&mut self, count: usize) -> Result<(), OutOfMemory>
         ensures board { self.new.board ≡ self.old.board }
         ensures numbers { self.new.numbers ≡ self.old.numbers }
         ensures settings { KeepsSettings self.old.board self.new.board }
         ensures ok { OnOk result (count ≤ self.new.room) }
         ensures err { OnErr result (self.new ≡ self.old) }
+        ensures full { OnErr result (self.old.room < count) }
         ensures room { self.old.room ≤ self.new.room }
     {
         let out = count_full(self.slots.as_slice());
@@ -233,6 +238,7 @@ impl<M: DpModel> Board<M> {
         requires room { length subs.old.items ≤ self.old.room }
         ensures step { self.new.board ≡ finished_by self.old.board who (contents subs.old.items) }
         ensures emptied { subs.new.items ≡ [] }
+        ensures capacity { vec_capacity subs.new ≡ vec_capacity subs.old }
         ensures numbers { self.new.numbers ≡ self.old.numbers }
         ensures settings { KeepsSettings self.old.board self.new.board }
         ensures room { self.old.room ≤ self.new.room + length subs.old.items }
@@ -324,6 +330,7 @@ impl<M: DpModel> Board<M> {
     /// `None` exactly where there is no incumbent and nothing is open or out.
     pub fn bound(&self) -> Option<i64>
         ensures bound { result ≡ bound_of self.now.board }
+        ensures greatest { IsGreatest self.now.board result }
         ensures holds { (x : List ℕ) → IsSolution (M.meaning self.now.numbers) x → AtMost (value_of (M.meaning self.now.numbers) x) result }
     {
         let most = raised_by_slots(self.best_value, self.slots.as_slice());

@@ -22,6 +22,17 @@ fn two_variables(alloc: Global, budget: u64) -> Result<Board<Ones>, AllocError>
     Board::begin(alloc, model, settings)
 }
 
+/// That board once worker 0 has asked for the root.
+fn root_taken(alloc: Global) -> Result<Board<Ones>, AllocError>
+    ensures workers { IfOk result (λ b. length b.board.slots ≡ 1) }
+    ensures numbers { IfOk result (λ b. b.numbers ≡ pos 2 ∷ []) }
+{
+    let mut board = two_variables(alloc, 1)?;
+    let mut into = Sub::blank(alloc, 2, 1)?;
+    let _ = board.take(0, &mut into);
+    Ok(board)
+}
+
 fn is_out(board: &Board<Ones>) -> bool
     requires { 0 < length board.now.board.slots }
     ensures { IsTrue result → IsSome (slot_at board.now.board 0) }
@@ -94,9 +105,7 @@ fn offers(rt: HostRuntime) -> Result<(), Fail> {
 
 #[test]
 fn halts_and_gives_back(rt: HostRuntime) -> Result<(), Fail> {
-    let mut board = two_variables(rt.alloc(), 1)?;
-    let mut into = Sub::blank(rt.alloc(), 2, 1)?;
-    assert_eq!(rt; board.take(0, &mut into), Taken::Sub);
+    let mut board = root_taken(rt.alloc())?;
     board.halt(Cause::Memory);
     assert_eq!(rt; board.cause(), Some(Cause::Memory));
     assert!(rt; is_out(&board) && is_halted(&board));
@@ -108,9 +117,7 @@ fn halts_and_gives_back(rt: HostRuntime) -> Result<(), Fail> {
 
 #[test]
 fn finishes(rt: HostRuntime) -> Result<(), Fail> {
-    let mut board = two_variables(rt.alloc(), 1)?;
-    let mut into = Sub::blank(rt.alloc(), 2, 1)?;
-    assert_eq!(rt; board.take(0, &mut into), Taken::Sub);
+    let mut board = root_taken(rt.alloc())?;
     assert_eq!(rt; board.improve(&[1, 1]), Improved::Yes);
     board.reserve_for(3)?;
     assert_eq!(rt; board.incumbent_value(), Some(2));

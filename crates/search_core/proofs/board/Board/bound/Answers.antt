@@ -2,8 +2,8 @@ use Rattle.std.proofs.Common.{◌++◌, ap, sym, ◌∙◌, subst, List, ℕ}
 use Rattle.dp_model.specs.Numbers.{AtMost}
 use Rattle.dp_model.specs.Prefixes.{IsSolution, value_of}
 use Rattle.search_core.specs.Board.{BoardView, full_slots}
-use Rattle.search_core.specs.Bound.{raised_by, bound_of}
-use Rattle.search_core.proofs.Reading.{raised-append, held-value, bound-holds}
+use Rattle.search_core.specs.Bound.{raised_by, bound_of, IsGreatest}
+use Rattle.search_core.proofs.Reading.{raised-append, held-value, bound-greatest, bound-holds}
 use Rattle.search_core.proofs.board.Board.bound.Goals as goal
 
 pub returns-clause-bound : goal.returns-clause-bound
@@ -16,6 +16,10 @@ returns-clause-bound g c =
     ∙ (raised-append c.self.inside.best_value full os
     ∙ (ap (λ m. raised_by m (full ++ os)) (sym (held-value c.self.inside.best.items c.self.inside.best_value))
     ∙ ap (λ (v : BoardView). bound_of v.board) c.self.view_is))))
+
+pub returns-clause-greatest : goal.returns-clause-greatest
+returns-clause-greatest g c =
+    subst (λ m. IsGreatest c.args.self.now.board m) (sym (returns-clause-bound g c)) (bound-greatest c.args.self.now.board)
 
 pub returns-clause-holds : goal.returns-clause-holds
 returns-clause-holds g c =
