@@ -2,12 +2,14 @@
 use Rattle.std.proofs.Common.{◌≡◌, ℕ, ◌+◌, ◌-◌, ◌^◌, ◌<◌, ◌≤◌, List, [], length, slice_get, slice_set, Bool, true, false, ◌||◌, nat_eq, nat_lt, Option, Some, None, option_map, IsTrue, refl, sym, ◌∙◌, ap, subst, arith}
 use Rattle.dp_model.specs.Counts.{tree}
 use Rattle.dp_model.specs.Dp.{Dp}
+use Rattle.dp_model.specs.Numbers.{OptionAtMost}
 use Rattle.dp_model.specs.Subproblem.{Subproblem}
 use Rattle.search_core.specs.declared.cause.Cause.{Cause}
 use Rattle.search_core.specs.declared.cause.Cause.TheVariants.{Memory}
 use Rattle.search_core.specs.Board.{Ticketed, BoardState, incumbent_value, full_slots, slot_of, slot_at, is_explored}
 use Rattle.search_core.specs.GoodBoard.{IsGood}
 use Rattle.search_core.specs.Steps.{finished_by, given_back, given_back_from, cause_after, halted}
+use Rattle.search_core.proofs.Kids.{next-many}
 use Rattle.search_rounds.specs.Later.{IsCauseAfter, IsLater, HasEnded, IsComplete}
 use Rattle.search_rounds.specs.Offered.{IsOffered}
 use Rattle.search_rounds.specs.UnderWay.{IsUnderWay}
@@ -24,12 +26,15 @@ cause_after-trans None (Some cause) c first then = subst (IsCauseAfter None) (sy
 cause_after-trans (Some cause) b c first then = subst (λ o. IsCauseAfter o c) first then
 
 pub later_refl : (b : BoardState) → IsLater b b
-later_refl b = record { slots = refl; budget = refl; cause = cause_after-refl b.cause; better = OptionAtMost-refl (incumbent_value b) }
+later_refl b = record { slots = refl; budget = refl; taken = omega arith; finished = omega arith; next_ticket = omega arith; cause = cause_after-refl b.cause; better = OptionAtMost-refl (incumbent_value b) }
 
 pub later_trans : (a b c : BoardState) → IsLater a b → IsLater b c → IsLater a c
 later_trans a b c first then = record {
   slots = then.slots ∙ first.slots;
   budget = then.budget ∙ first.budget;
+  taken = (let one = first.taken in let two = then.taken in omega arith);
+  finished = (let one = first.finished in let two = then.finished in omega arith);
+  next_ticket = (let one = first.next_ticket in let two = then.next_ticket in omega arith);
   cause = cause_after-trans a.cause b.cause c.cause first.cause then.cause;
   better = OptionAtMost-trans (incumbent_value a) (incumbent_value b) (incumbent_value c) first.better then.better;
 }
@@ -41,7 +46,9 @@ still_under_way dp b taken now c way offered = record {
   same = way.same;
   own = way.own;
   slots = offered.slots ∙ way.slots;
+  taken = offered.taken ∙ way.taken;
   finished = offered.finished ∙ way.finished;
+  next_ticket = offered.next_ticket ∙ way.next_ticket;
   budget = offered.budget ∙ way.budget;
   began_without = way.began_without;
   without_cause = offered.cause ∙ way.without_cause;
@@ -55,29 +62,37 @@ way_out dp b now c way empty = ap (λ s. slot_of (slice_get s 0)) way.slots ∙ 
 pub way_out_is : (dp : Dp) (b now : BoardState) (c : Subproblem) → IsUnderWay dp b now c → slice_get b.slots 0 ≡ Some None → option_map (λ (o : Ticketed). o.subproblem) (slot_at now 0) ≡ Some c
 way_out_is dp b now c way empty = ap (option_map (λ (o : Ticketed). o.subproblem)) (way_out dp b now c way empty) ∙ ap Some way.same
 
+-- a round that ends with the slot empty again
+round_later : (dp : Dp) (b now later : BoardState) (c : Subproblem) → IsUnderWay dp b now c → slice_get b.slots 0 ≡ Some None → later.slots ≡ slice_set now.slots 0 None → later.budget ≡ now.budget
+    → now.taken ≤ later.taken → now.finished ≤ later.finished → now.next_ticket ≤ later.next_ticket → IsCauseAfter None later.cause → incumbent_value later ≡ incumbent_value now → IsLater b later
+round_later dp b now later c way empty slots budget taken finished next cause same =
+    let one_more = way.taken in
+    let done = way.finished in
+    let given = way.next_ticket in
+    record {
+      slots = slots ∙ (ap (λ s. slice_set s 0 None) way.slots ∙ set_back b.slots (Some way.out) empty);
+      budget = budget ∙ way.budget;
+      taken = omega arith;
+      finished = omega arith;
+      next_ticket = omega arith;
+      cause = subst (λ o. IsCauseAfter o later.cause) (sym way.began_without) cause;
+      better = subst (OptionAtMost (incumbent_value b)) (sym same) way.better;
+    }
+
 -- a round that finishes
 pub finished_later : (dp : Dp) (b now after : BoardState) (c : Subproblem) (cs : List Subproblem) → IsUnderWay dp b now c → slice_get b.slots 0 ≡ Some None → after ≡ finished_by now 0 cs → IsLater b after
 finished_later dp b now after c cs way empty step =
-    let here : IsLater b (finished_by now 0 cs) = record {
-      slots = ap (λ s. slice_set s 0 None) way.slots ∙ set_back b.slots (Some way.out) empty;
-      budget = way.budget;
-      cause = subst (λ o. IsCauseAfter o now.cause) (sym way.began_without) (subst (IsCauseAfter None) (sym way.without_cause) tt);
-      better = way.better;
-    } in
-    subst (IsLater b) (sym step) here
+    let tickets = next-many (incumbent_value now) now.next_ticket cs in
+    subst (IsLater b) (sym step)
+    (round_later dp b now (finished_by now 0 cs) c way empty refl refl (omega arith) (omega arith) (omega arith) (subst (IsCauseAfter None) (sym way.without_cause) tt) refl)
 
 -- a round that gives up
 pub given_up_later : (dp : Dp) (b now after : BoardState) (c : Subproblem) → IsUnderWay dp b now c → slice_get b.slots 0 ≡ Some None → after ≡ given_back (halted now Memory) 0 → IsLater b after
 given_up_later dp b now after c way empty step =
-    let full = way_out dp b now c way empty in
-    let is : after ≡ given_back_from (halted now Memory) 0 (Some way.out) = step ∙ ap (given_back_from (halted now Memory) 0) full in
-    let here : IsLater b (given_back_from (halted now Memory) 0 (Some way.out)) = record {
-      slots = ap (λ s. slice_set s 0 None) way.slots ∙ set_back b.slots (Some way.out) empty;
-      budget = way.budget;
-      cause = subst (λ o. IsCauseAfter o (cause_after now.cause Memory)) (sym way.began_without) (subst (λ o. IsCauseAfter None (cause_after o Memory)) (sym way.without_cause) refl);
-      better = way.better;
-    } in
-    subst (IsLater b) (sym is) here
+    let is : after ≡ given_back_from (halted now Memory) 0 (Some way.out) = step ∙ ap (given_back_from (halted now Memory) 0) (way_out dp b now c way empty) in
+    subst (IsLater b) (sym is)
+    (round_later dp b now (given_back_from (halted now Memory) 0 (Some way.out)) c way empty refl refl (omega arith) (omega arith) (omega arith)
+    (subst (λ o. IsCauseAfter None (cause_after o Memory)) (sym way.without_cause) refl) refl)
 
 -- The end.
 

@@ -14,10 +14,14 @@ IsCauseAfter (Some cause) later = later ≡ Some cause
 IsCauseAfter None None = Unit {0}
 IsCauseAfter None (Some cause) = cause ≡ Memory
 
--- a board some rounds later: slots and budget are kept, want of memory is the only new cause, and the incumbent is no worse
+-- a board some rounds later: slots and budget are kept, no count and no ticket begins anew, want of memory is the only new
+-- cause, and the incumbent is no worse
 pub record IsLater (b later : BoardState) : Type 0 where
   pub slots : later.slots ≡ b.slots
   pub budget : later.budget ≡ b.budget
+  pub taken : b.taken ≤ later.taken
+  pub finished : b.finished ≤ later.finished
+  pub next_ticket : b.next_ticket ≤ later.next_ticket
   pub cause : IsCauseAfter b.cause later.cause
   pub better : OptionAtMost (incumbent_value b) (incumbent_value later)
 
