@@ -10,11 +10,13 @@ use Rattle.benefit_rows.specs.BenefitLaws.{size_of-positive, rank_of-positive, g
 use Rattle.benefit_rows.proofs.Steps.{size_of-at, read_by_size}
 use Rattle.max_two_sat.specs.declared.weights.PairWeights.{PairWeights}
 use Rattle.max_two_sat.specs.declared.weights.UnitWeights.{UnitWeights}
-use Rattle.max_two_sat.specs.Instance.{pair_total, pairs_total, unit_total, units_total}
-use Rattle.max_two_sat.specs.Kept.{PairIsPositive, pair_is_positive, pairs_are_positive, pair-positive, UnitIsPositive, unit_is_positive, units_are_positive, unit-positive, and-left, and-right}
+use Rattle.max_two_sat.specs.Instance.{pair_total, pairs_total, unit_total, units_total, no_pair, no_unit}
+use Rattle.max_two_sat.specs.Kept.{PairIsPositive, pair_is_positive, pairs_are_positive, pair-positive, UnitIsPositive, unit_is_positive, units_are_positive, unit-positive}
+use Rattle.max_two_sat.specs.Fitting.{FitsBenefits, FitsState}
 use Rattle.max_two_sat.specs.Program.{settled, open_true, open_false, cell_part, grown, row_gain, shared_gain, lesser_units}
 use Rattle.max_two_sat.specs.SizeLaws.{cell_part-positive, shared_gain-positive, shared_gain-most, lesser_units-positive, lesser_units-most}
-use Rattle.max_two_sat.specs.Totals.{pairs_total-positive, units_total-positive, positive-drop}
+use Rattle.max_two_sat.specs.Totals.{all-at, all-drop, pair_total-low, total_by-at, unit_total-low}
+use Rattle.max_two_sat.proofs.RunningSums.{SumGrows, sum-grows, sum-done}
 
 -- the parts of an entry for a decision
 pub record HasParts (p : PairWeights) (d : ℕ) : Type 0 where
@@ -29,16 +31,10 @@ parts p (suc d) h = record { settled_low = omega (arith, ints); true_low = h.sec
 
 -- the entry of a row at an index
 pub pair-at : (ps : List PairWeights) (i : ℕ) (p : PairWeights) → i < length ps → IsTrue (pairs_are_positive ps) → PairIsPositive (get_or ps i p)
-pair-at [] i p h g = absurd (omega arith)
-pair-at (q ∷ ps) zero p h g = pair-positive q (and-left _ _ g)
-pair-at (q ∷ ps) (suc i) p h g = pair-at ps i p (omega arith) (and-right (pair_is_positive q) _ g)
+pair-at ps i p h g = pair-positive (get_or ps i p) (all-at pair_is_positive ps i p h g)
 
 pub pair_total-at : (ps : List PairWeights) (i : ℕ) (p : PairWeights) → i < length ps → IsTrue (pairs_are_positive ps) → pair_total (get_or ps i p) ≤ℤ pairs_total ps
-pair_total-at [] i p h g = absurd (omega arith)
-pair_total-at (q ∷ ps) zero p h g = omega (arith, ints, pairs_total-positive ps (and-right (pair_is_positive q) _ g))
-pair_total-at (q ∷ ps) (suc i) p h g =
-    let here = pair-positive q (and-left _ _ g) in
-    omega (arith, ints, pair_total-at ps i p (omega arith) (and-right (pair_is_positive q) _ g))
+pair_total-at ps i p h g = total_by-at pair_total pair_is_positive pair_total-low ps i p h g
 
 -- one entry more of a pass
 pub grown-more : (ps : List PairWeights) (ts : List ℤ) (d i : ℕ) (p : PairWeights) → i < length ps → length ps ≡ length ts →
@@ -54,35 +50,29 @@ shared_gain-more ps ts d i p h e =
     let below : i < length ts = omega arith in
     rw (drop_more ps i p h, drop_more ts i (pos 0) below) refl
 
--- an entry without weight
-abbrev pub no_weights : PairWeights
-no_weights = record { both = pos 0; first = pos 0; second = pos 0; neither = pos 0 }
-
 -- what a benefit grows to stays small
-pub grown-size : (ps : List PairWeights) (ts : List ℤ) (d i : ℕ) (p : PairWeights) → i < length ps → length ps ≡ length ts →
-    IsTrue (pairs_are_positive ps) → pairs_total ps ≤ℤ pos (2 ^ 48) → rank_of ts ≤ℤ pos (2 ^ 48) →
+grown-size : (ps : List PairWeights) (ts : List ℤ) (d i : ℕ) (p : PairWeights) → i < length ps → FitsBenefits ps ts →
     size_of (get_or ts i (pos 0) +ℤ (open_true (get_or ps i p) d -ℤ open_false (get_or ps i p) d)) ≤ℤ pos (2 ^ 62)
-grown-size ps ts d i p h e positive weight rank =
-    let split = parts (get_or ps i p) d (pair-at ps i p h positive) in
-    let total = pair_total-at ps i p h positive in
+grown-size ps ts d i p h fits =
+    let split = parts (get_or ps i p) d (pair-at ps i p h fits.positive) in
+    let total = pair_total-at ps i p h fits.positive in
     let small = size_of-at ts i (pos 0) (omega arith) in
     omega (arith, ints, clamps)
 
 -- one more benefit is written
-pub grown-written : (row : List PairWeights) (ts out whole : List ℤ) (d i : ℕ) (cell : ℤ) → i < length row → length row ≡ length ts → length out ≡ length row →
-    IsTrue (pairs_are_positive row) → pairs_total row ≤ℤ pos (2 ^ 48) → rank_of ts ≤ℤ pos (2 ^ 48) →
-    cell ≡ to_z w64 (of_z w64 (get_or ts i (pos 0))) +ℤ (open_true (get_or row i no_weights) d -ℤ open_false (get_or row i no_weights) d) →
+pub grown-written : (row : List PairWeights) (ts out whole : List ℤ) (d i : ℕ) (cell : ℤ) → i < length row → length out ≡ length row → FitsBenefits row ts →
+    cell ≡ to_z w64 (of_z w64 (get_or ts i (pos 0))) +ℤ (open_true (get_or row i no_pair) d -ℤ open_false (get_or row i no_pair) d) →
     take i out ++ grown (drop i row) (drop i ts) d ≡ whole →
     take (i + 1) (set out i (to_z w64 (of_z w64 cell))) ++ grown (drop (i + 1) row) (drop (i + 1) ts) d ≡ whole
-grown-written row ts out whole d i cell h e f positive weight rank is before =
+grown-written row ts out whole d i cell h f fits is before =
     let small = size_of-at ts i (pos 0) (omega arith) in
     let read : to_z w64 (of_z w64 (get_or ts i (pos 0))) ≡ get_or ts i (pos 0) = read_by_size (get_or ts i (pos 0)) (omega (arith, ints)) in
-    let value : cell ≡ get_or ts i (pos 0) +ℤ (open_true (get_or row i no_weights) d -ℤ open_false (get_or row i no_weights) d) = rw read at is in
-    let fits = grown-size row ts d i no_weights h e positive weight rank in
-    let written : to_z w64 (of_z w64 cell) ≡ cell = read_by_size cell (rw value fits) in
+    let value : cell ≡ get_or ts i (pos 0) +ℤ (open_true (get_or row i no_pair) d -ℤ open_false (get_or row i no_pair) d) = rw read at is in
+    let small_cell = grown-size row ts d i no_pair h fits in
+    let written : to_z w64 (of_z w64 cell) ≡ cell = read_by_size cell (rw value small_cell) in
     let inside : i < length out = omega arith in
     let front : take (i + 1) (set out i cell) ≡ take i out ++ cell ∷ [] = rw add-one (take-suc-set out i cell inside) in
-    let more : take i out ++ (cell ∷ grown (drop (i + 1) row) (drop (i + 1) ts) d) ≡ whole = rw value (rw (grown-more row ts d i no_weights h e) at before) in
+    let more : take i out ++ (cell ∷ grown (drop (i + 1) row) (drop (i + 1) ts) d) ≡ whole = rw value (rw (grown-more row ts d i no_pair h fits.entries) at before) in
     rw (written, front, append_assoc) more
 
 -- all benefits are written
@@ -93,93 +83,55 @@ grown-done row ts out whole d i h e before =
     let none : drop i row ≡ [] = drop_all i row h in
     sym (append-nil out) ∙ rw (all, none) at before
 
--- the gain so far is within what may be counted
-pub record GainGrows (row : List PairWeights) (ts : List ℤ) (d i : ℕ) (total cell : ℤ) : Type 0 where
-  pub sum : (total +ℤ cell) +ℤ shared_gain (drop (i + 1) row) (drop (i + 1) ts) d ≡ shared_gain row ts d
-  pub low : pos 0 ≤ℤ cell
-  pub high : (total +ℤ cell) ≤ℤ pos (2 ^ 49)
-
-pub gain-grows : (row : List PairWeights) (ts : List ℤ) (d i : ℕ) (total cell : ℤ) → i < length row → length row ≡ length ts →
-    IsTrue (pairs_are_positive row) → pairs_total row ≤ℤ pos (2 ^ 48) → rank_of ts ≤ℤ pos (2 ^ 48) →
-    cell ≡ cell_part (get_or row i no_weights) (to_z w64 (of_z w64 (get_or ts i (pos 0)))) d →
-    (total +ℤ shared_gain (drop i row) (drop i ts) d ≡ shared_gain row ts d) × (pos 0 ≤ℤ total) → GainGrows row ts d i total cell
-gain-grows row ts d i total cell h e positive weight rank is before =
+-- the gain so far, and one cell more
+pub gain-grows : (row : List PairWeights) (ts : List ℤ) (d i : ℕ) (total cell : ℤ) → i < length row → FitsBenefits row ts →
+    cell ≡ cell_part (get_or row i no_pair) (to_z w64 (of_z w64 (get_or ts i (pos 0)))) d →
+    (total +ℤ shared_gain (drop i row) (drop i ts) d ≡ shared_gain row ts d) × (pos 0 ≤ℤ total) →
+    SumGrows (shared_gain row ts d) (shared_gain (drop (i + 1) row) (drop (i + 1) ts) d) total cell
+gain-grows row ts d i total cell h fits is before =
     let small = size_of-at ts i (pos 0) (omega arith) in
     let read : to_z w64 (of_z w64 (get_or ts i (pos 0))) ≡ get_or ts i (pos 0) = read_by_size (get_or ts i (pos 0)) (omega (arith, ints)) in
-    let value : cell ≡ cell_part (get_or row i no_weights) (get_or ts i (pos 0)) d = rw read at is in
-    let here = pair-at row i no_weights h positive in
-    let low = cell_part-positive (get_or row i no_weights) (get_or ts i (pos 0)) d here in
-    let more = shared_gain-more row ts d i no_weights h e in
-    let most = shared_gain-most row ts d positive in
-    let rest = shared_gain-positive (drop (i + 1) row) (drop (i + 1) ts) d (positive-drop (i + 1) row positive) in
-    record {
-      sum = omega (arith, ints, before.0);
-      low = omega (arith, ints);
-      high = omega (arith, ints, before.0, before.1);
-    }
+    let value : cell ≡ cell_part (get_or row i no_pair) (get_or ts i (pos 0)) d = rw read at is in
+    let here = pair-at row i no_pair h fits.positive in
+    let low : pos 0 ≤ℤ cell = rw value (cell_part-positive (get_or row i no_pair) (get_or ts i (pos 0)) d here) in
+    let left : shared_gain (drop i row) (drop i ts) d ≡ cell +ℤ shared_gain (drop (i + 1) row) (drop (i + 1) ts) d = rw value (shared_gain-more row ts d i no_pair h fits.entries) in
+    sum-grows (shared_gain row ts d) (shared_gain (drop i row) (drop i ts) d) cell (shared_gain (drop (i + 1) row) (drop (i + 1) ts) d) total left low
+    (shared_gain-positive (drop (i + 1) row) (drop (i + 1) ts) d (all-drop pair_is_positive (i + 1) row fits.positive)) (omega (arith, ints, shared_gain-most row ts d fits.positive)) before
 
 pub gain-done : (row : List PairWeights) (ts : List ℤ) (d i : ℕ) (total : ℤ) → length row ≤ i →
     total +ℤ shared_gain (drop i row) (drop i ts) d ≡ shared_gain row ts d → total ≡ shared_gain row ts d
 gain-done row ts d i total h before =
-    let none : drop i row ≡ [] = drop_all i row h in
-    let left : total +ℤ pos 0 ≡ shared_gain row ts d = rw none at before in
-    omega (arith, ints)
+    sum-done (shared_gain row ts d) (shared_gain (drop i row) (drop i ts) d) total (ap (λ ps. shared_gain ps (drop i ts) d) (drop_all i row h)) before
 
 -- the unit weights of a variable
 
 pub unit-at : (us : List UnitWeights) (i : ℕ) (u : UnitWeights) → i < length us → IsTrue (units_are_positive us) → UnitIsPositive (get_or us i u)
-unit-at [] i u h g = absurd (omega arith)
-unit-at (v ∷ us) zero u h g = unit-positive v (and-left _ _ g)
-unit-at (v ∷ us) (suc i) u h g = unit-at us i u (omega arith) (and-right (unit_is_positive v) _ g)
+unit-at us i u h g = unit-positive (get_or us i u) (all-at unit_is_positive us i u h g)
 
 pub unit_total-at : (us : List UnitWeights) (i : ℕ) (u : UnitWeights) → i < length us → IsTrue (units_are_positive us) → unit_total (get_or us i u) ≤ℤ units_total us
-unit_total-at [] i u h g = absurd (omega arith)
-unit_total-at (v ∷ us) zero u h g = omega (arith, ints, units_total-positive us (and-right (unit_is_positive v) _ g))
-unit_total-at (v ∷ us) (suc i) u h g =
-    let here = unit-positive v (and-left _ _ g) in
-    omega (arith, ints, unit_total-at us i u (omega arith) (and-right (unit_is_positive v) _ g))
+unit_total-at us i u h g = total_by-at unit_total unit_is_positive unit_total-low us i u h g
 
 pub lesser_units-more : (us : List UnitWeights) (i : ℕ) (u : UnitWeights) → i < length us →
     lesser_units (drop i us) ≡ int_min (get_or us i u).positive (get_or us i u).negative +ℤ lesser_units (drop (i + 1) us)
 lesser_units-more us i u h = ap lesser_units (drop_more us i u h)
 
-pub units-positive-drop : (m : ℕ) (us : List UnitWeights) → IsTrue (units_are_positive us) → IsTrue (units_are_positive (drop m us))
-units-positive-drop zero us h = h
-units-positive-drop (suc m) [] h = refl
-units-positive-drop (suc m) (u ∷ us) h = units-positive-drop m us (and-right (unit_is_positive u) _ h)
-
--- an entry without weight
-abbrev pub no_unit : UnitWeights
-no_unit = record { positive = pos 0; negative = pos 0 }
-
-pub record LesserGrows (us : List UnitWeights) (i : ℕ) (total cell : ℤ) : Type 0 where
-  pub sum : (total +ℤ cell) +ℤ lesser_units (drop (i + 1) us) ≡ lesser_units us
-  pub low : pos 0 ≤ℤ cell
-  pub high : (total +ℤ cell) ≤ℤ pos (2 ^ 48)
-
 pub lesser-grows : (us : List UnitWeights) (i : ℕ) (total cell : ℤ) → i < length us → IsTrue (units_are_positive us) → units_total us ≤ℤ pos (2 ^ 48) →
     cell ≡ int_min (to_z w64 (of_z w64 (get_or us i no_unit).positive)) (to_z w64 (of_z w64 (get_or us i no_unit).negative)) →
-    (total +ℤ lesser_units (drop i us) ≡ lesser_units us) × (pos 0 ≤ℤ total) → LesserGrows us i total cell
+    (total +ℤ lesser_units (drop i us) ≡ lesser_units us) × (pos 0 ≤ℤ total) →
+    SumGrows (lesser_units us) (lesser_units (drop (i + 1) us)) total cell
 lesser-grows us i total cell h positive weight is before =
     let here = unit-at us i no_unit h positive in
     let most = unit_total-at us i no_unit h positive in
     let p : to_z w64 (of_z w64 (get_or us i no_unit).positive) ≡ (get_or us i no_unit).positive = omega (arith, ints) in
     let q : to_z w64 (of_z w64 (get_or us i no_unit).negative) ≡ (get_or us i no_unit).negative = omega (arith, ints) in
     let value : cell ≡ int_min (get_or us i no_unit).positive (get_or us i no_unit).negative = rw (p, q) at is in
-    let more = lesser_units-more us i no_unit h in
-    let all = lesser_units-most us positive in
-    let rest = lesser_units-positive (drop (i + 1) us) (units-positive-drop (i + 1) us positive) in
-    record {
-      sum = omega (arith, ints, before.0);
-      low = omega (arith, ints, clamps);
-      high = omega (arith, ints, before.0, before.1);
-    }
+    let left : lesser_units (drop i us) ≡ cell +ℤ lesser_units (drop (i + 1) us) = rw value (lesser_units-more us i no_unit h) in
+    sum-grows (lesser_units us) (lesser_units (drop i us)) cell (lesser_units (drop (i + 1) us)) total left (omega (arith, ints, clamps))
+    (lesser_units-positive (drop (i + 1) us) (all-drop unit_is_positive (i + 1) us positive)) (omega (arith, ints, lesser_units-most us positive)) before
 
 pub lesser-done : (us : List UnitWeights) (i : ℕ) (total : ℤ) → length us ≤ i → total +ℤ lesser_units (drop i us) ≡ lesser_units us → total ≡ lesser_units us
 lesser-done us i total h before =
-    let none : drop i us ≡ [] = drop_all i us h in
-    let left : total +ℤ pos 0 ≡ lesser_units us = rw none at before in
-    omega (arith, ints)
+    sum-done (lesser_units us) (lesser_units (drop i us)) total (ap lesser_units (drop_all i us h)) before
 
 -- the sum of the parts is read as it is
 pub record CellAdds (p : PairWeights) (t : ℤ) (d : ℕ) (settled_part lesser : ℤ) : Type 0 where
@@ -239,23 +191,22 @@ pub record GainAdds (row : List PairWeights) (s : List ℤ) (k d : ℕ) (side sh
   pub shared_low : pos 0 ≤ℤ shared
   pub shared_high : shared ≤ℤ pos (2 ^ 49)
 
-pub gain-adds : (row : List PairWeights) (s : List ℤ) (k d : ℕ) (side shared : ℤ) → length row + suc k ≡ length s →
-    IsTrue (pairs_are_positive row) → pairs_total row ≤ℤ pos (2 ^ 48) → rank_of (drop k s) ≤ℤ pos (2 ^ 48) →
+pub gain-adds : (row : List PairWeights) (s : List ℤ) (k d : ℕ) (side shared : ℤ) → FitsState row k s →
     side ≡ gain_of (to_z w64 (of_z w64 (get_or s k (pos 0)))) d → shared ≡ shared_gain row (drop (k + 1) s) d → GainAdds row s k d side shared
-gain-adds row s k d side shared e positive weight rank side_is shared_is =
+gain-adds row s k d side shared fits side_is shared_is =
     let below : k < length s = omega arith in
     let t : ℤ = get_or s k (pos 0) in
     let ts : List ℤ = drop (k + 1) s in
     let cut : drop k s ≡ t ∷ ts = drop_more s k (pos 0) below in
     let sizes : rank_of (drop k s) ≡ size_of t +ℤ rank_of ts = ap rank_of cut in
     let whole : row_gain row (drop k s) d ≡ gain_of t d +ℤ shared_gain row ts d = ap (λ us. row_gain row us d) cut in
-    let here : side ≡ gain_of t d = rw ((benefit-read s k below rank).read) at side_is in
+    let here : side ≡ gain_of t d = rw ((benefit-read s k below fits.rank).read) at side_is in
     let rest = rank_of-positive ts in
     let size = size_of-positive t in
     let low = gain_of-positive t d in
     let high = gain_of-most t d in
-    let shared_least = shared_gain-positive row ts d positive in
-    let shared_greatest = shared_gain-most row ts d positive in
+    let shared_least = shared_gain-positive row ts d fits.positive in
+    let shared_greatest = shared_gain-most row ts d fits.positive in
     record {
       sum = omega (arith, ints);
       side_low = omega (arith, ints);

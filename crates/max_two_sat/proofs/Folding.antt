@@ -1,19 +1,19 @@
 -- The clauses of a canonical text, added one after another, make the instance.
 use Rattle.std.proofs.Common.{◌≡◌, ℕ, zero, suc, ◌+◌, ◌<◌, ℤ, pos, ◌+ℤ◌, ◌≤ℤ◌, Bool, true, false, List, [], ◌∷◌, ◌++◌, length, get_or, set, take, drop, refl, arith, ap, sym, ◌∙◌, append_assoc}
-use Rattle.std.specs.Prelude.{IsTrue, fold, int_lt, if◌then◌else◌}
+use Rattle.std.specs.Prelude.{IsTrue, fold, int_lt, replicate, if◌then◌else◌}
 use Rattle.std.proofs.lemmas.Int.{ints}
-use Rattle.std.proofs.lemmas.List.{length-append, length-drop, length-take-le, take-append-drop}
+use Rattle.std.proofs.lemmas.List.{length-append, length-drop, length-take-le, replicate-append-replicate, take-append-drop}
 use Rattle.std.proofs.lemmas.List.Sums.{fold-append}
 use Rattle.max_two_sat.specs.declared.clause.Literals.{Literals}
 use Rattle.max_two_sat.specs.declared.clause.Literals.TheVariants.{One, Two}
 use Rattle.max_two_sat.specs.declared.weights.UnitWeights.{UnitWeights}
 use Rattle.max_two_sat.specs.declared.weights.PairWeights.{PairWeights}
-use Rattle.max_two_sat.specs.Clauses.{copies_of, empty_instance, heavier_unit, heavier_pair, no_unit, no_pair, place_of_pair, with_clause}
-use Rattle.max_two_sat.specs.Instance.{Instance, rows_of, pair_count}
+use Rattle.max_two_sat.specs.Clauses.{empty_instance, heavier_unit, heavier_pair, place_of_pair, with_clause}
+use Rattle.max_two_sat.specs.Instance.{Instance, rows_of, pair_count, no_pair, no_unit}
 use Rattle.max_two_sat.specs.Kept.{IsKept, PairIsPositive, UnitIsPositive, pairs_are_positive, units_are_positive, pair_is_positive, unit_is_positive, unit-positive, pair-positive, and-left, and-right}
 use Rattle.max_two_sat.specs.Lines.{Clause, clause_where, clauses_of, literal, tautology_lines, unit_lines, units_lines, pair_lines, row_lines, rows_lines}
 use Rattle.max_two_sat.specs.Table.{entries_before, entries_before-more}
-use Rattle.max_two_sat.specs.Totals.{positive-take, positive-drop}
+use Rattle.max_two_sat.specs.Totals.{all-drop, all-take}
 use Rattle.max_two_sat.proofs.Gathering.{two-in-order}
 
 abbrev pub add_to : Instance → Clause → Instance
@@ -76,17 +76,17 @@ unit-lines-added t done more u ps here =
     (unit-added t done more (heavier_unit no_unit true u.positive) ps false u.negative here.negative ∙ ap (λ v. instance_with t (done ++ v ∷ more) ps) (unit-made u)))
 
 units-added : (us : List UnitWeights) (t : ℤ) (done : List UnitWeights) (ps : List PairWeights) → IsTrue (units_are_positive us) →
-    fold add_to (instance_with t (done ++ copies_of no_unit (length us)) ps) (units_lines (length done) us) ≡ instance_with t (done ++ us) ps
+    fold add_to (instance_with t (done ++ replicate (length us) no_unit) ps) (units_lines (length done) us) ≡ instance_with t (done ++ us) ps
 units-added [] t done ps h = refl
 units-added (u ∷ us) t done ps h =
     let v : ℕ = length done in
     let next : length (done ++ u ∷ []) ≡ v + 1 = length-append done (u ∷ []) in
     let rest = units-added us t (done ++ u ∷ []) ps (and-right (unit_is_positive u) _ h) in
-    let turned : instance_with t (done ++ u ∷ copies_of no_unit (length us)) ps ≡ instance_with t ((done ++ u ∷ []) ++ copies_of no_unit (length us)) ps =
-    ap (λ xs. instance_with t xs ps) (sym (append_assoc done (u ∷ []) (copies_of no_unit (length us)))) in
-    fold-append add_to (instance_with t (done ++ no_unit ∷ copies_of no_unit (length us)) ps) (unit_lines v u) (units_lines (v + 1) us) ∙
-    (ap (λ i. fold add_to i (units_lines (v + 1) us)) (unit-lines-added t done (copies_of no_unit (length us)) u ps (unit-positive u (and-left _ _ h)) ∙ turned) ∙
-    (ap (λ m. fold add_to (instance_with t ((done ++ u ∷ []) ++ copies_of no_unit (length us)) ps) (units_lines m us)) (sym next) ∙
+    let turned : instance_with t (done ++ u ∷ replicate (length us) no_unit) ps ≡ instance_with t ((done ++ u ∷ []) ++ replicate (length us) no_unit) ps =
+    ap (λ xs. instance_with t xs ps) (sym (append_assoc done (u ∷ []) (replicate (length us) no_unit))) in
+    fold-append add_to (instance_with t (done ++ no_unit ∷ replicate (length us) no_unit) ps) (unit_lines v u) (units_lines (v + 1) us) ∙
+    (ap (λ i. fold add_to i (units_lines (v + 1) us)) (unit-lines-added t done (replicate (length us) no_unit) u ps (unit-positive u (and-left _ _ h)) ∙ turned) ∙
+    (ap (λ m. fold add_to (instance_with t ((done ++ u ∷ []) ++ replicate (length us) no_unit) ps) (units_lines m us)) (sym next) ∙
     (rest ∙ ap (λ xs. instance_with t xs ps) (append_assoc done (u ∷ []) us))))
 
 -- pairs
@@ -136,10 +136,10 @@ pair-lines-added t us done more p i j here less place =
     (pair-added t us done more three i j false false p.neither here.neither less place ∙ ap (λ q. instance_with t us (done ++ q ∷ more)) (pair-made p)))))
 
 row-added : (ps : List PairWeights) (t : ℤ) (us : List UnitWeights) (done more : List PairWeights) (i j : ℕ) → IsTrue (pairs_are_positive ps) → i < j → place_of_pair (length us) i j ≡ length done →
-    fold add_to (instance_with t us (done ++ (copies_of no_pair (length ps) ++ more))) (row_lines i j ps) ≡ instance_with t us (done ++ (ps ++ more))
+    fold add_to (instance_with t us (done ++ (replicate (length ps) no_pair ++ more))) (row_lines i j ps) ≡ instance_with t us (done ++ (ps ++ more))
 row-added [] t us done more i j h less place = refl
 row-added (p ∷ ps) t us done more i j h less place =
-    let rest : List PairWeights = copies_of no_pair (length ps) ++ more in
+    let rest : List PairWeights = replicate (length ps) no_pair ++ more in
     let next : place_of_pair (length us) i (j + 1) ≡ length (done ++ p ∷ []) = omega (arith, length-append done (p ∷ [])) in
     let turned : instance_with t us (done ++ p ∷ rest) ≡ instance_with t us ((done ++ p ∷ []) ++ rest) = ap (λ xs. instance_with t us xs) (sym (append_assoc done (p ∷ []) rest)) in
     fold-append add_to (instance_with t us (done ++ no_pair ∷ rest)) (pair_lines i j p) (row_lines i (j + 1) ps) ∙
@@ -147,12 +147,8 @@ row-added (p ∷ ps) t us done more i j h less place =
     (row-added ps t us (done ++ p ∷ []) more i (j + 1) (and-right (pair_is_positive p) _ h) (omega arith) next ∙
     ap (λ xs. instance_with t us xs) (append_assoc done (p ∷ []) (ps ++ more))))
 
-copies-split : {X : Type 0} (x : X) (m n : ℕ) → copies_of x (m + n) ≡ copies_of x m ++ copies_of x n
-copies-split x zero n = ap (copies_of x) (let e : zero + n ≡ n = omega arith in e)
-copies-split x (suc m) n = ap (copies_of x) (let e : suc m + n ≡ suc (m + n) = omega arith in e) ∙ ap (λ xs. x ∷ xs) (copies-split x m n)
-
 rows-added : (m : ℕ) (ps : List PairWeights) (t : ℤ) (us : List UnitWeights) (done : List PairWeights) (i : ℕ) → IsTrue (pairs_are_positive ps) → length ps ≡ pair_count m → i + m ≡ length us → entries_before (length us) i ≡ length done →
-    fold add_to (instance_with t us (done ++ copies_of no_pair (length ps))) (rows_lines i (rows_of m ps)) ≡ instance_with t us (done ++ ps)
+    fold add_to (instance_with t us (done ++ replicate (length ps) no_pair)) (rows_lines i (rows_of m ps)) ≡ instance_with t us (done ++ ps)
 rows-added zero [] t us done i h whole ends place = refl
 rows-added zero (p ∷ ps) t us done i h whole ends place = absurd (omega arith)
 rows-added (suc m) ps t us done i h whole ends place =
@@ -160,17 +156,17 @@ rows-added (suc m) ps t us done i h whole ends place =
     let below : List PairWeights = drop m ps in
     let short : length row ≡ m = length-take-le m ps (omega arith) in
     let left = length-drop m ps in
-    let parts : copies_of no_pair (length ps) ≡ copies_of no_pair (length row) ++ copies_of no_pair (length below) =
-    ap (copies_of no_pair) (let e : length ps ≡ length row + length below = omega arith in e) ∙ copies-split no_pair (length row) (length below) in
+    let parts : replicate (length ps) no_pair ≡ replicate (length row) no_pair ++ replicate (length below) no_pair =
+    ap (λ m. replicate m no_pair) (let e : length ps ≡ length row + length below = omega arith in e) ∙ sym (replicate-append-replicate (length row) (length below) no_pair) in
     let first : place_of_pair (length us) i (i + 1) ≡ length done = omega arith in
     let next : entries_before (length us) (i + 1) ≡ length (done ++ row) =
     ap (entries_before (length us)) (let e : i + 1 ≡ suc i = omega arith in e) ∙ (let e : entries_before (length us) (suc i) ≡ length (done ++ row) = omega (arith, entries_before-more (length us) i (omega arith), length-append done row) in e) in
     ap (λ xs. fold add_to (instance_with t us (done ++ xs)) (row_lines i (i + 1) row ++ rows_lines (i + 1) (rows_of m below))) parts ∙
-    (fold-append add_to (instance_with t us (done ++ (copies_of no_pair (length row) ++ copies_of no_pair (length below)))) (row_lines i (i + 1) row) (rows_lines (i + 1) (rows_of m below)) ∙
+    (fold-append add_to (instance_with t us (done ++ (replicate (length row) no_pair ++ replicate (length below) no_pair))) (row_lines i (i + 1) row) (rows_lines (i + 1) (rows_of m below)) ∙
     (ap (λ x. fold add_to x (rows_lines (i + 1) (rows_of m below)))
-    (row-added row t us done (copies_of no_pair (length below)) i (i + 1) (positive-take m ps h) (omega arith) first ∙
-    ap (λ xs. instance_with t us xs) (sym (append_assoc done row (copies_of no_pair (length below))))) ∙
-    (rows-added m below t us (done ++ row) (i + 1) (positive-drop m ps h) (omega arith) (omega arith) next ∙
+    (row-added row t us done (replicate (length below) no_pair) i (i + 1) (all-take pair_is_positive m ps h) (omega arith) first ∙
+    ap (λ xs. instance_with t us xs) (sym (append_assoc done row (replicate (length below) no_pair)))) ∙
+    (rows-added m below t us (done ++ row) (i + 1) (all-drop pair_is_positive m ps h) (omega arith) (omega arith) next ∙
     ap (λ xs. instance_with t us xs) (append_assoc done row below ∙ ap (λ xs. done ++ xs) (take-append-drop m ps)))))
 
 tautology-added : (t : ℤ) (us : List UnitWeights) (ps : List PairWeights) → pos 0 ≤ℤ t → fold add_to (instance_with (pos 0) us ps) (tautology_lines t) ≡ instance_with t us ps
@@ -184,9 +180,9 @@ pub clauses-added : (i : Instance) → IsKept i → fold add_to (empty_instance 
 unfolding clauses_of
 clauses-added i kept =
     let n : ℕ = length i.units in
-    let us : List UnitWeights = copies_of no_unit n in
-    let ps : List PairWeights = copies_of no_pair (length i.pairs) in
-    let count : copies_of no_pair (pair_count n) ≡ ps = ap (copies_of no_pair) (sym kept.whole) in
+    let us : List UnitWeights = replicate n no_unit in
+    let ps : List PairWeights = replicate (length i.pairs) no_pair in
+    let count : replicate (pair_count n) no_pair ≡ ps = ap (λ m. replicate m no_pair) (sym kept.whole) in
     let u : List Clause = units_lines 0 i.units in
     let r : List Clause = rows_lines 0 (rows_of n i.pairs) in
     ap (λ xs. fold add_to (instance_with (pos 0) us xs) (tautology_lines i.tautologies ++ (u ++ r))) count ∙

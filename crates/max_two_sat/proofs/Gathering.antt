@@ -1,9 +1,10 @@
 -- What a clause more keeps.
-use Rattle.std.proofs.Common.{◌≡◌, ℕ, zero, suc, ◌+◌, ◌^◌, ◌<◌, ◌≤◌, ℤ, pos, ◌+ℤ◌, ◌≤ℤ◌, Bool, true, false, List, [], ◌∷◌, ◌++◌, length, get_or, set, refl, arith, ap, sym, ◌∙◌, eq-eqb}
-use Rattle.std.specs.Prelude.{IsTrue, ◌==◌, nat_lt, int_lt, if◌then◌else◌}
+use Rattle.std.proofs.Common.{◌≡◌, ℕ, zero, suc, ◌+◌, ◌^◌, ◌<◌, ◌≤◌, ℤ, pos, ◌+ℤ◌, ◌≤ℤ◌, Bool, true, false, List, [], ◌∷◌, length, get_or, set, refl, arith, ap, sym, ◌∙◌, eq-eqb}
+use Rattle.std.specs.Prelude.{IsTrue, ◌==◌, nat_lt, int_lt, replicate, if◌then◌else◌}
+use Rattle.std.specs.List.{list_all}
 use Rattle.std.proofs.lemmas.Bool.Decides.{nat_tests}
 use Rattle.std.proofs.lemmas.Int.{ints}
-use Rattle.std.proofs.lemmas.List.{length-set}
+use Rattle.std.proofs.lemmas.List.{length-replicate, length-set}
 use Rattle.max_two_sat.specs.declared.clause.Literal.{Literal}
 use Rattle.max_two_sat.specs.declared.clause.Literals.{Literals}
 use Rattle.max_two_sat.specs.declared.clause.Literals.TheVariants.{Empty, One, Two}
@@ -11,23 +12,14 @@ use Rattle.max_two_sat.specs.declared.header.Form.{Form}
 use Rattle.max_two_sat.specs.declared.header.Form.TheVariants.{Plain, Weighted}
 use Rattle.max_two_sat.specs.declared.weights.UnitWeights.{UnitWeights}
 use Rattle.max_two_sat.specs.declared.weights.PairWeights.{PairWeights}
-use Rattle.max_two_sat.specs.Clauses.{FitsLiteral, FitsLiterals, Gathered, copies_of, gathered_with, nothing_gathered, heavier_unit, heavier_pair, no_unit, no_pair, place_of_pair, same_sign, with_clause, with_two, with_pair, with_tautology, with_unit}
-use Rattle.max_two_sat.specs.Instance.{Instance, pair_count, unit_total, pair_total, units_total, pairs_total}
+use Rattle.max_two_sat.specs.Clauses.{FitsLiteral, FitsLiterals, Gathered, gathered_with, nothing_gathered, heavier_unit, heavier_pair, place_of_pair, same_sign, with_clause, with_two, with_pair, with_tautology, with_unit}
+use Rattle.max_two_sat.specs.Instance.{Instance, pair_count, unit_total, pair_total, units_total, pairs_total, total_by, no_pair, no_unit}
 use Rattle.max_two_sat.specs.Kept.{PairIsPositive, UnitIsPositive, pairs_are_positive, units_are_positive, pair_is_positive, unit_is_positive, and-left, and-right, and-both, is-le}
-use Rattle.max_two_sat.specs.Lines.{line_count, weighs, units_weighing, pairs_weighing}
+use Rattle.max_two_sat.specs.Lines.{line_count, lines_by, pair_weighing, unit_weighing, weighs}
 use Rattle.max_two_sat.specs.Room.{FormGives, FormKeeps, HasRoom, IsGathered}
 use Rattle.max_two_sat.specs.Table.{entries_before, entries_before-more, entries_before-most}
 use Rattle.max_two_sat.specs.Totals.{units_total-positive, pairs_total-positive}
 use Rattle.max_two_sat.proofs.Cells.{pair-at, unit-at}
-
--- so many of one value
-
-pub copies-more : {X : Type 0} (x : X) (n : ℕ) → copies_of x n ++ x ∷ [] ≡ copies_of x (n + 1)
-copies-more x n = copies-behind x n ∙ ap (copies_of x) (let e : suc n ≡ n + 1 = omega arith in e)
-  where
-    copies-behind : {X : Type 0} (x : X) (n : ℕ) → copies_of x n ++ x ∷ [] ≡ copies_of x (suc n)
-    copies-behind x zero = refl
-    copies-behind x (suc n) = ap (λ xs. x ∷ xs) (copies-behind x n)
 
 pub entries_before-all : (n : ℕ) → entries_before n n ≡ pair_count n
 entries_before-all zero = refl
@@ -37,47 +29,48 @@ entries_before-all (suc n) = ap (λ m. n + m) (entries_before-all n)
 pub place-inside : (n i j : ℕ) → i < j → j < n → place_of_pair n i j < pair_count n
 place-inside n i j h g = omega (arith, entries_before-more n i (omega arith), entries_before-most n (suc i))
 
--- one entry replaced
+-- what is known of a clause for which there is room
+pub record RoomLeaves (i : Instance) (weight : ℤ) : Type 0 where
+  pub low : pos 0 ≤ℤ weight
+  pub high : weight ≤ℤ pos (2 ^ 48)
+  pub tautologies_low : pos 0 ≤ℤ i.tautologies
+  pub tautologies : (i.tautologies +ℤ weight) ≤ℤ pos (2 ^ 48)
+  pub units : (units_total i.units +ℤ weight) ≤ℤ pos (2 ^ 48)
+  pub pairs : (pairs_total i.pairs +ℤ weight) ≤ℤ pos (2 ^ 48)
 
-pub record UnitPut (us : List UnitWeights) (k : ℕ) (u : UnitWeights) : Type 0 where
-  pub weight : units_total (set us k u) +ℤ unit_total (get_or us k no_unit) ≡ units_total us +ℤ unit_total u
-  pub lines : units_weighing (set us k u) + (weighs (get_or us k no_unit).positive + weighs (get_or us k no_unit).negative) ≡ units_weighing us + (weighs u.positive + weighs u.negative)
-  pub positive : IsTrue (units_are_positive us) → IsTrue (unit_is_positive u) → IsTrue (units_are_positive (set us k u))
-
-pub unit-put : (us : List UnitWeights) (k : ℕ) (u : UnitWeights) → k < length us → UnitPut us k u
-unit-put [] k u h = absurd (omega arith)
-unit-put (v ∷ us) zero u h = record {
-  weight = omega (arith, ints);
-  lines = omega arith;
-  positive = λ all one. and-both (unit_is_positive u) _ one (and-right (unit_is_positive v) _ all);
-}
-unit-put (v ∷ us) (suc k) u h =
-    let rest : UnitPut us k u = unit-put us k u (omega arith) in
+pub room-leaves : (i : Instance) (weight : ℤ) → HasRoom i weight → RoomLeaves i weight
+room-leaves i weight room =
+    let units = units_total-positive i.units room.units in
+    let pairs = pairs_total-positive i.pairs room.pairs in
     record {
-      weight = omega (arith, ints, rest.weight);
-      lines = omega (arith, rest.lines);
-      positive = λ all one. and-both (unit_is_positive v) _ (and-left _ _ all) (rest.positive (and-right (unit_is_positive v) _ all) one);
+      low = room.low;
+      high = omega (arith, ints, room.total, room.tautologies, room.low);
+      tautologies_low = room.tautologies;
+      tautologies = omega (arith, ints, room.total, room.tautologies, room.low);
+      units = omega (arith, ints, room.total, room.tautologies, room.low);
+      pairs = omega (arith, ints, room.total, room.tautologies, room.low);
     }
 
-pub record PairPut (ps : List PairWeights) (k : ℕ) (p : PairWeights) : Type 0 where
-  pub weight : pairs_total (set ps k p) +ℤ pair_total (get_or ps k no_pair) ≡ pairs_total ps +ℤ pair_total p
-  pub lines : pairs_weighing (set ps k p) + ((weighs (get_or ps k no_pair).both + weighs (get_or ps k no_pair).first) + (weighs (get_or ps k no_pair).second + weighs (get_or ps k no_pair).neither))
-      ≡ pairs_weighing ps + ((weighs p.both + weighs p.first) + (weighs p.second + weighs p.neither))
-  pub positive : IsTrue (pairs_are_positive ps) → IsTrue (pair_is_positive p) → IsTrue (pairs_are_positive (set ps k p))
+-- one entry replaced
 
-pub pair-put : (ps : List PairWeights) (k : ℕ) (p : PairWeights) → k < length ps → PairPut ps k p
-pair-put [] k p h = absurd (omega arith)
-pair-put (q ∷ ps) zero p h = record {
+pub record EntryPut (X : Type 0) (number : X → ℤ) (count : X → ℕ) (test : X → Bool) (xs : List X) (k : ℕ) (x none : X) : Type 0 where
+  pub weight : total_by number (set xs k x) +ℤ number (get_or xs k none) ≡ total_by number xs +ℤ number x
+  pub lines : lines_by count (set xs k x) + count (get_or xs k none) ≡ lines_by count xs + count x
+  pub positive : IsTrue (list_all test xs) → IsTrue (test x) → IsTrue (list_all test (set xs k x))
+
+pub entry-put : {X : Type 0} (number : X → ℤ) (count : X → ℕ) (test : X → Bool) (xs : List X) (k : ℕ) (x none : X) → k < length xs → EntryPut X number count test xs k x none
+entry-put number count test [] k x none h = absurd (omega arith)
+entry-put number count test (y ∷ xs) zero x none h = record {
   weight = omega (arith, ints);
   lines = omega arith;
-  positive = λ all one. and-both (pair_is_positive p) _ one (and-right (pair_is_positive q) _ all);
+  positive = λ all one. and-both (test x) _ one (and-right (test y) _ all);
 }
-pair-put (q ∷ ps) (suc k) p h =
-    let rest : PairPut ps k p = pair-put ps k p (omega arith) in
+entry-put number count test (y ∷ xs) (suc k) x none h =
+    let rest = entry-put number count test xs k x none (omega arith) in
     record {
       weight = omega (arith, ints, rest.weight);
       lines = omega (arith, rest.lines);
-      positive = λ all one. and-both (pair_is_positive q) _ (and-left _ _ all) (rest.positive (and-right (pair_is_positive q) _ all) one);
+      positive = λ all one. and-both (test y) _ (and-left _ _ all) (rest.positive (and-right (test y) _ all) one);
     }
 
 -- a weight is above zero or not
@@ -91,7 +84,7 @@ heavier_unit-total u true w = omega (arith, ints)
 heavier_unit-total u false w = omega (arith, ints)
 
 pub heavier_unit-lines : (u : UnitWeights) (sign : Bool) (w : ℤ) →
-    weighs (heavier_unit u sign w).positive + weighs (heavier_unit u sign w).negative ≤ (weighs u.positive + weighs u.negative) + 1
+    unit_weighing (heavier_unit u sign w) ≤ unit_weighing u + 1
 heavier_unit-lines u true w = omega (arith, weighs-most (u.positive +ℤ w))
 heavier_unit-lines u false w = omega (arith, weighs-most (u.negative +ℤ w))
 
@@ -106,8 +99,7 @@ heavier_pair-total p false true w = omega (arith, ints)
 heavier_pair-total p false false w = omega (arith, ints)
 
 pub heavier_pair-lines : (p : PairWeights) (s t : Bool) (w : ℤ) →
-    (weighs (heavier_pair p s t w).both + weighs (heavier_pair p s t w).first) + (weighs (heavier_pair p s t w).second + weighs (heavier_pair p s t w).neither)
-    ≤ ((weighs p.both + weighs p.first) + (weighs p.second + weighs p.neither)) + 1
+    pair_weighing (heavier_pair p s t w) ≤ pair_weighing p + 1
 heavier_pair-lines p true true w = omega (arith, weighs-most (p.both +ℤ w))
 heavier_pair-lines p true false w = omega (arith, weighs-most (p.first +ℤ w))
 heavier_pair-lines p false true w = omega (arith, weighs-most (p.second +ℤ w))
@@ -137,7 +129,7 @@ keeps-unit : (i : Instance) (w : ℤ) (a : Literal) → HasRoom i w → weighs i
 keeps-unit i w a room some fits =
     let old : UnitWeights = get_or i.units a.variable no_unit in
     let there = unit-at i.units a.variable no_unit fits room.units in
-    let put : UnitPut i.units a.variable (heavier_unit old a.positive w) = unit-put i.units a.variable (heavier_unit old a.positive w) fits in
+    let put = entry-put unit_total unit_weighing unit_is_positive i.units a.variable (heavier_unit old a.positive w) no_unit fits in
     let count = length-set {A = UnitWeights} i.units a.variable (heavier_unit old a.positive w) in
     record {
       units_count = count;
@@ -156,7 +148,7 @@ keeps-pair i w a b room some less fits =
     let inside : place < length i.pairs = omega (arith, place-inside (length i.units) a.variable b.variable less fits, room.whole) in
     let old : PairWeights = get_or i.pairs place no_pair in
     let there = pair-at i.pairs place no_pair inside room.pairs in
-    let put : PairPut i.pairs place (heavier_pair old a.positive b.positive w) = pair-put i.pairs place (heavier_pair old a.positive b.positive w) inside in
+    let put = entry-put pair_total pair_weighing pair_is_positive i.pairs place (heavier_pair old a.positive b.positive w) no_pair inside in
     record {
       units_count = refl;
       pairs_count = length-set {A = PairWeights} i.pairs place (heavier_pair old a.positive b.positive w);
@@ -261,44 +253,28 @@ form-more (Weighted top) g w literals keep gives = tt
 
 -- nothing is gathered at first
 
-units-none : (n : ℕ) → units_total (copies_of no_unit n) ≡ pos 0
-units-none zero = refl
-units-none (suc n) = omega (arith, ints, units-none n)
+total-none : {X : Type 0} (number : X → ℤ) (x : X) → number x ≡ pos 0 → (n : ℕ) → total_by number (replicate n x) ≡ pos 0
+total-none number x e zero = refl
+total-none number x e (suc n) = omega (arith, ints, total-none number x e n)
 
-pairs-none : (n : ℕ) → pairs_total (copies_of no_pair n) ≡ pos 0
-pairs-none zero = refl
-pairs-none (suc n) = omega (arith, ints, pairs-none n)
+lines-none : {X : Type 0} (count : X → ℕ) (x : X) → count x ≡ 0 → (n : ℕ) → lines_by count (replicate n x) ≡ 0
+lines-none count x e zero = refl
+lines-none count x e (suc n) = omega (arith, lines-none count x e n)
 
-units-positive-none : (n : ℕ) → IsTrue (units_are_positive (copies_of no_unit n))
-units-positive-none zero = refl
-units-positive-none (suc n) = units-positive-none n
-
-pairs-positive-none : (n : ℕ) → IsTrue (pairs_are_positive (copies_of no_pair n))
-pairs-positive-none zero = refl
-pairs-positive-none (suc n) = pairs-positive-none n
-
-units-lines-none : (n : ℕ) → units_weighing (copies_of no_unit n) ≡ 0
-units-lines-none zero = refl
-units-lines-none (suc n) = omega (arith, units-lines-none n)
-
-pairs-lines-none : (n : ℕ) → pairs_weighing (copies_of no_pair n) ≡ 0
-pairs-lines-none zero = refl
-pairs-lines-none (suc n) = omega (arith, pairs-lines-none n)
-
-pub length-copies_of : {X : Type 0} (x : X) (n : ℕ) → length (copies_of x n) ≡ n
-length-copies_of x zero = refl
-length-copies_of x (suc n) = omega (arith, length-copies_of x n)
+all-none : {X : Type 0} (test : X → Bool) (x : X) → IsTrue (test x) → (n : ℕ) → IsTrue (list_all test (replicate n x))
+all-none test x e zero = refl
+all-none test x e (suc n) = and-both (test x) _ e (all-none test x e n)
 
 pub nothing-gathered : (n : ℕ) → n ≤ 1024 → IsGathered (nothing_gathered n)
 nothing-gathered n h = record {
-  variables = omega (arith, length-copies_of no_unit n);
-  whole = length-copies_of no_pair (pair_count n) ∙ ap pair_count (sym (length-copies_of no_unit n));
+  variables = omega (arith, length-replicate n no_unit);
+  whole = length-replicate (pair_count n) no_pair ∙ ap pair_count (sym (length-replicate n no_unit));
   tautologies = omega (arith, ints);
-  units = units-positive-none n;
-  pairs = pairs-positive-none (pair_count n);
-  weight = omega (arith, ints, units-none n, pairs-none (pair_count n));
+  units = all-none unit_is_positive no_unit refl n;
+  pairs = all-none pair_is_positive no_pair refl (pair_count n);
+  weight = omega (arith, ints, total-none unit_total no_unit refl n, total-none pair_total no_pair refl (pair_count n));
   total = omega (arith, ints);
-  lines = omega (arith, units-lines-none n, pairs-lines-none (pair_count n));
+  lines = omega (arith, lines-none unit_weighing no_unit refl n, lines-none pair_weighing no_pair refl (pair_count n));
   some = omega arith;
 }
 

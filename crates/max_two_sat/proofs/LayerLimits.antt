@@ -6,17 +6,17 @@ use Rattle.std.proofs.lemmas.List.{drop_more, drop_all, length-drop}
 use mir.Val.{SFits}
 use Rattle.max_two_sat.specs.declared.weights.UnitWeights.{UnitWeights}
 use Rattle.max_two_sat.specs.declared.weights.PairWeights.{PairWeights}
-use Rattle.max_two_sat.specs.Instance.{Instance, rows_of, row_at, unit_total, pair_total, pairs_total}
+use Rattle.max_two_sat.specs.Instance.{Instance, rows_of, row_at, unit_total, pair_total, pairs_total, no_pair, no_unit, without_tautologies}
 use Rattle.max_two_sat.specs.Kept.{IsKept, PairIsPositive, and-left, and-right, le-is, pairs_are_positive}
 use Rattle.max_two_sat.specs.Program.{raised, first_limits, limits_at, are_within, is_within, words_of}
 use Rattle.max_two_sat.specs.Rows.{length-row_at, words_of-some}
 use Rattle.max_two_sat.specs.SizeLaws.{later-positive}
 use Rattle.max_two_sat.specs.Totals.{limits, none_negative, sum_of, sum_of-positive}
-use Rattle.max_two_sat.proofs.Cells.{no_unit, no_weights, pair-at, pair_total-at}
+use Rattle.max_two_sat.proofs.Cells.{pair-at, pair_total-at}
 use Rattle.max_two_sat.proofs.Layers.{RowHas, row-has}
 
 get_or-raised : (ps : List PairWeights) (ls : List ℤ) (m : ℕ) → m < length ps → length ps ≡ length ls →
-    get_or (raised ps ls) m (pos 0) ≡ get_or ls m (pos 0) +ℤ pair_total (get_or ps m no_weights)
+    get_or (raised ps ls) m (pos 0) ≡ get_or ls m (pos 0) +ℤ pair_total (get_or ps m no_pair)
 get_or-raised [] ls m h e = absurd (omega arith)
 get_or-raised (p ∷ ps) [] m h e = absurd (omega arith)
 get_or-raised (p ∷ ps) (l ∷ ls) zero h e = refl
@@ -47,7 +47,7 @@ limit-none (u ∷ us) ps k m h g e = absurd (omega arith)
 -- behind a decision each limit is raised by the weight of the pair
 pub limit-more : (i : Instance) (j v : ℕ) → IsKept i → j < v → v < length i.units →
     get_or (limits_at i.units i.pairs (j + 1)) (v - (j + 1)) (pos 0) ≡
-    get_or (limits_at i.units i.pairs j) (v - j) (pos 0) +ℤ pair_total (get_or (row_at (rows_of (length i.units) i.pairs) j) (v - j - 1) no_weights)
+    get_or (limits_at i.units i.pairs j) (v - j) (pos 0) +ℤ pair_total (get_or (row_at (rows_of (length i.units) i.pairs) j) (v - j - 1) no_pair)
 limit-more i j v kept h g =
     let row : List PairWeights = row_at (rows_of (length i.units) i.pairs) j in
     let ls : List ℤ = limits_at i.units i.pairs j in
@@ -56,7 +56,7 @@ limit-more i j v kept h g =
     let count = (limits i j kept (omega arith)).count in
     let words = words_of-some (length i.units) j (omega arith) in
     let shorter = length-drop 1 ls in
-    let raise : get_or (raised row (drop 1 ls)) m (pos 0) ≡ get_or (drop 1 ls) m (pos 0) +ℤ pair_total (get_or row m no_weights) = get_or-raised row (drop 1 ls) m (omega arith) (omega arith) in
+    let raise : get_or (raised row (drop 1 ls)) m (pos 0) ≡ get_or (drop 1 ls) m (pos 0) +ℤ pair_total (get_or row m no_pair) = get_or-raised row (drop 1 ls) m (omega arith) (omega arith) in
     let one : j + 1 ≡ suc j = omega arith in
     let next : limits_at i.units i.pairs (j + 1) ≡ raised row (drop 1 ls) = ap (λ n. limits_at i.units i.pairs n) one in
     let place : v - (j + 1) ≡ m = omega arith in
@@ -97,7 +97,7 @@ pub within-done : (ts ls : List ℤ) (i : ℕ) → length ts ≤ i → are_withi
 within-done ts ls i h before = ap (λ us. are_within us (drop i ls)) (sym (drop_all i ts h)) ∙ before
 
 -- the tautologies are no matter for limits
-pub without-tautologies : (i : Instance) → IsKept i → IsKept (record { tautologies = pos 0; units = i.units; pairs = i.pairs })
+pub without-tautologies : (i : Instance) → IsKept i → IsKept (without_tautologies i.units i.pairs)
 without-tautologies i kept = record {
   variables = kept.variables;
   whole = kept.whole;
@@ -112,8 +112,8 @@ without-tautologies i kept = record {
 -- the entry of a variable before a layer with a later one
 pub record PairThere (row : List PairWeights) (at_index : ℕ) : Type 0 where
   pub inside : at_index < length row
-  pub positive : PairIsPositive (get_or row at_index no_weights)
-  pub weight : pair_total (get_or row at_index no_weights) ≤ℤ pos (2 ^ 48)
+  pub positive : PairIsPositive (get_or row at_index no_pair)
+  pub weight : pair_total (get_or row at_index no_pair) ≤ℤ pos (2 ^ 48)
 
 pub pair-there : (i : Instance) (j v : ℕ) (row : List PairWeights) → IsKept i → j < v → v < length i.units →
     row ≡ row_at (rows_of (length i.units) i.pairs) j → PairThere row (v - j - 1)
@@ -125,8 +125,8 @@ pair-there i j v row kept h g is =
     let inside : v - j - 1 < length row = omega (arith, ap length is) in
     record {
       inside = inside;
-      positive = pair-at row (v - j - 1) no_weights inside positive;
-      weight = omega (arith, ints, pair_total-at row (v - j - 1) no_weights inside positive);
+      positive = pair-at row (v - j - 1) no_pair inside positive;
+      weight = omega (arith, ints, pair_total-at row (v - j - 1) no_pair inside positive);
     }
 
 pub record LimitAdds (i : Instance) (j v : ℕ) (total weight : ℤ) : Type 0 where
@@ -138,11 +138,11 @@ pub record LimitAdds (i : Instance) (j v : ℕ) (total weight : ℤ) : Type 0 wh
 
 pub limit-adds : (i : Instance) (j v : ℕ) (row : List PairWeights) (total weight : ℤ) → IsKept i → j < v → v < length i.units →
     row ≡ row_at (rows_of (length i.units) i.pairs) j → total ≡ get_or (limits_at i.units i.pairs j) (v - j) (pos 0) →
-    weight ≡ pair_total (get_or row (v - j - 1) no_weights) → LimitAdds i j v total weight
+    weight ≡ pair_total (get_or row (v - j - 1) no_pair) → LimitAdds i j v total weight
 limit-adds i j v row total weight kept h g is total_is weight_is =
     let there = pair-there i j v row kept h g is in
     let positive = there.positive in
-    let there_weight : weight ≡ pair_total (get_or (row_at (rows_of (length i.units) i.pairs) j) (v - j - 1) no_weights) = weight_is ∙ ap (λ r. pair_total (get_or r (v - j - 1) no_weights)) is in
+    let there_weight : weight ≡ pair_total (get_or (row_at (rows_of (length i.units) i.pairs) j) (v - j - 1) no_pair) = weight_is ∙ ap (λ r. pair_total (get_or r (v - j - 1) no_pair)) is in
     let more = limit-more i j v kept h g in
     let before = limit-small i j (v - j) kept (omega arith) in
     let after = limit-small i (j + 1) (v - (j + 1)) kept (omega arith) in

@@ -8,6 +8,7 @@ use Rattle.dp_model.specs.Dp.{IsAllowed}
 use Rattle.dp_model.specs.Gaps.{IsStateOf}
 use Rattle.max_two_sat.specs.declared.weights.PairWeights.{PairWeights}
 use Rattle.max_two_sat.specs.Instance.{Instance, rows_of, row_at, pairs_total, units_total, rows_total}
+use Rattle.max_two_sat.specs.Fitting.{FitsState}
 use Rattle.max_two_sat.specs.InstanceNumbers.{instance_of, numbers_of, instance_of-numbers_of}
 use Rattle.max_two_sat.specs.Kept.{IsKept, pairs_are_positive}
 use Rattle.max_two_sat.specs.Program.{all_zero, are_within, is_state_of, limits_at, lesser_units, program_of, words_of}
@@ -67,6 +68,15 @@ same-test i k s layer test = record { layer = layer; test = rw instance_of-numbe
 
 pub same-allowed : (i : Instance) (k : ℕ) (s : List ℤ) (d : ℕ) → IsAllowed (program_of (instance_of (numbers_of i))) k s d → k < length i.units
 same-allowed i k s d allowed = (rw instance_of-numbers_of at allowed).layer
+
+-- the row of the layer's variable fits the state
+pub row-fits : (i : Instance) (k : ℕ) (s : List ℤ) (d : ℕ) → IsKept i → IsTrue ((program_of (instance_of (numbers_of i))).is_state k s) →
+    IsAllowed (program_of (instance_of (numbers_of i))) k s d → FitsState (row_at (rows_of (length i.units) i.pairs) k) k s
+row-fits i k s d kept test allowed =
+    let layer : k < length i.units = same-allowed i k s d allowed in
+    let has = layer-has i k s kept (same-test i k s (omega arith) test) in
+    let row = row-has i k (length s) kept layer has.cells in
+    record { entries = row.entries; positive = row.positive; weight = row.weight; rank = has.rank }
 
 -- all weights of units are within the total
 pub units-most : (i : Instance) → IsKept i → units_total i.units ≤ℤ pos (2 ^ 48)

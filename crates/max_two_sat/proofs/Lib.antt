@@ -1,3 +1,4 @@
+pub mod RunningSums
 pub mod Cells
 pub mod Writing
 pub mod ZeroRows

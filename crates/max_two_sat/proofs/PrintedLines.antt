@@ -9,11 +9,10 @@ use Rattle.max_two_sat.specs.declared.clause.Literals.{Literals}
 use Rattle.max_two_sat.specs.declared.clause.Literals.TheVariants.{Two}
 use Rattle.max_two_sat.specs.declared.weights.UnitWeights.{UnitWeights}
 use Rattle.max_two_sat.specs.declared.weights.PairWeights.{PairWeights}
-use Rattle.max_two_sat.specs.Instance.{Instance, rows_of, row_at}
-use Rattle.max_two_sat.specs.Lines.{Clause, clause_where, literal, clauses_of, tautology_lines, unit_lines, units_lines, pair_lines, row_lines, rows_lines, units_weighing, pairs_weighing, weighs}
+use Rattle.max_two_sat.specs.Instance.{Instance, rows_of, row_at, no_pair, no_unit}
+use Rattle.max_two_sat.specs.Lines.{Clause, clause_where, literal, clauses_of, tautology_lines, unit_lines, units_lines, pair_lines, row_lines, rows_lines, lines_by}
 use Rattle.max_two_sat.specs.Printed.{line_of, text_of, first_line_of}
 use Rattle.max_two_sat.specs.Rows.{drop-rows}
-use Rattle.max_two_sat.proofs.Cells.{no_unit, no_weights}
 
 -- one more part is printed
 part-printed : (out part rest whole : List ℕ) (made : List ℕ) → made ≡ out ++ part → out ++ (part ++ rest) ≡ whole → made ++ rest ≡ whole
@@ -32,13 +31,13 @@ units-all-printed us v out whole h before =
     let none : drop v us ≡ [] = drop_all v us h in
     sym (append-nil out) ∙ rw none at before
 
-pub row-printed : (ps : List PairWeights) (i j k : ℕ) (out made whole : List ℕ) → k < length ps → made ≡ out ++ flat_map line_of (pair_lines i (j + k) (get_or ps k no_weights)) →
+pub row-printed : (ps : List PairWeights) (i j k : ℕ) (out made whole : List ℕ) → k < length ps → made ≡ out ++ flat_map line_of (pair_lines i (j + k) (get_or ps k no_pair)) →
     out ++ flat_map line_of (row_lines i (j + k) (drop k ps)) ≡ whole → made ++ flat_map line_of (row_lines i (j + (k + 1)) (drop (k + 1) ps)) ≡ whole
 row-printed ps i j k out made whole h is before =
     let next : (j + k) + 1 ≡ j + (k + 1) = omega arith in
-    let cut : row_lines i (j + k) (drop k ps) ≡ pair_lines i (j + k) (get_or ps k no_weights) ++ row_lines i ((j + k) + 1) (drop (k + 1) ps) = ap (row_lines i (j + k)) (drop_more ps k no_weights h) in
-    let split : flat_map line_of (row_lines i (j + k) (drop k ps)) ≡ flat_map line_of (pair_lines i (j + k) (get_or ps k no_weights)) ++ flat_map line_of (row_lines i ((j + k) + 1) (drop (k + 1) ps)) =
-    ap (flat_map line_of) cut ∙ flat_map-append line_of (pair_lines i (j + k) (get_or ps k no_weights)) (row_lines i ((j + k) + 1) (drop (k + 1) ps)) in
+    let cut : row_lines i (j + k) (drop k ps) ≡ pair_lines i (j + k) (get_or ps k no_pair) ++ row_lines i ((j + k) + 1) (drop (k + 1) ps) = ap (row_lines i (j + k)) (drop_more ps k no_pair h) in
+    let split : flat_map line_of (row_lines i (j + k) (drop k ps)) ≡ flat_map line_of (pair_lines i (j + k) (get_or ps k no_pair)) ++ flat_map line_of (row_lines i ((j + k) + 1) (drop (k + 1) ps)) =
+    ap (flat_map line_of) cut ∙ flat_map-append line_of (pair_lines i (j + k) (get_or ps k no_pair)) (row_lines i ((j + k) + 1) (drop (k + 1) ps)) in
     let more : made ++ flat_map line_of (row_lines i ((j + k) + 1) (drop (k + 1) ps)) ≡ whole = part-printed out _ _ whole made is (ap (λ bytes. out ++ bytes) (sym split) ∙ before) in
     ap (λ m. made ++ flat_map line_of (row_lines i m (drop (k + 1) ps))) (sym next) ∙ more
 
@@ -85,17 +84,15 @@ clause-some w literals test = rw test (append-nil (line_of (record { weight = w;
 
 -- how many lines there are
 
-pub units-counted : (us : List UnitWeights) (i count cell : ℕ) → i < length us → cell ≡ weighs (get_or us i no_unit).positive + weighs (get_or us i no_unit).negative →
-    count + units_weighing (drop i us) ≡ units_weighing us → (count + cell) + units_weighing (drop (i + 1) us) ≡ units_weighing us
-units-counted us i count cell h is before =
-    let cut = ap units_weighing (drop_more us i no_unit h) in
+pub lines-counted : {X : Type 0} (lines_of : X → ℕ) (xs : List X) (i count cell : ℕ) (none : X) → i < length xs → cell ≡ lines_of (get_or xs i none) →
+    count + lines_by lines_of (drop i xs) ≡ lines_by lines_of xs → (count + cell) + lines_by lines_of (drop (i + 1) xs) ≡ lines_by lines_of xs
+lines-counted lines_of xs i count cell none h is before =
+    let cut = ap (lines_by lines_of) (drop_more xs i none h) in
     omega arith
 
-pub pairs-counted : (ps : List PairWeights) (i count cell : ℕ) → i < length ps →
-    cell ≡ (weighs (get_or ps i no_weights).both + weighs (get_or ps i no_weights).first) + (weighs (get_or ps i no_weights).second + weighs (get_or ps i no_weights).neither) →
-    count + pairs_weighing (drop i ps) ≡ pairs_weighing ps → (count + cell) + pairs_weighing (drop (i + 1) ps) ≡ pairs_weighing ps
-pairs-counted ps i count cell h is before =
-    let cut = ap pairs_weighing (drop_more ps i no_weights h) in
+pub all-counted : {X : Type 0} (lines_of : X → ℕ) (xs : List X) (i count : ℕ) → length xs ≤ i → count + lines_by lines_of (drop i xs) ≡ lines_by lines_of xs → count ≡ lines_by lines_of xs
+all-counted lines_of xs i count h before =
+    let none = ap (lines_by lines_of) (drop_all i xs h) in
     omega arith
 
 four-parts : (start one two three four : List ℕ) (a b d e : List Clause) → one ≡ start ++ flat_map line_of a → two ≡ one ++ flat_map line_of b → three ≡ two ++ flat_map line_of d → four ≡ three ++ flat_map line_of e →

@@ -23,7 +23,7 @@ use Rattle.max_two_sat.specs.Kept.{IsKept, PairIsPositive, UnitIsPositive, pairs
 use Rattle.max_two_sat.specs.Lines.{Clause, clause_where, clauses_of, line_count, literal, tautology_lines, unit_lines, units_lines, pair_lines, row_lines, rows_lines, weighs, units_weighing, pairs_weighing}
 use Rattle.max_two_sat.specs.Printed.{first_line_of, line_of, text_of}
 use Rattle.max_two_sat.specs.Texts.{clause_at, ends_clauses, ends_token, form_at, header_at, instance_at, letter_at, top_at}
-use Rattle.max_two_sat.specs.Totals.{pairs_total-cut, positive-take, positive-drop}
+use Rattle.max_two_sat.specs.Totals.{all-drop, all-take, total_by-cut}
 use Rattle.max_two_sat.proofs.Folding.{add_to, clauses-added}
 use Rattle.max_two_sat.proofs.RoundTrip.{ClauseStands, LiteralsStand, header_of, reads_clause}
 
@@ -106,8 +106,8 @@ rows-stand n zero (p ∷ ps) i h e positive = absurd (omega arith)
 rows-stand n (suc m) ps i h e positive =
     stands-both n (row_lines i (i + 1) (take m ps)) (rows_lines (i + 1) (rows_of m (drop m ps))) (pairs_total (take m ps)) (pairs_total (drop m ps)) (pairs_total ps)
     (pairs_weighing (take m ps)) (pairs_weighing (drop m ps)) (pairs_weighing ps)
-    (row-stands n i (take m ps) (i + 1) (omega arith) (omega (arith, length-take-le m ps (omega arith))) (positive-take m ps positive))
-    (rows-stand n m (drop m ps) (i + 1) (omega arith) (omega (arith, length-drop m ps)) (positive-drop m ps positive)) (pairs_total-cut m ps) (weighing-cut m ps)
+    (row-stands n i (take m ps) (i + 1) (omega arith) (omega (arith, length-take-le m ps (omega arith))) (all-take pair_is_positive m ps positive))
+    (rows-stand n m (drop m ps) (i + 1) (omega arith) (omega (arith, length-drop m ps)) (all-drop pair_is_positive m ps positive)) (total_by-cut pair_total m ps) (weighing-cut m ps)
 
 tautology-stands : (n : ℕ) (w : ℤ) → pos 0 ≤ℤ w → weighs w ≤ n → int_lt (pos 0) w ≡ true → LiteralsStand n (Two (literal 0 true) (literal 0 false))
 tautology-stands n w low some test =

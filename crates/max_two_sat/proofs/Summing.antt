@@ -4,34 +4,24 @@ use Rattle.std.specs.Prelude.{IsTrue}
 use Rattle.std.proofs.lemmas.Int.{ints}
 use Rattle.std.proofs.lemmas.List.{drop_more, drop_all}
 use Rattle.max_two_sat.specs.declared.weights.PairWeights.{PairWeights}
-use Rattle.max_two_sat.specs.Instance.{rows_of, row_at, pair_count, pair_total, pairs_total, rows_total}
-use Rattle.max_two_sat.specs.Kept.{PairIsPositive, pairs_are_positive}
+use Rattle.max_two_sat.specs.Instance.{rows_of, row_at, pair_count, pair_total, pairs_total, rows_total, no_pair}
+use Rattle.max_two_sat.specs.Kept.{PairIsPositive, pairs_are_positive, pair_is_positive}
 use Rattle.max_two_sat.specs.Rows.{length-rows_of, drop-rows}
 use Rattle.max_two_sat.specs.Table.{later_totals}
-use Rattle.max_two_sat.specs.Totals.{pairs_total-positive, positive-drop, positive-rows_of, positive-row_at, positive-drop_rows, rows_total-rows_of, rows_total-drop, rows_total-positive}
-use Rattle.max_two_sat.proofs.Cells.{no_weights, pair-at}
-use Rattle.max_two_sat.proofs.Weighing.{SumGrows}
+use Rattle.max_two_sat.specs.Totals.{pairs_total-positive, positive-rows_of, positive-row_at, rows_total-rows_of, rows_total-drop, rows_total-positive, all-drop}
+use Rattle.max_two_sat.proofs.Cells.{pair-at}
+use Rattle.max_two_sat.proofs.RunningSums.{SumGrows, sum-grows, sum-done}
 
 pub total-grows : (ps : List PairWeights) (i : ℕ) (total cell : ℤ) → i < length ps → IsTrue (pairs_are_positive ps) → pairs_total ps ≤ℤ pos (2 ^ 48) →
-    cell ≡ pair_total (get_or ps i no_weights) → (total +ℤ pairs_total (drop i ps) ≡ pairs_total ps) × (pos 0 ≤ℤ total) → SumGrows (pairs_total ps) (pairs_total (drop (i + 1) ps)) total cell
+    cell ≡ pair_total (get_or ps i no_pair) → (total +ℤ pairs_total (drop i ps) ≡ pairs_total ps) × (pos 0 ≤ℤ total) → SumGrows (pairs_total ps) (pairs_total (drop (i + 1) ps)) total cell
 total-grows ps i total cell h positive weight is before =
-    let cut : pairs_total (drop i ps) ≡ pair_total (get_or ps i no_weights) +ℤ pairs_total (drop (i + 1) ps) = ap pairs_total (drop_more ps i no_weights h) in
-    let here : PairIsPositive (get_or ps i no_weights) = pair-at ps i no_weights h positive in
-    let rest = pairs_total-positive (drop (i + 1) ps) (positive-drop (i + 1) ps positive) in
-    record {
-      sum = omega (arith, ints, before.0);
-      low = omega (arith, ints, before.1, here.both, here.first, here.second, here.neither);
-      high = omega (arith, ints, before.0);
-      cell_low = omega (arith, ints, here.both, here.first, here.second, here.neither);
-      cell_high = omega (arith, ints, before.0, before.1);
-      total_high = omega (arith, ints, before.0, here.both, here.first, here.second, here.neither);
-    }
+    let cut : pairs_total (drop i ps) ≡ pair_total (get_or ps i no_pair) +ℤ pairs_total (drop (i + 1) ps) = ap pairs_total (drop_more ps i no_pair h) in
+    let here : PairIsPositive (get_or ps i no_pair) = pair-at ps i no_pair h positive in
+    sum-grows (pairs_total ps) (pairs_total (drop i ps)) cell (pairs_total (drop (i + 1) ps)) total (rw is cut)
+    (omega (arith, ints, here.both, here.first, here.second, here.neither)) (pairs_total-positive (drop (i + 1) ps) (all-drop pair_is_positive (i + 1) ps positive)) (omega (arith, ints)) before
 
 pub total-done : (ps : List PairWeights) (i : ℕ) (total : ℤ) → length ps ≤ i → total +ℤ pairs_total (drop i ps) ≡ pairs_total ps → total ≡ pairs_total ps
-total-done ps i total h before =
-    let none : drop i ps ≡ [] = drop_all i ps h in
-    let left : total +ℤ pos 0 ≡ pairs_total ps = rw none at before in
-    omega (arith, ints)
+total-done ps i total h before = sum-done (pairs_total ps) (pairs_total (drop i ps)) total (ap pairs_total (drop_all i ps h)) before
 
 -- one layer more
 
@@ -51,7 +41,7 @@ left-falls ps n k row left weight whole h positive most is weight_is left_is =
     let cut : rows_total (drop k rows) ≡ pairs_total (row_at rows k) +ℤ rows_total (drop (suc k) rows) = ap rows_total (drop-rows rows k (omega (arith, length-rows_of n ps))) in
     let next : rows_total (drop (suc k) rows) ≡ rows_total (drop (k + 1) rows) = ap (λ m. rows_total (drop m rows)) one in
     let there : weight ≡ pairs_total (row_at rows k) = weight_is ∙ ap pairs_total is in
-    let later = rows_total-positive (drop (k + 1) rows) (positive-drop_rows rows (k + 1) all) in
+    let later = rows_total-positive (drop (k + 1) rows) (all-drop pairs_are_positive (k + 1) rows all) in
     let here = pairs_total-positive (row_at rows k) (positive-row_at rows k all) in
     let front = rows_total-drop rows k all in
     let sums = rows_total-rows_of n ps whole in

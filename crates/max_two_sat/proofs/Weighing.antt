@@ -7,7 +7,7 @@ use Rattle.std.proofs.lemmas.Int.{ints}
 use Rattle.std.proofs.lemmas.List.{drop_more, drop_all}
 use Rattle.max_two_sat.specs.declared.weights.UnitWeights.{UnitWeights}
 use Rattle.max_two_sat.specs.declared.weights.PairWeights.{PairWeights}
-use Rattle.max_two_sat.specs.Instance.{Instance, rows_of, row_at, pair_count, unit_total, pair_total, units_total, pairs_total, rows_total}
+use Rattle.max_two_sat.specs.Instance.{Instance, rows_of, row_at, pair_count, unit_total, pair_total, units_total, pairs_total, rows_total, no_pair, no_unit}
 use Rattle.dp_model.specs.Prefixes.{IsSolution, value_of}
 use Rattle.max_two_sat.specs.GapLaws.{row_value-most, rows_value-most}
 use Rattle.max_two_sat.specs.Kept.{IsKept, PairIsPositive, UnitIsPositive, pairs_are_positive, units_are_positive, pair_is_positive, unit_is_positive, unit-positive, pair-positive, and-left, and-right}
@@ -15,8 +15,9 @@ use Rattle.max_two_sat.specs.OwnWords.{all_truth_values, own_value, weight_of, u
 use Rattle.max_two_sat.specs.Program.{program_of}
 use Rattle.max_two_sat.specs.Solutions.{AgreesWithOwnWords, own_value-agrees}
 use Rattle.max_two_sat.specs.Rows.{length-rows_of, length-row_at, drop-rows}
-use Rattle.max_two_sat.specs.Totals.{units_total-positive, positive-drop, positive-rows_of, positive-row_at, positive-drop_rows, rows_are_positive, rows_total-rows_of, rows_total-drop, rows_total-positive}
-use Rattle.max_two_sat.proofs.Cells.{no_unit, no_weights, unit-at, pair-at, units-positive-drop}
+use Rattle.max_two_sat.specs.Totals.{units_total-positive, positive-rows_of, positive-row_at, rows_are_positive, rows_total-rows_of, rows_total-drop, rows_total-positive, all-drop}
+use Rattle.max_two_sat.proofs.Cells.{unit-at, pair-at}
+use Rattle.max_two_sat.proofs.RunningSums.{SumGrows, sum-grows, sum-done}
 
 -- truth values
 
@@ -65,38 +66,20 @@ units_value-most (u ∷ us) [] h = units_total-positive (u ∷ us) h
 units_value-most (u ∷ us) (x ∷ xs) h =
     omega (arith, ints, unit_value-most u x (unit-positive u (and-left _ _ h)), units_value-most us xs (and-right (unit_is_positive u) _ h))
 
--- a sum so far of a whole that is bounded
-pub record SumGrows (whole rest total cell : ℤ) : Type 0 where
-  pub sum : (total +ℤ cell) +ℤ rest ≡ whole
-  pub low : pos 0 ≤ℤ (total +ℤ cell)
-  pub high : (total +ℤ cell) ≤ℤ pos (2 ^ 48)
-  pub cell_low : pos 0 ≤ℤ cell
-  pub cell_high : cell ≤ℤ pos (2 ^ 48)
-  pub total_high : total ≤ℤ pos (2 ^ 48)
-
+-- the sum so far, and one variable more
 pub units-grow : (us : List UnitWeights) (xs : List ℕ) (i : ℕ) (total cell : ℤ) → i < length us → length xs ≡ length us → IsTrue (units_are_positive us) → units_total us ≤ℤ pos (2 ^ 48) →
     cell ≡ unit_value (get_or us i no_unit) (get_or xs i 0) → (total +ℤ units_value (drop i us) (drop i xs) ≡ units_value us xs) × (pos 0 ≤ℤ total) →
     SumGrows (units_value us xs) (units_value (drop (i + 1) us) (drop (i + 1) xs)) total cell
 units-grow us xs i total cell h e positive weight is before =
     let below : i < length xs = omega arith in
     let cut : units_value (drop i us) (drop i xs) ≡ unit_value (get_or us i no_unit) (get_or xs i 0) +ℤ units_value (drop (i + 1) us) (drop (i + 1) xs) = rw (drop_more us i no_unit h, drop_more xs i 0 below) refl in
-    let here = unit_value-positive (get_or us i no_unit) (get_or xs i 0) (unit-at us i no_unit h positive) in
-    let rest = units_value-positive (drop (i + 1) us) (drop (i + 1) xs) (units-positive-drop (i + 1) us positive) in
-    let most = units_value-most us xs positive in
-    record {
-      sum = omega (arith, ints, before.0);
-      low = omega (arith, ints, before.1);
-      high = omega (arith, ints, before.0);
-      cell_low = omega (arith, ints);
-      cell_high = omega (arith, ints, before.0, before.1);
-      total_high = omega (arith, ints, before.0);
-    }
+    sum-grows (units_value us xs) (units_value (drop i us) (drop i xs)) cell (units_value (drop (i + 1) us) (drop (i + 1) xs)) total (rw is cut)
+    (rw is (unit_value-positive (get_or us i no_unit) (get_or xs i 0) (unit-at us i no_unit h positive)))
+    (units_value-positive (drop (i + 1) us) (drop (i + 1) xs) (all-drop unit_is_positive (i + 1) us positive)) (omega (arith, ints, units_value-most us xs positive)) before
 
 pub units-done : (us : List UnitWeights) (xs : List ℕ) (i : ℕ) (total : ℤ) → length us ≤ i → total +ℤ units_value (drop i us) (drop i xs) ≡ units_value us xs → total ≡ units_value us xs
 units-done us xs i total h before =
-    let none : drop i us ≡ [] = drop_all i us h in
-    let left : total +ℤ pos 0 ≡ units_value us xs = rw none at before in
-    omega (arith, ints)
+    sum-done (units_value us xs) (units_value (drop i us) (drop i xs)) total (ap (λ vs. units_value vs (drop i xs)) (drop_all i us h)) before
 
 -- two variables
 
@@ -154,28 +137,18 @@ rows_value-positive (row ∷ rows) (x ∷ xs) h =
     omega (arith, ints, row_value-positive row x xs (and-left _ _ h), rows_value-positive rows xs (and-right (pairs_are_positive row) _ h))
 
 pub row-grows : (ps : List PairWeights) (x : ℕ) (ys : List ℕ) (i : ℕ) (total cell : ℤ) → i < length ps → length ps ≡ length ys → IsTrue (pairs_are_positive ps) → pairs_total ps ≤ℤ pos (2 ^ 48) →
-    cell ≡ pair_value (get_or ps i no_weights) x (get_or ys i 0) → (total +ℤ row_value (drop i ps) x (drop i ys) ≡ row_value ps x ys) × (pos 0 ≤ℤ total) →
+    cell ≡ pair_value (get_or ps i no_pair) x (get_or ys i 0) → (total +ℤ row_value (drop i ps) x (drop i ys) ≡ row_value ps x ys) × (pos 0 ≤ℤ total) →
     SumGrows (row_value ps x ys) (row_value (drop (i + 1) ps) x (drop (i + 1) ys)) total cell
 row-grows ps x ys i total cell h e positive weight is before =
     let below : i < length ys = omega arith in
-    let cut : row_value (drop i ps) x (drop i ys) ≡ pair_value (get_or ps i no_weights) x (get_or ys i 0) +ℤ row_value (drop (i + 1) ps) x (drop (i + 1) ys) = rw (drop_more ps i no_weights h, drop_more ys i 0 below) refl in
-    let here = pair_value-positive (get_or ps i no_weights) x (get_or ys i 0) (pair-at ps i no_weights h positive) in
-    let rest = row_value-positive (drop (i + 1) ps) x (drop (i + 1) ys) (positive-drop (i + 1) ps positive) in
-    let most = row_value-most ps x ys positive in
-    record {
-      sum = omega (arith, ints, before.0);
-      low = omega (arith, ints, before.1);
-      high = omega (arith, ints, before.0);
-      cell_low = omega (arith, ints);
-      cell_high = omega (arith, ints, before.0, before.1);
-      total_high = omega (arith, ints, before.0);
-    }
+    let cut : row_value (drop i ps) x (drop i ys) ≡ pair_value (get_or ps i no_pair) x (get_or ys i 0) +ℤ row_value (drop (i + 1) ps) x (drop (i + 1) ys) = rw (drop_more ps i no_pair h, drop_more ys i 0 below) refl in
+    sum-grows (row_value ps x ys) (row_value (drop i ps) x (drop i ys)) cell (row_value (drop (i + 1) ps) x (drop (i + 1) ys)) total (rw is cut)
+    (rw is (pair_value-positive (get_or ps i no_pair) x (get_or ys i 0) (pair-at ps i no_pair h positive)))
+    (row_value-positive (drop (i + 1) ps) x (drop (i + 1) ys) (all-drop pair_is_positive (i + 1) ps positive)) (omega (arith, ints, row_value-most ps x ys positive)) before
 
 pub row-done : (ps : List PairWeights) (x : ℕ) (ys : List ℕ) (i : ℕ) (total : ℤ) → length ps ≤ i → total +ℤ row_value (drop i ps) x (drop i ys) ≡ row_value ps x ys → total ≡ row_value ps x ys
 row-done ps x ys i total h before =
-    let none : drop i ps ≡ [] = drop_all i ps h in
-    let left : total +ℤ pos 0 ≡ row_value ps x ys = rw none at before in
-    omega (arith, ints)
+    sum-done (row_value ps x ys) (row_value (drop i ps) x (drop i ys)) total (ap (λ qs. row_value qs x (drop i ys)) (drop_all i ps h)) before
 
 pub row-bounds : (ps : List PairWeights) (x : ℕ) (ys : List ℕ) → IsTrue (pairs_are_positive ps) → (pos 0 ≤ℤ row_value ps x ys) × (row_value ps x ys ≤ℤ pairs_total ps)
 row-bounds ps x ys positive = (row_value-positive ps x ys positive, row_value-most ps x ys positive)
@@ -191,7 +164,7 @@ row-there ps n k row whole h positive is =
     let rows : List (List PairWeights) = rows_of n ps in
     let all = positive-rows_of n ps positive in
     let rest : rows_total (drop k rows) ≡ pairs_total (row_at rows k) +ℤ rows_total (drop (suc k) rows) = rw (drop-rows rows k (omega (arith, length-rows_of n ps))) refl in
-    let later = rows_total-positive (drop (suc k) rows) (positive-drop_rows rows (suc k) all) in
+    let later = rows_total-positive (drop (suc k) rows) (all-drop pairs_are_positive (suc k) rows all) in
     let front = rows_total-drop rows k all in
     record {
       entries = omega (arith, ap length is, length-row_at n ps k whole h);
@@ -210,25 +183,15 @@ rows-grow ps xs k row total cell h whole positive weight is cell_is before =
     let cut : rows_value (drop k rows) (drop k xs) ≡ row_value (row_at rows k) (get_or xs k 0) (drop (k + 1) xs) +ℤ rows_value (drop (k + 1) rows) (drop (k + 1) xs) =
     rw (drop-rows rows k (omega (arith, length-rows_of (length xs) ps)), drop_more xs k 0 h) (ap (λ n. row_value (row_at rows k) (get_or xs k 0) (drop (k + 1) xs) +ℤ rows_value (drop n rows) (drop (k + 1) xs)) one) in
     let same : cell ≡ row_value (row_at rows k) (get_or xs k 0) (drop (k + 1) xs) = cell_is ∙ ap (λ r. row_value r (get_or xs k 0) (drop (k + 1) xs)) is in
-    let here = row_value-positive (row_at rows k) (get_or xs k 0) (drop (k + 1) xs) (positive-row_at rows k all) in
-    let rest = rows_value-positive (drop (k + 1) rows) (drop (k + 1) xs) (positive-drop_rows rows (k + 1) all) in
-    let most = rows_value-most rows xs all in
-    let sums = rows_total-rows_of (length xs) ps whole in
-    record {
-      sum = omega (arith, ints, before.0);
-      low = omega (arith, ints, before.1);
-      high = omega (arith, ints, before.0);
-      cell_low = omega (arith, ints);
-      cell_high = omega (arith, ints, before.0, before.1);
-      total_high = omega (arith, ints, before.0);
-    }
+    sum-grows (rows_value rows xs) (rows_value (drop k rows) (drop k xs)) cell (rows_value (drop (k + 1) rows) (drop (k + 1) xs)) total (rw same cut)
+    (rw same (row_value-positive (row_at rows k) (get_or xs k 0) (drop (k + 1) xs) (positive-row_at rows k all)))
+    (rows_value-positive (drop (k + 1) rows) (drop (k + 1) xs) (all-drop pairs_are_positive (k + 1) rows all)) (omega (arith, ints, rows_value-most rows xs all, rows_total-rows_of (length xs) ps whole)) before
 
 pub rows-done : (ps : List PairWeights) (xs : List ℕ) (k : ℕ) (total : ℤ) → length xs ≤ k →
     total +ℤ rows_value (drop k (rows_of (length xs) ps)) (drop k xs) ≡ rows_value (rows_of (length xs) ps) xs → total ≡ rows_value (rows_of (length xs) ps) xs
 rows-done ps xs k total h before =
     let none : drop k (rows_of (length xs) ps) ≡ [] = drop_all k (rows_of (length xs) ps) (omega (arith, length-rows_of (length xs) ps)) in
-    let left : total +ℤ pos 0 ≡ rows_value (rows_of (length xs) ps) xs = rw none at before in
-    omega (arith, ints)
+    sum-done (rows_value (rows_of (length xs) ps) xs) (rows_value (drop k (rows_of (length xs) ps)) (drop k xs)) total (ap (λ rows. rows_value rows (drop k xs)) none) before
 
 pub rows-bounds : (ps : List PairWeights) (n : ℕ) (xs : List ℕ) → length ps ≡ pair_count n → IsTrue (pairs_are_positive ps) → (pos 0 ≤ℤ rows_value (rows_of n ps) xs) × (rows_value (rows_of n ps) xs ≤ℤ pairs_total ps)
 rows-bounds ps n xs whole positive =

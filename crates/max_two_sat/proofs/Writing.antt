@@ -10,20 +10,30 @@ use Rattle.benefit_rows.specs.BenefitLaws.{size_of-positive}
 use Rattle.max_two_sat.specs.declared.weights.PairWeights.{PairWeights}
 use Rattle.max_two_sat.specs.declared.weights.UnitWeights.{UnitWeights}
 use Rattle.benefit_rows.proofs.Steps.{read_by_size}
-use Rattle.max_two_sat.specs.Instance.{units_total}
+use Rattle.max_two_sat.specs.Instance.{units_total, no_unit}
+use Rattle.max_two_sat.specs.Fitting.{FitsBenefits, FitsState}
 use Rattle.max_two_sat.specs.Kept.{units_are_positive}
 use Rattle.max_two_sat.specs.Program.{grown, row_step, root_of, words_of}
-use Rattle.max_two_sat.proofs.Cells.{no_unit, benefit-small}
+use Rattle.max_two_sat.proofs.Cells.{benefit-small}
 
 -- a slice to the end
 pub tail-is : {X : Type 0} (k : ℕ) (s : List X) → take (length s - k) (drop k s) ≡ drop k s
 tail-is k s = take_all (length s - k) (drop k s) (omega (arith, length-drop k s))
 
 -- what stands behind the first benefit has no greater rank
-pub rank_of-tail : (k : ℕ) (s : List ℤ) → k < length s → rank_of (drop (k + 1) s) ≤ℤ rank_of (drop k s)
+rank_of-tail : (k : ℕ) (s : List ℤ) → k < length s → rank_of (drop (k + 1) s) ≤ℤ rank_of (drop k s)
 rank_of-tail k s h =
     let cut = ap rank_of (drop_more s k (pos 0) h) in
     omega (arith, ints, size_of-positive (get_or s k (pos 0)))
+
+-- a row that fits a state fits the benefits of the later variables
+pub later-fits : (row : List PairWeights) (k : ℕ) (s : List ℤ) → FitsState row k s → FitsBenefits row (drop (k + 1) s)
+later-fits row k s fits = record {
+  entries = omega (arith, length-drop (k + 1) s, fits.entries);
+  positive = fits.positive;
+  weight = fits.weight;
+  rank = omega (arith, ints, rank_of-tail k s (omega (arith, fits.entries)), fits.rank);
+}
 
 -- the front, a zero and the later benefits make the next state
 pub step-written : (row : List PairWeights) (s old front later : List ℤ) (k d : ℕ) → k < length s → length old ≡ length s → front ≡ take k s →

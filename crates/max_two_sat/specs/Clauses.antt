@@ -1,27 +1,16 @@
 -- Clauses, and what an instance keeps of them.
-use Rattle.std.specs.Prelude.{ℕ, zero, suc, ◌+◌, ◌-◌, ◌<◌, ℤ, pos, ◌+ℤ◌, Bool, true, false, not, nat_lt, ◌==◌, List, [], ◌∷◌, length, slice_index_or, slice_set, if◌then◌else◌}
+use Rattle.std.specs.Prelude.{ℕ, ◌+◌, ◌-◌, ◌<◌, ℤ, pos, ◌+ℤ◌, Bool, true, false, not, nat_lt, ◌==◌, length, replicate, slice_index_or, slice_set, if◌then◌else◌}
 use Rattle.max_two_sat.specs.declared.clause.Literal.{Literal}
 use Rattle.max_two_sat.specs.declared.clause.Literals.{Literals}
 use Rattle.max_two_sat.specs.declared.clause.Literals.TheVariants.{Empty, One, Two}
 use Rattle.max_two_sat.specs.declared.weights.UnitWeights.{UnitWeights}
 use Rattle.max_two_sat.specs.declared.weights.PairWeights.{PairWeights}
-use Rattle.max_two_sat.specs.Instance.{Instance, pair_count}
+use Rattle.max_two_sat.specs.Instance.{Instance, pair_count, no_pair, no_unit}
 use Rattle.max_two_sat.specs.Table.{entries_before}
-
-abbrev pub no_unit : UnitWeights
-no_unit = record { positive = pos 0; negative = pos 0 }
-
-abbrev pub no_pair : PairWeights
-no_pair = record { both = pos 0; first = pos 0; second = pos 0; neither = pos 0 }
-
--- so much of one value
-abbrev pub copies_of : {X : Type 0} → X → ℕ → List X
-copies_of x zero = []
-copies_of x (suc n) = x ∷ copies_of x n
 
 -- an instance of so many variables without clauses
 abbrev pub empty_instance : ℕ → Instance
-empty_instance n = record { tautologies = pos 0; units = copies_of no_unit n; pairs = copies_of no_pair (pair_count n) }
+empty_instance n = record { tautologies = pos 0; units = replicate n no_unit; pairs = replicate (pair_count n) no_pair }
 
 -- the entry with the weight added at the sign of the literal, or at the signs of both
 abbrev pub heavier_unit : UnitWeights → Bool → ℤ → UnitWeights

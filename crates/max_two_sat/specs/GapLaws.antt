@@ -17,7 +17,7 @@ use Rattle.max_two_sat.specs.Program.{first_limits, limits_at, are_within, progr
 use Rattle.max_two_sat.specs.Rows.{length-rows_of, words_of-some}
 use Rattle.max_two_sat.specs.Split.{gain_split}
 use Rattle.max_two_sat.specs.StateLaws.{state-is}
-use Rattle.max_two_sat.specs.Totals.{rows_are_positive, positive-rows_of, positive-drop_rows, pairs_total-positive, rows_total-positive, limits, sum_of, rank_of-within}
+use Rattle.max_two_sat.specs.Totals.{rows_are_positive, positive-rows_of, pairs_total-positive, rows_total-positive, limits, sum_of, rank_of-within, all-drop}
 
 -- the same decisions are allowed from each state
 path-any : (i : Instance) (k : ℕ) (s a : List ℤ) (c : List ℕ) → IsPath (program_of i) k s c → IsPath (program_of i) k a c
@@ -97,7 +97,7 @@ rough-bounds i k s c kept state along =
       ints,
       state_split i k s c kept state along,
       gains_of-most (drop k s) c,
-      rows_value-most (drop k rows) c (positive-drop_rows rows k (positive-rows_of (length i.units) i.pairs kept.pairs)),
+      rows_value-most (drop k rows) c (all-drop pairs_are_positive k rows (positive-rows_of (length i.units) i.pairs kept.pairs)),
     )
 
 drop-past : {X : Type 0} (n : ℕ) (xs : List X) → length xs ≤ n → drop n xs ≡ []

@@ -9,6 +9,17 @@ pub record Instance : Type 0 where
   pub units : List UnitWeights
   pub pairs : List PairWeights
 
+-- the entries without weight
+abbrev pub no_unit : UnitWeights
+no_unit = record { positive = pos 0; negative = pos 0 }
+
+abbrev pub no_pair : PairWeights
+no_pair = record { both = pos 0; first = pos 0; second = pos 0; neither = pos 0 }
+
+-- the instance of the clauses that are no tautologies
+abbrev pub without_tautologies : List UnitWeights → List PairWeights → Instance
+without_tautologies units pairs = record { tautologies = pos 0; units = units; pairs = pairs }
+
 -- the pairs of n variables as a row for each variable, with one entry for each later variable
 abbrev pub rows_of : ℕ → List PairWeights → List (List PairWeights)
 rows_of zero pairs = []
@@ -32,14 +43,17 @@ unit_total u = u.positive +ℤ u.negative
 abbrev pub pair_total : PairWeights → ℤ
 pair_total p = (p.both +ℤ p.first) +ℤ (p.second +ℤ p.neither)
 
+-- the sum of a number of each entry
+abbrev pub total_by : {X : Type 0} → (X → ℤ) → List X → ℤ
+total_by number [] = pos 0
+total_by number (x ∷ xs) = number x +ℤ total_by number xs
+
+-- what all clauses weigh: of some variables, of a row, and of some rows
 abbrev pub units_total : List UnitWeights → ℤ
-units_total [] = pos 0
-units_total (u ∷ us) = unit_total u +ℤ units_total us
+units_total us = total_by unit_total us
 
 abbrev pub pairs_total : List PairWeights → ℤ
-pairs_total [] = pos 0
-pairs_total (p ∷ ps) = pair_total p +ℤ pairs_total ps
+pairs_total ps = total_by pair_total ps
 
 abbrev pub rows_total : List (List PairWeights) → ℤ
-rows_total [] = pos 0
-rows_total (row ∷ rows) = pairs_total row +ℤ rows_total rows
+rows_total rows = total_by pairs_total rows

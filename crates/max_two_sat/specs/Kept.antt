@@ -1,5 +1,6 @@
 -- What every instance keeps to.
-use Rattle.std.specs.Prelude.{◌≡◌, ◌^◌, ◌≤◌, ℤ, pos, neg_ℤ, ◌+ℤ◌, ◌≤ℤ◌, Bool, true, false, ◌&&◌, int_le, List, [], ◌∷◌, length, IsTrue, refl}
+use Rattle.std.specs.Prelude.{◌≡◌, ◌^◌, ◌≤◌, ℤ, pos, neg_ℤ, ◌+ℤ◌, ◌≤ℤ◌, Bool, true, false, ◌&&◌, int_le, List, length, IsTrue, refl}
+use Rattle.std.specs.List.{list_all}
 use Rattle.std.proofs.Common.{arith}
 use Rattle.std.proofs.lemmas.Int.{ints, clamps}
 use Rattle.benefit_rows.specs.Benefits.{size_of}
@@ -17,12 +18,10 @@ abbrev pub pair_is_positive : PairWeights → Bool
 pair_is_positive p = (int_le (pos 0) p.both && int_le (pos 0) p.first) && (int_le (pos 0) p.second && int_le (pos 0) p.neither)
 
 abbrev pub units_are_positive : List UnitWeights → Bool
-units_are_positive [] = true
-units_are_positive (u ∷ us) = unit_is_positive u && units_are_positive us
+units_are_positive us = list_all unit_is_positive us
 
 abbrev pub pairs_are_positive : List PairWeights → Bool
-pairs_are_positive [] = true
-pairs_are_positive (p ∷ ps) = pair_is_positive p && pairs_are_positive ps
+pairs_are_positive ps = list_all pair_is_positive ps
 
 -- at most 1024 variables, an entry for each two, no negative weight, a total weight of at most 2^48, at most 2^20 weights above zero, and tautologies only where there is a variable
 pub record IsKept (i : Instance) : Type 0 where

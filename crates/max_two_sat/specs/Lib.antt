@@ -4,6 +4,7 @@ pub mod Program
 pub mod Rows
 pub mod Split
 pub mod Kept
+pub mod Fitting
 pub mod Totals
 pub mod StateLaws
 pub mod GapLaws

@@ -48,18 +48,26 @@ rows_lines i (row ∷ rows) = row_lines i (i + 1) row ++ rows_lines (i + 1) rows
 unfoldable pub clauses_of : Instance → List Clause
 clauses_of i = tautology_lines i.tautologies ++ (units_lines 0 i.units ++ rows_lines 0 (rows_of (length i.units) i.pairs))
 
--- how many weights are above zero
-
+-- how many weights are above zero: of one, of an entry, and of some entries
 abbrev pub weighs : ℤ → ℕ
 weighs weight = if int_lt (pos 0) weight then 1 else 0
 
+abbrev pub unit_weighing : UnitWeights → ℕ
+unit_weighing u = weighs u.positive + weighs u.negative
+
+abbrev pub pair_weighing : PairWeights → ℕ
+pair_weighing p = (weighs p.both + weighs p.first) + (weighs p.second + weighs p.neither)
+
+-- the sum of a count of each entry
+abbrev pub lines_by : {X : Type 0} → (X → ℕ) → List X → ℕ
+lines_by count [] = 0
+lines_by count (x ∷ xs) = count x + lines_by count xs
+
 abbrev pub units_weighing : List UnitWeights → ℕ
-units_weighing [] = 0
-units_weighing (u ∷ us) = (weighs u.positive + weighs u.negative) + units_weighing us
+units_weighing us = lines_by unit_weighing us
 
 abbrev pub pairs_weighing : List PairWeights → ℕ
-pairs_weighing [] = 0
-pairs_weighing (p ∷ ps) = ((weighs p.both + weighs p.first) + (weighs p.second + weighs p.neither)) + pairs_weighing ps
+pairs_weighing ps = lines_by pair_weighing ps
 
 abbrev pub line_count : Instance → ℕ
 line_count i = weighs i.tautologies + (units_weighing i.units + pairs_weighing i.pairs)

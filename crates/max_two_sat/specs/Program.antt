@@ -90,7 +90,6 @@ are_within (t ∷ ts) [] = false
 are_within (t ∷ ts) (limit ∷ limits) = is_within t limit && are_within ts limits
 
 -- the row is a state of the layer: what is decided has no benefit, and the others are within their limits
-
 abbrev pub is_state_of : Instance → ℕ → List ℤ → Bool
 is_state_of i k s = (length s == words_of (length i.units)) && (all_zero (take k s) && are_within (drop k s) (limits_at i.units i.pairs k))
 

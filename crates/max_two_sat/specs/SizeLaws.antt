@@ -17,7 +17,7 @@ use Rattle.max_two_sat.specs.Kept.{IsKept, units_are_positive, unit_is_positive,
 use Rattle.max_two_sat.specs.Program.{cell_part, shared_gain, row_gain, lesser_units, words_of, limits_at, program_of}
 use Rattle.max_two_sat.specs.Rows.{length-rows_of, drop-rows, words_of-some}
 use Rattle.max_two_sat.specs.StateLaws.{state-is, steps_are_states}
-use Rattle.max_two_sat.specs.Totals.{pairs_total-positive, positive-rows_of, positive-row_at, positive-drop_rows, rows_total-positive, LimitsAt, limits, rank_of-within, rank_of-zero}
+use Rattle.max_two_sat.specs.Totals.{pairs_total-positive, positive-rows_of, positive-row_at, rows_total-positive, LimitsAt, limits, rank_of-within, rank_of-zero, all-drop}
 
 -- a number from zero to 2^48 is small
 small-positive : (z : ℤ) → pos 0 ≤ℤ z → z ≤ℤ pos (2 ^ 48) → IsSmall z
@@ -57,7 +57,7 @@ rank-most i k s kept state =
 pub later-positive : (i : Instance) (k : ℕ) → IsKept i → pos 0 ≤ℤ rows_total (drop k (rows_of (length i.units) i.pairs))
 later-positive i k kept =
     let rows : List (List PairWeights) = rows_of (length i.units) i.pairs in
-    rows_total-positive (drop k rows) (positive-drop_rows rows k (positive-rows_of (length i.units) i.pairs kept.pairs))
+    rows_total-positive (drop k rows) (all-drop pairs_are_positive k rows (positive-rows_of (length i.units) i.pairs kept.pairs))
 
 each-small : (ts : List ℤ) → rank_of ts ≤ℤ pos (2 ^ 48) → Each IsSmall ts
 each-small [] h = tt

@@ -1,96 +1,107 @@
 -- Sums of weights, and the limits of a state's benefits.
-use Rattle.std.specs.Prelude.{◌≡◌, ℕ, zero, suc, ◌+◌, ◌≤◌, ℤ, pos, ◌+ℤ◌, ◌≤ℤ◌, Bool, true, ◌&&◌, int_le, List, [], ◌∷◌, length, take, drop, map, IsTrue, refl}
-use Rattle.std.proofs.Common.{arith}
+use Rattle.std.specs.Prelude.{◌≡◌, ℕ, zero, suc, ◌+◌, ◌<◌, ◌≤◌, ℤ, pos, ◌+ℤ◌, ◌≤ℤ◌, Bool, int_le, List, [], ◌∷◌, length, take, drop, map, IsTrue, refl}
+use Rattle.std.specs.List.{list_all}
+use Rattle.std.proofs.Common.{arith, get_or}
 use Rattle.std.proofs.lemmas.Int.{ints}
 use Rattle.std.proofs.lemmas.List.{length-drop}
 use Rattle.benefit_rows.specs.Benefits.{rank_of}
 use Rattle.benefit_rows.specs.BenefitLaws.{size_of-positive}
 use Rattle.max_two_sat.specs.declared.weights.UnitWeights.{UnitWeights}
 use Rattle.max_two_sat.specs.declared.weights.PairWeights.{PairWeights}
-use Rattle.max_two_sat.specs.Instance.{Instance, rows_of, row_at, pair_count, unit_total, pair_total, units_total, pairs_total, rows_total}
+use Rattle.max_two_sat.specs.Instance.{Instance, rows_of, row_at, pair_count, unit_total, pair_total, units_total, pairs_total, rows_total, total_by}
 use Rattle.max_two_sat.specs.Kept.{IsKept, units_are_positive, pairs_are_positive, pair_is_positive, unit_is_positive, and-left, and-right, and-both, le-is, is-le, size-is, unit-positive, pair-positive}
 use Rattle.max_two_sat.specs.Program.{is_within, raised, first_limits, limits_at, are_within, all_zero, words_of}
 use Rattle.max_two_sat.specs.Rows.{length-rows_of, length-row_at, drop-rows, words_of-some}
 
+-- entries that pass a test
+
+pub all-take : {X : Type 0} (test : X → Bool) (m : ℕ) (xs : List X) → IsTrue (list_all test xs) → IsTrue (list_all test (take m xs))
+all-take test zero xs h = refl
+all-take test (suc m) [] h = refl
+all-take test (suc m) (x ∷ xs) h = and-both (test x) _ (and-left _ _ h) (all-take test m xs (and-right (test x) _ h))
+
+pub all-drop : {X : Type 0} (test : X → Bool) (m : ℕ) (xs : List X) → IsTrue (list_all test xs) → IsTrue (list_all test (drop m xs))
+all-drop test zero xs h = h
+all-drop test (suc m) [] h = refl
+all-drop test (suc m) (x ∷ xs) h = all-drop test m xs (and-right (test x) _ h)
+
+pub all-at : {X : Type 0} (test : X → Bool) (xs : List X) (i : ℕ) (none : X) → i < length xs → IsTrue (list_all test xs) → IsTrue (test (get_or xs i none))
+all-at test [] i none h g = absurd (omega arith)
+all-at test (x ∷ xs) zero none h g = and-left _ _ g
+all-at test (x ∷ xs) (suc i) none h g = all-at test xs i none (omega arith) (and-right (test x) _ g)
+
+-- sums of numbers that are not negative where the entries pass a test
+
+pub total_by-positive : {X : Type 0} (number : X → ℤ) (test : X → Bool) → ((x : X) → IsTrue (test x) → pos 0 ≤ℤ number x) → (xs : List X) →
+    IsTrue (list_all test xs) → pos 0 ≤ℤ total_by number xs
+total_by-positive number test low [] h = omega (arith, ints)
+total_by-positive number test low (x ∷ xs) h =
+    omega (arith, ints, low x (and-left _ _ h), total_by-positive number test low xs (and-right (test x) _ h))
+
+pub total_by-at : {X : Type 0} (number : X → ℤ) (test : X → Bool) → ((x : X) → IsTrue (test x) → pos 0 ≤ℤ number x) → (xs : List X) (i : ℕ) (none : X) →
+    i < length xs → IsTrue (list_all test xs) → number (get_or xs i none) ≤ℤ total_by number xs
+total_by-at number test low [] i none h g = absurd (omega arith)
+total_by-at number test low (x ∷ xs) zero none h g = omega (arith, ints, total_by-positive number test low xs (and-right (test x) _ g))
+total_by-at number test low (x ∷ xs) (suc i) none h g =
+    omega (arith, ints, low x (and-left _ _ g), total_by-at number test low xs i none (omega arith) (and-right (test x) _ g))
+
+-- a sum is that of the front and that of the rest
+pub total_by-cut : {X : Type 0} (number : X → ℤ) (m : ℕ) (xs : List X) → total_by number (take m xs) +ℤ total_by number (drop m xs) ≡ total_by number xs
+total_by-cut number zero xs = omega (arith, ints)
+total_by-cut number (suc m) [] = refl
+total_by-cut number (suc m) (x ∷ xs) = omega (arith, ints, total_by-cut number m xs)
+
 -- the sum of some numbers
 abbrev pub sum_of : List ℤ → ℤ
-sum_of [] = pos 0
-sum_of (l ∷ ls) = l +ℤ sum_of ls
+sum_of ls = total_by (λ l. l) ls
 
 abbrev pub none_negative : List ℤ → Bool
-none_negative [] = true
-none_negative (l ∷ ls) = int_le (pos 0) l && none_negative ls
+none_negative ls = list_all (int_le (pos 0)) ls
 
 pub sum_of-positive : (ls : List ℤ) → IsTrue (none_negative ls) → pos 0 ≤ℤ sum_of ls
-sum_of-positive [] h = omega (arith, ints)
-sum_of-positive (l ∷ ls) h =
-    omega (arith, ints, le-is (pos 0) l (and-left _ _ h), sum_of-positive ls (and-right (int_le (pos 0) l) _ h))
+sum_of-positive ls h = total_by-positive (λ l. l) (int_le (pos 0)) (le-is (pos 0)) ls h
+
+-- weights
+
+pub unit_total-low : (u : UnitWeights) → IsTrue (unit_is_positive u) → pos 0 ≤ℤ unit_total u
+unit_total-low u h = let here = unit-positive u h in omega (arith, ints)
 
 pub units_total-positive : (us : List UnitWeights) → IsTrue (units_are_positive us) → pos 0 ≤ℤ units_total us
-units_total-positive [] h = omega (arith, ints)
-units_total-positive (u ∷ us) h =
-    let here = unit-positive u (and-left _ _ h) in
-    omega (arith, ints, units_total-positive us (and-right (unit_is_positive u) _ h))
+units_total-positive us h = total_by-positive unit_total unit_is_positive unit_total-low us h
+
+pub pair_total-low : (p : PairWeights) → IsTrue (pair_is_positive p) → pos 0 ≤ℤ pair_total p
+pair_total-low p h = let here = pair-positive p h in omega (arith, ints)
 
 pub pairs_total-positive : (ps : List PairWeights) → IsTrue (pairs_are_positive ps) → pos 0 ≤ℤ pairs_total ps
-pairs_total-positive [] h = omega (arith, ints)
-pairs_total-positive (p ∷ ps) h =
-    let here = pair-positive p (and-left _ _ h) in
-    omega (arith, ints, pairs_total-positive ps (and-right (pair_is_positive p) _ h))
+pairs_total-positive ps h = total_by-positive pair_total pair_is_positive pair_total-low ps h
 
--- parts of a row
-
-pub pairs_total-cut : (m : ℕ) (ps : List PairWeights) → pairs_total (take m ps) +ℤ pairs_total (drop m ps) ≡ pairs_total ps
-pairs_total-cut zero ps = omega (arith, ints)
-pairs_total-cut (suc m) [] = refl
-pairs_total-cut (suc m) (p ∷ ps) = omega (arith, ints, pairs_total-cut m ps)
-
-pub positive-take : (m : ℕ) (ps : List PairWeights) → IsTrue (pairs_are_positive ps) → IsTrue (pairs_are_positive (take m ps))
-positive-take zero ps h = refl
-positive-take (suc m) [] h = refl
-positive-take (suc m) (p ∷ ps) h =
-    and-both (pair_is_positive p) _ (and-left _ _ h) (positive-take m ps (and-right (pair_is_positive p) _ h))
-
-pub positive-drop : (m : ℕ) (ps : List PairWeights) → IsTrue (pairs_are_positive ps) → IsTrue (pairs_are_positive (drop m ps))
-positive-drop zero ps h = h
-positive-drop (suc m) [] h = refl
-positive-drop (suc m) (p ∷ ps) h = positive-drop m ps (and-right (pair_is_positive p) _ h)
+-- rows
 
 pub rows_total-rows_of : (n : ℕ) (ps : List PairWeights) → length ps ≡ pair_count n → rows_total (rows_of n ps) ≡ pairs_total ps
 rows_total-rows_of zero [] e = refl
 rows_total-rows_of zero (p ∷ ps) e = absurd (omega arith)
 rows_total-rows_of (suc later) ps e =
-    omega (arith, ints, pairs_total-cut later ps, rows_total-rows_of later (drop later ps) (omega (arith, length-drop later ps)))
+    omega (arith, ints, total_by-cut pair_total later ps, rows_total-rows_of later (drop later ps) (omega (arith, length-drop later ps)))
 
 abbrev pub rows_are_positive : List (List PairWeights) → Bool
-rows_are_positive [] = true
-rows_are_positive (row ∷ rows) = pairs_are_positive row && rows_are_positive rows
+rows_are_positive rows = list_all pairs_are_positive rows
 
 pub positive-rows_of : (n : ℕ) (ps : List PairWeights) → IsTrue (pairs_are_positive ps) → IsTrue (rows_are_positive (rows_of n ps))
 positive-rows_of zero ps h = refl
 positive-rows_of (suc later) ps h =
-    and-both (pairs_are_positive (take later ps)) _ (positive-take later ps h) (positive-rows_of later (drop later ps) (positive-drop later ps h))
+    and-both (pairs_are_positive (take later ps)) _ (all-take pair_is_positive later ps h) (positive-rows_of later (drop later ps) (all-drop pair_is_positive later ps h))
 
 pub positive-row_at : (rows : List (List PairWeights)) (k : ℕ) → IsTrue (rows_are_positive rows) → IsTrue (pairs_are_positive (row_at rows k))
 positive-row_at [] k h = refl
 positive-row_at (row ∷ rows) zero h = and-left (pairs_are_positive row) _ h
 positive-row_at (row ∷ rows) (suc k) h = positive-row_at rows k (and-right (pairs_are_positive row) _ h)
 
-pub positive-drop_rows : (rows : List (List PairWeights)) (k : ℕ) → IsTrue (rows_are_positive rows) → IsTrue (rows_are_positive (drop k rows))
-positive-drop_rows rows zero h = h
-positive-drop_rows [] (suc k) h = refl
-positive-drop_rows (row ∷ rows) (suc k) h = positive-drop_rows rows k (and-right (pairs_are_positive row) _ h)
-
 pub rows_total-positive : (rows : List (List PairWeights)) → IsTrue (rows_are_positive rows) → pos 0 ≤ℤ rows_total rows
-rows_total-positive [] h = omega (arith, ints)
-rows_total-positive (row ∷ rows) h =
-    omega (arith, ints, pairs_total-positive row (and-left _ _ h), rows_total-positive rows (and-right (pairs_are_positive row) _ h))
+rows_total-positive rows h = total_by-positive pairs_total pairs_are_positive pairs_total-positive rows h
 
 pub rows_total-drop : (rows : List (List PairWeights)) (k : ℕ) → IsTrue (rows_are_positive rows) → rows_total (drop k rows) ≤ℤ rows_total rows
-rows_total-drop rows zero h = omega (arith, ints)
-rows_total-drop [] (suc k) h = omega (arith, ints)
-rows_total-drop (row ∷ rows) (suc k) h =
-    omega (arith, ints, pairs_total-positive row (and-left _ _ h), rows_total-drop rows k (and-right (pairs_are_positive row) _ h))
+rows_total-drop rows k h =
+    omega (arith, ints, total_by-cut pairs_total k rows, rows_total-positive (take k rows) (all-take pairs_are_positive k rows h))
 
 -- limits
 

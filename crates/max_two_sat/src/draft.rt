@@ -1,7 +1,7 @@
 ghost use Rattle.std.specs.Prelude.{◌≡◌, ◌^◌, ◌+◌, ◌<◌, ◌≤◌, pos, ◌+ℤ◌, ◌≤ℤ◌, length, IfOk};
 ghost use Rattle.max_two_sat.specs.Instance.{pair_count, pair_total, unit_total};
 ghost use Rattle.max_two_sat.specs.Kept.{PairIsPositive, UnitIsPositive};
-ghost use Rattle.max_two_sat.specs.Clauses.{FitsLiteral, FitsLiterals, copies_of, gathered_with, heavier_pair, heavier_unit, no_pair, no_unit, nothing_gathered, same_sign, with_pair, with_two, with_unit};
+ghost use Rattle.max_two_sat.specs.Clauses.{FitsLiteral, FitsLiterals, gathered_with, heavier_pair, heavier_unit, nothing_gathered, place_of_pair, same_sign, with_pair, with_two, with_unit};
 ghost use Rattle.max_two_sat.specs.Room.{HasRoom};
 ghost use Rattle.max_two_sat.specs.Drafted.{gathered_in, instance_gathered};
 
@@ -28,8 +28,8 @@ impl Draft {
         requires { variables ≤ 1024 }
         ensures { IfOk result (λ d. gathered_in d ≡ nothing_gathered variables) }
     {
-        let units = without_units(alloc, variables)?;
-        let pairs = without_pairs(alloc, pairs_of(variables))?;
+        let units = vec![in alloc; UnitWeights::NONE; variables]?;
+        let pairs = vec![in alloc; PairWeights::NONE; pairs_of(variables)]?;
         Ok(Draft {
             tautologies: 0,
             units,
@@ -97,9 +97,20 @@ impl Draft {
         ensures total { self.new.total ≡ self.old.total }
         ensures clauses { self.new.clauses ≡ self.old.clauses }
     {
-        let start = start_of_row(self.units.as_slice().len(), a.variable);
-        let place = start + (b.variable - a.variable - 1);
+        let place = self.place_of_pair(a.variable, b.variable);
         self.pairs[place] = pair_with(self.pairs[place], a.positive, b.positive, weight);
+    }
+
+    /// Where the entry of the variables `i < j` stands.
+    fn place_of_pair(&self, i: usize, j: usize) -> usize
+        requires few { length self.now.units.items ≤ 1024 }
+        requires whole { length self.now.pairs.items ≡ pair_count (length self.now.units.items) }
+        requires lesser { i < j }
+        requires variable { j < length self.now.units.items }
+        ensures place { result ≡ place_of_pair (length self.now.units.items) i j }
+        ensures inside { result < length self.now.pairs.items }
+    {
+        start_of_row(self.units.len(), i) + (j - i - 1)
     }
 }
 
@@ -152,32 +163,4 @@ fn pairs_of(variables: usize) -> usize
     ensures { result ≡ pair_count variables }
 {
     start_of_row(variables, variables)
-}
-
-fn without_units(alloc: Global, count: usize) -> Result<Vec<UnitWeights>, AllocError>
-    ensures { IfOk result (λ v. v.items ≡ copies_of no_unit count) }
-{
-    let mut units = Vec::with_capacity(alloc, count)?;
-    for _ in 0..count {
-        units.push(UnitWeights {
-            positive: 0,
-            negative: 0,
-        })?;
-    }
-    Ok(units)
-}
-
-fn without_pairs(alloc: Global, count: usize) -> Result<Vec<PairWeights>, AllocError>
-    ensures { IfOk result (λ v. v.items ≡ copies_of no_pair count) }
-{
-    let mut pairs = Vec::with_capacity(alloc, count)?;
-    for _ in 0..count {
-        pairs.push(PairWeights {
-            both: 0,
-            first: 0,
-            second: 0,
-            neither: 0,
-        })?;
-    }
-    Ok(pairs)
 }

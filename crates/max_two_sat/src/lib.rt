@@ -7,9 +7,9 @@
 //! dd_text and benefit_rows.
 //!
 //! Promised, each in the contract of its call: `read` answers the instance exactly where the text is in the grammar, and otherwise its
-//! first fault with its place; `print` gives the canonical text, which reads as the same instance; the program meets the six laws of dp_model and its gaps add up along
-//! chains; and a list of decisions is a feasible solution exactly where `value_of` gives a value, which is the same. Only want of
-//! memory has no stated cause.
+//! first fault with its place; `print` gives the canonical text, which reads as the same instance; the program meets the six laws of
+//! dp_model and its gaps add up along chains; and a list of decisions is a feasible solution exactly where `value_of` gives a value,
+//! which is the same. Only want of memory has no stated cause.
 #![tactic(auto)]
 
 mod clause;

@@ -1,5 +1,5 @@
 ghost use Rattle.std.specs.Prelude.{◌≡◌, ◌^◌, ◌+◌, ◌<◌, ◌≤◌, ◌≤ℤ◌, length, pos, slice_index_or};
-ghost use Rattle.max_two_sat.specs.Instance.{pair_total, unit_total};
+ghost use Rattle.max_two_sat.specs.Instance.{pair_total, unit_total, without_tautologies};
 ghost use Rattle.max_two_sat.specs.Kept.{IsKept, PairIsPositive, UnitIsPositive};
 ghost use Rattle.max_two_sat.specs.Program.{are_within, limits_at, words_of};
 
@@ -14,7 +14,7 @@ pub(crate) fn are_within_limits(
     k: usize,
     benefits: &[i64],
 ) -> bool
-    requires kept { IsKept (record { tautologies = pos 0; units = units.now; pairs = pairs.now }) }
+    requires kept { IsKept (without_tautologies units.now pairs.now) }
     requires layer { k ≤ length units.now }
     requires cells { length benefits.now + k ≡ words_of (length units.now) }
     ensures { result ≡ are_within benefits.now (limits_at units.now pairs.now k) }
@@ -30,7 +30,7 @@ pub(crate) fn are_within_limits(
 /// How large the benefit may be that stands at an index behind layer `k`: the unit weights of its variable, and the weight of the
 /// clauses on it and a variable before the layer.
 fn limit_of(units: &[UnitWeights], pairs: &[PairWeights], k: usize, index: usize) -> i64
-    requires kept { IsKept (record { tautologies = pos 0; units = units.now; pairs = pairs.now }) }
+    requires kept { IsKept (without_tautologies units.now pairs.now) }
     requires layer { k ≤ length units.now }
     requires variable { index + k < words_of (length units.now) }
     ensures limit { result ≡ slice_index_or (limits_at units.now pairs.now k) index (pos 0) }

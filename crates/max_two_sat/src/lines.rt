@@ -3,7 +3,7 @@
 ghost use Rattle.std.specs.Prelude.{◌≡◌, ◌+◌, ◌*◌, ◌^◌, ◌<◌, ◌≤◌, ◌++◌, length, OnOk};
 ghost use Rattle.std.specs.List.{flat_map};
 ghost use Rattle.max_two_sat.specs.Clauses.{FitsLiteral, FitsLiterals};
-ghost use Rattle.max_two_sat.specs.Lines.{clause_where, pair_lines, pairs_weighing, row_lines, unit_lines, units_lines, units_weighing, weighs};
+ghost use Rattle.max_two_sat.specs.Lines.{clause_where, pair_lines, pair_weighing, pairs_weighing, row_lines, unit_lines, unit_weighing, units_lines, units_weighing, weighs};
 ghost use Rattle.max_two_sat.specs.Printed.{line_of, literal_text, literals_text, number_of_literal};
 
 use crate::clause::{Literal, Literals};
@@ -38,14 +38,14 @@ pub(crate) fn count_pairs(pairs: &[PairWeights]) -> usize
 }
 
 fn lines_of_unit(unit: UnitWeights) -> usize
-    ensures lines { result ≡ weighs unit.positive + weighs unit.negative }
+    ensures lines { result ≡ unit_weighing unit }
     ensures few { result ≤ 2 }
 {
     weighs(unit.positive) + weighs(unit.negative)
 }
 
 fn lines_of_pair(pair: PairWeights) -> usize
-    ensures lines { result ≡ (weighs pair.both + weighs pair.first) + (weighs pair.second + weighs pair.neither) }
+    ensures lines { result ≡ pair_weighing pair }
     ensures few { result ≤ 4 }
 {
     (weighs(pair.both) + weighs(pair.first)) + (weighs(pair.second) + weighs(pair.neither))

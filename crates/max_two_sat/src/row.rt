@@ -1,8 +1,9 @@
-ghost use Rattle.std.specs.Prelude.{◌≡◌, ◌^◌, ◌+◌, ◌<◌, ◌≤◌, suc, pos, ◌+ℤ◌, ◌-ℤ◌, ◌≤ℤ◌, ◌++◌, length, take, drop, IsTrue};
+ghost use Rattle.std.specs.Prelude.{◌≡◌, ◌^◌, pos, ◌+ℤ◌, ◌-ℤ◌, ◌≤ℤ◌, ◌++◌, length, take, drop, IsTrue};
 ghost use Rattle.std.specs.Int.{int_min};
-ghost use Rattle.benefit_rows.specs.Benefits.{gain_of, rank_of, size_of};
-ghost use Rattle.max_two_sat.specs.Instance.{pair_total, pairs_total, unit_total, units_total};
-ghost use Rattle.max_two_sat.specs.Kept.{PairIsPositive, UnitIsPositive, pairs_are_positive, units_are_positive};
+ghost use Rattle.benefit_rows.specs.Benefits.{gain_of, size_of};
+ghost use Rattle.max_two_sat.specs.Instance.{pair_total, unit_total, units_total};
+ghost use Rattle.max_two_sat.specs.Fitting.{FitsBenefits, FitsState};
+ghost use Rattle.max_two_sat.specs.Kept.{PairIsPositive, UnitIsPositive, units_are_positive};
 ghost use Rattle.max_two_sat.specs.Program.{all_zero, cell_part, grown, is_within, lesser_units, open_false, open_true, root_of, row_gain, row_step, settled, shared_gain, words_of};
 
 use crate::weights::{PairWeights, UnitWeights};
@@ -49,10 +50,7 @@ pub(crate) fn lesser_sum(units: &[UnitWeights]) -> i64
 /// Writes the state behind a decision.
 pub(crate) fn write_step(row: &[PairWeights], k: usize, s: &[i64], d: u32, out: &mut [i64])
     requires cells { length out.old ≡ length s.now }
-    requires entries { length row.now + suc k ≡ length s.now }
-    requires positive { IsTrue (pairs_are_positive row.now) }
-    requires weight { pairs_total row.now ≤ℤ pos (2 ^ 48) }
-    requires rank { rank_of (drop k s.now) ≤ℤ pos (2 ^ 48) }
+    requires fits { FitsState row.now k s.now }
     ensures { out.new ≡ take k s.now ++ row_step row.now (drop k s.now) d }
 {
     out[..k].copy_from_slice(&s[..k]);
@@ -63,10 +61,7 @@ pub(crate) fn write_step(row: &[PairWeights], k: usize, s: &[i64], d: u32, out: 
 /// Writes what the benefits of the later variables grow to.
 fn grow(row: &[PairWeights], benefits: &[i64], d: u32, out: &mut [i64])
     requires cells { length out.old ≡ length row.now }
-    requires entries { length row.now ≡ length benefits.now }
-    requires positive { IsTrue (pairs_are_positive row.now) }
-    requires weight { pairs_total row.now ≤ℤ pos (2 ^ 48) }
-    requires rank { rank_of benefits.now ≤ℤ pos (2 ^ 48) }
+    requires fits { FitsBenefits row.now benefits.now }
     ensures { out.new ≡ grown row.now benefits.now d }
 {
     for i in 0..row.len() {
@@ -87,10 +82,7 @@ fn grown_benefit(pair: PairWeights, benefit: i64, d: u32) -> i64
 
 /// What a decision satisfies with the later variables, and the lesser of what each of them then has on its two sides.
 pub(crate) fn gain_with_later(row: &[PairWeights], benefits: &[i64], d: u32) -> i64
-    requires entries { length row.now ≡ length benefits.now }
-    requires positive { IsTrue (pairs_are_positive row.now) }
-    requires weight { pairs_total row.now ≤ℤ pos (2 ^ 48) }
-    requires rank { rank_of benefits.now ≤ℤ pos (2 ^ 48) }
+    requires { FitsBenefits row.now benefits.now }
     ensures { result ≡ shared_gain row.now benefits.now d }
 {
     let mut total = 0;
@@ -102,10 +94,7 @@ pub(crate) fn gain_with_later(row: &[PairWeights], benefits: &[i64], d: u32) -> 
 
 /// What a decision gains: the decided variable's side, and the parts of the later variables.
 pub(crate) fn step_gain(row: &[PairWeights], k: usize, s: &[i64], d: u32) -> i64
-    requires entries { length row.now + suc k ≡ length s.now }
-    requires positive { IsTrue (pairs_are_positive row.now) }
-    requires weight { pairs_total row.now ≤ℤ pos (2 ^ 48) }
-    requires rank { rank_of (drop k s.now) ≤ℤ pos (2 ^ 48) }
+    requires { FitsState row.now k s.now }
     ensures { result ≡ row_gain row.now (drop k s.now) d }
 {
     side_gain(s[k], d) + gain_with_later(row, &s[k + 1..], d)

@@ -7,6 +7,14 @@ pub(crate) struct UnitWeights {
     pub(crate) negative: i64,
 }
 
+impl UnitWeights {
+    /// No clause.
+    pub(crate) const NONE: UnitWeights = UnitWeights {
+        positive: 0,
+        negative: 0,
+    };
+}
+
 /// What the clauses on two different variables weigh, by which of the two literals are positive.
 #[derive(Clone, Copy, Debug)]
 pub(crate) struct PairWeights {
@@ -18,4 +26,14 @@ pub(crate) struct PairWeights {
     pub(crate) second: i64,
     /// Neither literal is positive.
     pub(crate) neither: i64,
+}
+
+impl PairWeights {
+    /// No clause.
+    pub(crate) const NONE: PairWeights = PairWeights {
+        both: 0,
+        first: 0,
+        second: 0,
+        neither: 0,
+    };
 }

@@ -1,8 +1,8 @@
 use Rattle.std.proofs.Common.{arith, ◌≡◌, ◌+◌, ◌-◌, ◌∙◌, ap, sym, pos, get_or, to_z, w64}
 use Rattle.std.proofs.lemmas.Int.{ints, to_z-of_z}
-use Rattle.max_two_sat.specs.Instance.{Instance}
+use Rattle.max_two_sat.specs.Instance.{no_unit, without_tautologies}
 use Rattle.max_two_sat.specs.Program.{first_limits}
-use Rattle.max_two_sat.proofs.Cells.{no_unit, unit-at, unit_total-at}
+use Rattle.max_two_sat.proofs.Cells.{unit-at, unit_total-at}
 use Rattle.max_two_sat.proofs.LayerLimits.{limit-first, limit-small, pair-there, limit-adds}
 use Rattle.max_two_sat.proofs.Layers.{units-most}
 use Rattle.max_two_sat.proofs.limits.limit_of.Goals as goal
@@ -12,7 +12,7 @@ unit_sum-total-requires-clause-positive c = unit-at c.args.units.now (c.args.k +
 
 pub unit_sum-total-requires-clause-weight : goal.unit_sum-total-requires-clause-weight
 unit_sum-total-requires-clause-weight c =
-    let i : Instance = record { tautologies = pos 0; units = c.args.units.now; pairs = c.args.pairs.now } in
+    let i = without_tautologies c.args.units.now c.args.pairs.now in
     omega (arith, ints, unit_total-at c.args.units.now (c.args.k + c.args.index) no_unit (omega arith) c.requires.kept.units, units-most i c.requires.kept)
 
 pub loop-before-init : goal.loop-before-init
@@ -23,34 +23,34 @@ loop-before-init c =
 
 pub bounds-row-variable : goal.bounds-row-variable
 bounds-row-variable c =
-    let i : Instance = record { tautologies = pos 0; units = c.args.units.now; pairs = c.args.pairs.now } in
+    let i = without_tautologies c.args.units.now c.args.pairs.now in
     (pair-there i c.loop-before.before (c.args.k + c.args.index) c.row_of-row.result.now c.requires.kept (omega arith) (omega arith) c.row_of-row.ensures).inside
 
 pub pair_sum-total-requires-clause-positive : goal.pair_sum-total-requires-clause-positive
 pair_sum-total-requires-clause-positive c =
-    let i : Instance = record { tautologies = pos 0; units = c.args.units.now; pairs = c.args.pairs.now } in
+    let i = without_tautologies c.args.units.now c.args.pairs.now in
     (pair-there i c.loop-before.before (c.args.k + c.args.index) c.row_of-row.result.now c.requires.kept (omega arith) (omega arith) c.row_of-row.ensures).positive
 
 pub pair_sum-total-requires-clause-weight : goal.pair_sum-total-requires-clause-weight
 pair_sum-total-requires-clause-weight c =
-    let i : Instance = record { tautologies = pos 0; units = c.args.units.now; pairs = c.args.pairs.now } in
+    let i = without_tautologies c.args.units.now c.args.pairs.now in
     (pair-there i c.loop-before.before (c.args.k + c.args.index) c.row_of-row.result.now c.requires.kept (omega arith) (omega arith) c.row_of-row.ensures).weight
 
 pub overflow_add-total : goal.overflow_add-total
 overflow_add-total c =
-    let i : Instance = record { tautologies = pos 0; units = c.args.units.now; pairs = c.args.pairs.now } in
+    let i = without_tautologies c.args.units.now c.args.pairs.now in
     let sum = limit-adds i c.loop-before.before (c.args.k + c.args.index) c.row_of-row.result.now (to_z w64 c.loop-before.total-bits) c.pair_sum-total.result c.requires.kept
     (omega arith) (omega arith) c.row_of-row.ensures c.loop-before.invariant c.pair_sum-total.ensures in
     omega (arith, ints)
 
 pub loop-before-preserved : goal.loop-before-preserved
 loop-before-preserved c =
-    let i : Instance = record { tautologies = pos 0; units = c.args.units.now; pairs = c.args.pairs.now } in
+    let i = without_tautologies c.args.units.now c.args.pairs.now in
     let sum = limit-adds i c.loop-before.before (c.args.k + c.args.index) c.row_of-row.result.now (to_z w64 c.loop-before.total-bits) c.pair_sum-total.result c.requires.kept
     (omega arith) (omega arith) c.row_of-row.ensures c.loop-before.invariant c.pair_sum-total.ensures in
     omega (arith, ints)
 
 pub returns-clause-low : goal.returns-clause-low
 returns-clause-low c =
-    let i : Instance = record { tautologies = pos 0; units = c.args.units.now; pairs = c.args.pairs.now } in
+    let i = without_tautologies c.args.units.now c.args.pairs.now in
     omega (arith, ints, (limit-small i c.loop-before.before (c.args.k + c.args.index - c.loop-before.before) c.requires.kept (omega arith)).low, c.loop-before.invariant)

@@ -1,16 +1,14 @@
-use Rattle.std.proofs.Common.{arith, ◌≡◌, ◌+◌, []}
-use Rattle.std.proofs.lemmas.List.{drop_all}
-use Rattle.max_two_sat.specs.Lines.{units_weighing}
-use Rattle.max_two_sat.proofs.PrintedLines.{units-counted}
+use Rattle.std.proofs.Common.{arith}
+use Rattle.max_two_sat.specs.Instance.{no_unit}
+use Rattle.max_two_sat.specs.Lines.{unit_weighing}
+use Rattle.max_two_sat.proofs.PrintedLines.{lines-counted, all-counted}
 use Rattle.max_two_sat.proofs.lines.count_units.Goals as goal
 
 pub loop-i-preserved : goal.loop-i-preserved
 loop-i-preserved c = (
-  units-counted c.args.units.now c.loop-i.i c.loop-i.count c.lines_of_unit-count.result c.loop-i-test.true c.lines_of_unit-count.ensures.lines c.loop-i.invariant.0,
+  lines-counted unit_weighing c.args.units.now c.loop-i.i c.loop-i.count c.lines_of_unit-count.result no_unit c.loop-i-test.true c.lines_of_unit-count.ensures.lines c.loop-i.invariant.0,
   omega (arith, c.loop-i.invariant.1, c.lines_of_unit-count.ensures.few),
 )
 
-pub returns : goal.returns
-returns c =
-    let whole : c.loop-i.count + units_weighing [] ≡ units_weighing c.args.units.now = rw (drop_all c.loop-i.i c.args.units.now c.loop-i-test.false) at c.loop-i.invariant.0 in
-    record { lines = omega arith; few = omega (arith, c.loop-i.invariant.1) }
+pub returns-clause-lines : goal.returns-clause-lines
+returns-clause-lines c = all-counted unit_weighing c.args.units.now c.loop-i.i c.loop-i.count c.loop-i-test.false c.loop-i.invariant.0

@@ -1,14 +1,12 @@
 use Rattle.std.proofs.Common.{arith, ◌≡◌, ◌+◌, drop, ap, ◌∙◌, length, List, ℤ}
-use Rattle.std.proofs.lemmas.Int.{ints}
 use Rattle.std.proofs.lemmas.List.{length-drop}
 use Rattle.max_two_sat.specs.Program.{grown}
 use Rattle.max_two_sat.specs.Rows.{length-grown}
-use Rattle.max_two_sat.proofs.Writing.{tail-is, rank_of-tail, step-written}
+use Rattle.max_two_sat.proofs.Writing.{tail-is, later-fits, step-written}
 use Rattle.max_two_sat.proofs.row.write_step.Goals as goal
 
-pub grow-requires-clause-rank : goal.grow-requires-clause-rank
-grow-requires-clause-rank c =
-    rw tail-is (omega (arith, ints, rank_of-tail c.args.k c.args.s.now (omega arith)))
+pub grow-requires-clause-fits : goal.grow-requires-clause-fits
+grow-requires-clause-fits c = rw tail-is (later-fits c.args.row.now c.args.k c.args.s.now c.requires.fits)
 
 pub returns : goal.returns
 returns c =

@@ -10,16 +10,9 @@ pub returns-then-not-is_assignment-clause-solution : goal.returns-then-not-is_as
 returns-then-not-is_assignment-clause-solution c =
     value-none (instance_in c.args.model.now) c.args.decisions.now c.is_assignment.result c.args.model.now.kept (rw c.as_slice-units.ensures.value at c.is_assignment.ensures) c.if-not-is_assignment.true
 
-pub returns-clause-value : goal.returns-clause-value
-returns-clause-value c =
+pub returns : goal.returns
+returns c =
     let is = value-is (instance_in c.args.model.now) c.args.decisions.now c.is_assignment.result c.value_of_units-units_part.result c.value_of_pairs-pairs_part.result c.args.model.now.kept
     (rw c.as_slice-units.ensures.value at c.is_assignment.ensures) c.if-not-is_assignment.false
     (rw c.as_slice-units.ensures.value at c.value_of_units-units_part.ensures.value) (rw c.as_slice.ensures.value at c.value_of_pairs-pairs_part.ensures.value) in
-    rw is.read is.value
-
-pub returns-clause-solution : goal.returns-clause-solution
-returns-clause-solution c =
-    let is = value-is (instance_in c.args.model.now) c.args.decisions.now c.is_assignment.result c.value_of_units-units_part.result c.value_of_pairs-pairs_part.result c.args.model.now.kept
-    (rw c.as_slice-units.ensures.value at c.is_assignment.ensures) c.if-not-is_assignment.false
-    (rw c.as_slice-units.ensures.value at c.value_of_units-units_part.ensures.value) (rw c.as_slice.ensures.value at c.value_of_pairs-pairs_part.ensures.value) in
-    rw is.read is.solution
+    record { value = rw is.read is.value; solution = rw is.read is.solution }

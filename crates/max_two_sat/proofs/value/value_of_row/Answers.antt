@@ -1,15 +1,16 @@
 use Rattle.std.proofs.Common.{arith, to_z, w64}
 use Rattle.std.proofs.lemmas.Int.{ints}
-use Rattle.max_two_sat.proofs.Cells.{no_weights, pair-at, pair_total-at}
+use Rattle.max_two_sat.specs.Instance.{no_pair}
+use Rattle.max_two_sat.proofs.Cells.{pair-at, pair_total-at}
 use Rattle.max_two_sat.proofs.Weighing.{row-grows, row-done, row-bounds}
 use Rattle.max_two_sat.proofs.value.value_of_row.Goals as goal
 
 pub value_of_pair-total-requires-clause-positive : goal.value_of_pair-total-requires-clause-positive
-value_of_pair-total-requires-clause-positive c = pair-at c.args.row.now c.loop-i.i no_weights c.loop-i-test.true c.requires.positive
+value_of_pair-total-requires-clause-positive c = pair-at c.args.row.now c.loop-i.i no_pair c.loop-i-test.true c.requires.positive
 
 pub value_of_pair-total-requires-clause-weight : goal.value_of_pair-total-requires-clause-weight
 value_of_pair-total-requires-clause-weight c =
-    omega (arith, ints, pair_total-at c.args.row.now c.loop-i.i no_weights c.loop-i-test.true c.requires.positive)
+    omega (arith, ints, pair_total-at c.args.row.now c.loop-i.i no_pair c.loop-i-test.true c.requires.positive)
 
 pub overflow_add-total : goal.overflow_add-total
 overflow_add-total c =

@@ -1,10 +1,11 @@
 use Rattle.std.proofs.Common.{arith, subst, sym, ◌≤ℤ◌}
 use Rattle.std.proofs.lemmas.Int.{ints}
 use Rattle.max_two_sat.specs.declared.weights.UnitWeights.{UnitWeights}
+use Rattle.max_two_sat.specs.Drafted.{instance_gathered}
 use Rattle.max_two_sat.specs.Instance.{unit_total, units_total}
 use Rattle.max_two_sat.specs.Kept.{UnitIsPositive}
-use Rattle.max_two_sat.specs.Totals.{pairs_total-positive}
 use Rattle.max_two_sat.proofs.Cells.{unit-at, unit_total-at}
+use Rattle.max_two_sat.proofs.Gathering.{room-leaves}
 use Rattle.max_two_sat.proofs.draft.Draft.add_unit.Goals as goal
 
 pub unit_with-requires-clause-positive : goal.unit_with-requires-clause-positive
@@ -16,4 +17,4 @@ unit_with-requires-clause-room c =
     let most : unit_total c.index.result.now ≤ℤ units_total c.args.self.now.units.items =
     subst (λ (u : UnitWeights). unit_total u ≤ℤ units_total c.args.self.now.units.items) (sym c.index.ensures)
     (unit_total-at c.args.self.now.units.items c.args.a.variable c.index.result.now c.requires.variable c.requires.room.units) in
-    omega (arith, ints, c.requires.room.total, c.requires.room.tautologies, c.requires.room.low, pairs_total-positive c.args.self.now.pairs.items c.requires.room.pairs)
+    omega (arith, ints, (room-leaves (instance_gathered c.args.self.now) c.args.weight c.requires.room).units)

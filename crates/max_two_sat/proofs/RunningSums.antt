@@ -1,0 +1,28 @@
+-- Sums that grow entry by entry up to a whole that is bounded.
+use Rattle.std.proofs.Common.{◌≡◌, ◌^◌, ℤ, pos, ◌+ℤ◌, ◌≤ℤ◌, arith}
+use Rattle.std.proofs.lemmas.Int.{ints}
+
+-- a sum so far, the next part and the sum of the rest
+pub record SumGrows (whole rest total part : ℤ) : Type 0 where
+  pub sum : (total +ℤ part) +ℤ rest ≡ whole
+  pub low : pos 0 ≤ℤ (total +ℤ part)
+  pub high : (total +ℤ part) ≤ℤ pos (2 ^ 49)
+  pub part_low : pos 0 ≤ℤ part
+  pub part_high : part ≤ℤ pos (2 ^ 49)
+  pub total_high : total ≤ℤ pos (2 ^ 49)
+
+-- where the part and the rest are not negative, the sum stays within the whole
+pub sum-grows : (whole left part rest total : ℤ) → left ≡ part +ℤ rest → pos 0 ≤ℤ part → pos 0 ≤ℤ rest → whole ≤ℤ pos (2 ^ 49) →
+    (total +ℤ left ≡ whole) × (pos 0 ≤ℤ total) → SumGrows whole rest total part
+sum-grows whole left part rest total cut part_low rest_low high before = record {
+  sum = omega (arith, ints, before.0);
+  low = omega (arith, ints, before.1);
+  high = omega (arith, ints, before.0);
+  part_low = part_low;
+  part_high = omega (arith, ints, before.0, before.1);
+  total_high = omega (arith, ints, before.0);
+}
+
+-- where nothing is left, the sum so far is the whole
+pub sum-done : (whole left total : ℤ) → left ≡ pos 0 → total +ℤ left ≡ whole → total ≡ whole
+sum-done whole left total none before = omega (arith, ints)
