@@ -5,3 +5,4 @@ pub mod RowLemmas
 pub mod Sizes
 pub mod Solutions
 pub mod Walks
+pub mod WholeWalks

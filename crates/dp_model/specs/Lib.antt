@@ -11,6 +11,7 @@ pub mod Rows
 pub mod Decisions
 pub mod Reached
 pub mod Subproblem
+pub mod Decided
 pub mod Walked
 pub mod Worth
 pub mod ModelNames

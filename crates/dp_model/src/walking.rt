@@ -1,10 +1,39 @@
-ghost use Rattle.std.specs.Prelude.{◌≡◌, length};
+ghost use Rattle.std.specs.Prelude.{◌≡◌, ◌<◌, length, IsTrue};
+ghost use Rattle.dp_model.specs.Decided.{DecisionGives};
 ghost use Rattle.dp_model.specs.Walked.{WalkGives};
 
 use crate::model::DpModel;
 
+/// Takes a decision in the state. Answers its gain, with the state that it leads to in `row`, or `None` exactly where it is
+/// not allowed.
+fn decide<M: DpModel>(
+    model: &M,
+    k: usize,
+    d: u32,
+    row: &mut [i64],
+    spare: &mut [i64],
+) -> Option<i64>
+    requires layer { k < (M.meaning (M.numbers model.now)).vars }
+    requires state { IsTrue ((M.meaning (M.numbers model.now)).is_state k row.old) }
+    requires cells { length row.old ≡ (M.meaning (M.numbers model.now)).words }
+    requires spare_cells { length spare.old ≡ (M.meaning (M.numbers model.now)).words }
+    ensures { DecisionGives (M.meaning (M.numbers model.now)) k row.old d row.new result }
+{
+    if d >= model.choices(k) {
+        return None;
+    }
+    if !model.allowed(k, row, d) {
+        return None;
+    }
+    let gained = model.gain(k, row, d);
+    model.step(k, row, d, spare);
+    row.copy_from_slice(spare);
+    Some(gained)
+}
+
 /// Follows the decisions from the root. Answers the value, with the state that they reach in `out`, or `None` exactly
 /// where the decisions are no prefix. `spare` is written over. It takes no memory.
+#[tactic(auto, using(crate::proofs::WholeWalks::walked_whole, crate::proofs::WholeWalks::too_many))]
 pub fn walk<M: DpModel>(
     model: &M,
     decisions: &[u32],
@@ -21,12 +50,8 @@ pub fn walk<M: DpModel>(
     model.root(out);
     let mut value = model.root_value();
     'steps: for (k, d) in decisions.iter().enumerate() {
-        if *d >= model.choices(k) || !model.allowed(k, out, *d) {
-            return None;
-        }
-        value += model.gain(k, out, *d);
-        model.step(k, out, *d, spare);
-        out.copy_from_slice(spare);
+        let gained = decide(model, k, *d, out, spare)?;
+        value += gained;
     }
     Some(value)
 }
