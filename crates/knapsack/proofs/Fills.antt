@@ -6,7 +6,6 @@ use Rattle.std.proofs.lemmas.List.{drop_more}
 use Rattle.std.proofs.lemmas.List.Elements.{All-get_or}
 use Rattle.std.proofs.lemmas.List.Sums.{AllPass-from_list_all}
 use Rattle.std.proofs.lemmas.Nat.{le-div, mul-le, div_below}
-use Rattle.std.proofs.Math.Nat.{mul-le-mul_right, div-mul-le_self, div-le_of_le-mul}
 use Rattle.knapsack.specs.declared.item.Item.{Item}
 use Rattle.knapsack.specs.declared.placed.Placed.{Placed}
 use Rattle.knapsack.specs.Instance.{is_small_item}
@@ -71,14 +70,6 @@ takes k ps i d h from =
 -- each of the items is within the limits
 pub small_at : (ps : List Placed) (i : ℕ) (d : Placed) → HasSmallItems ps → i < length ps → IsSmallItem (get_or ps i d).item
 small_at ps i d small h = is_small_item-is _ (All-get_or (λ p. is_small_item p.item ≡ true) ps i d h (AllPass-from_list_all (λ p. is_small_item p.item) ps small.items))
-
--- the part that is left of one more copy weighs less than it
-pub left_below : (w rest : ℕ) → 0 < w → rest - rest / w * w < w
-left_below w rest some = let up : rest < w * (rest / w + 1) = omega arith in let down : rest / w * w ≤ rest = div-mul-le_self rest w in omega arith
-
--- a part is worth at most one copy
-pub part_below : (m p w : ℕ) → 0 < w → m ≤ w → m * p / w ≤ p
-part_below m p w some h = div-le_of_le-mul w (mul-le-mul_right p h)
 
 -- what a part of an item within the limits is worth
 pub part_small : (x : Item) (rest : ℕ) → IsSmallItem x → rest < x.copies * x.weight

@@ -4,6 +4,9 @@ pub mod Order
 pub mod OwnWords
 pub mod Greedy
 pub mod Program
+pub mod States
+pub mod Packings
+pub mod Sizes
 pub mod ProgramLaws
 pub mod ModelLaws
 pub mod Placed

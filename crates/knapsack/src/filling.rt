@@ -9,6 +9,7 @@ use crate::item::Item;
 use crate::placed::Placed;
 
 /// What the part of an item is worth that fits, rounded down, where not all copies fit.
+#[tactic(auto, using(crate::proofs::Fills::part_small))]
 fn part(item: Item, rest: u64) -> u64
     requires small { IsSmallItem item }
     requires part { rest < item.copies * item.weight }

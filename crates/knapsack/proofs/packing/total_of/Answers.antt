@@ -1,4 +1,4 @@
-use Rattle.knapsack.specs.ProgramLaws.{has_copies-other_length}
+use Rattle.knapsack.specs.Packings.{has_copies-other_length}
 use Rattle.knapsack.proofs.packing.total_of.Goals as goal
 
 pub returns-then-copies-items : goal.returns-then-copies-items

@@ -1,5 +1,5 @@
 use Rattle.std.proofs.Common.{◌∙◌, arith}
-use Rattle.knapsack.specs.ProgramLaws.{rough_small}
+use Rattle.knapsack.specs.Sizes.{rough_small}
 use Rattle.knapsack.specs.Limits.{is_small-is}
 use Rattle.knapsack.specs.Program.{left}
 use Rattle.knapsack.proofs.Placing.{placed_are_small, filled_is}
