@@ -53,8 +53,8 @@ pub fn gap(from: &[i64], to: &[i64]) -> i64
     doubled / 2
 }
 
-/// Twice the gap of one component, by sizes alone.
-fn doubled_gap(from: i64, to: i64) -> i64
+/// Twice the gap of one component, by sizes alone. It needs sizes of at most `2^60`.
+pub fn doubled_gap(from: i64, to: i64) -> i64
     requires from_size { size_of from ≤ℤ pos (2 ^ 60) }
     requires to_size { size_of to ≤ℤ pos (2 ^ 60) }
     ensures { result ≡ gap_between from to +ℤ gap_between from to }

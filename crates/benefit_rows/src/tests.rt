@@ -1,4 +1,4 @@
-use crate::{above_zero, below_zero, gap, merge_into, rank, size};
+use crate::{above_zero, below_zero, doubled_gap, gap, merge_into, rank, size};
 use std::test::Fail;
 
 #[test]
@@ -20,6 +20,7 @@ fn rows(rt: HostRuntime) -> Result<(), Fail> {
     assert_eq!(rt; gap(&from, &to), 7);
     // 2 + 0 + 0 + 4 + 0
     assert_eq!(rt; gap(&to, &from), 6);
+    assert_eq!(rt; doubled_gap(-1, 4), 8);
     let mut merged = from;
     merge_into(&mut merged, &to);
     assert_eq!(rt; merged.as_slice(), [3i64, -2, 0, 0, -7].as_slice());
