@@ -9,7 +9,7 @@ use Rattle.max_cut.specs.Graph.{Graph, IsGraph, row_start, row_of, weights_from,
 use Rattle.max_cut.specs.GraphLaws.{row_within, length-row_of, rank_of-most}
 use Rattle.max_cut.specs.Program.{zeros, grown_by, is_within, limits_of, words_of}
 use Rattle.max_cut.specs.StateLaws.{length-limits_of, rank_of-limits, words_of-some}
-use Rattle.max_cut.proofs.Passes.{size_of-at}
+use Rattle.benefit_rows.proofs.Steps.{size_of-at}
 
 -- a vertex with a side has no benefit
 pub limit_decided : (g : Graph) (k l : ℕ) → l < k → get_or (limits_of g k) l (pos 0) ≡ pos 0

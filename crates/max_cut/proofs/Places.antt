@@ -1,5 +1,5 @@
 -- Where pairs stand.
-use Rattle.std.proofs.Common.{◌≡◌, ◌≢◌, ℕ, zero, suc, ◌+◌, ◌-◌, ◌*◌, ◌/◌, ◌<◌, arith, ap, refl}
+use Rattle.std.proofs.Common.{◌≡◌, ◌≢◌, ℕ, zero, suc, ◌+◌, ◌-◌, ◌*◌, ◌/◌, ◌<◌, ◌≤◌, arith, ap, refl}
 use Rattle.max_cut.specs.Graph.{pairs_of, row_start}
 use Rattle.max_cut.specs.GraphLaws.{row_start-pairs}
 
@@ -21,3 +21,14 @@ pair_within n i j below few =
     let one : n - i ≡ suc (n - (i + 1)) = omega arith in
     let more : pairs_of (n - i) ≡ (n - (i + 1)) + pairs_of (n - (i + 1)) = ap pairs_of one in
     omega (arith, row_start-pairs n i (omega arith))
+
+-- where a row begins, without the sum
+pub row_start-doubled : (n k : ℕ) → k ≤ n → 2 * row_start n k + k * (k + 1) ≡ 2 * (k * n)
+row_start-doubled n zero h = omega arith
+row_start-doubled n (suc k) h = omega (arith, row_start-doubled n k (omega arith))
+
+pub row_start-is : (n k : ℕ) → k ≤ n → k * n - k * (k + 1) / 2 ≡ row_start n k
+row_start-is n k h =
+    let doubled = row_start-doubled n k h in
+    let halved : k * (k + 1) / 2 + row_start n k ≡ k * n = omega arith in
+    omega arith

@@ -9,7 +9,7 @@ use Rattle.max_cut.specs.Graph.{Graph, IsGraph, row_of, weights_from}
 use Rattle.max_cut.specs.GraphLaws.{length-row_of, rank_of-split, rank_of-most, rank_of-weights_from}
 use Rattle.max_cut.specs.Program.{is_within, limits_of, words_of}
 use Rattle.max_cut.specs.StateLaws.{length-state, rank_of-state, words_of-some}
-use Rattle.max_cut.proofs.Passes.{size_of-at}
+use Rattle.benefit_rows.proofs.Steps.{size_of-at}
 
 -- a state has its length, and its benefits are of no great size
 pub record StateFacts (g : Graph) (k : ℕ) (s : List ℤ) : Type 0 where

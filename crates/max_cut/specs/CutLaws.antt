@@ -1,6 +1,6 @@
 -- The cuts are the feasible solutions of the program, with the weight across as their value.
 use Rattle.std.proofs.Common.{◌≡◌, ℕ, zero, suc, ◌+◌, ◌-◌, ◌<◌, ◌≤◌, ℤ, pos, ◌+ℤ◌, List, [], ◌∷◌, ◌++◌, length, take, drop, Bool, true, false, ◌&&◌, Some, None, arith, sym, ap, ◌∙◌, refl, cond, eqb}
-use Rattle.std.specs.Prelude.{◌==◌, nat_lt, neg_ℤ, map}
+use Rattle.std.specs.Prelude.{◌==◌, nat_lt}
 use Rattle.std.specs.Int.{int_min}
 use Rattle.std.specs.List.{list_all}
 use Rattle.std.proofs.lemmas.Int.{ints, clamps}
@@ -11,7 +11,7 @@ use Rattle.dp_model.specs.Prefixes.{IsPath, IsSolution, value_of}
 use Rattle.dp_model.specs.Worth.{SolutionGives}
 use Rattle.max_cut.specs.Graph.{Graph, IsGraph, row_of, weights_from, negatives_of}
 use Rattle.max_cut.specs.GraphLaws.{length-row_of, weights_from-none, weights_from-next, weights_from-split}
-use Rattle.max_cut.specs.Program.{zeros, pulls_of, words_of, stepped, program_of}
+use Rattle.max_cut.specs.Program.{zeros, pull_of, pulls_of, words_of, stepped, program_of}
 use Rattle.max_cut.specs.PullLaws.{gains_of-zeros}
 use Rattle.max_cut.specs.StateLaws.{is_within-zeros}
 use Rattle.max_cut.specs.ProgramLaws.{pair_gains, gain-split}
@@ -24,37 +24,23 @@ are_sides ds = list_all (λ d. nat_lt d 2) ds
 side-is : (d : ℕ) → nat_lt d 2 ≡ true → d < 2
 side-is d h = grind (arith, nat_tests)
 
--- what a side gains from the pulls of a vertex on S, and of one on T
-pulled_by_S : (w : ℤ) (e : ℕ) → e < 2 → gain_of w e +ℤ int_min w (pos 0) ≡ cond (eqb 0 e) (pos 0) w
-pulled_by_S w zero h = omega (arith, ints, clamps)
-pulled_by_S w (suc zero) h = omega (arith, ints, clamps)
-pulled_by_S w (suc (suc e)) h = absurd (omega arith)
-
-pulled_by_T : (w : ℤ) (e : ℕ) → e < 2 → gain_of (neg_ℤ w) e +ℤ int_min w (pos 0) ≡ cond (eqb 1 e) (pos 0) w
-pulled_by_T w zero h = omega (arith, ints, clamps)
-pulled_by_T w (suc zero) h = omega (arith, ints, clamps)
-pulled_by_T w (suc (suc e)) h = absurd (omega arith)
-
-across_from-S : (row : List ℤ) (ds : List ℕ) → are_sides ds ≡ true → length row ≡ length ds → gains_of row ds +ℤ negatives_of row ≡ across_from 0 row ds
-across_from-S [] [] h e = refl
-across_from-S [] (d ∷ ds) h e = absurd (omega arith)
-across_from-S (w ∷ row) [] h e = absurd (omega arith)
-across_from-S (w ∷ row) (d ∷ ds) h e =
-    let both = and_parts (nat_lt d 2) (are_sides ds) h in
-    omega (arith, ints, pulled_by_S w d (side-is d both.0), across_from-S row ds both.1 (omega arith))
-
-across_from-T : (row : List ℤ) (ds : List ℕ) → are_sides ds ≡ true → length row ≡ length ds → gains_of (map neg_ℤ row) ds +ℤ negatives_of row ≡ across_from 1 row ds
-across_from-T [] [] h e = refl
-across_from-T [] (d ∷ ds) h e = absurd (omega arith)
-across_from-T (w ∷ row) [] h e = absurd (omega arith)
-across_from-T (w ∷ row) (d ∷ ds) h e =
-    let both = and_parts (nat_lt d 2) (are_sides ds) h in
-    omega (arith, ints, pulled_by_T w d (side-is d both.0), across_from-T row ds both.1 (omega arith))
+-- what a side gains from the pull of a vertex is the weight between them, where it is on the other side
+pulled_by : (d : ℕ) (w : ℤ) (e : ℕ) → d < 2 → e < 2 → gain_of (pull_of d w) e +ℤ int_min w (pos 0) ≡ cond (eqb d e) (pos 0) w
+pulled_by zero w zero few h = omega (arith, ints, clamps)
+pulled_by zero w (suc zero) few h = omega (arith, ints, clamps)
+pulled_by (suc zero) w zero few h = omega (arith, ints, clamps)
+pulled_by (suc zero) w (suc zero) few h = omega (arith, ints, clamps)
+pulled_by zero w (suc (suc e)) few h = absurd (omega arith)
+pulled_by (suc zero) w (suc (suc e)) few h = absurd (omega arith)
+pulled_by (suc (suc d)) w e few h = absurd (omega arith)
 
 across_from-gains : (d : ℕ) (row : List ℤ) (ds : List ℕ) → d < 2 → are_sides ds ≡ true → length row ≡ length ds → gains_of (pulls_of d row) ds +ℤ negatives_of row ≡ across_from d row ds
-across_from-gains zero row ds few h e = across_from-S row ds h e
-across_from-gains (suc zero) row ds few h e = across_from-T row ds h e
-across_from-gains (suc (suc d)) row ds few h e = absurd (omega arith)
+across_from-gains d [] [] few h e = refl
+across_from-gains d [] (x ∷ ds) few h e = absurd (omega arith)
+across_from-gains d (w ∷ row) [] few h e = absurd (omega arith)
+across_from-gains d (w ∷ row) (x ∷ ds) few h e =
+    let both = and_parts (nat_lt x 2) (are_sides ds) h in
+    omega (arith, ints, pulled_by d w x few (side-is x both.0), across_from-gains d row ds few both.1 (omega arith))
 
 negatives_of-append : (ws more : List ℤ) → negatives_of (ws ++ more) ≡ negatives_of ws +ℤ negatives_of more
 negatives_of-append [] more = omega (arith, ints)

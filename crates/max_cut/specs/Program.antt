@@ -16,10 +16,14 @@ sums_of [] ps = []
 sums_of (s ∷ ss) [] = []
 sums_of (s ∷ ss) (p ∷ ps) = (s +ℤ p) ∷ sums_of ss ps
 
--- what a side of a vertex adds to the benefits of the later ones: its weights on S, its negated weights on T
+-- what a side of a vertex adds to the benefit of a later one: the weight between them on S, the negated weight on T
+abbrev pub pull_of : ℕ → ℤ → ℤ
+pull_of zero w = w
+pull_of (suc _) w = neg_ℤ w
+
+-- what it adds to the benefits of the later ones
 abbrev pub pulls_of : ℕ → List ℤ → List ℤ
-pulls_of zero row = row
-pulls_of (suc _) row = map neg_ℤ row
+pulls_of d row = map (pull_of d) row
 
 -- whether one is at least zero and the other at most zero
 abbrev pub are_opposed : ℤ → ℤ → Bool

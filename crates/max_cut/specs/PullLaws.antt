@@ -1,26 +1,23 @@
 -- What a side adds to benefits, and what it settles.
-use Rattle.std.specs.Prelude.{◌≡◌, ℕ, zero, suc, ◌≤◌, ℤ, pos, neg_ℤ, ◌+ℤ◌, ◌-ℤ◌, ◌≤ℤ◌, List, [], ◌∷◌, length, map}
-use Rattle.std.proofs.Common.{arith, ap, refl}
+use Rattle.std.specs.Prelude.{◌≡◌, ℕ, zero, suc, ◌≤◌, ℤ, pos, neg_ℤ, ◌+ℤ◌, ◌≤ℤ◌, List, [], ◌∷◌, length}
+use Rattle.std.proofs.Common.{arith, ap, sym, subst, refl}
 use Rattle.std.proofs.lemmas.Int.{ints, clamps}
 use Rattle.std.proofs.lemmas.List.{length-map}
-use Rattle.benefit_rows.specs.Benefits.{above_zero, below_zero, size_of, gain_of, gains_of, rank_of}
-use Rattle.benefit_rows.specs.BenefitLaws.{rank_of-positive}
-use Rattle.max_cut.specs.Program.{zeros, sums_of, pulls_of, settled, settled_of}
+use Rattle.benefit_rows.specs.Benefits.{above_zero, below_zero, size_of, gain_of, gains_of, rank_of, gap_between, gap_of}
+use Rattle.benefit_rows.specs.BenefitLaws.{rank_of-positive, gap_of-positive}
+use Rattle.max_cut.specs.Program.{zeros, sums_of, pull_of, pulls_of, settled, settled_of}
 
 -- what is settled now and what the sum gains later is what the two gain
 pub settled-gains : (s p : ℤ) (d : ℕ) → settled s p +ℤ gain_of (s +ℤ p) d ≡ gain_of s d +ℤ gain_of p d
 settled-gains s p zero = grind (arith, ints, clamps)
 settled-gains s p (suc d) = grind (arith, ints, clamps)
 
-pub settled-positive : (s p : ℤ) → pos 0 ≤ℤ settled s p
-settled-positive s p = grind (arith, ints, clamps)
-
 pub settled-most : (s p : ℤ) → settled s p ≤ℤ size_of p
 settled-most s p = grind (arith, ints, clamps)
 
--- what is settled, by sizes alone
-pub settled-by_sizes : (s p : ℤ) → settled s p +ℤ settled s p ≡ (size_of s +ℤ size_of p) -ℤ size_of (s +ℤ p)
-settled-by_sizes s p = omega (arith, ints, settled-gains s p 0, settled-gains s p 1)
+-- what is settled is how much more a choice may gain from the benefit than from the sum
+pub settled-is_gap : (s p : ℤ) → settled s p ≡ gap_between (s +ℤ p) s
+settled-is_gap s p = omega (arith, ints, clamps, settled-gains s p 0, settled-gains s p 1)
 
 -- Rows of them.
 
@@ -39,30 +36,55 @@ settled_of-gains (s ∷ ss) (p ∷ ps) [] e f = absurd (omega arith)
 settled_of-gains (s ∷ ss) (p ∷ ps) (d ∷ ds) e f =
     omega (arith, ints, settled-gains s p d, settled_of-gains ss ps ds (omega arith) (omega arith))
 
+pub settled_of-is_gap : (ss ps : List ℤ) → settled_of ss ps ≡ gap_of (sums_of ss ps) ss
+settled_of-is_gap [] ps = refl
+settled_of-is_gap (s ∷ ss) [] = refl
+settled_of-is_gap (s ∷ ss) (p ∷ ps) = omega (arith, ints, settled-is_gap s p, settled_of-is_gap ss ps)
+
 pub settled_of-positive : (ss ps : List ℤ) → pos 0 ≤ℤ settled_of ss ps
-settled_of-positive [] ps = omega (arith, ints)
-settled_of-positive (s ∷ ss) [] = omega (arith, ints)
-settled_of-positive (s ∷ ss) (p ∷ ps) = omega (arith, ints, settled-positive s p, settled_of-positive ss ps)
+settled_of-positive ss ps = subst (λ z. pos 0 ≤ℤ z) (sym (settled_of-is_gap ss ps)) (gap_of-positive (sums_of ss ps) ss)
 
 pub settled_of-most : (ss ps : List ℤ) → settled_of ss ps ≤ℤ rank_of ps
 settled_of-most [] ps = rank_of-positive ps
 settled_of-most (s ∷ ss) [] = omega (arith, ints)
 settled_of-most (s ∷ ss) (p ∷ ps) = omega (arith, ints, settled-most s p, settled_of-most ss ps)
 
-pub size_of-negated : (z : ℤ) → size_of (neg_ℤ z) ≡ size_of z
-size_of-negated z = omega (arith, ints, clamps)
+-- A side's pulls are as large as its weights.
 
-pub rank_of-negated : (ws : List ℤ) → rank_of (map neg_ℤ ws) ≡ rank_of ws
-rank_of-negated [] = refl
-rank_of-negated (w ∷ ws) = omega (arith, ints, size_of-negated w, rank_of-negated ws)
+pub size_of-pull : (d : ℕ) (w : ℤ) → size_of (pull_of d w) ≡ size_of w
+size_of-pull zero w = refl
+size_of-pull (suc d) w = omega (arith, ints, clamps)
 
 pub rank_of-pulls : (d : ℕ) (ws : List ℤ) → rank_of (pulls_of d ws) ≡ rank_of ws
-rank_of-pulls zero ws = refl
-rank_of-pulls (suc d) ws = rank_of-negated ws
+rank_of-pulls d [] = refl
+rank_of-pulls d (w ∷ ws) = omega (arith, ints, size_of-pull d w, rank_of-pulls d ws)
 
 pub length-pulls : (d : ℕ) (ws : List ℤ) → length (pulls_of d ws) ≡ length ws
-length-pulls zero ws = refl
-length-pulls (suc d) ws = length-map ws neg_ℤ
+length-pulls d ws = length-map ws (pull_of d)
+
+-- any side but S is T
+pub pull_of_S : (d : ℕ) (w : ℤ) → d ≡ 0 → pull_of d w ≡ w
+pull_of_S d w h = ap (λ e. pull_of e w) h
+
+pub pull_of_T : (d : ℕ) (w : ℤ) → (d ≡ 0 → ⊥) → pull_of d w ≡ neg_ℤ w
+pull_of_T zero w h = absurd (h refl)
+pull_of_T (suc d) w h = refl
+
+pub pulls_of_T : (d : ℕ) (ws : List ℤ) → (d ≡ 0 → ⊥) → pulls_of d ws ≡ pulls_of 1 ws
+pulls_of_T zero ws h = absurd (h refl)
+pulls_of_T (suc d) ws h = refl
+
+pub gain_of_T : (z : ℤ) (d : ℕ) → (d ≡ 0 → ⊥) → gain_of z d ≡ above_zero z
+gain_of_T z zero h = absurd (h refl)
+gain_of_T z (suc d) h = refl
+
+pub pulls_of_S : (d : ℕ) (ws : List ℤ) → d ≡ 0 → pulls_of d ws ≡ pulls_of 0 ws
+pulls_of_S d ws h = ap (λ e. pulls_of e ws) h
+
+pub gain_of_S : (z : ℤ) (d : ℕ) → d ≡ 0 → gain_of z d ≡ below_zero z
+gain_of_S z d h = ap (gain_of z) h
+
+-- Zeros have and gain nothing.
 
 pub rank_of-zeros : (n : ℕ) → rank_of (zeros n) ≡ pos 0
 rank_of-zeros zero = refl
@@ -73,18 +95,3 @@ gains_of-zeros zero ds = refl
 gains_of-zeros (suc n) [] = refl
 gains_of-zeros (suc n) (zero ∷ ds) = omega (arith, ints, clamps, gains_of-zeros n ds)
 gains_of-zeros (suc n) (suc d ∷ ds) = omega (arith, ints, clamps, gains_of-zeros n ds)
-
--- any side but S is T
-pub pulls_of_T : (d : ℕ) (ws : List ℤ) → (d ≡ 0 → ⊥) → pulls_of d ws ≡ map neg_ℤ ws
-pulls_of_T zero ws h = absurd (h refl)
-pulls_of_T (suc d) ws h = refl
-
-pub gain_of_T : (z : ℤ) (d : ℕ) → (d ≡ 0 → ⊥) → gain_of z d ≡ above_zero z
-gain_of_T z zero h = absurd (h refl)
-gain_of_T z (suc d) h = refl
-
-pub pulls_of_S : (d : ℕ) (ws : List ℤ) → d ≡ 0 → pulls_of d ws ≡ ws
-pulls_of_S d ws h = ap (λ e. pulls_of e ws) h
-
-pub gain_of_S : (z : ℤ) (d : ℕ) → d ≡ 0 → gain_of z d ≡ below_zero z
-gain_of_S z d h = ap (gain_of z) h

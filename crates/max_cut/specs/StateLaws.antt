@@ -1,5 +1,5 @@
 -- The states of a layer and their limits.
-use Rattle.std.specs.Prelude.{◌≡◌, ℕ, zero, suc, ◌+◌, ◌-◌, ◌≤◌, ℤ, pos, neg_ℤ, ◌+ℤ◌, ◌≤ℤ◌, int_le, List, [], ◌∷◌, ◌++◌, length, drop, map, true}
+use Rattle.std.specs.Prelude.{◌≡◌, ℕ, zero, suc, ◌+◌, ◌-◌, ◌≤◌, ℤ, pos, ◌+ℤ◌, ◌≤ℤ◌, int_le, List, [], ◌∷◌, ◌++◌, length, drop, true}
 use Rattle.std.proofs.Common.{arith, sym, ap, ◌∙◌, add-one, refl, subst}
 use Rattle.std.proofs.lemmas.Int.{ints, clamps}
 use Rattle.std.proofs.lemmas.Bool.{and_parts, and_from}
@@ -9,7 +9,7 @@ use Rattle.benefit_rows.specs.Benefits.{size_of, rank_of, benefit_merged, merged
 use Rattle.benefit_rows.specs.BenefitLaws.{rank_of-positive, rank_of-append, rank_of-drop, size_of-add, benefit_merged-left}
 use Rattle.max_cut.specs.Graph.{Graph, IsGraph, row_of, weights_from}
 use Rattle.max_cut.specs.GraphLaws.{length-row_of, rank_of-split}
-use Rattle.max_cut.specs.PullLaws.{size_of-negated, rank_of-zeros}
+use Rattle.max_cut.specs.PullLaws.{size_of-pull, rank_of-zeros}
 use Rattle.max_cut.specs.Program.{zeros, sums_of, pulls_of, grown_by, is_within, words_of, limits_of, stepped}
 
 int_le-is : (a b : ℤ) → int_le a b ≡ true → a ≤ℤ b
@@ -61,15 +61,11 @@ is_within-sums (s ∷ ss) (r ∷ rs) (p ∷ ps) h =
     let first : size_of s ≤ℤ r = int_le-is (size_of s) r both.0 in
     and_from _ _ (int_le-from (size_of (s +ℤ p)) (r +ℤ size_of p) (omega (arith, ints, size_of-add s p))) (is_within-sums ss rs ps both.1)
 
-pub grown_by-negated : (rs ws : List ℤ) → grown_by rs (map neg_ℤ ws) ≡ grown_by rs ws
-grown_by-negated [] ws = refl
-grown_by-negated (r ∷ rs) [] = refl
-grown_by-negated (r ∷ rs) (w ∷ ws) =
-    ap (λ z. (r +ℤ z) ∷ grown_by rs (map neg_ℤ ws)) (size_of-negated w) ∙ ap (λ zs. (r +ℤ size_of w) ∷ zs) (grown_by-negated rs ws)
-
 pub grown_by-pulls : (d : ℕ) (rs ws : List ℤ) → grown_by rs (pulls_of d ws) ≡ grown_by rs ws
-grown_by-pulls zero rs ws = refl
-grown_by-pulls (suc d) rs ws = grown_by-negated rs ws
+grown_by-pulls d [] ws = refl
+grown_by-pulls d (r ∷ rs) [] = refl
+grown_by-pulls d (r ∷ rs) (w ∷ ws) =
+    ap (λ z. (r +ℤ z) ∷ grown_by rs (pulls_of d ws)) (size_of-pull d w) ∙ ap (λ zs. (r +ℤ size_of w) ∷ zs) (grown_by-pulls d rs ws)
 
 pub length-grown_by : (rs ws : List ℤ) → length rs ≡ length ws → length (grown_by rs ws) ≡ length rs
 length-grown_by [] ws e = refl

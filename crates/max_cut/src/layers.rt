@@ -1,11 +1,11 @@
 //! One pass over a row of benefits and a row of weights.
 
-ghost use Rattle.std.specs.Prelude.{◌≡◌, ◌+◌, ◌*◌, ◌-◌, ◌^◌, ◌<◌, ◌≤◌, ◌++◌, drop, length, map, neg_ℤ, pos, ◌+ℤ◌, ◌≤ℤ◌};
+ghost use Rattle.std.specs.Prelude.{◌≡◌, ◌+◌, ◌*◌, ◌-◌, ◌^◌, ◌<◌, ◌≤◌, ◌++◌, drop, length, pos, ◌+ℤ◌, ◌≤ℤ◌};
 ghost use Rattle.benefit_rows.specs.Benefits.{gain_of, rank_of, size_of};
 ghost use Rattle.max_cut.specs.Graph.{IsGraph, negatives_of, row_of, row_start};
-ghost use Rattle.max_cut.specs.Program.{pulls_of, settled, settled_of, sums_of, zeros};
+ghost use Rattle.max_cut.specs.Program.{pull_of, pulls_of, settled_of, sums_of, zeros};
 
-use benefit_rows::{above_zero, below_zero, size};
+use benefit_rows::{above_zero, below_zero, doubled_gap};
 
 /// Where the weights of the pairs begin whose first vertex is `k`.
 pub(crate) fn start_of_row(vertices: usize, k: usize) -> usize
@@ -54,48 +54,33 @@ pub(crate) fn write_step(out: &mut [i64], k: usize, s: &[i64], d: u32, weights: 
 {
     let (decided, later) = out.split_at_mut(k + 1);
     write_zeros(decided);
-    write_pulled(later, tail(s, k + 1), d, weights);
-}
-
-/// Writes each benefit with what the side `d` of an earlier vertex adds to it.
-fn write_pulled(out: &mut [i64], benefits: &[i64], d: u32, weights: &[i64])
-    requires benefits { length out.old ≡ length benefits.now }
-    requires weights { length benefits.now ≡ length weights.now }
-    requires benefit_sizes { rank_of benefits.now ≤ℤ pos (2 ^ 50) }
-    requires weight_sizes { rank_of weights.now ≤ℤ pos (2 ^ 50) }
-    ensures { out.new ≡ sums_of benefits.now (pulls_of d weights.now) }
-{
     if d == 0 {
-        write_sums(out, benefits, weights);
+        write_pulled::<0>(later, tail(s, k + 1), weights);
     } else {
-        write_differences(out, benefits, weights);
+        write_pulled::<1>(later, tail(s, k + 1), weights);
     }
 }
 
-/// Writes each benefit and its weight added up.
-fn write_sums(out: &mut [i64], benefits: &[i64], weights: &[i64])
+/// Writes each benefit with what the side `D` of an earlier vertex adds to it.
+fn write_pulled<const D: u32>(out: &mut [i64], benefits: &[i64], weights: &[i64])
     requires benefits { length out.old ≡ length benefits.now }
     requires weights { length benefits.now ≡ length weights.now }
     requires benefit_sizes { rank_of benefits.now ≤ℤ pos (2 ^ 50) }
     requires weight_sizes { rank_of weights.now ≤ℤ pos (2 ^ 50) }
-    ensures { out.new ≡ sums_of benefits.now weights.now }
+    ensures { out.new ≡ sums_of benefits.now (pulls_of D weights.now) }
 {
     for i in 0..out.len() {
-        out[i] = benefits[i] + weights[i];
+        out[i] = benefits[i] + pull::<D>(weights[i]);
     }
 }
 
-/// Writes each benefit less its weight.
-fn write_differences(out: &mut [i64], benefits: &[i64], weights: &[i64])
-    requires benefits { length out.old ≡ length benefits.now }
-    requires weights { length benefits.now ≡ length weights.now }
-    requires benefit_sizes { rank_of benefits.now ≤ℤ pos (2 ^ 50) }
-    requires weight_sizes { rank_of weights.now ≤ℤ pos (2 ^ 50) }
-    ensures { out.new ≡ sums_of benefits.now (map neg_ℤ weights.now) }
+/// What the side `D` of a vertex adds to the benefit of a later one, by the weight between them. The side
+/// is a constant parameter, so that no pass over a row tests it.
+fn pull<const D: u32>(weight: i64) -> i64
+    requires { size_of weight ≤ℤ pos (2 ^ 50) }
+    ensures { result ≡ pull_of D weight }
 {
-    for i in 0..out.len() {
-        out[i] = benefits[i] - weights[i];
-    }
+    if D == 0 { weight } else { -weight }
 }
 
 /// What the side `d` of a vertex gains from its benefit, and from what it settles with the later ones.
@@ -107,47 +92,25 @@ pub(crate) fn gain_by_side(benefit: i64, benefits: &[i64], d: u32, weights: &[i6
     ensures { result ≡ gain_of benefit d +ℤ settled_of benefits.now (pulls_of d weights.now) }
 {
     if d == 0 {
-        below_zero(benefit) + settled_with(benefits, weights)
+        below_zero(benefit) + settled_by::<0>(benefits, weights)
     } else {
-        above_zero(benefit) + settled_against(benefits, weights)
+        above_zero(benefit) + settled_by::<1>(benefits, weights)
     }
 }
 
-/// What the benefits and the weights settle together.
-fn settled_with(benefits: &[i64], weights: &[i64]) -> i64
+/// What the benefits settle with what the side `D` of an earlier vertex adds to them: how much more they
+/// may gain before it is added than after.
+fn settled_by<const D: u32>(benefits: &[i64], weights: &[i64]) -> i64
     requires lengths { length benefits.now ≡ length weights.now }
     requires benefit_sizes { rank_of benefits.now ≤ℤ pos (2 ^ 50) }
     requires weight_sizes { rank_of weights.now ≤ℤ pos (2 ^ 50) }
-    ensures { result ≡ settled_of benefits.now weights.now }
+    ensures { result ≡ settled_of benefits.now (pulls_of D weights.now) }
 {
     let mut doubled = 0;
     for i in 0..benefits.len() {
-        doubled += doubled_settled(benefits[i], weights[i]);
+        doubled += doubled_gap(benefits[i] + pull::<D>(weights[i]), benefits[i]);
     }
     doubled / 2
-}
-
-/// What the benefits and the negated weights settle together.
-fn settled_against(benefits: &[i64], weights: &[i64]) -> i64
-    requires lengths { length benefits.now ≡ length weights.now }
-    requires benefit_sizes { rank_of benefits.now ≤ℤ pos (2 ^ 50) }
-    requires weight_sizes { rank_of weights.now ≤ℤ pos (2 ^ 50) }
-    ensures { result ≡ settled_of benefits.now (map neg_ℤ weights.now) }
-{
-    let mut doubled = 0;
-    for i in 0..benefits.len() {
-        doubled += doubled_settled(benefits[i], -weights[i]);
-    }
-    doubled / 2
-}
-
-/// Twice what a benefit and a pull settle, by sizes alone.
-fn doubled_settled(benefit: i64, pull: i64) -> i64
-    requires benefit_size { size_of benefit ≤ℤ pos (2 ^ 50) }
-    requires pull_size { size_of pull ≤ℤ pos (2 ^ 50) }
-    ensures { result ≡ settled benefit pull +ℤ settled benefit pull }
-{
-    size(benefit) + size(pull) - size(benefit + pull)
 }
 
 /// The sum of the negative weights.

@@ -7,7 +7,7 @@ use Rattle.max_cut.specs.Program.{program_of}
 use Rattle.max_cut.specs.Cuts.{weight_across, cut_value}
 use Rattle.max_cut.specs.CutLaws.{cut_parts, cut_value-some, cut_value-none, own_words_solve}
 use Rattle.max_cut.proofs.Crossings.{weight_across-size}
-use Rattle.max_cut.proofs.Passes.{read_by_size}
+use Rattle.benefit_rows.proofs.Steps.{read_by_size}
 use Rattle.max_cut.proofs.cut.value_of.Goals as goal
 
 pub weight_of_cut-requires : goal.weight_of_cut-requires

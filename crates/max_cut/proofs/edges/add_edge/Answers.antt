@@ -9,7 +9,8 @@ use Rattle.benefit_rows.specs.Benefits.{size_of}
 use Rattle.benefit_rows.specs.BenefitLaws.{size_of-add, size_of-positive}
 use Rattle.max_cut.specs.Graph.{IsWeight}
 use Rattle.max_cut.proofs.Totals.{over_limit, under_limit}
-use Rattle.max_cut.proofs.Passes.{read_by_size, sum_read}
+use Rattle.benefit_rows.proofs.Steps.{read_by_size}
+use Rattle.max_cut.proofs.Passes.{sum_read}
 use Rattle.max_cut.proofs.edges.add_edge.Goals as goal
 
 -- the new total, as it is read

@@ -1,4 +1,4 @@
-use Rattle.max_cut.proofs.Passes.{row_start-is}
+use Rattle.max_cut.proofs.Places.{row_start-is}
 use Rattle.max_cut.proofs.layers.start_of_row.Goals as goal
 
 pub returns : goal.returns

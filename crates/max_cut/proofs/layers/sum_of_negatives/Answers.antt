@@ -4,7 +4,8 @@ use Rattle.std.proofs.lemmas.Int.{ints, clamps}
 use Rattle.benefit_rows.specs.Benefits.{rank_of}
 use Rattle.max_cut.specs.Graph.{negatives_of}
 use Rattle.max_cut.specs.GraphLaws.{negatives_of-bounds}
-use Rattle.max_cut.proofs.Passes.{size_of-at, read_by_size, negatives_of-drop_more}
+use Rattle.benefit_rows.proofs.Steps.{size_of-at, read_by_size}
+use Rattle.max_cut.proofs.Passes.{negatives_of-drop_more}
 use Rattle.max_cut.proofs.layers.sum_of_negatives.Goals as goal
 
 -- what one weight adds

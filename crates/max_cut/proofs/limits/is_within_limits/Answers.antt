@@ -2,7 +2,7 @@ use Rattle.std.proofs.Common.{◌≡◌, ◌<◌, ◌≤◌, ◌^◌, ◌+◌, �
 use Rattle.std.proofs.lemmas.Int.{to_z-of_z}
 use Rattle.std.proofs.lemmas.List.{drop_all}
 use Rattle.benefit_rows.specs.Benefits.{size_of}
-use Rattle.max_cut.proofs.Passes.{read_by_size}
+use Rattle.benefit_rows.proofs.Steps.{read_by_size}
 use Rattle.std.specs.Prelude.{int_le}
 use Rattle.std.proofs.Common.{Bool, true, ◌&&◌}
 use Rattle.std.proofs.lemmas.Bool.{and_left}

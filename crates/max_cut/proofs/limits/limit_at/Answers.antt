@@ -1,7 +1,7 @@
 use Rattle.std.proofs.Common.{◌≡◌, ◌<◌, ◌≤◌, ◌^◌, ◌+◌, ◌-◌, ℕ, ℤ, pos, ◌+ℤ◌, ◌≤ℤ◌, FitsSigned, to_z, of_z, w64, length, get_or, arith, sym, ap, ◌∙◌, subst}
 use Rattle.std.proofs.lemmas.Int.{ints, clamps}
 use Rattle.benefit_rows.specs.Benefits.{size_of}
-use Rattle.max_cut.proofs.Passes.{fits_by_size, read_by_size}
+use Rattle.benefit_rows.proofs.Steps.{fits_by_size, read_by_size}
 use Rattle.max_cut.specs.Graph.{Graph, IsGraph, row_start, weight_at}
 use Rattle.max_cut.specs.GraphLaws.{pairs_of-most}
 use Rattle.max_cut.specs.Program.{limits_of, words_of}

@@ -2,7 +2,7 @@ use Rattle.std.proofs.Common.{◌≡◌, ◌<◌, ◌^◌, ◌+◌, ℕ, List, �
 use Rattle.std.proofs.lemmas.Int.{ints, clamps}
 use Rattle.benefit_rows.specs.Benefits.{size_of, rank_of}
 use Rattle.benefit_rows.specs.BenefitLaws.{rank_of-drop}
-use Rattle.max_cut.proofs.Passes.{size_of-at, fits_by_size, read_by_size}
+use Rattle.benefit_rows.proofs.Steps.{size_of-at, fits_by_size, read_by_size}
 use Rattle.std.proofs.Common.{cond, eqb}
 use Rattle.max_cut.specs.Cuts.{across_from}
 use Rattle.max_cut.proofs.Crossings.{across_from-size, across_from-drop_more}

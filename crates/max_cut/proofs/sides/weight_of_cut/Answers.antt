@@ -2,7 +2,7 @@ use Rattle.std.proofs.Common.{◌≡◌, ◌<◌, ◌≤◌, ◌^◌, ◌+◌, �
 use Rattle.std.proofs.lemmas.Int.{ints}
 use Rattle.std.proofs.lemmas.List.{length-drop}
 use Rattle.benefit_rows.specs.Benefits.{rank_of}
-use Rattle.max_cut.proofs.Passes.{fits_by_size}
+use Rattle.benefit_rows.proofs.Steps.{fits_by_size}
 use Rattle.max_cut.specs.Cuts.{across_from, weight_across}
 use Rattle.max_cut.specs.Graph.{pairs_of}
 use Rattle.max_cut.proofs.Crossings.{crosses, crossed_size, parts}

@@ -4,7 +4,7 @@ use Rattle.benefit_rows.specs.Benefits.{gain_of}
 use Rattle.max_cut.specs.Graph.{Graph, row_of}
 use Rattle.max_cut.specs.Program.{pulls_of, settled_of}
 use Rattle.max_cut.specs.ProgramLaws.{gain-most}
-use Rattle.max_cut.proofs.Passes.{read_by_size}
+use Rattle.benefit_rows.proofs.Steps.{read_by_size}
 use Rattle.max_cut.proofs.StateFacts.{step_facts}
 use Rattle.max_cut.proofs.model.MaxCutDpModel.gain.Goals as goal
 

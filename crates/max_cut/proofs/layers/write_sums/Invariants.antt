@@ -1,7 +1,0 @@
-use Rattle.std.proofs.Common.{◌≡◌, ◌++◌, take, drop}
-use Rattle.max_cut.specs.Program.{sums_of}
-use Rattle.max_cut.proofs.layers.write_sums.Given as goal
-
--- the sums so far and those of the rest make the sums
-abbrev pub invariant-loop-i : goal.invariant-loop-i
-invariant-loop-i l = take l.i l.out ++ sums_of (drop l.i l.benefits) (drop l.i l.weights) ≡ sums_of l.benefits l.weights
