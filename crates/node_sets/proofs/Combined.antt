@@ -1,5 +1,5 @@
--- A row whose words are made one after another from those of two.
-use Rattle.std.proofs.Common.{◌≡◌, ℕ, ◌+◌, ◌/◌, ◌%◌, ◌^◌, ◌<◌, ◌≤◌, ℤ, pos, Bool, false, not, ◌&&◌, ◌||◌, List, length, set, refl, sym, ap, ap₂, ◌∙◌, subst, arith, inl, inr, bit_and, bit_or, below_more}
+-- A row whose words are written one after another.
+use Rattle.std.proofs.Common.{◌≡◌, ℕ, ◌+◌, ◌/◌, ◌%◌, ◌^◌, ◌<◌, ◌≤◌, ℤ, pos, Bool, true, false, not, ◌&&◌, ◌||◌, List, length, set, refl, sym, ap, ap₂, ◌∙◌, subst, arith, inl, inr, bit_and, bit_or, below_more}
 use Rattle.std.specs.Int.{bit_not, w32}
 use Rattle.std.proofs.lemmas.Bool.{cases_lt}
 use lib.Bits.{or_lt, and_lt}
@@ -7,65 +7,111 @@ use Rattle.node_sets.specs.Sets.{AreWords, HasMembers, word_at, has}
 use Rattle.node_sets.proofs.Bits.{on, on_zero, on_or, on_and, on_not}
 use Rattle.node_sets.proofs.Words.{has-on, word_at-lt, word_at-past, word_at-set_same, word_at-set_other, AreWords-set}
 
-pub record IsCombined (f : ℕ → ℕ → ℕ) (old other now : List ℤ) (i : ℕ) : Type 0 where
-  pub done : (k : ℕ) → k < i → word_at now k ≡ f (word_at old k) (word_at other k)
+-- the words below the i-th are the new ones, and the others are as before
+pub record IsRewritten (new : ℕ → ℕ) (old now : List ℤ) (i : ℕ) : Type 0 where
+  pub done : (k : ℕ) → k < i → word_at now k ≡ new k
   pub rest : (k : ℕ) → i ≤ k → word_at now k ≡ word_at old k
   pub cells : AreWords now
 
-pub IsCombined-none : (f : ℕ → ℕ → ℕ) (old other : List ℤ) → AreWords old → IsCombined f old other old 0
-IsCombined-none f old other cells = record { done = λ k l. absurd (omega arith); rest = λ k l. refl; cells = cells }
-
-pub IsCombined-more : (f : ℕ → ℕ → ℕ) (old other now : List ℤ) (i w : ℕ) → IsCombined f old other now i → i < length now → w ≡ f (word_at now i) (word_at other i) → w < 2 ^ 32 → IsCombined f old other (set now i (pos w)) (i + 1)
-IsCombined-more f old other now i w h l e p = record {
+pub IsRewritten-more : (new : ℕ → ℕ) (old now : List ℤ) (i w : ℕ) → IsRewritten new old now i → i < length now → w ≡ new i → w < 2 ^ 32 → IsRewritten new old (set now i (pos w)) (i + 1)
+IsRewritten-more new old now i w h l e p = record {
   done = below_more _ _
       (λ k m. word_at-set_other now i k w (omega arith) ∙ h.done k m)
-      (word_at-set_same now i w l ∙ e ∙ ap (λ x. f x (word_at other i)) (h.rest i (omega arith)));
+      (word_at-set_same now i w l ∙ e);
   rest = λ k m. word_at-set_other now i k w (omega arith) ∙ h.rest k (omega arith);
   cells = AreWords-set now i w h.cells p;
 }
 
--- what is so of each bit of the words is so of each member
-pub HasMembers-combined : (f : ℕ → ℕ → ℕ) (g : Bool → Bool → Bool) → ((x y k : ℕ) → y < 2 ^ 32 → k < 32 → on (f x y) k ≡ g (on x k) (on y k)) → g false false ≡ false → (old other now : List ℤ) → AreWords other → length old ≡ length other → length now ≡ length old → IsCombined f old other now (length old) → HasMembers now (λ v. g (has old v) (has other v))
-HasMembers-combined f g bits nothing old other now cells same kept h v =
+pub HasMembers-rewritten : (new : ℕ → ℕ) (test : ℕ → Bool) (old now : List ℤ) → length now ≡ length old → ((v : ℕ) → v / 32 < length old → on (new (v / 32)) (v % 32) ≡ test v) → ((v : ℕ) → length old ≤ v / 32 → test v ≡ false) → IsRewritten new old now (length old) → HasMembers now test
+HasMembers-rewritten new test old now kept bits past h v =
     elim (cases_lt (v / 32) (length old)) [
-      | inl l ↦ has-on now v ∙ ap (λ w. on w (v % 32)) (h.done (v / 32) l) ∙ bits (word_at old (v / 32)) (word_at other (v / 32)) (v % 32) (word_at-lt other (v / 32) cells) (omega arith)
-          ∙ sym (ap₂ g (has-on old v) (has-on other v))
-      | inr l ↦ has-on now v ∙ ap (λ w. on w (v % 32)) (word_at-past now (v / 32) (omega arith)) ∙ on_zero (v % 32)
-          ∙ sym (ap₂ g (has-on old v ∙ ap (λ w. on w (v % 32)) (word_at-past old (v / 32) l) ∙ on_zero (v % 32)) (has-on other v ∙ ap (λ w. on w (v % 32)) (word_at-past other (v / 32) (omega arith)) ∙ on_zero (v % 32)) ∙ nothing)
+      | inl l ↦ has-on now v ∙ ap (λ w. on w (v % 32)) (h.done (v / 32) l) ∙ bits v l
+      | inr l ↦ has-on now v ∙ ap (λ w. on w (v % 32)) (word_at-past now (v / 32) (omega arith)) ∙ on_zero (v % 32) ∙ sym (past v l)
     ]
 
-pub bits_of_union : (x y k : ℕ) → y < 2 ^ 32 → k < 32 → on (bit_or x y) k ≡ on x k || on y k
-bits_of_union x y k p q = on_or x y k
+past_row : (row : List ℤ) (v : ℕ) → length row ≤ v / 32 → has row v ≡ false
+past_row row v l = has-on row v ∙ ap (λ w. on w (v % 32)) (word_at-past row (v / 32) l) ∙ on_zero (v % 32)
 
-pub bits_of_intersection : (x y k : ℕ) → y < 2 ^ 32 → k < 32 → on (bit_and x y) k ≡ on x k && on y k
-bits_of_intersection x y k p q = on_and x y k
+-- ---- words that are made of those of two rows
 
-pub bits_of_difference : (x y k : ℕ) → y < 2 ^ 32 → k < 32 → on (bit_and x (bit_not w32 y)) k ≡ on x k && not (on y k)
-bits_of_difference x y k p q = on_and x (bit_not w32 y) k ∙ ap (λ b. on x k && b) (on_not y k p q)
+abbrev pub combined : (ℕ → ℕ → ℕ) → List ℤ → List ℤ → ℕ → ℕ
+combined f old other k = f (word_at old k) (word_at other k)
 
-pub union_more : (old other now : List ℤ) (i a b : ℕ) → IsCombined (λ x y. bit_or x y) old other now i → AreWords other → i < length now → a ≡ word_at now i → b ≡ word_at other i → IsCombined (λ x y. bit_or x y) old other (set now i (pos (bit_or a b))) (i + 1)
-union_more old other now i a b h cells l p q =
-    IsCombined-more (λ x y. bit_or x y) old other now i (bit_or a b) h l (ap₂ bit_or p q)
-    (or_lt 32 a b (rw p (word_at-lt now i h.cells)) (rw q (word_at-lt other i cells)))
+-- what an operation on words does to their bits
+pub record IsBitwise (f : ℕ → ℕ → ℕ) (g : Bool → Bool → Bool) : Type 0 where
+  pub bits : (x y k : ℕ) → y < 2 ^ 32 → k < 32 → on (f x y) k ≡ g (on x k) (on y k)
+  pub small : (x y : ℕ) → x < 2 ^ 32 → y < 2 ^ 32 → f x y < 2 ^ 32
+  pub nothing : g false false ≡ false
 
-pub intersection_more : (old other now : List ℤ) (i a b : ℕ) → IsCombined (λ x y. bit_and x y) old other now i → AreWords other → i < length now → a ≡ word_at now i → b ≡ word_at other i → IsCombined (λ x y. bit_and x y) old other (set now i (pos (bit_and a b))) (i + 1)
-intersection_more old other now i a b h cells l p q =
-    IsCombined-more (λ x y. bit_and x y) old other now i (bit_and a b) h l (ap₂ bit_and p q)
-    (and_lt 32 a b (rw p (word_at-lt now i h.cells)) (rw q (word_at-lt other i cells)))
+pub union_bits : IsBitwise (λ x y. bit_or x y) (λ x y. x || y)
+union_bits = record {
+  bits = λ x y k p q. on_or x y k;
+  small = λ x y p q. or_lt 32 x y p q;
+  nothing = refl;
+}
 
-pub difference_more : (old other now : List ℤ) (i a b : ℕ) → IsCombined (λ x y. bit_and x (bit_not w32 y)) old other now i → AreWords other → i < length now → a ≡ word_at now i → b ≡ word_at other i → IsCombined (λ x y. bit_and x (bit_not w32 y)) old other (set now i (pos (bit_and a (bit_not w32 b)))) (i + 1)
-difference_more old other now i a b h cells l p q =
-    IsCombined-more (λ x y. bit_and x (bit_not w32 y)) old other now i (bit_and a (bit_not w32 b)) h l (ap₂ (λ x y. bit_and x (bit_not w32 y)) p q)
-    (and_lt 32 a (bit_not w32 b) (rw p (word_at-lt now i h.cells)) (omega arith))
+pub intersection_bits : IsBitwise (λ x y. bit_and x y) (λ x y. x && y)
+intersection_bits = record {
+  bits = λ x y k p q. on_and x y k;
+  small = λ x y p q. and_lt 32 x y p q;
+  nothing = refl;
+}
 
-pub union_members : (old other now : List ℤ) (i : ℕ) → AreWords other → length old ≡ length other → length now ≡ length old → length old ≤ i → i ≤ length old → IsCombined (λ x y. bit_or x y) old other now i → HasMembers now (λ v. has old v || has other v)
-union_members old other now i cells same kept low high h =
-    HasMembers-combined (λ x y. bit_or x y) ◌||◌ bits_of_union refl old other now cells same kept (subst (IsCombined (λ x y. bit_or x y) old other now) (omega arith) h)
+pub difference_bits : IsBitwise (λ x y. bit_and x (bit_not w32 y)) (λ x y. x && not y)
+difference_bits = record {
+  bits = λ x y k p q. on_and x (bit_not w32 y) k ∙ ap (λ b. on x k && b) (on_not y k p q);
+  small = λ x y p q. and_lt 32 x (bit_not w32 y) p (omega arith);
+  nothing = refl;
+}
 
-pub intersection_members : (old other now : List ℤ) (i : ℕ) → AreWords other → length old ≡ length other → length now ≡ length old → length old ≤ i → i ≤ length old → IsCombined (λ x y. bit_and x y) old other now i → HasMembers now (λ v. has old v && has other v)
-intersection_members old other now i cells same kept low high h =
-    HasMembers-combined (λ x y. bit_and x y) ◌&&◌ bits_of_intersection refl old other now cells same kept (subst (IsCombined (λ x y. bit_and x y) old other now) (omega arith) h)
+pub combined_more : (f : ℕ → ℕ → ℕ) (g : Bool → Bool → Bool) → IsBitwise f g → (old other now : List ℤ) (i a b : ℕ) → IsRewritten (combined f old other) old now i → AreWords other → i < length now → a ≡ word_at now i → b ≡ word_at other i → IsRewritten (combined f old other) old (set now i (pos (f a b))) (i + 1)
+combined_more f g by old other now i a b h cells l p q =
+    IsRewritten-more (combined f old other) old now i (f a b) h l (ap₂ f (p ∙ h.rest i (omega arith)) q)
+    (by.small a b (rw p (word_at-lt now i h.cells)) (rw q (word_at-lt other i cells)))
 
-pub difference_members : (old other now : List ℤ) (i : ℕ) → AreWords other → length old ≡ length other → length now ≡ length old → length old ≤ i → i ≤ length old → IsCombined (λ x y. bit_and x (bit_not w32 y)) old other now i → HasMembers now (λ v. has old v && not (has other v))
-difference_members old other now i cells same kept low high h =
-    HasMembers-combined (λ x y. bit_and x (bit_not w32 y)) (λ x y. x && not y) bits_of_difference refl old other now cells same kept (subst (IsCombined (λ x y. bit_and x (bit_not w32 y)) old other now) (omega arith) h)
+pub combined_members : (f : ℕ → ℕ → ℕ) (g : Bool → Bool → Bool) → IsBitwise f g → (old other now : List ℤ) (i : ℕ) → AreWords other → length old ≡ length other → length now ≡ length old → i ≡ length old → IsRewritten (combined f old other) old now i → HasMembers now (λ v. g (has old v) (has other v))
+combined_members f g by old other now i cells same kept all h =
+    HasMembers-rewritten (combined f old other) (λ v. g (has old v) (has other v)) old now kept
+    (λ v l. by.bits (word_at old (v / 32)) (word_at other (v / 32)) (v % 32) (word_at-lt other (v / 32) cells) (omega arith) ∙ sym (ap₂ g (has-on old v) (has-on other v)))
+    (λ v l. ap₂ g (past_row old v l) (past_row other v (omega arith)) ∙ by.nothing)
+    (subst (IsRewritten (combined f old other) old now) all h)
+
+-- ---- words that are made of those of four rows
+
+-- what is in one of four words but not in both the first and the third
+abbrev pub joined_word : ℕ → ℕ → ℕ → ℕ → ℕ
+joined_word a b c d = bit_and (bit_or (bit_or (bit_or a b) c) d) (bit_not w32 (bit_and a c))
+
+abbrev pub joined_may : List ℤ → List ℤ → List ℤ → List ℤ → ℕ → ℕ
+joined_may must may other_must other_may k = joined_word (word_at must k) (word_at may k) (word_at other_must k) (word_at other_may k)
+
+regroup : (x c d : Bool) → ((x || c) || d) ≡ (x || (c || d))
+regroup true c d = refl
+regroup false c d = refl
+
+joined_bits : (a b c d k : ℕ) → a < 2 ^ 32 → c < 2 ^ 32 → k < 32 → on (joined_word a b c d) k ≡ (((on a k || on b k) || (on c k || on d k)) && not (on a k && on c k))
+joined_bits a b c d k p q l =
+    on_and (bit_or (bit_or (bit_or a b) c) d) (bit_not w32 (bit_and a c)) k
+    ∙ ap₂ ◌&&◌
+    (on_or (bit_or (bit_or a b) c) d k ∙ ap (λ x. x || on d k) (on_or (bit_or a b) c k ∙ ap (λ x. x || on c k) (on_or a b k)) ∙ regroup (on a k || on b k) (on c k) (on d k))
+    (on_not (bit_and a c) k (and_lt 32 a c p q) l ∙ ap not (on_and a c k))
+
+joined_small : (a b c d : ℕ) → a < 2 ^ 32 → b < 2 ^ 32 → c < 2 ^ 32 → d < 2 ^ 32 → joined_word a b c d < 2 ^ 32
+joined_small a b c d p q r s =
+    and_lt 32 (bit_or (bit_or (bit_or a b) c) d) (bit_not w32 (bit_and a c)) (or_lt 32 (bit_or (bit_or a b) c) d (or_lt 32 (bit_or a b) c (or_lt 32 a b p q) r) s) (omega arith)
+
+pub joined_more : (must may other_must other_may must_now may_now : List ℤ) (i a b c d : ℕ) → IsRewritten (combined (λ x y. bit_and x y) must other_must) must must_now i → IsRewritten (joined_may must may other_must other_may) may may_now i → AreWords other_must → AreWords other_may → i < length may_now
+    → a ≡ word_at must_now i → b ≡ word_at may_now i → c ≡ word_at other_must i → d ≡ word_at other_may i → IsRewritten (joined_may must may other_must other_may) may (set may_now i (pos (joined_word a b c d))) (i + 1)
+joined_more must may other_must other_may must_now may_now i a b c d g h other_cells more_cells l ea eb ec ed =
+    IsRewritten-more (joined_may must may other_must other_may) may may_now i (joined_word a b c d) h l
+    (ap₂ (λ x y. joined_word x y c d) (ea ∙ g.rest i (omega arith)) (eb ∙ h.rest i (omega arith)) ∙ ap₂ (λ x y. joined_word (word_at must i) (word_at may i) x y) ec ed)
+    (joined_small a b c d (rw ea (word_at-lt must_now i g.cells)) (rw eb (word_at-lt may_now i h.cells)) (rw ec (word_at-lt other_must i other_cells)) (rw ed (word_at-lt other_may i more_cells)))
+
+pub joined_members : (must may other_must other_may now : List ℤ) (i : ℕ) → AreWords must → AreWords other_must → length must ≡ length may → length must ≡ length other_must → length must ≡ length other_may → length now ≡ length may → i ≡ length must → IsRewritten (joined_may must may other_must other_may) may now i
+    → HasMembers now (λ v. ((has must v || has may v) || (has other_must v || has other_may v)) && not (has must v && has other_must v))
+joined_members must may other_must other_may now i cells other_cells same other_same more_same kept all h =
+    HasMembers-rewritten (joined_may must may other_must other_may) (λ v. ((has must v || has may v) || (has other_must v || has other_may v)) && not (has must v && has other_must v)) may now kept
+    (λ v l. joined_bits (word_at must (v / 32)) (word_at may (v / 32)) (word_at other_must (v / 32)) (word_at other_may (v / 32)) (v % 32) (word_at-lt must (v / 32) cells) (word_at-lt other_must (v / 32) other_cells) (omega arith)
+    ∙ sym (ap₂ ◌&&◌ (ap₂ ◌||◌ (ap₂ ◌||◌ (has-on must v) (has-on may v)) (ap₂ ◌||◌ (has-on other_must v) (has-on other_may v))) (ap not (ap₂ ◌&&◌ (has-on must v) (has-on other_must v)))))
+    (λ v l. ap₂ ◌&&◌ (ap₂ ◌||◌ (ap₂ ◌||◌ (past_row must v (omega arith)) (past_row may v l)) (ap₂ ◌||◌ (past_row other_must v (omega arith)) (past_row other_may v (omega arith)))) (refl {a = not (has must v && has other_must v)}))
+    (subst (IsRewritten (joined_may must may other_must other_may) may now) (all ∙ same) h)

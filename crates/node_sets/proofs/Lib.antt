@@ -1,8 +1,10 @@
 pub mod Bits
 pub mod Words
+pub mod Made
 pub mod Combined
-pub mod Members
+pub mod Changes
+pub mod Written
 pub mod Tests
 pub mod Below
 pub mod Counts
-pub mod Made
+pub mod Comings

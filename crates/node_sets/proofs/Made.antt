@@ -73,3 +73,7 @@ pub row_of-is : (words : ℕ) (row : List ℤ) (test : ℕ → Bool) → AreWord
 row_of-is words row test cells l h =
     same_row row (row_of words test) cells (AreWords-row_of words test) (l ∙ sym (length-row_of words test))
     (λ v m. h v (omega arith) ∙ sym (has-row_of words test v (omega arith)))
+
+-- a row of words whose members are those that pass
+pub row_is : (row : List ℤ) (words : ℕ) (test : ℕ → Bool) → AreWords row → length row ≡ words → ((v : ℕ) → has row v ≡ test v) → row ≡ row_of words test
+row_is row words test cells l h = row_of-is words row test cells l (λ v _. h v)

@@ -6,13 +6,17 @@
 #![tactic(auto)]
 
 mod combine;
+mod iter;
 mod member;
 mod test;
 mod word;
+mod write;
 
-pub use combine::{intersect_with, subtract, union_with};
+pub use combine::{intersect_with, join, subtract, union_with};
+pub use iter::Members;
 pub use member::{clear, contains, insert, remove};
 pub use test::{
     count, is_disjoint, is_empty, is_set, is_subset, is_union_subset, least, next_member,
     rows_are_sets, words_for,
 };
+pub use write::{write_one, write_others, write_without};

@@ -1,7 +1,7 @@
 //! One member of a set.
 
 ghost use Rattle.std.specs.Prelude.{◌≡◌, ◌+◌, ◌*◌, ◌<◌, ◌&&◌, ◌||◌, not, false, nat_eq, length};
-ghost use Rattle.node_sets.specs.Sets.{AreWords, HasMembers, has};
+ghost use Rattle.node_sets.specs.Sets.{AreWords, HasMembers, has, row_of};
 
 use crate::word::{put, word};
 
@@ -40,6 +40,7 @@ pub fn remove(row: &mut [i64], v: usize)
 pub fn clear(row: &mut [i64])
     ensures cells { AreWords row.new }
     ensures members { HasMembers row.new (λ _. false) }
+    ensures row { row.new ≡ row_of (length row.old) (λ _. false) }
 {
     row.fill(0);
 }

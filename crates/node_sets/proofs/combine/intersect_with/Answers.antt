@@ -1,12 +1,12 @@
 use Rattle.std.proofs.Common.{arith}
-use Rattle.node_sets.proofs.Combined.{intersection_more, intersection_members}
+use Rattle.node_sets.proofs.Combined.{intersection_bits, combined_more, combined_members}
 use Rattle.node_sets.proofs.combine.intersect_with.Goals as goal
 
 pub loop-i-preserved : goal.loop-i-preserved
 loop-i-preserved c =
     rw c.put.ensures
-    (intersection_more _ _ _ _ _ _ c.loop-i.invariant c.requires.other_cells (omega arith) c.word.ensures c.word-in-loop-i.ensures)
+    (combined_more _ _ intersection_bits _ _ _ _ _ _ c.loop-i.invariant c.requires.other_cells (omega arith) c.word.ensures c.word-in-loop-i.ensures)
 
 pub returns-clause-members : goal.returns-clause-members
 returns-clause-members c =
-    intersection_members _ _ _ c.loop-i.i c.requires.other_cells c.requires.same (omega arith) (omega arith) (omega arith) c.loop-i.invariant
+    combined_members _ _ intersection_bits _ _ _ c.loop-i.i c.requires.other_cells c.requires.same (omega arith) (omega arith) c.loop-i.invariant

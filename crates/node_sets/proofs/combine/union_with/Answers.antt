@@ -1,12 +1,18 @@
 use Rattle.std.proofs.Common.{arith}
-use Rattle.node_sets.proofs.Combined.{union_more, union_members}
+use Rattle.node_sets.proofs.Combined.{union_bits, combined_more, combined_members}
+use Rattle.node_sets.proofs.Made.{row_is}
 use Rattle.node_sets.proofs.combine.union_with.Goals as goal
 
 pub loop-i-preserved : goal.loop-i-preserved
 loop-i-preserved c =
     rw c.put.ensures
-    (union_more _ _ _ _ _ _ c.loop-i.invariant c.requires.other_cells (omega arith) c.word.ensures c.word-in-loop-i.ensures)
+    (combined_more _ _ union_bits _ _ _ _ _ _ c.loop-i.invariant c.requires.other_cells (omega arith) c.word.ensures c.word-in-loop-i.ensures)
 
 pub returns-clause-members : goal.returns-clause-members
 returns-clause-members c =
-    union_members _ _ _ c.loop-i.i c.requires.other_cells c.requires.same (omega arith) (omega arith) (omega arith) c.loop-i.invariant
+    combined_members _ _ union_bits _ _ _ c.loop-i.i c.requires.other_cells c.requires.same (omega arith) (omega arith) c.loop-i.invariant
+
+pub returns-clause-row : goal.returns-clause-row
+returns-clause-row c =
+    row_is _ _ _ c.loop-i.invariant.cells (omega arith)
+    (combined_members _ _ union_bits _ _ _ c.loop-i.i c.requires.other_cells c.requires.same (omega arith) (omega arith) c.loop-i.invariant)

@@ -1,4 +1,4 @@
-use Rattle.node_sets.proofs.Members.{contains_is}
+use Rattle.node_sets.proofs.Changes.{contains_is}
 use Rattle.node_sets.proofs.member.contains.Goals as goal
 
 pub returns : goal.returns

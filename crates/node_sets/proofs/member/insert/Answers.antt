@@ -1,4 +1,4 @@
-use Rattle.node_sets.proofs.Members.{insert_members}
+use Rattle.node_sets.proofs.Changes.{insert_members}
 use Rattle.node_sets.proofs.member.insert.Goals as goal
 
 pub returns-clause-members : goal.returns-clause-members

@@ -1,4 +1,4 @@
-use Rattle.node_sets.proofs.Members.{remove_members}
+use Rattle.node_sets.proofs.Changes.{remove_members}
 use Rattle.node_sets.proofs.member.remove.Goals as goal
 
 pub returns-clause-members : goal.returns-clause-members

@@ -1,15 +1,15 @@
 -- A row after one word of it was changed, or all were cleared.
-use Rattle.std.proofs.Common.{◌≡◌, ◌≢◌, ℕ, ◌*◌, ◌/◌, ◌%◌, ◌^◌, ◌<◌, ℤ, pos, nat_abs, Bool, true, false, cond, not, ◌&&◌, ◌||◌, nat_eq, List, length, set, replicate, refl, sym, ap, ap₂, ◌∙◌, arith, inl, inr, bit_and, bit_or, eq-eqb}
+use Rattle.std.proofs.Common.{◌≡◌, ◌≢◌, ℕ, ◌*◌, ◌/◌, ◌%◌, ◌^◌, ◌<◌, ℤ, pos, nat_abs, Bool, true, false, cond, not, ◌&&◌, ◌||◌, nat_eq, List, length, get_or, set, replicate, refl, sym, ap, ap₂, ◌∙◌, subst, arith, inl, inr, bit_and, bit_or, eq-eqb}
 use Rattle.std.specs.Int.{bit_not, w32}
 use Rattle.std.proofs.lemmas.Bool.{cases_eq, cases_lt}
 use Rattle.std.proofs.lemmas.Bool.Decides.{nat_tests}
 use Rattle.std.proofs.lemmas.List.{get_or-replicate, get_or_past, length-replicate}
 use Rattle.std.proofs.lemmas.Nat.Bits.{bit_at_set_same, bit_at_set_other, bit_at_clear_same, bit_at_clear_other, shr_and_one}
-use Rattle.node_sets.specs.Sets.{HasMembers, word_at, has}
+use Rattle.node_sets.specs.Sets.{IsWord, AreWords, HasMembers, word_at, has}
 use Rattle.node_sets.proofs.Bits.{on, on_zero}
-use Rattle.node_sets.proofs.Words.{has-on, word_at-set_same, word_at-set_other}
+use Rattle.node_sets.proofs.Words.{has-on, IsWord-pos, word_at-set_same, word_at-set_other}
 
-differ : (u v : ℕ) → u ≢ v → nat_eq u v ≡ false
+pub differ : (u v : ℕ) → u ≢ v → nat_eq u v ≡ false
 differ u v n = grind (arith, nat_tests)
 
 changed_members : (row : List ℤ) (v w : ℕ) (after : Bool) → v / 32 < length row → on w (v % 32) ≡ after → ((k : ℕ) → k < 32 → k ≢ v % 32 → on w k ≡ on (word_at row (v / 32)) k) → (u : ℕ) → has (set row (v / 32) (pos w)) u ≡ cond (nat_eq u v) after (has row u)
@@ -59,12 +59,18 @@ remove_members row v a l e u =
 pub contains_is : (row : List ℤ) (v a : ℕ) → a ≡ word_at row (v / 32) → nat_eq (bit_and (a / 2 ^ (v % 32)) 1) 1 ≡ has row v
 contains_is row v a e = ap (λ x. nat_eq x 1) (shr_and_one a (v % 32)) ∙ ap (λ x. on x (v % 32)) e ∙ sym (has-on row v)
 
+zero_cells : (n i : ℕ) → get_or (replicate n (pos 0)) i (pos 0) ≡ pos 0
+zero_cells n i = elim (cases_lt i n) [
+  | inl l ↦ get_or-replicate n i (pos 0) (pos 0) l
+  | inr l ↦ get_or_past (replicate n (pos 0)) i (pos 0) (omega (arith, length-replicate n (pos 0)))
+]
+
 pub zero_words : (n i : ℕ) → word_at (replicate n (pos 0)) i ≡ 0
 unfolding word_at
-zero_words n i = elim (cases_lt i n) [
-  | inl l ↦ ap nat_abs (get_or-replicate n i (pos 0) (pos 0) l)
-  | inr l ↦ ap nat_abs (get_or_past (replicate n (pos 0)) i (pos 0) (omega (arith, length-replicate n (pos 0))))
-]
+zero_words n i = ap nat_abs (zero_cells n i)
 
 pub clear_members : (row : List ℤ) (n : ℕ) → row ≡ replicate n (pos 0) → HasMembers row (λ _. false)
 clear_members row n e v = ap (λ r. has r v) e ∙ has-on (replicate n (pos 0)) v ∙ ap (λ x. on x (v % 32)) (zero_words n (v / 32)) ∙ on_zero (v % 32)
+
+pub clear_cells : (row : List ℤ) (n : ℕ) → row ≡ replicate n (pos 0) → AreWords row
+clear_cells row n e i = subst IsWord (sym (ap (λ r. get_or r i (pos 0)) e ∙ zero_cells n i)) (IsWord-pos 0 (omega arith))
