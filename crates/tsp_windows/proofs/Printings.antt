@@ -190,7 +190,7 @@ nodes-read i s small same before =
     made : ℕ → List ℕ → List Window → Instance
     made n ds ws = record { nodes = n; distances = ds; windows = ws }
 
-pub spelled-printed : (i : Instance) → IsSmall i → spelled (printed i) ≡ Ok i
+spelled-printed : (i : Instance) → IsSmall i → spelled (printed i) ≡ Ok i
 unfolding spelled printed
 spelled-printed i small =
     let bytes = printed_distances i.nodes 0 i.distances ++ printed_windows i.windows in
@@ -202,3 +202,6 @@ spelled-printed i small =
     number_then_ok (pos 1) (pos 300) (pos i.nodes) (text_start Hash (decimal_of (pos i.nodes) ++ 10 ∷ (printed_distances i.nodes 0 i.distances ++ printed_windows i.windows))) (λ n s. nodes_at (nat_abs n) s) (sym read.value)
     ∙ nodes-read i (after_token (text_start Hash (decimal_of (pos i.nodes) ++ 10 ∷ (printed_distances i.nodes 0 i.distances ++ printed_windows i.windows)))) small read.comment_is
     (before_behind 10 (printed_distances i.nodes 0 i.distances ++ printed_windows i.windows) (after_token (text_start Hash (decimal_of (pos i.nodes) ++ 10 ∷ (printed_distances i.nodes 0 i.distances ++ printed_windows i.windows)))) refl read.rest_is)
+
+pub printed_reads_back : (i : Instance) (text : List ℕ) → IsSmall i → text ≡ printed i → spelled text ≡ Ok i
+printed_reads_back i text small e = ap spelled e ∙ spelled-printed i small

@@ -58,6 +58,16 @@ leg-same i here t a = least_amount-none i.nodes (from_elsewhere t here) (λ p. d
     right false true e = refl
     right x false e = absurd (false≢true e)
 
+-- nor is there a way to itself
+arrival-anywhere : (i : Instance) (here d : ℕ) (t : TourState) → IsSmall i → IsAt i.nodes here t → arrival i t d ≡ t.time + distance i here d
+arrival-anywhere i here d t small a =
+    elim (cases_eq here d) [
+      | inl s ↦ (let none = ap (λ v. leg i t v) (sym s) ∙ leg-same i here t a in
+          let zero_way : distance i here d ≡ 0 = ap (distance i here) (sym s) ∙ small.home here a.inside in
+          ap (λ o. t.time + unwrap_or o 0) none ∙ ap (λ x. t.time + x) (sym zero_way))
+      | inr s ↦ arrival-at i here d t a s
+    ]
+
 pub moved-at : (i : Instance) (here d : ℕ) (t : TourState) → IsAt i.nodes here t → d < i.nodes → IsAt i.nodes d (moved i t d)
 unfolding moved
 moved-at i here d t a l = record {
@@ -179,12 +189,7 @@ pending-must n here t d a e = only (t.must d) (t.may d) (a.none d) e
 kept-last : (i : Instance) (here : ℕ) (t : TourState) (d k : ℕ) → IsSmall i → IsAt i.nodes here t → i.nodes ≤ k + 1 → IsGone i k t d → IsKept i here t (d ∷ [])
 kept-last i here t d k small a l g =
     let r = returns i t d (sym (goes_home i k t d l) ∙ g.test) in
-    let way : arrival i t d ≡ t.time + distance i here d = elim (cases_eq here d) [
-      | inl s ↦ (let none = ap (λ v. leg i t v) (sym s) ∙ leg-same i here t a in
-          let zero_way : distance i here d ≡ 0 = ap (distance i here) (sym s) ∙ small.home here a.inside in
-          ap (λ o. t.time + unwrap_or o 0) none ∙ ap (λ x. t.time + x) (sym zero_way))
-      | inr s ↦ arrival-at i here d t a s
-    ] in
+    let way = arrival-anywhere i here d t small a in
     record {
       visits = record {
         whole = ap (λ c. c + 1) (sym (sum_below-none i.nodes t.must (λ _. 1) r.done));
@@ -267,12 +272,7 @@ made-last i k here t d last small a l single h e =
     let soon = late i here d t.time last [] e in
     let finish : Some (max (t.time + distance i here d) (opening i d)) ≡ Some last = sym (on_time i here d t.time [] soon) ∙ e in
     let last_is : max (t.time + distance i here d) (opening i d) ≡ last = cc in
-    let way : arrival i t d ≡ t.time + distance i here d = elim (cases_eq here d) [
-      | inl s ↦ (let none = ap (λ v. leg i t v) (sym s) ∙ leg-same i here t a in
-          let zero_way : distance i here d ≡ 0 = ap (distance i here) (sym s) ∙ small.home here a.inside in
-          ap (λ o. t.time + unwrap_or o 0) none ∙ ap (λ x. t.time + x) (sym zero_way))
-      | inr s ↦ arrival-at i here d t a s
-    ] in
+    let way = arrival-anywhere i here d t small a in
     record {
       tour = (
         record {

@@ -16,7 +16,6 @@ mod parts;
 mod printing;
 mod problem;
 mod reading;
-mod sets;
 mod touring;
 mod ways;
 mod window;

@@ -8,11 +8,11 @@ ghost use Rattle.tsp_windows.specs.Shown.{instance_in};
 
 use crate::parts::{parts_of, sets_of};
 use crate::problem::TspWindows;
-use crate::sets::{join, unite, write_none, write_one, write_others, write_without};
 use crate::ways::{least_leg, ways_within};
 use dp_model::DpModel;
 use node_sets::{
-    contains, count, is_disjoint, is_empty, is_set, is_subset, is_union_subset, least, words_for,
+    clear, contains, count, is_disjoint, is_empty, is_set, is_subset, is_union_subset, join, least,
+    union_with, words_for, write_one, write_others, write_without,
 };
 
 /// Whether each way on from the one state is one from the other, and no later.
@@ -197,7 +197,7 @@ fn write_root(out: &mut [i64], model: &TspWindows)
     let (may, time) = rest.split_at_mut(words);
     write_one(positions, 0);
     write_others(must, model.nodes);
-    write_none(may);
+    clear(may);
     time[0] = model.windows[0].opening as i64;
 }
 
@@ -233,7 +233,7 @@ fn write_joined(acc: &mut [i64], nodes: usize, s: &[i64])
     let (positions, rest) = acc.split_at_mut(words);
     let (must, rest) = rest.split_at_mut(words);
     let (may, time) = rest.split_at_mut(words);
-    unite(positions, state.positions);
+    union_with(positions, state.positions);
     join(must, may, state.must, state.may);
     time[0] = earlier as i64;
 }

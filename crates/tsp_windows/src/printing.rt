@@ -1,6 +1,6 @@
 //! Printing a problem as a text.
 
-ghost use Rattle.std.specs.Prelude.{◌≡◌, ℕ, ◌≤◌, ◌++◌, OnOk, IfOk, Ok, get_or};
+ghost use Rattle.std.specs.Prelude.{◌≡◌, ℕ, ◌≤◌, ◌^◌, ◌++◌, length, OnOk, IfOk, Ok, get_or};
 ghost use Rattle.tsp_windows.specs.Instance.{no_window};
 ghost use Rattle.tsp_windows.specs.Shown.{instance_in};
 ghost use Rattle.tsp_windows.specs.Texts.{printed, printed_distances, printed_window, printed_windows, spelled};
@@ -51,7 +51,15 @@ fn print_windows(out: &mut Vec<u8>, windows: &[Window]) -> Result<(), OutOfMemor
 /// line for each window. `read` reads the same problem from it.
 pub fn print(alloc: Global, model: &TspWindows) -> Result<Vec<u8>, OutOfMemory>
     ensures text { IfOk result (λ text. text.items ≡ printed (instance_in model.now)) }
-    ensures round_trip { IfOk result (λ text. spelled text.items ≡ Ok (instance_in model.now)) }
+    ensures short { IfOk result (λ text. length text.items ≤ 2 ^ 30) }
+    ensures reads_back { IfOk result (λ text. spelled text.items ≡ Ok (instance_in model.now)) }
+{
+    canonical_text(alloc, model)
+}
+
+/// Makes the canonical text.
+fn canonical_text(alloc: Global, model: &TspWindows) -> Result<Vec<u8>, OutOfMemory>
+    ensures { IfOk result (λ text. text.items ≡ printed (instance_in model.now)) }
 {
     let mut out = Vec::new(alloc);
     push_number(&mut out, model.nodes as i64)?;

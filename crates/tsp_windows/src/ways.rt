@@ -1,13 +1,13 @@
 //! Least ways, over rows of distances.
 
-ghost use Rattle.std.specs.Prelude.{◌≡◌, ℕ, ◌+◌, ◌*◌, ◌^◌, ◌<◌, ◌≤◌, ◌&&◌, ◌||◌, not, nat_eq, nat_le, true, false, length, get_or, Option, unwrap_or, MatchOption, IfOk};
+ghost use Rattle.std.specs.Prelude.{◌≡◌, ℕ, ◌+◌, ◌*◌, ◌^◌, ◌<◌, ◌≤◌, ◌&&◌, ◌||◌, not, nat_eq, nat_le, true, false, length, get_or, Option, unwrap_or, MatchOption, IfOk, IfSome};
 ghost use Rattle.node_sets.specs.Sums.{all_below, sum_below, lesser, least_amount};
 ghost use Rattle.node_sets.specs.Sets.{IsSet, has};
 ghost use Rattle.tsp_windows.specs.Instance as instance;
 ghost use Rattle.tsp_windows.specs.Instance.{no_window};
 
 use crate::window::Window;
-use node_sets::next_member;
+use node_sets::Members;
 use std::alloc::{AllocError, Global};
 
 /// The lesser of a way and the least one so far.
@@ -35,12 +35,11 @@ pub(crate) fn least_leg(
     ensures { result ≡ least_amount nodes (λ p. has positions.now p && not (nat_eq p to)) (λ p. get_or distances.now (p * nodes + to) 0) }
 {
     let mut least = None;
-    let mut from = 0;
-    'positions: while let Some(position) = next_member(positions, from) {
+    let mut rest = Members::of(positions);
+    'positions: while let Some(position) = rest.next() {
         if position != to {
             least = lesser(least, distances[position * nodes + to]);
         }
-        from = position + 1;
     }
     least
 }
@@ -90,20 +89,20 @@ pub(crate) fn ways_within(
     requires same { length windows.now ≡ length nearest.now }
     requires set { IsSet (length nearest.now) members.now }
     requires early { time ≤ 1000000000000 }
-    ensures { MatchOption result
+    ensures total { MatchOption result
         (all_below (length nearest.now) (λ v. nat_le (time + get_or nearest.now v 0) (get_or windows.now v no_window).closing || not (has members.now v)) ≡ false)
         (λ total. (all_below (length nearest.now) (λ v. nat_le (time + get_or nearest.now v 0) (get_or windows.now v no_window).closing || not (has members.now v)) ≡ true)
         × (total ≡ sum_below (length nearest.now) (has members.now) (λ v. get_or nearest.now v 0))) }
+    ensures small { IfSome result (λ total. total ≤ 300 * 2 ^ 32) }
 {
     let mut total = 0;
-    let mut from = 0;
-    'members: while let Some(member) = next_member(members, from) {
+    let mut rest = Members::of(members);
+    'members: while let Some(member) = rest.next() {
         let way = u64::from(nearest[member]);
         if time + way > windows[member].closing {
             return None;
         }
         total += way;
-        from = member + 1;
     }
     Some(total)
 }

@@ -5,8 +5,8 @@ use Rattle.tsp_windows.specs.ProgramLaws.{state_row-gives}
 use Rattle.tsp_windows.proofs.Assembled.{assembled, time_cell, split_must, split_may}
 use Rattle.tsp_windows.proofs.model.write_joined.Goals as goal
 
-pub unite-requires-clause-cells : goal.unite-requires-clause-cells
-unite-requires-clause-cells c =
+pub union_with-requires-clause-cells : goal.union_with-requires-clause-cells
+union_with-requires-clause-cells c =
     subst AreWords (sym (c.split_at_mut-positions.ensures.front ∙ ap (λ w. take w c.args.acc.now) c.words_for-words.ensures)) (state_row-gives c.args.nodes c.args.acc.now c.requires.kept).positions.cells
 
 pub join-requires-clause-must_cells : goal.join-requires-clause-must_cells
@@ -25,7 +25,7 @@ returns c =
     let m = split_must (words_for c.args.nodes) c.words_for-words.result c.args.acc.now c.split_at_mut-positions.result.1.now c.split_at_mut-must.result.0.now c.words_for-words.ensures c.split_at_mut-positions.ensures.back c.split_at_mut-must.ensures.front in
     let y = split_may (words_for c.args.nodes) c.words_for-words.result c.args.acc.now c.split_at_mut-positions.result.1.now c.split_at_mut-must.result.1.now c.split_at_mut-may.result.0.now c.words_for-words.ensures c.split_at_mut-positions.ensures.back c.split_at_mut-must.ensures.back c.split_at_mut-may.ensures.front in
     assembled (words_for c.args.nodes) (joined (shown (words_for c.args.nodes) c.args.acc.now) (shown (words_for c.args.nodes) c.args.s.now)) _ _ _ _ _ _ _ _
-    (c.unite.ensures ∙ ap₂ (λ (r q : List ℤ). row_of (length c.split_at_mut-positions.result.0.now) (λ v. has r v || has q v)) p c.parts_of-state.ensures.positions)
+    (c.union_with.ensures.row ∙ ap₂ (λ (r q : List ℤ). row_of (length c.split_at_mut-positions.result.0.now) (λ v. has r v || has q v)) p c.parts_of-state.ensures.positions)
     (omega (arith, c.split_at_mut-positions.ensures.front_len, c.words_for-words.ensures))
     (c.join.ensures.must ∙ ap₂ (λ (r q : List ℤ). row_of (length c.split_at_mut-must.result.0.now) (λ v. has r v && has q v)) m c.parts_of-state.ensures.must)
     (omega (arith, c.split_at_mut-must.ensures.front_len, c.words_for-words.ensures))

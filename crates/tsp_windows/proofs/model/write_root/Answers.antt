@@ -16,6 +16,6 @@ returns c =
     assembled (words_for c.args.model.now.nodes) (start (instance_in c.args.model.now)) _ _ _ _ _ _ _ _
     c.write_one.ensures (omega (arith, c.split_at_mut-positions.ensures.front_len, c.words_for-words.ensures))
     c.write_others.ensures (omega (arith, c.split_at_mut-must.ensures.front_len, c.words_for-words.ensures))
-    c.write_none.ensures (omega (arith, c.split_at_mut-may.ensures.front_len, c.words_for-words.ensures))
+    c.clear.ensures.row (omega (arith, c.split_at_mut-may.ensures.front_len, c.words_for-words.ensures))
     (omega (arith, c.split_at_mut-positions.ensures.back_len, c.split_at_mut-must.ensures.back_len, c.split_at_mut-may.ensures.back_len, c.words_for-words.ensures, c.requires))
     (time_cell _ _ at (omega (arith, at, opens, closes)))

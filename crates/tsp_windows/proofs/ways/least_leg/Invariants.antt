@@ -5,7 +5,7 @@ use Rattle.tsp_windows.proofs.ways.least_leg.Given as goal
 
 abbrev pub invariant-positions : goal.invariant-positions
 invariant-positions l =
-    (l.from ≤ l.nodes) × (l.least ≡ least_amount l.from (λ p. has l.positions p && not (nat_eq p l.to)) (λ p. get_or l.distances (p * l.nodes + l.to) 0))
+    (l.rest.row ≡ l.positions) × (l.rest.from ≤ l.nodes) × (l.least ≡ least_amount l.rest.from (λ p. has l.positions p && not (nat_eq p l.to)) (λ p. get_or l.distances (p * l.nodes + l.to) 0))
 
 abbrev pub decreases-positions : goal.decreases-positions
-decreases-positions l = l.nodes - l.from
+decreases-positions l = l.nodes - l.rest.from

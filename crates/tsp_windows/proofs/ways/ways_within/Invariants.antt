@@ -6,9 +6,10 @@ use Rattle.tsp_windows.proofs.ways.ways_within.Given as goal
 
 abbrev pub invariant-members : goal.invariant-members
 invariant-members l =
-    (l.from ≤ length l.nearest)
-    × ((v : ℕ) → v < l.from → nat_le (l.time + get_or l.nearest v 0) (get_or l.windows v no_window).closing || not (has l.members v) ≡ true)
-    × (l.total ≡ sum_below l.from (has l.members) (λ v. get_or l.nearest v 0))
+    (l.rest.row ≡ l.members)
+    × (l.rest.from ≤ length l.nearest)
+    × ((v : ℕ) → v < l.rest.from → nat_le (l.time + get_or l.nearest v 0) (get_or l.windows v no_window).closing || not (has l.members v) ≡ true)
+    × (l.total ≡ sum_below l.rest.from (has l.members) (λ v. get_or l.nearest v 0))
 
 abbrev pub decreases-members : goal.decreases-members
-decreases-members l = length l.nearest - l.from
+decreases-members l = length l.nearest - l.rest.from

@@ -28,17 +28,7 @@ returns-in_err-ways-clause-lost c =
     λ _. lost_late (instance_in c.args.self.now) c.args.k (shown (words_for c.args.self.now.nodes) c.args.s.now)
     (sym (times_shown (instance_in c.args.self.now) (words_for c.args.self.now.nodes) c.args.s.now c.parts_of-state.result.must.now c.deref.result.now c.deref-2.result.now c.parts_of-state.result.time
     (ap length c.deref.ensures.value ∙ c.args.self.now.all_nearest) (λ v l. ap (λ xs. get_or xs v 0) c.deref.ensures.value ∙ c.args.self.now.ways v l) c.deref-2.ensures.value c.parts_of-state.ensures.must c.parts_of-state.ensures.time)
-    ∙ c.in_err-ways.ensures)
-
-pub overflow_add-result : goal.overflow_add-result
-overflow_add-result c =
-    let left = left_is (instance_in c.args.self.now) c.args.k (words_for c.args.self.now.nodes) c.args.s.now c.parts_of-state.result.must.now c.deref.result.now c.deref-2.result.now c.parts_of-state.result.time c.count.result c.in_ok-ways.ways c.from-home.result c.index-2.result.now.closing
-    (is_small-gives (instance_in c.args.self.now) c.args.self.now.small) (ap length c.deref.ensures.value ∙ c.args.self.now.all_nearest) (λ v l. ap (λ xs. get_or xs v 0) c.deref.ensures.value ∙ c.args.self.now.ways v l) c.deref-2.ensures.value
-    c.parts_of-state.ensures.must c.parts_of-state.ensures.must_set c.parts_of-state.ensures.time c.count.ensures c.if-count-k.false
-    (c.from-home.ensures ∙ get_or_read c.args.self.now.nearest.items 0 _ (omega (arith, c.args.self.now.all_nearest, c.args.self.now.some)) c.index.ensures 0 ∙ sym (ap (λ xs. get_or xs 0 0) c.deref.ensures.value))
-    (ap (λ (w : Window). w.closing) (get_or_read c.args.self.now.windows.items 0 _ (omega (arith, c.args.self.now.each_window, c.args.self.now.some)) c.index-2.ensures no_window) ∙ sym (ap (λ (ws : List Window). (get_or ws 0 no_window).closing) c.deref-2.ensures.value))
-    c.if-state-home.false c.in_ok-ways.ensures.0 c.in_ok-ways.ensures.1 in
-    record { fits = omega (arith, left.small) }
+    ∙ c.in_err-ways.ensures.total)
 
 pub returns-clause-left : goal.returns-clause-left
 returns-clause-left c =
@@ -47,15 +37,5 @@ returns-clause-left c =
     c.parts_of-state.ensures.must c.parts_of-state.ensures.must_set c.parts_of-state.ensures.time c.count.ensures c.if-count-k.false
     (c.from-home.ensures ∙ get_or_read c.args.self.now.nearest.items 0 _ (omega (arith, c.args.self.now.all_nearest, c.args.self.now.some)) c.index.ensures 0 ∙ sym (ap (λ xs. get_or xs 0 0) c.deref.ensures.value))
     (ap (λ (w : Window). w.closing) (get_or_read c.args.self.now.windows.items 0 _ (omega (arith, c.args.self.now.each_window, c.args.self.now.some)) c.index-2.ensures no_window) ∙ sym (ap (λ (ws : List Window). (get_or ws 0 no_window).closing) c.deref-2.ensures.value))
-    c.if-state-home.false c.in_ok-ways.ensures.0 c.in_ok-ways.ensures.1 in
+    c.if-state-home.false c.in_ok-ways.ensures.total.0 c.in_ok-ways.ensures.total.1 in
     (left.found, left.left)
-
-pub returns-clause-small : goal.returns-clause-small
-returns-clause-small c =
-    let left = left_is (instance_in c.args.self.now) c.args.k (words_for c.args.self.now.nodes) c.args.s.now c.parts_of-state.result.must.now c.deref.result.now c.deref-2.result.now c.parts_of-state.result.time c.count.result c.in_ok-ways.ways c.from-home.result c.index-2.result.now.closing
-    (is_small-gives (instance_in c.args.self.now) c.args.self.now.small) (ap length c.deref.ensures.value ∙ c.args.self.now.all_nearest) (λ v l. ap (λ xs. get_or xs v 0) c.deref.ensures.value ∙ c.args.self.now.ways v l) c.deref-2.ensures.value
-    c.parts_of-state.ensures.must c.parts_of-state.ensures.must_set c.parts_of-state.ensures.time c.count.ensures c.if-count-k.false
-    (c.from-home.ensures ∙ get_or_read c.args.self.now.nearest.items 0 _ (omega (arith, c.args.self.now.all_nearest, c.args.self.now.some)) c.index.ensures 0 ∙ sym (ap (λ xs. get_or xs 0 0) c.deref.ensures.value))
-    (ap (λ (w : Window). w.closing) (get_or_read c.args.self.now.windows.items 0 _ (omega (arith, c.args.self.now.each_window, c.args.self.now.some)) c.index-2.ensures no_window) ∙ sym (ap (λ (ws : List Window). (get_or ws 0 no_window).closing) c.deref-2.ensures.value))
-    c.if-state-home.false c.in_ok-ways.ensures.0 c.in_ok-ways.ensures.1 in
-    omega (arith, left.small)
