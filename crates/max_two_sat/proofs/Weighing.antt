@@ -8,12 +8,13 @@ use Rattle.std.proofs.lemmas.List.{drop_more, drop_all}
 use Rattle.max_two_sat.specs.declared.weights.UnitWeights.{UnitWeights}
 use Rattle.max_two_sat.specs.declared.weights.PairWeights.{PairWeights}
 use Rattle.max_two_sat.specs.Instance.{Instance, rows_of, row_at, pair_count, unit_total, pair_total, units_total, pairs_total, rows_total, no_pair, no_unit}
-use Rattle.dp_model.specs.Prefixes.{IsSolution, value_of}
+use Rattle.dp_model.specs.Prefixes.{IsSolution}
+use Rattle.dp_model.specs.Worth.{IsWorth, SolutionGives}
 use Rattle.max_two_sat.specs.GapLaws.{row_value-most, rows_value-most}
 use Rattle.max_two_sat.specs.Kept.{IsKept, PairIsPositive, UnitIsPositive, pairs_are_positive, units_are_positive, pair_is_positive, unit_is_positive, unit-positive, pair-positive, and-left, and-right}
 use Rattle.max_two_sat.specs.OwnWords.{all_truth_values, own_value, weight_of, unit_value, pair_value, pair_left, units_value, row_value, rows_value}
 use Rattle.max_two_sat.specs.Program.{program_of}
-use Rattle.max_two_sat.specs.Solutions.{AgreesWithOwnWords, own_value-agrees}
+use Rattle.max_two_sat.specs.Solutions.{own_value-agrees}
 use Rattle.max_two_sat.specs.Rows.{length-rows_of, length-row_at, drop-rows}
 use Rattle.max_two_sat.specs.Totals.{units_total-positive, positive-rows_of, positive-row_at, rows_are_positive, rows_total-rows_of, rows_total-drop, rows_total-positive, all-drop}
 use Rattle.max_two_sat.proofs.Cells.{unit-at, pair-at}
@@ -203,11 +204,11 @@ rows-bounds ps n xs whole positive =
 pub value-none : (i : Instance) (xs : List ℕ) (answer : Bool) → IsKept i → answer ≡ ((length xs == length i.units) && all_truth_values xs) → answer ≡ false → ¬ IsSolution (program_of i) xs
 value-none i xs answer kept is no_assignment =
     let test : ((length xs == length i.units) && all_truth_values xs) ≡ false = sym is ∙ no_assignment in
-    subst (λ (b : Bool). AgreesWithOwnWords i xs (if b then Some (weight_of i xs) else None)) test (own_value-agrees i xs kept)
+    subst (λ (b : Bool). SolutionGives (program_of i) xs (if b then Some (weight_of i xs) else None)) test (own_value-agrees i xs kept)
 
 pub record ValueIs (i : Instance) (xs : List ℕ) (units_part pairs_part : ℤ) : Type 0 where
   pub value : Some (i.tautologies +ℤ (units_part +ℤ pairs_part)) ≡ own_value i xs
-  pub solution : IsSolution (program_of i) xs × (value_of (program_of i) xs ≡ i.tautologies +ℤ (units_part +ℤ pairs_part))
+  pub solution : IsWorth (program_of i) xs (i.tautologies +ℤ (units_part +ℤ pairs_part))
   pub read : to_z w64 (of_z w64 (to_z w64 (of_z w64 i.tautologies) +ℤ to_z w64 (of_z w64 (to_z w64 (of_z w64 units_part) +ℤ to_z w64 (of_z w64 pairs_part))))) ≡ i.tautologies +ℤ (units_part +ℤ pairs_part)
 
 pub value-is : (i : Instance) (xs : List ℕ) (answer : Bool) (units_part pairs_part : ℤ) → IsKept i → answer ≡ ((length xs == length i.units) && all_truth_values xs) → answer ≡ true →
@@ -217,13 +218,13 @@ value-is i xs answer units_part pairs_part kept is yes_assignment units_is pairs
     let whole : length xs ≡ length i.units = eqb-true (length xs) (length i.units) (and-left _ _ test) in
     let pairs : pairs_part ≡ rows_value (rows_of (length i.units) i.pairs) xs = pairs_is ∙ ap (λ n. rows_value (rows_of n i.pairs) xs) whole in
     let sum : i.tautologies +ℤ (units_part +ℤ pairs_part) ≡ weight_of i xs = omega (arith, ints) in
-    let agrees : IsSolution (program_of i) xs × (value_of (program_of i) xs ≡ weight_of i xs) =
-    subst (λ (b : Bool). AgreesWithOwnWords i xs (if b then Some (weight_of i xs) else None)) test (own_value-agrees i xs kept) in
+    let agrees : IsWorth (program_of i) xs (weight_of i xs) =
+    subst (λ (b : Bool). SolutionGives (program_of i) xs (if b then Some (weight_of i xs) else None)) test (own_value-agrees i xs kept) in
     let units_low = units_value-positive i.units xs kept.units in
     let units_high = units_value-most i.units xs kept.units in
     let pairs_bounds = rows-bounds i.pairs (length i.units) xs kept.whole kept.pairs in
     record {
       value = subst (λ (b : Bool). Some (i.tautologies +ℤ (units_part +ℤ pairs_part)) ≡ (if b then Some (weight_of i xs) else None)) (sym test) (ap (λ v. Some v) sum);
-      solution = (agrees.0, agrees.1 ∙ sym sum);
+      solution = record { solution = agrees.solution; value = sum ∙ agrees.value };
       read = omega (arith, ints, kept.total, kept.tautologies, pairs_bounds.0, pairs_bounds.1);
     }

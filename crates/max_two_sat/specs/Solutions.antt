@@ -1,12 +1,13 @@
 -- The feasible solutions of the program are the lists of truth values, with the weight that they satisfy.
-use Rattle.std.specs.Prelude.{◌≡◌, ℕ, zero, suc, ◌+◌, ◌<◌, ◌≤◌, ℤ, ◌+ℤ◌, ◌-ℤ◌, Bool, true, false, ◌&&◌, ◌==◌, nat_lt, List, [], ◌∷◌, length, map, Option, Some, None, MatchOption, IsTrue, refl, if◌then◌else◌}
+use Rattle.std.specs.Prelude.{◌≡◌, ℕ, zero, suc, ◌+◌, ◌<◌, ◌≤◌, ℤ, ◌+ℤ◌, ◌-ℤ◌, Bool, true, false, ◌&&◌, ◌==◌, nat_lt, List, [], ◌∷◌, length, map, Some, None, IsTrue, refl, if◌then◌else◌}
 use Rattle.std.specs.Int.{int_min}
-use Rattle.std.proofs.Common.{arith, eq-eqb}
+use Rattle.std.proofs.Common.{arith, eq-eqb, sym}
 use Rattle.std.proofs.lemmas.Bool.{eqb-true}
 use Rattle.std.proofs.lemmas.Bool.Decides.{nat_tests}
 use Rattle.std.proofs.lemmas.Int.{ints, clamps}
 use Rattle.benefit_rows.specs.Benefits.{gain_of, gains_of}
-use Rattle.dp_model.specs.Prefixes.{IsPath, IsSolution, value_of}
+use Rattle.dp_model.specs.Prefixes.{IsPath, value_of}
+use Rattle.dp_model.specs.Worth.{SolutionGives}
 use Rattle.max_two_sat.specs.declared.weights.UnitWeights.{UnitWeights}
 use Rattle.max_two_sat.specs.Instance.{Instance}
 use Rattle.max_two_sat.specs.Kept.{IsKept, and-left, and-right, and-both}
@@ -57,18 +58,16 @@ value_of-solution i xs kept whole =
     omega (arith, ints, gain_split i 0 (root_of i.units) xs kept.whole cells (omega arith), root-split i.units xs whole)
 
 -- a list of decisions is a feasible solution exactly where it has a value in the problem's own words, and the values are equal
-abbrev pub AgreesWithOwnWords : Instance → List ℕ → Option ℤ → Type 0
-AgreesWithOwnWords i xs value = MatchOption value (¬ IsSolution (program_of i) xs) (λ v. IsSolution (program_of i) xs × (value_of (program_of i) xs ≡ v))
-
-pub own_value-agrees : (i : Instance) (xs : List ℕ) → IsKept i → AgreesWithOwnWords i xs (own_value i xs)
+pub own_value-agrees : (i : Instance) (xs : List ℕ) → IsKept i → SolutionGives (program_of i) xs (own_value i xs)
 own_value-agrees i xs kept = cases ((length xs == length i.units) && all_truth_values xs) refl
   where
-    cases : (b : Bool) → ((length xs == length i.units) && all_truth_values xs) ≡ b → AgreesWithOwnWords i xs (if b then Some (weight_of i xs) else None)
+    cases : (b : Bool) → ((length xs == length i.units) && all_truth_values xs) ≡ b → SolutionGives (program_of i) xs (if b then Some (weight_of i xs) else None)
     cases true e =
-        let whole : length xs ≡ length i.units = eqb-true (length xs) (length i.units) (and-left _ _ e) in (
-          record { prefix = truth-path i 0 (root_of i.units) xs (omega arith) (and-right (length xs == length i.units) _ e); whole = whole },
-          value_of-solution i xs kept whole,
-        )
+        let whole : length xs ≡ length i.units = eqb-true (length xs) (length i.units) (and-left _ _ e) in
+        record {
+          solution = record { prefix = truth-path i 0 (root_of i.units) xs (omega arith) (and-right (length xs == length i.units) _ e); whole = whole };
+          value = sym (value_of-solution i xs kept whole);
+        }
     cases false e = λ solution.
         let here : IsTrue ((length xs == length i.units) && all_truth_values xs) = and-both (length xs == length i.units) _
         (eq-eqb (length xs) (length i.units) solution.whole) (path-truth i 0 (root_of i.units) xs solution.prefix) in

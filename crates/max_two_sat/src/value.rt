@@ -5,7 +5,8 @@ ghost use Rattle.max_two_sat.specs.Instance.{pair_count, pair_total, pairs_total
 ghost use Rattle.max_two_sat.specs.Kept.{PairIsPositive, UnitIsPositive, pairs_are_positive, units_are_positive};
 ghost use Rattle.max_two_sat.specs.Model.{instance_in};
 ghost use Rattle.max_two_sat.specs.OwnWords.{all_truth_values, own_value, pair_left, pair_value, row_value, rows_value, unit_value, units_value};
-ghost use Rattle.max_two_sat.specs.Solutions.{AgreesWithOwnWords};
+ghost use Rattle.dp_model.specs.Worth.{SolutionGives};
+ghost use Rattle.max_two_sat.specs.Program.{program_of};
 
 use crate::limits::pair_sum;
 use crate::problem::{MaxTwoSat, row_of};
@@ -14,8 +15,8 @@ use crate::weights::{PairWeights, UnitWeights};
 /// The weight of the satisfied clauses, where the decisions give each variable 0 (false) or 1 (true). `None` exactly where they do
 /// not. Such lists are the feasible solutions of the program, with this value.
 pub fn value_of(model: &MaxTwoSat, decisions: &[u32]) -> Option<i64>
-    ensures value { result ≡ own_value (instance_in model.now) decisions.now }
-    ensures solution { AgreesWithOwnWords (instance_in model.now) decisions.now result }
+    ensures own_words { result ≡ own_value (instance_in model.now) decisions.now }
+    ensures solution { SolutionGives (program_of (instance_in model.now)) decisions.now result }
 {
     let units = model.units.as_slice();
     if !is_assignment(units.len(), decisions) {

@@ -10,7 +10,7 @@ use Rattle.max_two_sat.specs.Kept.{IsKept}
 use Rattle.max_two_sat.specs.OwnWords.{own_value}
 use Rattle.max_two_sat.specs.Printed.{text_of}
 use Rattle.max_two_sat.specs.Program.{program_of}
-use Rattle.max_two_sat.specs.Solutions.{AgreesWithOwnWords, own_value-agrees}
+use Rattle.max_two_sat.specs.Solutions.{own_value-agrees}
 use Rattle.max_two_sat.specs.Texts.{instance_at}
 use Rattle.problems.specs.Theory.{Theory, Agrees, with_numbers}
 
@@ -22,10 +22,6 @@ sat_theory = record {
   own_value = λ numbers x. own_value (instance_of numbers) x;
 }
 
-gives : (i : Instance) (x : List ℕ) (value : Option ℤ) → AgreesWithOwnWords i x value → SolutionGives (program_of i) x value
-gives i x None h = h
-gives i x (Some v) h = record { solution = h.0; value = sym h.1 }
-
 -- its own words and its program speak of the same solutions
 pub sat_agrees : (i : Instance) → IsKept i → Agrees (program_of (instance_of (numbers_of i))) (sat_theory.own_value (numbers_of i))
-sat_agrees i h = λ x. subst (λ j. SolutionGives (program_of j) x (own_value j x)) (sym (instance_of-numbers_of i)) (gives i x (own_value i x) (own_value-agrees i x h))
+sat_agrees i h = λ x. subst (λ j. SolutionGives (program_of j) x (own_value j x)) (sym (instance_of-numbers_of i)) (own_value-agrees i x h)

@@ -15,4 +15,4 @@ returns c =
     let is = value-is (instance_in c.args.model.now) c.args.decisions.now c.is_assignment.result c.value_of_units-units_part.result c.value_of_pairs-pairs_part.result c.args.model.now.kept
     (rw c.as_slice-units.ensures.value at c.is_assignment.ensures) c.if-not-is_assignment.false
     (rw c.as_slice-units.ensures.value at c.value_of_units-units_part.ensures.value) (rw c.as_slice.ensures.value at c.value_of_pairs-pairs_part.ensures.value) in
-    record { value = rw is.read is.value; solution = rw is.read is.solution }
+    record { own_words = rw is.read is.value; solution = rw is.read is.solution }
