@@ -1,6 +1,5 @@
-ghost use Rattle.std.specs.Prelude.{◌≡◌, ◌≤◌, ◌+◌, ◌*◌, ◌-◌, map, string_bytes, option_and_then};
-ghost use Rattle.dd_text.specs.Text.{natural_of};
-ghost use Rattle.solver_words.specs.Words.{job_of, solve_job_of, digest_job_of, model_of, options_of, budget_of, within_budget};
+ghost use Rattle.std.specs.Prelude.{◌≡◌, map, string_bytes};
+ghost use Rattle.solver_words.specs.Words.{job_of, solve_job_of, digest_job_of, model_of, options_of, budget_of};
 
 use crate::job::Job;
 use dp_model::ModelName;
@@ -76,39 +75,15 @@ fn read_options(options: &[String]) -> Option<u64>
 }
 
 /// The number of 1 to 20 digits, where it is below 2^64.
+#[tactic(auto, using(crate::proofs::Budgets::no_plus, crate::proofs::Budgets::parsed))]
 fn read_budget(word: &str) -> Option<u64>
     ensures { result ≡ budget_of word.now }
 {
-    if word.len() > 20 {
-        return None;
+    match word.as_bytes() {
+        [] => None,
+        // `parse` takes a plus, which no budget has.
+        [b'+', ..] => None,
+        digits if digits.len() > 20 => None,
+        _ => word.parse().ok(),
     }
-    natural(word.as_bytes())
-}
-
-/// The number that the digits write, where it is below 2^64.
-fn natural(digits: &[u8]) -> Option<u64>
-    ensures { result ≡ option_and_then within_budget (natural_of digits.now) }
-{
-    if digits.is_empty() {
-        return None;
-    }
-    let mut total = 0u64;
-    let mut rest = digits;
-    while let [digit, after @ ..] = rest {
-        let digit = *digit;
-        if !digit.is_ascii_digit() {
-            return None;
-        }
-        total = behind(total, digit)?;
-        rest = after;
-    }
-    Some(total)
-}
-
-/// The number behind one more digit, where it is below 2^64.
-fn behind(total: u64, digit: u8) -> Option<u64>
-    requires { 48 ≤ digit }
-    ensures { result ≡ within_budget (10 * total + (digit - 48)) }
-{
-    total.checked_mul(10)?.checked_add(u64::from(digit - b'0'))
 }
