@@ -1,8 +1,8 @@
 -- How a run of the program ends.
-use Rattle.std.specs.Prelude.{◌≡◌, ℕ, ◌^◌, ◌<◌, ◌≤◌, List, length, Option, Some, None, IsSome, IfSome, ◌⊎◌}
+use Rattle.std.specs.Prelude.{◌≡◌, ℕ, ◌+◌, ◌^◌, ◌≤◌, ◌==◌, if◌then◌else◌, List, length, Option, Some, None, IsSome, ◌⊎◌}
 use Rattle.std.specs.Io.KnownBytes.{append_known}
 use Rattle.dd_io.specs.Counts.{Rose}
-use Rattle.dd_io.specs.Told.{IsAllOf, Ends, TakesSome}
+use Rattle.dd_io.specs.Told.{IsAllOf, Ends, Skips, TakesSome}
 use Rattle.problems.specs.Theories.{theory_of}
 use Rattle.solver_words.specs.Words.{job_of}
 use Rattle.solver_words.specs.declared.job.Job.{Job}
@@ -42,9 +42,17 @@ pub record IsUntouched (r : Readings) : Type 0 where
   pub left : r.now ≡ r.before
   pub sound : r.faults_now ≡ r.faults_before
 
--- more bytes than the limit were left
-abbrev pub IsTooLong : Readings → Type 0
-IsTooLong r = IfSome r.before (λ all. input_limit < length all)
+-- one byte more than the limit was read, and no call failed
+pub record WasTooLong (r : Readings) : Type 0 where
+  pub gone : Skips r.before r.now (input_limit + 1)
+  pub sound : r.faults_now ≡ r.faults_before
+
+-- a call failed, and what was read before it is gone
+pub record HasFailed (r : Readings) : Type 0 where
+  pub rose : Rose r.faults_before r.faults_now
+  pub count : ℕ
+  pub short : count ≤ input_limit
+  pub gone : Skips r.before r.now count
 
 -- the words ask for the job, and the bytes that were read get this answer
 pub record Answers (words : List (List ℕ)) (r : Readings) (answer : Answer) : Type 0 where
@@ -54,18 +62,32 @@ pub record Answers (words : List (List ℕ)) (r : Readings) (answer : Answer) : 
   pub read : WasRead r bytes
   pub replies : Replies (theory_of (model_in job)) job ((theory_of (model_in job)).spelled bytes) answer
 
--- when an answer is right
+-- when an answer is right; want of memory may come at any time once the words are read, but no fault is hidden by it
 abbrev pub IsRight : List (List ℕ) → Readings → Answer → Type 0
 IsRight words r answers.Usage = (job_of words ≡ None) × IsUntouched r
-IsRight words r answers.ReadFault = IsSome (job_of words) × Rose r.faults_before r.faults_now
-IsRight words r answers.TooLong = IsSome (job_of words) × IsTooLong r
-IsRight words r answers.OutOfMemory = Unit {0}
+IsRight words r answers.ReadFault = IsSome (job_of words) × HasFailed r
+IsRight words r answers.TooLong = IsSome (job_of words) × WasTooLong r
+IsRight words r answers.OutOfMemory = IsSome (job_of words) × (r.faults_now ≡ r.faults_before)
 IsRight words r answer = Answers words r answer
 
--- the text was written whole with its status; or the sink failed or took nothing, a part was written, and the status is 7
+-- the text was taken whole, no call failed, and none took nothing
+pub record WasWritten (w : Writings) (text : List ℕ) : Type 0 where
+  pub whole : w.now ≡ append_known w.before text
+  pub sound : w.faults_now ≡ w.faults_before
+  pub busy : w.idle_now ≡ w.idle_before
+
+-- a call failed or took nothing, and a part of the text was taken, from the first byte on and not all
+pub record WasCutShort (w : Writings) (text : List ℕ) : Type 0 where
+  pub cause : Rose w.faults_before w.faults_now ⊎ Rose w.idle_before w.idle_now
+  pub part : TakesSome w.before w.now text
+
+-- the status of a text that was cut short: 7, but a source that failed goes before a sink that failed
+abbrev pub cut_short_status : ℕ → ℕ
+cut_short_status own = if own == 6 then 6 else 7
+
+-- the text was written whole, with its status, or cut short, with the status for that
 pub record Says (w : Writings) (text : List ℕ) (own status : ℕ) : Type 0 where
-  pub outcome : ((status ≡ own) × (w.now ≡ append_known w.before text))
-      ⊎ ((status ≡ 7) × (Rose w.faults_before w.faults_now ⊎ Rose w.idle_before w.idle_now) × TakesSome w.before w.now text)
+  pub outcome : ((status ≡ own) × WasWritten w text) ⊎ ((status ≡ cut_short_status own) × WasCutShort w text)
 
 -- an answer was said: the given one, or that memory ran out for its text
 pub record IsSaid (w : Writings) (given : Answer) (status : ℕ) : Type 0 where
@@ -77,4 +99,4 @@ pub record IsSaid (w : Writings) (given : Answer) (status : ℕ) : Type 0 where
 pub record HasEnded (words : List (List ℕ)) (r : Readings) (w : Writings) (status : ℕ) : Type 0 where
   pub answer : Answer
   pub right : IsRight words r answer
-  pub said : Says w (report answer) (status_of answer) status
+  pub said : IsSaid w answer status

@@ -14,29 +14,34 @@ mod tests;
 
 use dd_io::{StdSink, StdSource};
 pub use run::run;
+use saying::say;
+use solver_report::Answer;
+use std::alloc::AllocError;
 use std::env;
 use std::io::ErrorKind;
 use std::process::ExitCode;
 
-/// Lends `run` the command's words and standard input and output. Without memory for the words the status is 8; words that are
-/// no text are outside the grammar, as no words are.
+/// Lends `run` the command's words and standard input and output. Without memory for the words it says so.
 fn main(rt: HostRuntime) -> ExitCode {
+    let mut out = StdSink::new(rt.stdout());
+    let Ok(words) = words_of(&rt) else {
+        return ExitCode::from(say(rt.alloc(), &mut out, &Answer::OutOfMemory));
+    };
+    let mut input = StdSource::new(rt.stdin());
+    ExitCode::from(run(rt.alloc(), words.as_slice(), &mut input, &mut out))
+}
+
+/// The command's words, without the program's name. Words that are no text are outside the grammar, as no words are.
+fn words_of(rt: &HostRuntime) -> Result<Vec<String>, AllocError> {
     let mut words = Vec::new(rt.alloc());
-    match env::args(&rt) {
+    match env::args(rt) {
         Ok(args) => {
             for word in args.skip(1) {
-                if words.push(word).is_err() {
-                    return ExitCode::from(8);
-                }
+                words.push(word)?;
             }
         }
-        Err(error) => {
-            if error.kind() == ErrorKind::OutOfMemory {
-                return ExitCode::from(8);
-            }
-        }
+        Err(error) if error.kind() == ErrorKind::OutOfMemory => return Err(AllocError),
+        Err(_) => {}
     }
-    let mut input = StdSource::new(rt.stdin());
-    let mut out = StdSink::new(rt.stdout());
-    ExitCode::from(run(rt.alloc(), words.as_slice(), &mut input, &mut out))
+    Ok(words)
 }

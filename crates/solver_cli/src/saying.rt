@@ -15,12 +15,20 @@ pub fn say<K: Sink>(alloc: Global, out: &mut K, answer: &Answer) -> u8
     }
 }
 
-/// Writes the text, and gives the status that goes with it, or 7 where it was not written whole.
+/// The status of an input that failed.
+const UNREAD: u8 = 6;
+
+/// The status of an output that failed.
+const UNWRITTEN: u8 = 7;
+
+/// Writes the text, and gives the status that goes with it, or the one of an output that failed. An input that failed goes before
+/// that.
 fn write<K: Sink>(out: &mut K, text: &[u8], own: u8) -> u8
     ensures { Says (record { before = K.taken out.old; now = K.taken out.new; faults_before = K.faults out.old; faults_now = K.faults out.new; idle_before = K.idle out.old; idle_now = K.idle out.new }) text.now own result }
 {
     match write_all(out, text) {
         Ok(()) => own,
-        Err(_) => 7,
+        Err(_) if own == UNREAD => UNREAD,
+        Err(_) => UNWRITTEN,
     }
 }

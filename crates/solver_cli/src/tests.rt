@@ -1,6 +1,7 @@
 use crate::run::run;
 use dd_io::{MemSink, MemSource};
 use std::alloc::{AllocError, Global};
+use std::process::Abort;
 use std::test::Fail;
 
 const THREE_ITEMS: &str = "3 10\n60 5\n50 4\n70 6\n";
@@ -35,6 +36,16 @@ fn run_line(
     let mut text = MemSink::new(alloc, failing_writes.to_vec(alloc)?);
     let status = run(alloc, words.as_slice(), &mut source, &mut text);
     Ok(Printed { text, status })
+}
+
+/// Runs the words of each line on its input, and compares what is printed, and the status.
+fn prints(rt: &impl Abort, alloc: Global, cases: &[(&str, &str, &str, u8)]) -> Result<(), Fail> {
+    for (line, input, text, status) in cases.iter().copied() {
+        let printed = run_line(alloc, line, input, &[], &[])?;
+        assert_eq!(rt; printed.text.taken(), text.as_bytes(), "{line} on {input}");
+        assert_eq!(rt; printed.status, status, "{line} on {input}");
+    }
+    Ok(())
 }
 
 #[test]
@@ -131,12 +142,7 @@ fn prints_what_it_must(rt: HostRuntime) -> Result<(), Fail> {
             0,
         ),
     ];
-    for (line, input, text, status) in cases {
-        let printed = run_line(rt.alloc(), line, input, &[], &[])?;
-        assert_eq!(rt; printed.text.taken(), text.as_bytes(), "{line} on {input}");
-        assert_eq!(rt; printed.status, status, "{line} on {input}");
-    }
-    Ok(())
+    prints(&rt, rt.alloc(), &cases)
 }
 
 #[test]
@@ -210,12 +216,7 @@ fn refuses_at_the_place(rt: HostRuntime) -> Result<(), Fail> {
         ),
         ("solve --budget 1 knapsack", THREE_ITEMS, "words usage\n", 4),
     ];
-    for (line, input, text, status) in cases {
-        let printed = run_line(rt.alloc(), line, input, &[], &[])?;
-        assert_eq!(rt; printed.text.taken(), text.as_bytes(), "{line} on {input}");
-        assert_eq!(rt; printed.status, status, "{line} on {input}");
-    }
-    Ok(())
+    prints(&rt, rt.alloc(), &cases)
 }
 
 #[test]
@@ -226,6 +227,9 @@ fn tells_faults_of_the_outside(rt: HostRuntime) -> Result<(), Fail> {
     let unwritten = run_line(rt.alloc(), "solve knapsack", THREE_ITEMS, &[], &[0])?;
     assert_eq!(rt; unwritten.text.taken(), "".as_bytes());
     assert_eq!(rt; unwritten.status, 7);
+    let neither = run_line(rt.alloc(), "solve knapsack", THREE_ITEMS, &[0], &[0])?;
+    assert_eq!(rt; neither.text.taken(), "".as_bytes());
+    assert_eq!(rt; neither.status, 6);
     Ok(())
 }
 
