@@ -7,6 +7,7 @@
 #![tactic(auto)]
 
 mod failed;
+mod listed_calls;
 mod memory_sink;
 mod memory_source;
 mod reading;

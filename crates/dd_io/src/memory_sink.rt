@@ -2,6 +2,7 @@ ghost use Rattle.std.specs.Prelude.{◌≡◌, ◌+◌, ◌<◌, ◌⊎◌, ◌+
 ghost use Rattle.dd_io.specs.Counts.{next_count, Counts};
 
 use super::{Failed, Sink};
+use crate::listed_calls::ListedCalls;
 use std::alloc::Global;
 use std::marker::Model;
 
@@ -9,9 +10,7 @@ use std::marker::Model;
 #[derive(Debug, Drop)]
 pub struct MemSink {
     taken: Vec<u8>,
-    failing: Vec<u64>,
-    calls: u64,
-    faults: u64,
+    calls: ListedCalls,
 }
 
 impl Model for MemSink {
@@ -23,9 +22,9 @@ impl Model for MemSink {
     ghost view = { λ s. record {
       taken = s.taken.items;
       room = vec_capacity s.taken;
-      calls = s.calls;
-      failing = s.failing.items;
-      faults = s.faults;
+      calls = s.calls.made;
+      failing = s.calls.failing.items;
+      faults = s.calls.faults;
     } };
 }
 
@@ -40,9 +39,7 @@ impl MemSink {
     {
         MemSink {
             taken: Vec::new(alloc),
-            failing,
-            calls: 0,
-            faults: 0,
+            calls: ListedCalls::new(failing),
         }
     }
 
@@ -57,14 +54,14 @@ impl MemSink {
     pub fn calls(&self) -> u64
         ensures { result ≡ self.now.calls }
     {
-        self.calls
+        self.calls.made()
     }
 
     /// How many calls have failed, at most `u64::MAX`.
     pub fn faults(&self) -> u64
         ensures { result ≡ self.now.faults }
     {
-        self.faults
+        self.calls.faults()
     }
 }
 
@@ -92,13 +89,9 @@ impl Sink for MemSink {
         }) }
         ensures faults { Counts (is_err result) self.old.faults self.new.faults }
     {
-        let number = self.calls;
-        self.calls = number.saturating_add(1);
-        if self.failing.contains(&number) {
-            return Err(Failed::counted(&mut self.faults));
-        }
+        self.calls.begin()?;
         if self.taken.extend_from_slice(piece).is_err() {
-            return Err(Failed::counted(&mut self.faults));
+            return Err(self.calls.fail());
         }
         Ok(piece.len())
     }

@@ -2,6 +2,7 @@ ghost use Rattle.std.specs.Prelude.{◌≡◌, ◌↔◌, length, take, drop, mi
 ghost use Rattle.dd_io.specs.Counts.{next_count, Counts};
 
 use super::{Failed, Source};
+use crate::listed_calls::ListedCalls;
 use std::marker::Model;
 
 /// Bytes in memory that are read as a source, of which the listed calls fail.
@@ -10,9 +11,7 @@ pub struct MemSource {
     bytes: Vec<u8>,
     // How many bytes have been read.
     at: usize,
-    failing: Vec<u64>,
-    calls: u64,
-    faults: u64,
+    calls: ListedCalls,
 }
 
 impl Model for MemSource {
@@ -23,9 +22,9 @@ impl Model for MemSource {
 
     ghost view = { λ s. record {
       left = drop s.at s.bytes.items;
-      calls = s.calls;
-      failing = s.failing.items;
-      faults = s.faults;
+      calls = s.calls.made;
+      failing = s.calls.failing.items;
+      faults = s.calls.faults;
     } };
 
     ghost invariant = { λ s. s.at ≤ vec_len s.bytes };
@@ -43,9 +42,7 @@ impl MemSource {
         MemSource {
             bytes,
             at: 0,
-            failing,
-            calls: 0,
-            faults: 0,
+            calls: ListedCalls::new(failing),
         }
     }
 
@@ -60,14 +57,14 @@ impl MemSource {
     pub fn calls(&self) -> u64
         ensures { result ≡ self.now.calls }
     {
-        self.calls
+        self.calls.made()
     }
 
     /// How many calls have failed, at most `u64::MAX`.
     pub fn faults(&self) -> u64
         ensures { result ≡ self.now.faults }
     {
-        self.faults
+        self.calls.faults()
     }
 }
 
@@ -86,11 +83,7 @@ impl Source for MemSource {
             record self.old { calls = next_count self.old.calls; faults = next_count self.old.faults }) }
         ensures faults { Counts (is_err result) self.old.faults self.new.faults }
     {
-        let number = self.calls;
-        self.calls = number.saturating_add(1);
-        if self.failing.contains(&number) {
-            return Err(Failed::counted(&mut self.faults));
-        }
+        self.calls.begin()?;
         let rest = &self.bytes[self.at..];
         let n = into.len().min(rest.len());
         into[..n].copy_from_slice(&rest[..n]);
