@@ -1,0 +1,106 @@
+-- Rows that are the same, and subproblems of one depth and state.
+use Rattle.std.proofs.Common.{◌≡◌, ℕ, ◌+◌, ◌<◌, not, drop, get_or, ℤ, List, [], ◌∷◌, length, Bool, true, false, nat_eq, ◌&&◌, cond, Some, None, refl, sym, ◌∙◌, ap, ap₂, subst, arith}
+use Rattle.std.proofs.lemmas.Bool.{eqb-true, eq-eqb}
+use Rattle.std.proofs.lemmas.Bool.Decides.{nat_tests, Decides-int_eq}
+use Rattle.std.proofs.lemmas.Slice.Eq.{slice_eq-Decides}
+use Rattle.std.specs.Cmp.Lexicographic.{pointwise}
+use Rattle.std.proofs.lemmas.List.{drop_more}
+use Rattle.std.proofs.lemmas.Option.{slice_get_read}
+use Rattle.std.specs.List.{slice_get}
+use Rattle.std.specs.Ordering.{int_eq}
+use Rattle.dp_model.specs.Lists.{Each}
+use Rattle.dp_model.specs.Rows.{row_same}
+use Rattle.dp_model.proofs.RowLemmas.{row_same-is, row_same-self}
+use Rattle.shared_fringe.specs.Fringe.{Ticketed, EachTwo, HasTickets, is_same, same_at, without, AreDifferent}
+use Rattle.shared_fringe.proofs.Lists.{without-later, each-then}
+
+same-self : (a b : List ℤ) → a ≡ b → row_same a b ≡ true
+same-self a b h = subst (λ (r : List ℤ). row_same a r ≡ true) h (row_same-self a)
+
+-- what has the same answers is the same test
+same-tests : (a b : Bool) → (a ≡ true → b ≡ true) → (b ≡ true → a ≡ true) → a ≡ b
+same-tests true b f g = sym (f refl)
+same-tests false true f g = g refl
+same-tests false false f g = refl
+
+-- `==` on rows
+pub row_same-compared : (a b : List ℤ) (r : Bool) → r ≡ pointwise int_eq a b → r ≡ row_same a b
+row_same-compared a b r h =
+    let tells = slice_eq-Decides Decides-int_eq a b r h in
+    same-tests r (row_same a b) (λ e. same-self a b (tells.0 e)) (λ e. tells.1 (row_same-is a b e))
+
+both-parts : (a b : Bool) → (a && b) ≡ true → (a ≡ true) × (b ≡ true)
+both-parts true b h = (refl, h)
+both-parts false b h = absurd (cc)
+
+-- the depth and the row of one that is the same
+pub same-depth : (depth : ℕ) (row : List ℤ) (o : Ticketed) → is_same depth row o ≡ true → depth ≡ length o.subproblem.decisions
+same-depth depth row o h = sym (eqb-true (length o.subproblem.decisions) depth (both-parts (nat_eq (length o.subproblem.decisions) depth) (row_same o.subproblem.row row) h).0)
+
+pub same-row : (depth : ℕ) (row : List ℤ) (o : Ticketed) → is_same depth row o ≡ true → row ≡ o.subproblem.row
+same-row depth row o h = sym (row_same-is o.subproblem.row row (both-parts (nat_eq (length o.subproblem.decisions) depth) (row_same o.subproblem.row row) h).1)
+
+is-same : (depth : ℕ) (row : List ℤ) (o : Ticketed) → depth ≡ length o.subproblem.decisions → row ≡ o.subproblem.row → is_same depth row o ≡ true
+is-same depth row o d r = ap₂ (λ a b. a && b) (eq-eqb (length o.subproblem.decisions) depth (sym d)) (same-self o.subproblem.row row (sym r))
+
+-- of two that differ each differs from the other
+pub different-turned : (a b : Ticketed) → AreDifferent a b → AreDifferent b a
+different-turned a b h =
+    same-tests (is_same (length b.subproblem.decisions) b.subproblem.row a) false
+    (λ e. sym h ∙ is-same (length a.subproblem.decisions) a.subproblem.row b (sym (same-depth (length b.subproblem.decisions) b.subproblem.row a e)) (sym (same-row (length b.subproblem.decisions) b.subproblem.row a e)))
+    (λ e. absurd (cc))
+
+-- none is the same where none is found
+pub same-none : (depth : ℕ) (row : List ℤ) (os : List Ticketed) → same_at depth row os ≡ None → Each (λ o. is_same depth row o ≡ false) os
+same-none depth row [] h = tt
+same-none depth row (x ∷ os) h =
+    let go : (b : Bool) → is_same depth row x ≡ b → cond b (Some x) (same_at depth row os) ≡ None → Each (λ o. is_same depth row o ≡ false) (x ∷ os) =
+    λ b. elim b as (λ b. is_same depth row x ≡ b → cond b (Some x) (same_at depth row os) ≡ None → Each (λ o. is_same depth row o ≡ false) (x ∷ os)) [ true ↦ λ e k. absurd (cc) | false ↦ λ e k. (e, same-none depth row os k) ] in
+    go (is_same depth row x) refl h
+
+-- what each has, the one that is found has
+found-has : (depth : ℕ) (row : List ℤ) (P : Ticketed → Type 0) (os : List Ticketed) (other : Ticketed) → same_at depth row os ≡ Some other → Each P os → P other
+found-has depth row P [] other h all = absurd (cc)
+found-has depth row P (x ∷ os) other h all =
+    let go : (b : Bool) → cond b (Some x) (same_at depth row os) ≡ Some other → P other =
+    λ b. elim b as (λ b. cond b (Some x) (same_at depth row os) ≡ Some other → P other) [ true ↦ λ k. (let same : x ≡ other = cc in subst P same all.0) | false ↦ λ k. found-has depth row P os other k all.1 ] in
+    go (is_same depth row x) h
+
+-- the one that is found stands first
+here-others : (depth : ℕ) (row : List ℤ) (x : Ticketed) (os : List Ticketed) (other : Ticketed) → is_same depth row x ≡ true → x ≡ other → HasTickets (x ∷ os) → EachTwo AreDifferent (x ∷ os)
+    → Each (λ o. is_same depth row o ≡ false) (without other.ticket (x ∷ os))
+here-others depth row x os other e same rise two =
+    let here : nat_eq x.ticket x.ticket ≡ true = eq-eqb x.ticket x.ticket refl in
+    let rest : without x.ticket (x ∷ os) ≡ os = ap (λ b. cond (not b) (x ∷ without x.ticket os) (without x.ticket os)) here ∙ without-later x.ticket os rise.0 in
+    let differ : Each (λ o. is_same depth row o ≡ false) os = each-then (AreDifferent x) (λ o. is_same depth row o ≡ false)
+    (λ o k. ap₂ (λ d r. is_same d r o) (same-depth depth row x e) (same-row depth row x e) ∙ k) os two.0 in
+    subst (λ (y : Ticketed). Each (λ o. is_same depth row o ≡ false) (without y.ticket (x ∷ os))) same (subst (λ (l : List Ticketed). Each (λ o. is_same depth row o ≡ false) l) (sym rest) differ)
+
+-- it stands later
+later-others : (depth : ℕ) (row : List ℤ) (x : Ticketed) (os : List Ticketed) (other : Ticketed) → is_same depth row x ≡ false → x.ticket < other.ticket
+    → Each (λ o. is_same depth row o ≡ false) (without other.ticket os) → Each (λ o. is_same depth row o ≡ false) (without other.ticket (x ∷ os))
+later-others depth row x os other e less rest =
+    let there : nat_eq x.ticket other.ticket ≡ false = grind (arith, nat_tests) in
+    let stays : without other.ticket (x ∷ os) ≡ x ∷ without other.ticket os = ap (λ b. cond (not b) (x ∷ without other.ticket os) (without other.ticket os)) there in
+    let both : Each (λ o. is_same depth row o ≡ false) (x ∷ without other.ticket os) = (e, rest) in
+    subst (λ (l : List Ticketed). Each (λ o. is_same depth row o ≡ false) l) (sym stays) both
+
+-- none of the others is the same as the one that is found
+pub same-others : (depth : ℕ) (row : List ℤ) (os : List Ticketed) (other : Ticketed) → same_at depth row os ≡ Some other → HasTickets os → EachTwo AreDifferent os
+    → Each (λ o. is_same depth row o ≡ false) (without other.ticket os)
+same-others depth row [] other h rise two = tt
+same-others depth row (x ∷ os) other h rise two =
+    let go : (b : Bool) → is_same depth row x ≡ b → cond b (Some x) (same_at depth row os) ≡ Some other → Each (λ o. is_same depth row o ≡ false) (without other.ticket (x ∷ os)) =
+    λ b. elim b as (λ b. is_same depth row x ≡ b → cond b (Some x) (same_at depth row os) ≡ Some other → Each (λ o. is_same depth row o ≡ false) (without other.ticket (x ∷ os))) [
+      | true ↦ λ e k. (let same : x ≡ other = cc in here-others depth row x os other e same rise two)
+      | false ↦ λ e k. later-others depth row x os other e (found-has depth row (λ y. x.ticket < y.ticket) os other k rise.0) (same-others depth row os other k rise.1 two.1)
+    ] in
+    go (is_same depth row x) refl h
+
+-- the one at a place is found, where none before it is the same
+pub found-at : (depth : ℕ) (row : List ℤ) (os : List Ticketed) (place : ℕ) (one : Ticketed) → place < length os → one ≡ get_or os place one
+    → same_at depth row (drop place os) ≡ same_at depth row os → is_same depth row one ≡ true → slice_get os place ≡ same_at depth row os
+found-at depth row os place one more is h test =
+    let rest : drop place os ≡ one ∷ drop (place + 1) os = drop_more os place one more ∙ ap (λ x. x ∷ drop (place + 1) os) (sym is) in
+    slice_get_read os (length os) place one refl more is
+    ∙ (ap (λ b. cond b (Some one) (same_at depth row (drop (place + 1) os))) (sym test) ∙ (ap (same_at depth row) (sym rest) ∙ h))
