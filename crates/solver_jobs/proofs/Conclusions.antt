@@ -1,14 +1,22 @@
 -- What a search that is over may answer.
-use Rattle.std.proofs.Common.{◌≡◌, ◌≢◌, ℕ, ◌+◌, ℤ, List, [], ◌∷◌, ◌++◌, length, false, nat_eq, Option, Some, None, refl, sym, ◌∙◌, ap, subst, arith}
+use Rattle.std.proofs.Common.{◌≡◌, ◌≢◌, ℕ, ◌+◌, ◌^◌, ◌≤◌, ℤ, List, [], ◌∷◌, ◌++◌, length, false, nat_eq, Option, Some, None, refl, sym, ◌∙◌, ap, subst, arith}
 use Rattle.dp_model.specs.Best.{Best, best, IsBest}
+use Rattle.dp_model.specs.Counts.{tree}
 use Rattle.dp_model.specs.Dp.{Dp}
+use Rattle.dp_model.specs.Numbers.{AtMost}
+use Rattle.dp_model.specs.Prefixes.{IsSolution, value_of}
 use Rattle.dp_model.specs.Worth.{IsWorth}
 use Rattle.dp_model.proofs.Solutions.{best-is_best, IsBest-unique, given_value, given_none}
 use Rattle.problems.specs.Theory.{Agrees}
 use Rattle.search_core.specs.Board.{BoardState, Ticketed, full_slots, value_held, incumbent_value, is_explored}
+use Rattle.search_core.specs.declared.cause.Cause.{Cause}
+use Rattle.search_core.specs.declared.cause.Cause.TheVariants as causes
+use Rattle.search_rounds.specs.Later.{IsCauseAfter}
 use Rattle.search_core.specs.Bound.{bound_of, raised, raised_by}
-use Rattle.search_core.specs.GoodBoard.{IncumbentHolds}
-use Rattle.solver_jobs.specs.Answers.{IsFound, FoundHolds, IsProved, IsInfeasible}
+use Rattle.search_core.specs.GoodBoard.{IncumbentHolds, IsGood}
+use Rattle.solver_report.specs.declared.answer.Stop.{Stop}
+use Rattle.solver_report.specs.declared.answer.Stop.TheVariants.{Budget}
+use Rattle.solver_jobs.specs.Answers.{IsFound, FoundHolds, IsProved, IsInfeasible, StopHolds, IsStopped}
 use Rattle.solver_jobs.specs.Over.{IsOver}
 
 -- an incumbent is a solution in the problem's own words too
@@ -70,3 +78,26 @@ pub bound_there : (dp : Dp) (budget : ℕ) (b : BoardState) → IsOver dp budget
 bound_there dp budget b over left h =
     let some = open_left b.open_ones (full_slots b.slots) over.idle left in
     raised_by-open (incumbent_value b) (full_slots b.slots ++ b.open_ones) (no_append (full_slots b.slots) b.open_ones some) h
+
+-- a search that is over with something open is stopped, for the reason that holds
+pub is_stopped : (dp : Dp) (own : List ℕ → Option ℤ) → Agrees dp own → (budget : ℕ) (b : BoardState) (stop : Stop) (found : Option Best) (bound : ℤ)
+    → IsGood dp b → IsOver dp budget b → is_explored b ≡ false → found ≡ b.incumbent → bound_of b ≡ Some bound → ((x : List ℕ) → IsSolution dp x → AtMost (value_of dp x) (Some bound))
+    → StopHolds b stop → (stop ≡ Budget → tree dp ≤ budget → tree dp ≤ 2 ^ 63 → ⊥) → IsStopped dp own budget stop found bound
+is_stopped dp own agrees budget b stop found bound good over left same bound_is most holds incomplete = record {
+  board = b;
+  good = good;
+  within = over.within;
+  nothing_out = over.idle;
+  something_open = open_left b.open_ones (full_slots b.slots) over.idle left;
+  holds = holds;
+  held = sym same;
+  bound_is = bound_is;
+  found_one = found_holds dp own agrees found (subst (IncumbentHolds dp) (sym same) good.incumbent);
+  most = most;
+  incomplete = incomplete;
+}
+
+-- only want of memory may be held
+pub memory_held : (held : Option Cause) (cause : Cause) → IsCauseAfter None held → held ≡ Some cause → held ≡ Some causes.Memory
+memory_held None cause after is = absurd (let none : None ≡ Some cause = is in cc)
+memory_held (Some x) cause after is = ap Some after
