@@ -41,6 +41,11 @@ times_fails (errors.Text fault) step count i made s total below fails so_far =
     let ends : times step (count - i) made s ≡ Err fault = rw (left, fails) refl in
     sym so_far ∙ ends
 
+-- the same of a loop that reads so many, where reading has come to the one after i
+pub times_refused : {A : Type 0} (e : ReadModelError) (step : A → TextState → Result (A × TextState) InstanceError) (count i : ℕ) (first made : A) (start s : TextState)
+    → times step (count - i) made s ≡ times step count first start → i < count → Fails e (step made s) → Fails e (times step count first start)
+times_refused e step count i first made start s so_far below fails = times_fails e step count i made s (times step count first start) below fails so_far
+
 -- a fault of a part is the fault of the whole
 pub part_fails : {A B : Type 0} (e : ReadModelError) (part : Result (A × TextState) InstanceError) (more : A → TextState → Result B InstanceError) → Fails e part → Fails e (part_then part more)
 part_fails errors.OutOfMemory part more fails = tt
@@ -52,3 +57,6 @@ unfolding times
 times_done step count i made s all =
     let left : count - i ≡ 0 = omega arith in
     rw left refl
+
+-- what a loop that reads part after part goes by
+pub ruleset times_steps = (times_more, times_done, times_refused)

@@ -1,20 +1,16 @@
 -- Printed digits: what they are and what number they write.
-use Rattle.std.proofs.Common.{◌≡◌, ℕ, suc, ◌<◌, ◌≤◌, ◌^◌, Bool, true, false, List, [], ◌∷◌, length, ℤ, pos, negsuc, neg_ℤ, refl, ap, ◌∙◌, arith, rules, tests, nat_eq, lit<, lit≤}
-use Rattle.std.specs.Prelude.{◌&&◌, Some, nat_abs, decimal}
+use Rattle.std.proofs.Common.{◌≡◌, ℕ, suc, ◌<◌, ◌≤◌, ◌^◌, true, false, List, [], ◌∷◌, length, ℤ, pos, negsuc, neg_ℤ, refl, ap, ◌∙◌, arith, rules, tests, nat_eq, lit<, lit≤}
+use Rattle.std.specs.Prelude.{Some, nat_abs, decimal}
 use Rattle.std.specs.List.{list_all}
 use Rattle.std.specs.Char.{is_ascii_digit}
 use Rattle.std.specs.Str.{all_ascii_digits}
+use Rattle.std.proofs.lemmas.Bool.{and_parts}
 use Rattle.std.proofs.lemmas.Bool.Decides.{nat_tests}
 use Rattle.std.proofs.lemmas.Str.Parse.{IsNumeralModel, numerals_by_fold}
 use Rattle.std.proofs.lemmas.Fmt.{digits_decimal, digits_value-decimal, decimal_nonempty}
 use Rattle.dd_text.specs.Text.{Comment, is_solid, opens_comment, value_after, natural_of, number_of}
 use Rattle.dd_text.specs.declared.comment.Comment.TheVariants.{Never, Hash, LetterC}
 use Rattle.dd_text.specs.Decimal.{decimal_of}
-
--- both parts of a test
-pub both : (a b : Bool) → (a && b) ≡ true → (a ≡ true) × (b ≡ true)
-both true b h = (refl, h)
-both false b h = cc
 
 own : IsNumeralModel (λ ds. all_ascii_digits ds ≡ true) (value_after 0)
 own = numerals_by_fold _ (search rules) value_after (search rules)
@@ -29,7 +25,7 @@ solid_digit d low high = grind (arith, nat_tests)
 pub solid_digits : (ds : List ℕ) → all_ascii_digits ds ≡ true → list_all is_solid ds ≡ true
 solid_digits [] h = refl
 solid_digits (d ∷ ds) h =
-    let parts : (is_ascii_digit d ≡ true) × (all_ascii_digits ds ≡ true) = both _ _ h in
+    let parts : (is_ascii_digit d ≡ true) × (all_ascii_digits ds ≡ true) = and_parts _ _ h in
     let range : (48 ≤ d) × (d ≤ 57) = digit_range d parts.0 in
     rw (solid_digit d (omega arith) range.1, solid_digits ds parts.1) refl
 
@@ -41,7 +37,7 @@ number_of_digits : (ds : List ℕ) → 0 < length ds → all_ascii_digits ds ≡
 unfolding number_of
 number_of_digits [] some h = absurd (omega arith)
 number_of_digits (d ∷ ds) some h =
-    let range : (48 ≤ d) × (d ≤ 57) = digit_range d (both _ _ h).0 in
+    let range : (48 ≤ d) × (d ≤ 57) = digit_range d (and_parts _ _ h).0 in
     let no_minus : nat_eq d 45 ≡ false = grind (arith, nat_tests) in
     rw (no_minus, h) refl
 
@@ -71,7 +67,7 @@ plain_digit LetterC d low high = grind (arith, nat_tests)
 printed_digits : (ds : List ℕ) → 0 < length ds → all_ascii_digits ds ≡ true → IsPrinted ds
 printed_digits [] some h = absurd (omega arith)
 printed_digits (d ∷ ds) some h =
-    let range : (48 ≤ d) × (d ≤ 57) = digit_range d (both _ _ h).0 in
+    let range : (48 ≤ d) × (d ≤ 57) = digit_range d (and_parts _ _ h).0 in
     record { first = d; others = ds; printed_is = refl; solid = solid_digits (d ∷ ds) h; ascii = omega arith; plain = λ comment. plain_digit comment d (omega arith) range.1 }
 
 pub is_printed : (z : ℤ) → nat_abs z < 2 ^ 64 → IsPrinted (decimal_of z)

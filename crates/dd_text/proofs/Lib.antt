@@ -1,5 +1,6 @@
 pub mod Chains
 pub mod Digits
+pub mod Lengths
 pub mod Printing
 pub mod Ranges
 pub mod Repeats

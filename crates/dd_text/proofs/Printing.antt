@@ -1,21 +1,15 @@
 -- What is read of a printed text.
-use Rattle.std.proofs.Common.{◌≡◌, ℕ, ◌<◌, ◌^◌, subst, nat_eq, Bool, true, false, not, List, [], ◌∷◌, ◌++◌, length, take, ℤ, refl, sym, ap, ◌∙◌, arith, rules, tests}
+use Rattle.std.proofs.Common.{◌≡◌, ℕ, ◌<◌, ◌≤◌, ◌^◌, pos, subst, nat_eq, Bool, true, false, List, [], ◌∷◌, ◌++◌, length, take, ℤ, refl, sym, ap, ◌∙◌, arith, rules, tests}
 use Rattle.std.specs.Prelude.{Ok, ◌≤ℤ◌, nat_abs, Some, ◌&&◌, ◌||◌, ◌==◌, int_le, nat_le}
 use Rattle.std.specs.List.{list_all, prefix_len}
 use Rattle.std.proofs.Math.Seq.{take-append_seam, drop-append_seam}
+use Rattle.std.proofs.lemmas.Bool.{and_parts, and_right, not-true}
 use Rattle.std.proofs.lemmas.Bool.Decides.{nat_tests}
+use Rattle.std.proofs.lemmas.Int.{ints}
 use Rattle.dd_text.specs.Text.{TextState, Place, Comment, text_start, is_blank, is_solid, opens_comment, place_after, is_passed, is_inside_after, skip, at_token, token, place_of, number_of, number_in, number_at, word_in, word_at, nothing_in, finish_at, ends_line, is_at_end, after_token}
 use Rattle.dd_text.specs.Decimal.{decimal_of}
 use Rattle.dd_text.specs.Printed.{IsBefore, ReadsNumber, ReadsWord}
-use Rattle.dd_text.proofs.Digits.{both, is_printed, number_of-decimal_of}
-
-not_true : (b : Bool) → not b ≡ true → b ≡ false
-not_true true h = cc
-not_true false h = refl
-
-and_false : (b : Bool) → (b && false) ≡ false
-and_false true = refl
-and_false false = refl
+use Rattle.dd_text.proofs.Digits.{is_printed, number_of-decimal_of}
 
 -- skipping leads to these bytes, at some place
 record Skips (comment : Comment) (fresh : Bool) (place : Place) (bytes after : List ℕ) : Type 0 where
@@ -34,15 +28,15 @@ skip_blank comment fresh place b bytes blank =
 skips_blanks : (comment : Comment) (fresh : Bool) (place : Place) (blanks bytes : List ℕ) → list_all is_blank blanks ≡ true → Skips comment fresh place (blanks ++ bytes) bytes
 skips_blanks comment fresh place [] bytes h = record { to_fresh = fresh; to_place = place; is = refl }
 skips_blanks comment fresh place (b ∷ bs) bytes h =
-    let parts : (is_blank b ≡ true) × (list_all is_blank bs ≡ true) = both _ _ h in
+    let parts : (is_blank b ≡ true) × (list_all is_blank bs ≡ true) = and_parts _ _ h in
     let rest = skips_blanks comment (fresh || b == 10) (place_after b place) bs bytes parts.1 in
     record { to_fresh = rest.to_fresh; to_place = rest.to_place; is = skip_blank comment fresh place b (bs ++ bytes) parts.0 ∙ rest.is }
 
 -- a byte that is no blank and opens no comment is not
 skip_stops : (comment : Comment) (fresh : Bool) (place : Place) (w : ℕ) (bytes : List ℕ) → is_solid w ≡ true → opens_comment comment w ≡ false → skip comment false fresh place (w ∷ bytes) ≡ record { rest = w ∷ bytes; place = place; fresh = fresh; comment = comment }
 skip_stops comment fresh place w bytes solid plain =
-    let no_blank : is_blank w ≡ false = not_true (is_blank w) solid in
-    let stays : is_passed comment false fresh w ≡ false = rw (no_blank, plain) (and_false fresh) in
+    let no_blank : is_blank w ≡ false = not-true (is_blank w) solid in
+    let stays : is_passed comment false fresh w ≡ false = rw (no_blank, plain) (and_right fresh false refl) in
     rw (stays, skip) refl
 
 -- the state at a printed token that lies ahead
@@ -70,7 +64,7 @@ at_nothing s before =
 prefix_to_blank : (word : List ℕ) (b : ℕ) (more : List ℕ) → list_all is_solid word ≡ true → is_blank b ≡ true → prefix_len is_solid (word ++ b ∷ more) ≡ length word
 prefix_to_blank [] b more solid blank = rw blank refl
 prefix_to_blank (w ∷ ws) b more solid blank =
-    let parts : (is_solid w ≡ true) × (list_all is_solid ws ≡ true) = both _ _ solid in
+    let parts : (is_solid w ≡ true) × (list_all is_solid ws ≡ true) = and_parts _ _ solid in
     let rest = prefix_to_blank ws b more parts.1 blank in
     grind (arith, nat_tests)
 
@@ -83,7 +77,7 @@ record IsNext (word behind : List ℕ) (s : TextState) : Type 0 where
 next_is : (w : ℕ) (ws : List ℕ) (b : ℕ) (more : List ℕ) (s : TextState) → list_all is_solid (w ∷ ws) ≡ true → opens_comment s.comment w ≡ false → is_blank b ≡ true → IsBefore ((w ∷ ws) ++ b ∷ more) s → IsNext (w ∷ ws) (b ∷ more) s
 unfolding token after_token
 next_is w ws b more s solid plain blank before =
-    let at = at_word w (ws ++ b ∷ more) s (both _ _ solid).0 plain before in
+    let at = at_word w (ws ++ b ∷ more) s (and_parts _ _ solid).0 plain before in
     let len : prefix_len is_solid (at_token s).rest ≡ length (w ∷ ws) = ap (prefix_len is_solid) at.rest_is ∙ prefix_to_blank (w ∷ ws) b more solid blank in
     let word : take (prefix_len is_solid (at_token s).rest) (at_token s).rest ≡ w ∷ ws = rw (len, at.rest_is) (take-append_seam (w ∷ ws) (b ∷ more)) in
     record {
@@ -139,6 +133,32 @@ reads_word w ws b more s solid ascii plain blank before =
       comment_is = next.comment_is;
     }
 
+-- a natural number of the range
+pub reads_natural : (n least greatest b : ℕ) (more : List ℕ) (s : TextState)
+    → least ≤ n → n ≤ greatest → greatest < 2 ^ 64 → is_blank b ≡ true
+    → IsBefore (decimal_of (pos n) ++ b ∷ more) s → ReadsNumber (pos n) (pos least) (pos greatest) (b ∷ more) s
+reads_natural n least greatest b more s low high fits blank before =
+    reads_number (pos n) (pos least) (pos greatest) b more s (omega arith) (omega (arith, ints)) (omega (arith, ints)) blank before
+
+-- a printed number that lies ahead is read, and so is the blank behind it
+pub record PassesNumber (z : ℤ) (least greatest : ℤ) (more : List ℕ) (s : TextState) : Type 0 where
+  pub value : number_at least greatest s ≡ Ok z
+  pub before : IsBefore more (after_token s)
+  pub comment_is : (after_token s).comment ≡ s.comment
+
+pub passes_number : (z least greatest : ℤ) (b : ℕ) (more : List ℕ) (s : TextState)
+    → nat_abs z < 2 ^ 64 → least ≤ℤ z → z ≤ℤ greatest → is_blank b ≡ true
+    → IsBefore (decimal_of z ++ b ∷ more) s → PassesNumber z least greatest more s
+passes_number z least greatest b more s fits low high blank before =
+    let read = reads_number z least greatest b more s fits low high blank before in
+    record { value = read.value; before = before_behind b more (after_token s) blank read.rest_is; comment_is = read.comment_is }
+
+pub passes_natural : (n least greatest b : ℕ) (more : List ℕ) (s : TextState)
+    → least ≤ n → n ≤ greatest → greatest < 2 ^ 64 → is_blank b ≡ true
+    → IsBefore (decimal_of (pos n) ++ b ∷ more) s → PassesNumber (pos n) (pos least) (pos greatest) more s
+passes_natural n least greatest b more s low high fits blank before =
+    passes_number (pos n) (pos least) (pos greatest) b more s (omega arith) (omega (arith, ints)) (omega (arith, ints)) blank before
+
 -- no token is left behind the last blanks
 pub is_at_end_before : (s : TextState) → IsBefore [] s → is_at_end s ≡ true
 unfolding is_at_end
@@ -161,7 +181,7 @@ unfolding is_at_end
 is_at_end_number z more s small before =
     let p = is_printed z small in
     let ahead : IsBefore (p.first ∷ (p.others ++ more)) s = subst (λ (w : List ℕ). IsBefore (w ++ more) s) p.printed_is before in
-    let at = at_word p.first (p.others ++ more) s (both _ _ p.solid).0 (p.plain s.comment) ahead in
+    let at = at_word p.first (p.others ++ more) s (and_parts _ _ p.solid).0 (p.plain s.comment) ahead in
     rw at.rest_is (not_empty p.first (p.others ++ more))
 
 -- LF ends a line
@@ -174,6 +194,6 @@ pub ends_line_number : (z : ℤ) (more : List ℕ) (s : TextState) → nat_abs z
 unfolding ends_line
 ends_line_number z more s small e =
     let p = is_printed z small in
-    let no_blank : is_blank p.first ≡ false = not_true (is_blank p.first) (both _ _ p.solid).0 in
+    let no_blank : is_blank p.first ≡ false = not-true (is_blank p.first) (and_parts _ _ p.solid).0 in
     let no_end : nat_eq p.first 10 ≡ false = grind (arith, nat_tests) in
     rw (e, p.printed_is, no_blank, no_end) refl

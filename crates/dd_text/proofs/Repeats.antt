@@ -1,5 +1,5 @@
 -- A printed list of parts is read, part by part.
-use Rattle.std.proofs.Common.{◌≡◌, ℕ, List, [], ◌∷◌, ◌++◌, length, subst, refl, ap, ◌∙◌, append_assoc}
+use Rattle.std.proofs.Common.{◌≡◌, ℕ, List, [], ◌∷◌, ◌++◌, length, subst, refl, ap, ◌∙◌, append_assoc, append-nil, sym}
 use Rattle.std.specs.Prelude.{Result, fold, flat_map}
 use Rattle.dd_text.specs.Text.{TextState, Comment}
 use Rattle.dd_text.specs.Grammar.{InstanceError, part_then, times}
@@ -23,3 +23,8 @@ module _ {A X : Type 0} (part : A → TextState → Result (A × TextState) Inst
         before = rest.before;
         comment_is = rest.comment_is ∙ one.0.comment_is;
       }
+
+-- parts that are put behind one another are the list of them
+pub fold_pushes : {X : Type 0} (xs made : List X) → fold (λ parts x. parts ++ x ∷ []) made xs ≡ made ++ xs
+fold_pushes [] made = sym (append-nil made)
+fold_pushes (x ∷ xs) made = fold_pushes xs (made ++ x ∷ []) ∙ append_assoc made (x ∷ []) xs

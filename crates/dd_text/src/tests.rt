@@ -33,7 +33,7 @@ fn read_digit(tokens: &mut Tokens, digits: &mut Vec<i64>) -> Result<(), ReadMode
     Ok(())
 }
 
-#[tactic(auto, using(crate::proofs::Chains::times_more, crate::proofs::Chains::times_done))]
+#[tactic(auto, using(crate::proofs::Chains::times_steps))]
 fn read_all(count: u64, tokens: &mut Tokens, digits: &mut Vec<i64>) -> Result<(), ReadModelError>
     ensures { Reads (λ _. (digits.new.items, tokens.new)) result (times digit_at count digits.old.items tokens.old) }
 {

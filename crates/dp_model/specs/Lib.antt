@@ -1,5 +1,6 @@
 pub mod Numbers
 pub mod Lists
+pub mod NumberLaws
 pub mod Dp
 pub mod Prefixes
 pub mod Best

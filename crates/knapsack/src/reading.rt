@@ -60,7 +60,7 @@ fn next_item(tokens: &mut Tokens, items: &mut Vec<Item>) -> Result<(), ReadModel
 }
 
 /// Reads so many items behind others.
-#[tactic(auto, using(dd_text::proofs::Chains::times_more, dd_text::proofs::Chains::times_done))]
+#[tactic(auto, using(dd_text::proofs::Chains::times_steps))]
 fn next_items(count: u64, tokens: &mut Tokens, items: &mut Vec<Item>) -> Result<(), ReadModelError>
     requires { list_all is_small_item items.old.items ≡ true }
     ensures reads { Reads (λ _. (items.new.items, tokens.new)) result (times item_behind count items.old.items tokens.old) }
