@@ -1,5 +1,5 @@
 ghost use Rattle.std.specs.Prelude.{◌≡◌};
-ghost use Rattle.dp_model.specs.ModelNames.{text_of};
+ghost use Rattle.dp_model.specs.ModelNames.{text_of, model_named, Names};
 
 /// The problems that the program knows.
 #[derive(Clone, Copy, Debug, PartialEq, Eq, Hash)]
@@ -20,6 +20,14 @@ pub enum CutKind {
 }
 
 impl ModelName {
+    /// Every problem.
+    pub const ALL: [ModelName; 4] = [
+        ModelName::Knapsack,
+        ModelName::MaxCut,
+        ModelName::MaxTwoSat,
+        ModelName::TspWindows,
+    ];
+
     /// The word that names the problem in commands and texts.
     pub fn text(self) -> &'static str
         ensures { result.now ≡ text_of self }
@@ -31,6 +39,17 @@ impl ModelName {
             ModelName::TspWindows => "tsptw",
         }
     }
+
+    /// The problem whose word this is, and none exactly where it is the word of no problem.
+    pub fn named(word: &str) -> Option<ModelName>
+        ensures answer { result ≡ model_named word.now }
+        ensures exactly { Names word.now result }
+    {
+        ModelName::ALL
+            .iter()
+            .copied()
+            .find(|name| word == name.text())
+    }
 }
 
 #[cfg(test)]
@@ -39,16 +58,11 @@ mod tests {
     use std::test::Fail;
 
     #[test]
-    fn words_of_the_problems(rt: HostRuntime) -> Result<(), Fail> {
-        let cases = [
-            (ModelName::Knapsack, "knapsack"),
-            (ModelName::MaxCut, "maxcut"),
-            (ModelName::MaxTwoSat, "max2sat"),
-            (ModelName::TspWindows, "tsptw"),
-        ];
-        for (name, text) in cases {
-            assert_eq!(rt; name.text(), text);
+    fn each_problem_has_its_word(rt: HostRuntime) -> Result<(), Fail> {
+        for name in ModelName::ALL {
+            assert_eq!(rt; ModelName::named(name.text()), Some(name));
         }
+        assert_eq!(rt; ModelName::named("knapsacks"), None);
         Ok(())
     }
 }

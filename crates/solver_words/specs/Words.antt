@@ -1,20 +1,10 @@
 -- The words of a command.
-use Rattle.std.specs.Prelude.{ℕ, ◌-◌, ◌^◌, nat_le, nat_eq, Bool, cond, codes, List, [], ◌∷◌, length, find, Option, Some, None, option_map, option_and_then}
-use Rattle.std.specs.Cmp.Lexicographic.{pointwise}
+use Rattle.std.specs.Prelude.{ℕ, ◌-◌, ◌^◌, nat_le, cond, codes, List, [], ◌∷◌, length, Option, Some, None, option_map, option_and_then}
 use Rattle.dd_text.specs.Text.{natural_of}
 use Rattle.dp_model.specs.declared.names.ModelName.{ModelName}
-use Rattle.dp_model.specs.declared.names.ModelName.TheVariants.{Knapsack, MaxCut, MaxTwoSat, TspWindows}
-use Rattle.dp_model.specs.ModelNames.{text_of}
+use Rattle.dp_model.specs.ModelNames.{word_same, model_named}
 use Rattle.solver_words.specs.declared.job.Job.{Job}
 use Rattle.solver_words.specs.declared.job.Job.TheVariants.{Solve, Digest}
-
--- whether two words are the same
-abbrev pub word_same : List ℕ → List ℕ → Bool
-word_same a b = pointwise nat_eq a b
-
--- the problem that a word names
-abbrev pub model_of : List ℕ → Option ModelName
-model_of word = find (λ name. word_same word (text_of name)) (Knapsack ∷ MaxCut ∷ MaxTwoSat ∷ TspWindows ∷ [])
 
 abbrev pub greatest_budget : ℕ
 greatest_budget = 2 ^ 64 - 1
@@ -35,7 +25,7 @@ options_of _ = None
 
 -- the job of a search, where the word names a problem and the options give a budget
 abbrev pub solve_job_of : List ℕ → List (List ℕ) → Option Job
-solve_job_of word options = option_and_then (λ model. option_map (λ budget. Solve model budget) (options_of options)) (model_of word)
+solve_job_of word options = option_and_then (λ model. option_map (λ budget. Solve model budget) (options_of options)) (model_named word)
 
 abbrev pub digest_job : ModelName → List (List ℕ) → Option Job
 digest_job model [] = Some (Digest model)
@@ -43,7 +33,7 @@ digest_job model (option ∷ more) = None
 
 -- the job of a digest, which has no options
 abbrev pub digest_job_of : List ℕ → List (List ℕ) → Option Job
-digest_job_of word options = option_and_then (λ model. digest_job model options) (model_of word)
+digest_job_of word options = option_and_then (λ model. digest_job model options) (model_named word)
 
 -- the job that words ask for, and none where they are outside the grammar: `solve MODEL`, with `--budget NUMBER` or not, and `digest MODEL`
 abbrev pub job_of : List (List ℕ) → Option Job

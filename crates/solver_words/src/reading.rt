@@ -1,16 +1,8 @@
 ghost use Rattle.std.specs.Prelude.{◌≡◌, map, string_bytes};
-ghost use Rattle.solver_words.specs.Words.{job_of, solve_job_of, digest_job_of, model_of, options_of, budget_of};
+ghost use Rattle.solver_words.specs.Words.{job_of, solve_job_of, digest_job_of, options_of, budget_of};
 
 use crate::job::Job;
 use dp_model::ModelName;
-
-/// The problems that words can name.
-const NAMES: [ModelName; 4] = [
-    ModelName::Knapsack,
-    ModelName::MaxCut,
-    ModelName::MaxTwoSat,
-    ModelName::TspWindows,
-];
 
 /// The job that the words ask for, without the program's name: `solve MODEL`, with `--budget NUMBER` or not, or `digest
 /// MODEL`. `None` exactly where they are outside this grammar.
@@ -33,7 +25,7 @@ pub fn read_words(words: &[String]) -> Option<Job>
 fn read_solve(model: &str, options: &[String]) -> Option<Job>
     ensures { result ≡ solve_job_of model.now (map string_bytes options.now) }
 {
-    let model = named(model)?;
+    let model = ModelName::named(model)?;
     let budget = read_options(options)?;
     Some(Job::Solve { model, budget })
 }
@@ -42,19 +34,12 @@ fn read_solve(model: &str, options: &[String]) -> Option<Job>
 fn read_digest(model: &str, options: &[String]) -> Option<Job>
     ensures { result ≡ digest_job_of model.now (map string_bytes options.now) }
 {
-    let model = named(model)?;
+    let model = ModelName::named(model)?;
     if options.is_empty() {
         Some(Job::Digest { model })
     } else {
         None
     }
-}
-
-/// The problem that the word names.
-fn named(word: &str) -> Option<ModelName>
-    ensures { result ≡ model_of word.now }
-{
-    NAMES.iter().copied().find(|name| word == name.text())
 }
 
 /// The budget of a search, by its options.
