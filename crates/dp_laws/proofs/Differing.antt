@@ -1,5 +1,5 @@
 -- No layer repeats a row.
-use Rattle.std.proofs.Common.{◌≡◌, ◌≢◌, ℕ, zero, suc, ◌+◌, ℤ, int_lt, not, Bool, true, false, cond, List, [], ◌∷◌, ◌++◌, length, take, filter, Option, refl, sym, subst}
+use Rattle.std.proofs.Common.{◌≡◌, ◌≢◌, ℕ, zero, suc, ◌+◌, ℤ, int_lt, not, Bool, true, false, cond, List, [], ◌∷◌, ◌++◌, length, take, Option, refl, sym, subst}
 use Rattle.dp_model.specs.Dp.{Dp}
 use Rattle.dp_model.specs.Gaps.{is_struck_by}
 use Rattle.dp_model.specs.Lists.{Each}
@@ -12,19 +12,10 @@ use Rattle.dp_laws.specs.Leaders.{unstruck, dominated, led, undominated}
 use Rattle.dp_laws.specs.Beam.{is_cut, cut, pruned, expanded, whole_layer, layer_below}
 use Rattle.dp_laws.specs.Ordered.{RowsDiffer, LayersDiffer}
 use Rattle.dp_laws.specs.Pairs.{EachTwo}
-use Rattle.dp_laws.proofs.Keeping.{each-filter, each-take, each-joined, each-placed, each-in_order, each-undominated}
+use Rattle.dp_laws.proofs.Keeping.{each-joined, each-placed, each-in_order, each-undominated}
+use Rattle.dp_laws.proofs.Lists.{two-filter, two-take}
 
--- What is left of a list keeps a fact of each two.
-
-pub two-filter : {X : Type 0} (R : X → X → Type 0) (p : X → Bool) (xs : List X) → EachTwo R xs → EachTwo R (filter p xs)
-two-filter R p [] h = tt
-two-filter R p (x ∷ xs) h =
-    elim (p x) as (λ b. EachTwo R (cond b (x ∷ filter p xs) (filter p xs))) [ true ↦ (each-filter (R x) p xs h.0, two-filter R p xs h.1) | false ↦ two-filter R p xs h.1 ]
-
-pub two-take : {X : Type 0} (R : X → X → Type 0) (n : ℕ) (xs : List X) → EachTwo R xs → EachTwo R (take n xs)
-two-take R zero xs h = tt
-two-take R (suc n) [] h = tt
-two-take R (suc n) (x ∷ xs) h = (each-take (R x) n xs h.0, two-take R n xs h.1)
+-- What is left of a layer keeps a fact of each two.
 
 module _ (R : Reached → Reached → Type 0) where
   pub two-undominated : (dp : Dp) (k : ℕ) (leaders rs : List Reached) → EachTwo R rs → EachTwo R (undominated dp k leaders rs)

@@ -1,5 +1,5 @@
 -- A fact of each member of a layer is kept by joining, ordering, striking, leading and cutting.
-use Rattle.std.proofs.Common.{ℕ, ℤ, int_lt, not, Bool, true, false, cond, List, [], ◌∷◌, ◌++◌, take, filter, Option, zero, suc}
+use Rattle.std.proofs.Common.{ℕ, ℤ, int_lt, not, true, false, cond, List, [], ◌∷◌, ◌++◌, take, Option}
 use Rattle.dp_model.specs.Dp.{Dp}
 use Rattle.dp_model.specs.Gaps.{is_struck_by}
 use Rattle.dp_model.specs.Lists.{Each}
@@ -9,16 +9,7 @@ use Rattle.dp_laws.specs.Extensions.{better, joined, all_joined}
 use Rattle.dp_laws.specs.ReductionOrder.{stands_before, placed, in_order}
 use Rattle.dp_laws.specs.Leaders.{unstruck, dominated, led, undominated}
 use Rattle.dp_laws.specs.Beam.{is_cut, cut, pruned}
-
-pub each-filter : {X : Type 0} (P : X → Type 0) (p : X → Bool) (xs : List X) → Each P xs → Each P (filter p xs)
-each-filter P p [] h = tt
-each-filter P p (x ∷ xs) h =
-    elim (p x) as (λ b. Each P (cond b (x ∷ filter p xs) (filter p xs))) [ true ↦ (h.0, each-filter P p xs h.1) | false ↦ each-filter P p xs h.1 ]
-
-pub each-take : {X : Type 0} (P : X → Type 0) (n : ℕ) (xs : List X) → Each P xs → Each P (take n xs)
-each-take P zero xs h = tt
-each-take P (suc n) [] h = tt
-each-take P (suc n) (x ∷ xs) h = (h.0, each-take P n xs h.1)
+use Rattle.dp_laws.proofs.Lists.{each-filter, each-take}
 
 module _ (P : Reached → Type 0) where
   pub each-better : (r new : Reached) → P r → P new → P (better r new)

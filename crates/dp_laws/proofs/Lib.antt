@@ -5,6 +5,7 @@ pub mod Examples
 pub mod Found
 pub mod Joining
 pub mod Keeping
+pub mod Lists
 pub mod Matching
 pub mod Orders
 pub mod Permutations

@@ -10,7 +10,7 @@ use Rattle.dp_model.proofs.Members.{Has, Has-map-from, Has-append-cases}
 use Rattle.dp_model.proofs.RowLemmas.{both}
 use Rattle.dp_laws.specs.Beam.{is_cut}
 use Rattle.dp_laws.specs.Pairs.{EachTwo}
-use Rattle.dp_laws.proofs.Differing.{two-take}
+use Rattle.dp_laws.proofs.Lists.{two-take}
 use Rattle.diagram_laws.specs.declared.arc.DdArc.{DdArc}
 use Rattle.diagram_laws.specs.Nodes.{DdNode}
 use Rattle.diagram_laws.specs.Seen.{decisions_at, IsReachedBy}

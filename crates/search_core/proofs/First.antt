@@ -14,10 +14,11 @@ use Rattle.dp_model.specs.Lists.{Each}
 use Rattle.dp_model.specs.Numbers.{AtMost, is_above, add_some}
 use Rattle.dp_model.specs.Prefixes.{IsSolution, IsContinuation, value_of, gain_of}
 use Rattle.dp_model.specs.Subproblem.{IsOwn}
+use Rattle.dp_laws.specs.Pairs.{EachTwo}
+use Rattle.dp_laws.proofs.Counting.{pots-positive}
 use Rattle.search_core.specs.Board.{Ticketed, value_held, full_slots, prefixes}
-use Rattle.search_core.specs.GoodBoard.{EachTwo, AreApart, IncumbentHolds, IsEarlier, IsGood, pot_of, rest_of}
+use Rattle.search_core.specs.GoodBoard.{AreApart, IncumbentHolds, IsEarlier, IsGood, pot_of, rest_of}
 use Rattle.search_core.specs.Steps.{root_with, root_of, opened, empty_slots, first_incumbent, first_open, first_board}
-use Rattle.search_core.proofs.Counting.{pot-some}
 use Rattle.search_core.proofs.Frontier.{HeldBy}
 use Rattle.search_core.proofs.Lists.{two-then}
 
@@ -119,7 +120,7 @@ begins-root dp laws some (Some rough) is =
     let root : Ticketed = record { ticket = 0; subproblem = record { decisions = []; row = dp.root; value = dp.root_value; bound = dp.root_value +ℤ rough } } in
     let ends = sum_by-cons (pot_of dp) root [] in
     let shares = sum_by-cons (rest_of dp) root [] in
-    let one = pot-some dp [] some in
+    let one = pots-positive dp [] some in
     record {
       incumbent = tt;
       covers = λ x s. inr (inl (record { by = x; completion = record { solution = s; rest = x; begins = refl }; least = omega (arith, ints) }));

@@ -10,8 +10,9 @@ use Rattle.dp_model.specs.Lists.{Each, OneOf}
 use Rattle.dp_model.specs.Numbers.{AtMost, is_above}
 use Rattle.dp_model.specs.Prefixes.{IsSolution, IsMatched, value_of}
 use Rattle.dp_model.specs.Subproblem.{Subproblem, IsOwn}
+use Rattle.dp_laws.specs.Pairs.{EachTwo}
 use Rattle.search_core.specs.Board.{Ticketed, BoardState, incumbent_value, frontier, prefixes}
-use Rattle.search_core.specs.GoodBoard.{EachTwo, AreApart, TicketsHold, IsGood}
+use Rattle.search_core.specs.GoodBoard.{AreApart, TicketsHold, IsGood}
 use Rattle.search_core.proofs.Lists.{one-map, one-mapped}
 use Rattle.search_core.proofs.With.{IsWith, each-out, each-in, one-out_of, one-in, two-out, two-in, sum-with}
 

@@ -3,11 +3,12 @@ use Rattle.std.proofs.Common.{◌≡◌, ℕ, ◌+◌, ◌<◌, ◌≤◌, ℤ, 
 use Rattle.dp_model.specs.Lists.{Each, OneOf}
 use Rattle.dp_model.specs.Numbers.{is_above}
 use Rattle.dp_model.specs.Subproblem.{Subproblem}
+use Rattle.dp_model.proofs.Members.{Each-then}
+use Rattle.dp_laws.specs.Pairs.{EachTwo}
 use Rattle.search_core.specs.declared.fate.Fate.TheVariants.{Below, Entered}
 use Rattle.search_core.specs.Board.{Ticketed}
 use Rattle.search_core.specs.Fates.{ticket_after, fates_from, let_in, entering, tickets_after}
-use Rattle.search_core.specs.GoodBoard.{EachTwo, IsEarlier}
-use Rattle.search_core.proofs.Lists.{each-then}
+use Rattle.search_core.specs.GoodBoard.{IsEarlier}
 
 -- the children that enter beside an incumbent's value, from a ticket on
 abbrev pub kids : Option ℤ → ℕ → List Subproblem → List Ticketed
@@ -48,7 +49,7 @@ pub kids-from : (inc : Option ℤ) (ticket : ℕ) (cs : List Subproblem) → Eac
 kids-from inc ticket [] = tt
 kids-from inc ticket (c ∷ cs) =
     by_fate (λ os _. Each (λ o. ticket ≤ o.ticket) os) inc ticket c cs
-    (λ e. (omega arith, each-then (λ (o : Ticketed). ticket + 1 ≤ o.ticket) (λ o. ticket ≤ o.ticket) (λ o h. omega arith) (kids inc (ticket + 1) cs) (kids-from inc (ticket + 1) cs)))
+    (λ e. (omega arith, Each-then (λ (o : Ticketed). ticket + 1 ≤ o.ticket) (λ o. ticket ≤ o.ticket) (kids inc (ticket + 1) cs) (λ o h. omega arith) (kids-from inc (ticket + 1) cs)))
     (λ e. kids-from inc ticket cs)
 
 pub next-many : (inc : Option ℤ) (ticket : ℕ) (cs : List Subproblem) → next_after inc ticket cs ≡ ticket + length (kids inc ticket cs)
@@ -71,7 +72,7 @@ pub kids-ordered : (inc : Option ℤ) (ticket : ℕ) (cs : List Subproblem) → 
 kids-ordered inc ticket [] = tt
 kids-ordered inc ticket (c ∷ cs) =
     by_fate (λ os _. EachTwo IsEarlier os) inc ticket c cs
-    (λ e. (each-then (λ (o : Ticketed). ticket + 1 ≤ o.ticket) (λ o. ticket < o.ticket) (λ o h. omega arith) (kids inc (ticket + 1) cs) (kids-from inc (ticket + 1) cs), kids-ordered inc (ticket + 1) cs))
+    (λ e. (Each-then (λ (o : Ticketed). ticket + 1 ≤ o.ticket) (λ o. ticket < o.ticket) (kids inc (ticket + 1) cs) (λ o h. omega arith) (kids-from inc (ticket + 1) cs), kids-ordered inc (ticket + 1) cs))
     (λ e. kids-ordered inc ticket cs)
 
 -- one of the children enters, or its bound is at most the incumbent's value

@@ -3,15 +3,8 @@ use Rattle.std.proofs.Common.{◌≡◌, ℕ, ◌≤◌, List, [], ◌∷◌, �
 use Rattle.std.specs.List.{sum_by}
 use Rattle.std.proofs.lemmas.List.Sums.{sum_by-cons}
 use Rattle.dp_model.specs.Lists.{Each, OneOf}
-use Rattle.search_core.specs.GoodBoard.{EachTwo}
-
-pub each-then : {X : Type 0} (P Q : X → Type 0) → ((x : X) → P x → Q x) → (xs : List X) → Each P xs → Each Q xs
-each-then P Q f [] h = tt
-each-then P Q f (x ∷ xs) h = (f x h.0, each-then P Q f xs h.1)
-
-pub each-append : {X : Type 0} (P : X → Type 0) (xs ys : List X) → Each P xs → Each P ys → Each P (xs ++ ys)
-each-append P [] ys h k = k
-each-append P (x ∷ xs) ys h k = (h.0, each-append P xs ys h.1 k)
+use Rattle.dp_model.proofs.Members.{Each-append, Each-map, Each-then}
+use Rattle.dp_laws.specs.Pairs.{EachTwo}
 
 pub each-front : {X : Type 0} (P : X → Type 0) (xs ys : List X) → Each P (xs ++ ys) → Each P xs
 each-front P [] ys h = tt
@@ -20,11 +13,6 @@ each-front P (x ∷ xs) ys h = (h.0, each-front P xs ys h.1)
 pub each-back : {X : Type 0} (P : X → Type 0) (xs ys : List X) → Each P (xs ++ ys) → Each P ys
 each-back P [] ys h = h
 each-back P (x ∷ xs) ys h = each-back P xs ys h.1
-
-pub each-filter : {X : Type 0} (P : X → Type 0) (p : X → Bool) (xs : List X) → Each P xs → Each P (filter p xs)
-each-filter P p [] h = tt
-each-filter P p (x ∷ xs) h =
-    elim (p x) as (λ b. Each P (cond b (x ∷ filter p xs) (filter p xs))) [ true ↦ (h.0, each-filter P p xs h.1) | false ↦ each-filter P p xs h.1 ]
 
 -- what a filter keeps passes
 pub each-passes : {X : Type 0} (p : X → Bool) (xs : List X) → Each (λ x. p x ≡ true) (filter p xs)
@@ -90,16 +78,15 @@ one-out P A f (x ∷ xs) (inr h) = one-out P A f xs h
 
 pub two-then : {X : Type 0} (R S : X → X → Type 0) → ((x y : X) → R x y → S x y) → (xs : List X) → EachTwo R xs → EachTwo S xs
 two-then R S f [] h = tt
-two-then R S f (x ∷ xs) h = (each-then (R x) (S x) (f x) xs h.0, two-then R S f xs h.1)
+two-then R S f (x ∷ xs) h = (Each-then (R x) (S x) xs (f x) h.0, two-then R S f xs h.1)
 
-pub two-filter : {X : Type 0} (R : X → X → Type 0) (p : X → Bool) (xs : List X) → EachTwo R xs → EachTwo R (filter p xs)
-two-filter R p [] h = tt
-two-filter R p (x ∷ xs) h =
-    elim (p x) as (λ b. EachTwo R (cond b (x ∷ filter p xs) (filter p xs))) [ true ↦ (each-filter (R x) p xs h.0, two-filter R p xs h.1) | false ↦ two-filter R p xs h.1 ]
+pub two-map : {X Y : Type 0} (f : X → Y) (R : Y → Y → Type 0) (xs : List X) → EachTwo (λ x y. R (f x) (f y)) xs → EachTwo R (map f xs)
+two-map f R [] h = tt
+two-map f R (x ∷ xs) h = (Each-map f (R (f x)) xs h.0, two-map f R xs h.1)
 
 pub two-append : {X : Type 0} (R : X → X → Type 0) (xs ys : List X) → EachTwo R xs → EachTwo R ys → Each (λ x. Each (R x) ys) xs → EachTwo R (xs ++ ys)
 two-append R [] ys h k all = k
-two-append R (x ∷ xs) ys h k all = (each-append (R x) xs ys h.0 all.0, two-append R xs ys h.1 k all.1)
+two-append R (x ∷ xs) ys h k all = (Each-append (R x) xs ys h.0 all.0, two-append R xs ys h.1 k all.1)
 
 pub two-front : {X : Type 0} (R : X → X → Type 0) (xs ys : List X) → EachTwo R (xs ++ ys) → EachTwo R xs
 two-front R [] ys h = tt

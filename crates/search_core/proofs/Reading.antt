@@ -7,13 +7,14 @@ use Rattle.dp_model.specs.Dp.{Dp}
 use Rattle.dp_model.specs.Lists.{Each, OneOf}
 use Rattle.dp_model.specs.Numbers.{AtMost, OptionAtMost}
 use Rattle.dp_model.specs.Prefixes.{IsSolution, value_of}
+use Rattle.dp_model.proofs.Members.{Each-then}
 use Rattle.search_core.specs.Board.{Ticketed, BoardState, incumbent_value, value_held, full_slots, frontier}
 use Rattle.search_core.specs.Bound.{raised, raised_by, bound_of, IsGreatest}
 use Rattle.search_core.specs.GoodBoard.{IsGood}
 use Rattle.search_core.specs.Kept.{best_of}
 use Rattle.search_core.proofs.Counting.{pots-many}
 use Rattle.search_core.proofs.Frontier.{MatchedBy, HeldBy, covers-by, matched-below}
-use Rattle.search_core.proofs.Lists.{each-then, one-each, one-out}
+use Rattle.search_core.proofs.Lists.{one-each, one-out}
 
 -- The bound.
 
@@ -79,7 +80,7 @@ bound-holds dp b g x s =
       | inr m ↦ one-out (λ o. (MatchedBy dp x o × HeldBy dp most o) × AtMost o.subproblem.bound most) (AtMost (value_of dp x) most)
           (λ o h. matched-below dp x most o.subproblem.decisions o.subproblem.bound h.0.0 h.0.1 h.1) (frontier b)
           (one-each (λ o. MatchedBy dp x o × HeldBy dp most o) (λ o. AtMost o.subproblem.bound most) (frontier b)
-          (one-each (MatchedBy dp x) (HeldBy dp most) (frontier b) m (each-then (HeldBy dp inc) (HeldBy dp most) (held-by-more dp inc most up) (frontier b) g.held))
+          (one-each (MatchedBy dp x) (HeldBy dp most) (frontier b) m (Each-then (HeldBy dp inc) (HeldBy dp most) (frontier b) (held-by-more dp inc most up) g.held))
           (raised-each (frontier b) inc))
     ]
 

@@ -3,11 +3,12 @@ use Rattle.std.proofs.Common.{◌≡◌, ◌≢◌, ℕ, zero, suc, ◌<◌, ◌
 use Rattle.std.specs.List.{slice_get, remove}
 use Rattle.std.proofs.lemmas.Bool.Decides.{nat_tests}
 use Rattle.dp_model.specs.Lists.{Each}
+use Rattle.dp_model.proofs.Members.{Each-then}
+use Rattle.dp_laws.specs.Pairs.{EachTwo}
 use Rattle.search_core.specs.Board.{Ticketed, full_slots, slot_of}
-use Rattle.search_core.specs.GoodBoard.{EachTwo, IsEarlier}
+use Rattle.search_core.specs.GoodBoard.{IsEarlier}
 use Rattle.search_core.specs.Steps.{by_ticket}
 use Rattle.search_core.specs.Taking.{without}
-use Rattle.search_core.proofs.Lists.{each-then}
 use Rattle.search_core.proofs.With.{IsWith, with-here, with-there, each-in}
 
 -- a slot that has something
@@ -84,7 +85,7 @@ ordered-with o (x ∷ os) ordered differ =
     let go : (b : Bool) → nat_lt o.ticket x.ticket ≡ b → Goal b = λ b. elim b as (λ b. nat_lt o.ticket x.ticket ≡ b → Goal b) [
       | true ↦ λ e.
           let first : o.ticket < x.ticket = grind (arith, nat_tests) in
-          ((first, each-then (λ (y : Ticketed). x.ticket < y.ticket) (λ (y : Ticketed). o.ticket < y.ticket) (λ y h. omega arith) os ordered.0), ordered)
+          ((first, Each-then (λ (y : Ticketed). x.ticket < y.ticket) (λ (y : Ticketed). o.ticket < y.ticket) os (λ y h. omega arith) ordered.0), ordered)
       | false ↦ λ e.
           let other : o.ticket ≢ x.ticket = differ.0 in
           let later : x.ticket < o.ticket = grind (arith, nat_tests) in

@@ -11,16 +11,19 @@ use Rattle.dp_model.specs.Lists.{Each, OneOf}
 use Rattle.dp_model.specs.Numbers.{AtMost, is_above}
 use Rattle.dp_model.specs.Prefixes.{IsSolution, IsCompletion, IsMatched, value_of}
 use Rattle.dp_model.specs.Subproblem.{Subproblem, IsOwn, IsChild}
+use Rattle.dp_model.proofs.Members.{Each-then, Each-append}
+use Rattle.dp_laws.specs.Pairs.{EachTwo}
+use Rattle.dp_laws.proofs.Lists.{each-filter, two-filter}
 use Rattle.search_core.specs.declared.fate.Fate.{Fate}
 use Rattle.search_core.specs.Board.{Ticketed, BoardState, incumbent_value, full_slots, frontier, prefixes}
 use Rattle.search_core.specs.Finishing.{MayFinish}
-use Rattle.search_core.specs.GoodBoard.{EachTwo, AreApart, IsEarlier, IsGood, pot_of, rest_of}
+use Rattle.search_core.specs.GoodBoard.{AreApart, IsEarlier, IsGood, pot_of, rest_of}
 use Rattle.search_core.specs.Steps.{finished_by, given_back_from, by_ticket, above_value}
 use Rattle.search_core.specs.Taking.{without, is_budget_up, checked_out}
 use Rattle.search_core.proofs.Counting.{children-below, pots-split}
 use Rattle.search_core.proofs.Frontier.{not-above, at-most-then, at-most-above, sum-moved, tickets-flip, apart-flip, MatchedBy, HeldBy, covers-by, covers-from, matched-below, FrontierHolds, frontier-holds, frontier-moved, apart-child}
 use Rattle.search_core.proofs.Kids.{kids, next_after, kids-each, kids-two, kids-above, kids-from, next-many, kids-few, kids-given, kids-ordered, kids-one}
-use Rattle.search_core.proofs.Lists.{each-then, each-append, each-front, each-back, each-filter, each-passes, one-then, one-map, one-left, one-right, one-cases, one-filter, one-each, one-out, two-then, two-filter, two-append, two-front, two-back, two-across, sum-filter}
+use Rattle.search_core.proofs.Lists.{each-front, each-back, each-passes, one-then, one-map, one-left, one-right, one-cases, one-filter, one-each, one-out, two-then, two-append, two-front, two-back, two-across, sum-filter}
 use Rattle.search_core.proofs.Slots.{slot-full, filled, emptied, full-few, removed, without-removed, with-by_ticket, ordered-with}
 use Rattle.search_core.proofs.With.{IsWith, with-left, with-right, each-out, each-in, one-out_of, two-out, sum-with, length-with}
 
@@ -112,10 +115,10 @@ improve-good dp b x g solution up =
     let ends = sum-front (pot_of dp) p full b.open_ones in
     let shares = sum-front (rest_of dp) p full b.open_ones in
     let each : (P : Ticketed → Type 0) → Each P (frontier b) → Each P (full ++ stay) = λ P h.
-    each-append P full stay (each-front P full b.open_ones h) (each-filter P p b.open_ones (each-back P full b.open_ones h)) in
+    Each-append P full stay (each-front P full b.open_ones h) (each-filter P p b.open_ones (each-back P full b.open_ones h)) in
     let two : (R : Ticketed → Ticketed → Type 0) → EachTwo R (frontier b) → EachTwo R (full ++ stay) = λ R h.
     two-append R full stay (two-front R full b.open_ones h) (two-filter R p b.open_ones (two-back R full b.open_ones h))
-    (each-then (λ a. Each (R a) b.open_ones) (λ a. Each (R a) stay) (λ a k. each-filter (R a) p b.open_ones k) full (two-across R full b.open_ones h)) in
+    (Each-then (λ a. Each (R a) b.open_ones) (λ a. Each (R a) stay) full (λ a k. each-filter (R a) p b.open_ones k) (two-across R full b.open_ones h)) in
     record {
       incumbent = record { solution = solution; value = refl };
       covers = covers-from dp (Some value) (full ++ stay) (λ y s.
@@ -133,7 +136,7 @@ improve-good dp b x g solution up =
             ]
           ]);
       own = each (λ o. IsOwn dp o.subproblem) g.own;
-      held = each (HeldBy dp (Some value)) (each-then (HeldBy dp inc) (HeldBy dp (Some value)) (held-better dp inc value up) (frontier b) g.held);
+      held = each (HeldBy dp (Some value)) (Each-then (HeldBy dp inc) (HeldBy dp (Some value)) (frontier b) (held-better dp inc value up) g.held);
       above = each-passes p b.open_ones;
       ordered = two-filter IsEarlier p b.open_ones g.ordered;
       apart = two (λ a o. AreApart a.subproblem o.subproblem) g.apart;
@@ -202,14 +205,14 @@ finish-good dp b who cs fs g m =
     let tickets_out = two-out (λ (a o : Ticketed). a.ticket ≢ o.ticket) tickets-flip o base (frontier b) out g.tickets.distinct in
     let given_out = each-out (λ (o : Ticketed). o.ticket < b.next_ticket) o base (frontier b) out g.tickets.given in
     let children = kids-each (IsChild dp p) inc b.next_ticket cs m.own in
-    let own_new = each-then (λ o. IsChild dp p o.subproblem) (λ o. IsOwn dp o.subproblem) (λ o h. h.own) new children in
+    let own_new = Each-then (λ o. IsChild dp p o.subproblem) (λ o. IsOwn dp o.subproblem) new (λ o h. h.own) children in
     let apart_new = kids-two AreApart inc b.next_ticket cs m.apart in
-    let apart_across = each-then (λ y. AreApart o.subproblem y.subproblem) (λ y. Each (λ k. AreApart y.subproblem k.subproblem) new)
-    (λ y h. each-then (λ k. IsChild dp p k.subproblem) (λ k. AreApart y.subproblem k.subproblem) (λ k child. apart-child o.subproblem y.subproblem k.subproblem h child.extends) new children) base apart_out.0 in
+    let apart_across = Each-then (λ y. AreApart o.subproblem y.subproblem) (λ y. Each (λ k. AreApart y.subproblem k.subproblem) new)
+    base (λ y h. Each-then (λ k. IsChild dp p k.subproblem) (λ k. AreApart y.subproblem k.subproblem) new (λ k child. apart-child o.subproblem y.subproblem k.subproblem h child.extends) children) apart_out.0 in
     let from_new = kids-from inc b.next_ticket cs in
     let ordered_new = kids-ordered inc b.next_ticket cs in
-    let ordered_across = each-then (λ (y : Ticketed). y.ticket < b.next_ticket) (λ y. Each (IsEarlier y) new)
-    (λ y h. each-then (λ (k : Ticketed). b.next_ticket ≤ k.ticket) (IsEarlier y) (λ k later. let less : y.ticket < k.ticket = omega arith in less) new from_new) base given_out.1 in
+    let ordered_across = Each-then (λ (y : Ticketed). y.ticket < b.next_ticket) (λ y. Each (IsEarlier y) new)
+    base (λ y h. Each-then (λ (k : Ticketed). b.next_ticket ≤ k.ticket) (IsEarlier y) new (λ k later. let less : y.ticket < k.ticket = omega arith in less) from_new) given_out.1 in
     let many = next-many inc b.next_ticket cs in
     let few = kids-few inc b.next_ticket cs in
     let limit = m.few in
@@ -219,7 +222,7 @@ finish-good dp b who cs fs g m =
     let shares_before = sum-with (rest_of dp) o base (frontier b) out in
     let ends_after = ap (sum_by (pot_of dp)) (sym same) ∙ sum_by-append (pot_of dp) base new in
     let shares_after = ap (sum_by (rest_of dp)) (sym same) ∙ sum_by-append (rest_of dp) base new in
-    let each : (P : Ticketed → Type 0) → Each P base → Each P new → Each P (full2 ++ (b.open_ones ++ new)) = λ P h k. subst (λ l. Each P l) same (each-append P base new h k) in
+    let each : (P : Ticketed → Type 0) → Each P base → Each P new → Each P (full2 ++ (b.open_ones ++ new)) = λ P h k. subst (λ l. Each P l) same (Each-append P base new h k) in
     let two : (R : Ticketed → Ticketed → Type 0) → EachTwo R base → EachTwo R new → Each (λ a. Each (R a) new) base → EachTwo R (full2 ++ (b.open_ones ++ new)) =
     λ R h k across. subst (λ l. EachTwo R l) same (two-append R base new h k across) in
     record {
@@ -235,14 +238,14 @@ finish-good dp b who cs fs g m =
           ]));
       own = each (λ o. IsOwn dp o.subproblem) own_out.1 own_new;
       held = each (HeldBy dp inc) held_out.1 (kids-each (λ c. IsHeld dp inc c.decisions c.bound) inc b.next_ticket cs m.held);
-      above = each-append (λ o. IsTrue (is_above inc o.subproblem.bound)) b.open_ones new g.above (kids-above inc b.next_ticket cs);
+      above = Each-append (λ o. IsTrue (is_above inc o.subproblem.bound)) b.open_ones new g.above (kids-above inc b.next_ticket cs);
       ordered = two-append IsEarlier b.open_ones new g.ordered ordered_new (each-back (λ y. Each (IsEarlier y) new) full2 b.open_ones ordered_across);
       apart = two (λ a o. AreApart a.subproblem o.subproblem) apart_out.1 apart_new apart_across;
       tickets = record {
         distinct = two (λ a o. a.ticket ≢ o.ticket) tickets_out.1 (two-then IsEarlier (λ a o. a.ticket ≢ o.ticket) earlier-differ new ordered_new)
-            (each-then (λ y. Each (IsEarlier y) new) (λ y. Each (λ k. y.ticket ≢ k.ticket) new) (λ y h. each-then (IsEarlier y) (λ k. y.ticket ≢ k.ticket) (earlier-differ y) new h) base ordered_across);
+            (Each-then (λ y. Each (IsEarlier y) new) (λ y. Each (λ k. y.ticket ≢ k.ticket) new) base (λ y h. Each-then (IsEarlier y) (λ k. y.ticket ≢ k.ticket) new (earlier-differ y) h) ordered_across);
         given = each (λ o. o.ticket < next_after inc b.next_ticket cs)
-            (each-then (λ (y : Ticketed). y.ticket < b.next_ticket) (λ y. y.ticket < next_after inc b.next_ticket cs) (λ y h. omega arith) base given_out.1)
+            (Each-then (λ (y : Ticketed). y.ticket < b.next_ticket) (λ y. y.ticket < next_after inc b.next_ticket cs) base (λ y h. omega arith) given_out.1)
             (kids-given inc b.next_ticket cs);
       };
       counts = record {

@@ -3,7 +3,7 @@ use Rattle.std.proofs.Common.{◌≡◌, ℕ, ◌+◌, List, [], ◌∷◌, ◌+
 use Rattle.std.specs.List.{sum_by}
 use Rattle.std.proofs.lemmas.List.Sums.{sum_by-cons, sum_by-append}
 use Rattle.dp_model.specs.Lists.{Each, OneOf}
-use Rattle.search_core.specs.GoodBoard.{EachTwo}
+use Rattle.dp_laws.specs.Pairs.{EachTwo}
 
 -- the whole list is the rest with one more, somewhere
 pub record IsWith {X : Type 0} (o : X) (rest whole : List X) : Type 0 where

@@ -6,10 +6,11 @@ use Rattle.dp_model.specs.Lists.{Each, OneOf}
 use Rattle.dp_model.specs.Numbers.{AtMost, IsFar}
 use Rattle.dp_model.specs.Prefixes.{IsCompletion, IsMatched, value_of}
 use Rattle.dp_model.specs.Subproblem.{Subproblem, Roomy, IsChild}
+use Rattle.dp_laws.specs.Pairs.{EachTwo}
 use Rattle.search_core.specs.declared.fate.Fate.{Fate}
 use Rattle.search_core.specs.Board.{Ticketed, BoardState, incumbent_value, slot_at}
 use Rattle.search_core.specs.Fates.{fates_on}
-use Rattle.search_core.specs.GoodBoard.{EachTwo, AreApart}
+use Rattle.search_core.specs.GoodBoard.{AreApart}
 
 -- subproblems in memory as data
 abbrev pub contents : List Roomy → List Subproblem

@@ -1,14 +1,15 @@
 -- What every board keeps.
-use Rattle.std.specs.Prelude.{◌≡◌, ℕ, ◌+◌, ◌-◌, ◌*◌, ◌^◌, ◌<◌, ◌≤◌, ◌≢◌, false, List, [], ◌∷◌, length, sum_by, Option, Some, None, IsTrue}
+use Rattle.std.specs.Prelude.{◌≡◌, ℕ, ◌+◌, ◌-◌, ◌*◌, ◌^◌, ◌<◌, ◌≤◌, ◌≢◌, List, length, sum_by, Option, Some, None, IsTrue}
 use Rattle.dp_model.specs.Best.{Best}
 use Rattle.dp_model.specs.Counts.{pot, tree}
 use Rattle.dp_model.specs.Cover.{Covers, IsHeld}
-use Rattle.dp_model.specs.Decisions.{begins}
 use Rattle.dp_model.specs.Dp.{Dp}
 use Rattle.dp_model.specs.Lists.{Each}
 use Rattle.dp_model.specs.Numbers.{is_above}
 use Rattle.dp_model.specs.Subproblem.{Subproblem, IsOwn}
 use Rattle.dp_model.specs.Worth.{IsWorth}
+use Rattle.dp_laws.specs.Antichains.{NeitherBegins}
+use Rattle.dp_laws.specs.Pairs.{EachTwo}
 use Rattle.search_core.specs.declared.cause.Cause.TheVariants.{Budget}
 use Rattle.search_core.specs.Board.{Ticketed, BoardState, incumbent_value, full_slots, frontier, prefixes}
 
@@ -17,15 +18,9 @@ abbrev pub IncumbentHolds : Dp → Option Best → Type 0
 IncumbentHolds dp None = Unit {0}
 IncumbentHolds dp (Some best) = IsWorth dp best.decisions best.value
 
--- a fact of each two members of a list, the earlier one first
-abbrev pub EachTwo : {X : Type 0} → (X → X → Type 0) → List X → Type 0
-EachTwo R [] = Unit {0}
-EachTwo R (x ∷ xs) = Each (R x) xs × EachTwo R xs
-
 -- neither prefix begins with the other
-pub record AreApart (a b : Subproblem) : Type 0 where
-  pub first : begins a.decisions b.decisions ≡ false
-  pub second : begins b.decisions a.decisions ≡ false
+abbrev pub AreApart : Subproblem → Subproblem → Type 0
+AreApart a b = NeitherBegins a.decisions b.decisions
 
 -- how many prefixes begin with that of a subproblem, and how many more than itself
 abbrev pub pot_of : Dp → Ticketed → ℕ

@@ -17,3 +17,5 @@ pub use Rattle.dp_model.specs.Lists
 pub use Rattle.dp_model.specs.Numbers
 pub use Rattle.dp_model.specs.Prefixes
 pub use Rattle.dp_model.specs.Subproblem
+pub use Rattle.dp_laws.specs.Antichains
+pub use Rattle.dp_laws.specs.Pairs

@@ -16,8 +16,9 @@ use Rattle.dp_model.proofs.Members.{Has, each-of-all, one-of-has, Has-map, Has-f
 use Rattle.dp_model.proofs.Paths.{IsPrefix-then, IsPrefix-back, IsPrefix-length, state_of-state, continued, value_of-split}
 use Rattle.dp_model.proofs.RowLemmas.{begins-append}
 use Rattle.dp_model.proofs.Sizes.{value_of-size}
+use Rattle.search_core.specs.Pairs.{EachTwo}
 use Rattle.search_core.specs.Board.{BoardState, incumbent_value}
-use Rattle.search_core.specs.GoodBoard.{EachTwo, AreApart}
+use Rattle.search_core.specs.GoodBoard.{AreApart}
 use Rattle.search_core.proofs.Lists.{two-append}
 use Rattle.search_rounds.specs.Branched.{IsBranched}
 use Rattle.search_rounds.specs.Branching.{bounded_by, bounded, extended_by, children_of}
