@@ -8,23 +8,21 @@ use Rattle.std.proofs.lemmas.Nat.Bits.{bit_at_and, bit_at_or, bit_at_not, bit_at
 abbrev pub on : ℕ → ℕ → Bool
 on n k = nat_eq (bit_at n k) 1
 
+-- what holds of 0 and 1 holds of two bits
+two_bits : (P : ℕ → ℕ → Type 0) → P 0 0 → P 0 1 → P 1 0 → P 1 1 → (x y : ℕ) → x < 2 → y < 2 → P x y
+two_bits P a b c d zero zero p q = a
+two_bits P a b c d zero (suc zero) p q = b
+two_bits P a b c d (suc zero) zero p q = c
+two_bits P a b c d (suc zero) (suc zero) p q = d
+two_bits P a b c d (suc (suc x)) y p q = absurd (omega arith)
+two_bits P a b c d zero (suc (suc y)) p q = absurd (omega arith)
+two_bits P a b c d (suc zero) (suc (suc y)) p q = absurd (omega arith)
+
 max_on : (x y : ℕ) → x < 2 → y < 2 → nat_eq (max x y) 1 ≡ nat_eq x 1 || nat_eq y 1
-max_on zero zero p q = refl
-max_on zero (suc zero) p q = refl
-max_on (suc zero) zero p q = refl
-max_on (suc zero) (suc zero) p q = refl
-max_on (suc (suc x)) y p q = absurd (omega arith)
-max_on zero (suc (suc y)) p q = absurd (omega arith)
-max_on (suc zero) (suc (suc y)) p q = absurd (omega arith)
+max_on = two_bits (λ x y. nat_eq (max x y) 1 ≡ nat_eq x 1 || nat_eq y 1) refl refl refl refl
 
 min_on : (x y : ℕ) → x < 2 → y < 2 → nat_eq (min x y) 1 ≡ nat_eq x 1 && nat_eq y 1
-min_on zero zero p q = refl
-min_on zero (suc zero) p q = refl
-min_on (suc zero) zero p q = refl
-min_on (suc zero) (suc zero) p q = refl
-min_on (suc (suc x)) y p q = absurd (omega arith)
-min_on zero (suc (suc y)) p q = absurd (omega arith)
-min_on (suc zero) (suc (suc y)) p q = absurd (omega arith)
+min_on = two_bits (λ x y. nat_eq (min x y) 1 ≡ nat_eq x 1 && nat_eq y 1) refl refl refl refl
 
 not_on : (x : ℕ) → x < 2 → nat_eq (1 - x) 1 ≡ not (nat_eq x 1)
 not_on zero p = refl
@@ -44,22 +42,11 @@ pub on_zero : (k : ℕ) → on 0 k ≡ false
 on_zero k = ap (λ x. nat_eq x 1) (bit_at-zero k)
 
 from_on : (x y : ℕ) → x < 2 → y < 2 → nat_eq x 1 ≡ nat_eq y 1 → x ≡ y
-from_on zero zero p q e = refl
-from_on zero (suc zero) p q e = absurd (cc)
-from_on (suc zero) zero p q e = absurd (cc)
-from_on (suc zero) (suc zero) p q e = refl
-from_on (suc (suc x)) y p q e = absurd (omega arith)
-from_on zero (suc (suc y)) p q e = absurd (omega arith)
-from_on (suc zero) (suc (suc y)) p q e = absurd (omega arith)
+from_on = two_bits (λ x y. nat_eq x 1 ≡ nat_eq y 1 → x ≡ y) (λ e. refl) (λ e. absurd (cc)) (λ e. absurd (cc)) (λ e. refl)
 
 -- two words with the same bits are equal
 pub same_word : (a b : ℕ) → a < 2 ^ 32 → b < 2 ^ 32 → ((k : ℕ) → k < 32 → on a k ≡ on b k) → a ≡ b
 same_word a b p q h = same_from_bits_below 32 a b p q (λ i l. from_on (bit_at a i) (bit_at b i) (bit_at-lt a i) (bit_at-lt b i) (h i l))
-
-off_is : (x : ℕ) → x < 2 → nat_eq x 1 ≡ false → x ≡ 0
-off_is zero p e = refl
-off_is (suc zero) p e = absurd (cc)
-off_is (suc (suc x)) p e = absurd (omega arith)
 
 -- a word none of whose bits is set is 0
 pub none_on : (a : ℕ) → a < 2 ^ 32 → ((k : ℕ) → k < 32 → on a k ≡ false) → a ≡ 0

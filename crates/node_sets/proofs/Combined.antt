@@ -3,9 +3,13 @@ use Rattle.std.proofs.Common.{◌≡◌, ℕ, ◌+◌, ◌/◌, ◌%◌, ◌^◌
 use Rattle.std.specs.Int.{bit_not, w32}
 use Rattle.std.proofs.lemmas.Bool.{cases_lt}
 use lib.Bits.{or_lt, and_lt}
+use Rattle.node_sets.specs.declared.pairing.Pairing.{Pairing}
+use Rattle.node_sets.specs.declared.pairing.Pairing.TheVariants.{Intersection}
 use Rattle.node_sets.specs.Sets.{AreWords, HasMembers, word_at, has}
+use Rattle.node_sets.specs.Pairs.{made, made_word}
 use Rattle.node_sets.proofs.Bits.{on, on_zero, on_or, on_and, on_not}
-use Rattle.node_sets.proofs.Words.{has-on, word_at-lt, word_at-past, word_at-set_same, word_at-set_other, AreWords-set}
+use Rattle.node_sets.proofs.Words.{has-on, has-past, word_at-lt, word_at-past, word_at-set_same, word_at-set_other, AreWords-set}
+use Rattle.node_sets.proofs.Pairings.{made_small, made_has, made_none}
 
 -- the words below the i-th are the new ones, and the others are as before
 pub record IsRewritten (new : ℕ → ℕ) (old now : List ℤ) (i : ℕ) : Type 0 where
@@ -29,52 +33,22 @@ HasMembers-rewritten new test old now kept bits past h v =
       | inr l ↦ has-on now v ∙ ap (λ w. on w (v % 32)) (word_at-past now (v / 32) (omega arith)) ∙ on_zero (v % 32) ∙ sym (past v l)
     ]
 
-past_row : (row : List ℤ) (v : ℕ) → length row ≤ v / 32 → has row v ≡ false
-past_row row v l = has-on row v ∙ ap (λ w. on w (v % 32)) (word_at-past row (v / 32) l) ∙ on_zero (v % 32)
-
 -- ---- words that are made of those of two rows
 
-abbrev pub combined : (ℕ → ℕ → ℕ) → List ℤ → List ℤ → ℕ → ℕ
-combined f old other k = f (word_at old k) (word_at other k)
+abbrev pub combined : Pairing → List ℤ → List ℤ → ℕ → ℕ
+combined p old other k = made_word p (word_at old k) (word_at other k)
 
--- what an operation on words does to their bits
-pub record IsBitwise (f : ℕ → ℕ → ℕ) (g : Bool → Bool → Bool) : Type 0 where
-  pub bits : (x y k : ℕ) → y < 2 ^ 32 → k < 32 → on (f x y) k ≡ g (on x k) (on y k)
-  pub small : (x y : ℕ) → x < 2 ^ 32 → y < 2 ^ 32 → f x y < 2 ^ 32
-  pub nothing : g false false ≡ false
+pub combined_more : (p : Pairing) (old other now : List ℤ) (i a b : ℕ) → IsRewritten (combined p old other) old now i → AreWords other → i < length now → a ≡ word_at now i → b ≡ word_at other i → IsRewritten (combined p old other) old (set now i (pos (made_word p a b))) (i + 1)
+combined_more p old other now i a b h cells l e f =
+    IsRewritten-more (combined p old other) old now i (made_word p a b) h l (ap₂ (made_word p) (e ∙ h.rest i (omega arith)) f)
+    (made_small p a b (rw e (word_at-lt now i h.cells)) (rw f (word_at-lt other i cells)))
 
-pub union_bits : IsBitwise (λ x y. bit_or x y) (λ x y. x || y)
-union_bits = record {
-  bits = λ x y k p q. on_or x y k;
-  small = λ x y p q. or_lt 32 x y p q;
-  nothing = refl;
-}
-
-pub intersection_bits : IsBitwise (λ x y. bit_and x y) (λ x y. x && y)
-intersection_bits = record {
-  bits = λ x y k p q. on_and x y k;
-  small = λ x y p q. and_lt 32 x y p q;
-  nothing = refl;
-}
-
-pub difference_bits : IsBitwise (λ x y. bit_and x (bit_not w32 y)) (λ x y. x && not y)
-difference_bits = record {
-  bits = λ x y k p q. on_and x (bit_not w32 y) k ∙ ap (λ b. on x k && b) (on_not y k p q);
-  small = λ x y p q. and_lt 32 x (bit_not w32 y) p (omega arith);
-  nothing = refl;
-}
-
-pub combined_more : (f : ℕ → ℕ → ℕ) (g : Bool → Bool → Bool) → IsBitwise f g → (old other now : List ℤ) (i a b : ℕ) → IsRewritten (combined f old other) old now i → AreWords other → i < length now → a ≡ word_at now i → b ≡ word_at other i → IsRewritten (combined f old other) old (set now i (pos (f a b))) (i + 1)
-combined_more f g by old other now i a b h cells l p q =
-    IsRewritten-more (combined f old other) old now i (f a b) h l (ap₂ f (p ∙ h.rest i (omega arith)) q)
-    (by.small a b (rw p (word_at-lt now i h.cells)) (rw q (word_at-lt other i cells)))
-
-pub combined_members : (f : ℕ → ℕ → ℕ) (g : Bool → Bool → Bool) → IsBitwise f g → (old other now : List ℤ) (i : ℕ) → AreWords other → length old ≡ length other → length now ≡ length old → i ≡ length old → IsRewritten (combined f old other) old now i → HasMembers now (λ v. g (has old v) (has other v))
-combined_members f g by old other now i cells same kept all h =
-    HasMembers-rewritten (combined f old other) (λ v. g (has old v) (has other v)) old now kept
-    (λ v l. by.bits (word_at old (v / 32)) (word_at other (v / 32)) (v % 32) (word_at-lt other (v / 32) cells) (omega arith) ∙ sym (ap₂ g (has-on old v) (has-on other v)))
-    (λ v l. ap₂ g (past_row old v l) (past_row other v (omega arith)) ∙ by.nothing)
-    (subst (IsRewritten (combined f old other) old now) all h)
+pub combined_members : (p : Pairing) (old other now : List ℤ) (i : ℕ) → AreWords other → length old ≡ length other → length now ≡ length old → i ≡ length old → IsRewritten (combined p old other) old now i → HasMembers now (λ v. made p (has old v) (has other v))
+combined_members p old other now i cells same kept all h =
+    HasMembers-rewritten (combined p old other) (λ v. made p (has old v) (has other v)) old now kept
+    (λ v l. made_has p old other v cells)
+    (λ v l. ap₂ (made p) (has-past old v l) (has-past other v (omega arith)) ∙ made_none p)
+    (subst (IsRewritten (combined p old other) old now) all h)
 
 -- ---- words that are made of those of four rows
 
@@ -100,7 +74,7 @@ joined_small : (a b c d : ℕ) → a < 2 ^ 32 → b < 2 ^ 32 → c < 2 ^ 32 → 
 joined_small a b c d p q r s =
     and_lt 32 (bit_or (bit_or (bit_or a b) c) d) (bit_not w32 (bit_and a c)) (or_lt 32 (bit_or (bit_or a b) c) d (or_lt 32 (bit_or a b) c (or_lt 32 a b p q) r) s) (omega arith)
 
-pub joined_more : (must may other_must other_may must_now may_now : List ℤ) (i a b c d : ℕ) → IsRewritten (combined (λ x y. bit_and x y) must other_must) must must_now i → IsRewritten (joined_may must may other_must other_may) may may_now i → AreWords other_must → AreWords other_may → i < length may_now
+pub joined_more : (must may other_must other_may must_now may_now : List ℤ) (i a b c d : ℕ) → IsRewritten (combined Intersection must other_must) must must_now i → IsRewritten (joined_may must may other_must other_may) may may_now i → AreWords other_must → AreWords other_may → i < length may_now
     → a ≡ word_at must_now i → b ≡ word_at may_now i → c ≡ word_at other_must i → d ≡ word_at other_may i → IsRewritten (joined_may must may other_must other_may) may (set may_now i (pos (joined_word a b c d))) (i + 1)
 joined_more must may other_must other_may must_now may_now i a b c d g h other_cells more_cells l ea eb ec ed =
     IsRewritten-more (joined_may must may other_must other_may) may may_now i (joined_word a b c d) h l
@@ -113,5 +87,5 @@ joined_members must may other_must other_may now i cells other_cells same other_
     HasMembers-rewritten (joined_may must may other_must other_may) (λ v. ((has must v || has may v) || (has other_must v || has other_may v)) && not (has must v && has other_must v)) may now kept
     (λ v l. joined_bits (word_at must (v / 32)) (word_at may (v / 32)) (word_at other_must (v / 32)) (word_at other_may (v / 32)) (v % 32) (word_at-lt must (v / 32) cells) (word_at-lt other_must (v / 32) other_cells) (omega arith)
     ∙ sym (ap₂ ◌&&◌ (ap₂ ◌||◌ (ap₂ ◌||◌ (has-on must v) (has-on may v)) (ap₂ ◌||◌ (has-on other_must v) (has-on other_may v))) (ap not (ap₂ ◌&&◌ (has-on must v) (has-on other_must v)))))
-    (λ v l. ap₂ ◌&&◌ (ap₂ ◌||◌ (ap₂ ◌||◌ (past_row must v (omega arith)) (past_row may v l)) (ap₂ ◌||◌ (past_row other_must v (omega arith)) (past_row other_may v (omega arith)))) (refl {a = not (has must v && has other_must v)}))
+    (λ v l. ap₂ ◌&&◌ (ap₂ ◌||◌ (ap₂ ◌||◌ (has-past must v (omega arith)) (has-past may v l)) (ap₂ ◌||◌ (has-past other_must v (omega arith)) (has-past other_may v (omega arith)))) (refl {a = not (has must v && has other_must v)}))
     (subst (IsRewritten (joined_may must may other_must other_may) may now) (all ∙ same) h)

@@ -7,7 +7,8 @@ use Rattle.std.proofs.Math.Nat.{div-div-eq-div-mul}
 use Rattle.node_sets.specs.Sets.{AreWords, IsNext, word_at, has}
 use Rattle.node_sets.specs.Coming.{IsRest}
 use Rattle.node_sets.proofs.Words.{word_at-lt}
-use Rattle.node_sets.proofs.Tests.{has-past, none_in_first, next_in_first}
+use Rattle.node_sets.proofs.Words.{has-past}
+use Rattle.node_sets.proofs.Tests.{none_in_first, next_in_first}
 
 -- a whole word is left
 pub whole_word : (row : List ℤ) (i bits : ℕ) → AreWords row → length row < 2 ^ 32 → bits ≡ word_at row i → IsRest row i (32 * i) bits

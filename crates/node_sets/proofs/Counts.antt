@@ -12,7 +12,7 @@ use Rattle.node_sets.specs.Sums.{all_below, count_below}
 use Rattle.node_sets.specs.Sets.{IsWord, AreWords, IsSet, is_word, are_words, is_set, words_for, word_at, has}
 use Rattle.node_sets.proofs.Bits.{on}
 use Rattle.node_sets.proofs.Words.{IsWord-pos}
-use Rattle.node_sets.proofs.Tests.{has_in, has-past}
+use Rattle.node_sets.proofs.Words.{has_in, has-past}
 use Rattle.node_sets.proofs.Below.{and_left, and_right, all_below-gives, all_below-from, sum_below-same, sum_below-add}
 
 small_ones : (n : ℕ) → n < 2 → ones n ≡ cond (nat_eq n 1) 1 0

@@ -1,5 +1,6 @@
 pub mod Bits
 pub mod Words
+pub mod Pairings
 pub mod Made
 pub mod Combined
 pub mod Changes

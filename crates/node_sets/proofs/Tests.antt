@@ -4,25 +4,10 @@ use Rattle.std.specs.Int.{bit_not, w32, trailing_zeros}
 use Rattle.std.proofs.lemmas.Bool.{cases_lt, false≢true}
 use lib.Bits.{or_lt, and_lt}
 use Rattle.node_sets.specs.Sets.{AreWords, IsNext, word_at, has}
-use Rattle.node_sets.proofs.Bits.{on, on_zero, on_or, on_and, on_not, none_on, on_shr, on_above, lowest_on}
-use Rattle.node_sets.proofs.Words.{has-on, word_at-lt, word_at-past}
-
--- words that are all 0 hold no number that they are the test of
-pub none_bad : (t : ℕ → ℕ) (bad : ℕ → Bool) (m : ℕ) → ((v : ℕ) → v / 32 < m → on (t (v / 32)) (v % 32) ≡ bad v) → ((k : ℕ) → k < m → t k ≡ 0) → (v : ℕ) → v / 32 < m → bad v ≡ false
-none_bad t bad m bits zeros v l = sym (bits v l) ∙ ap (λ x. on x (v % 32)) (zeros (v / 32) l) ∙ on_zero (v % 32)
-
--- a word that is not 0 holds some number
-pub some_bad : (t : ℕ) (bad : ℕ → Bool) (k : ℕ) → t < 2 ^ 32 → ((j : ℕ) → j < 32 → on t j ≡ bad (32 * k + j)) → t ≢ 0 → ((v : ℕ) → bad v ≡ false) → ⊥
-some_bad t bad k p bits n h = n (none_on t p (λ j l. bits j l ∙ h (32 * k + j)))
-
-pub has_in : (row : List ℤ) (k j : ℕ) → j < 32 → on (word_at row k) j ≡ has row (32 * k + j)
-has_in row k j l =
-    let quotient : (32 * k + j) / 32 ≡ k = omega arith in
-    let rest : (32 * k + j) % 32 ≡ j = omega arith in
-    sym (has-on row (32 * k + j) ∙ ap₂ (λ x y. on (word_at row x) y) quotient rest)
-
-pub has-past : (row : List ℤ) (v : ℕ) → length row ≤ v / 32 → has row v ≡ false
-has-past row v p = has-on row v ∙ ap (λ w. on w (v % 32)) (word_at-past row (v / 32) p) ∙ on_zero (v % 32)
+use Rattle.node_sets.specs.declared.pairing.Pairing.TheVariants.{Difference}
+use Rattle.node_sets.proofs.Bits.{on, on_zero, on_or, on_shr, on_above, lowest_on}
+use Rattle.node_sets.proofs.Words.{has-on, has_in, has-past, some_bad, word_at-lt}
+use Rattle.node_sets.proofs.Pairings.{made_bits}
 
 -- is_empty
 
@@ -36,66 +21,31 @@ empty_all row i l zeros v =
 pub empty_not : (row : List ℤ) (i a : ℕ) → AreWords row → a ≡ word_at row i → a ≢ 0 → ((v : ℕ) → has row v ≡ false) → ⊥
 empty_not row i a cells e n h = some_bad (word_at row i) (has row) i (word_at-lt row i cells) (has_in row i) (λ z. n (e ∙ z)) h
 
--- is_subset, is_disjoint and is_union_subset
+-- what the tests of two sets say
 
-outside : (x y : Bool) → (x ≡ true → y ≡ true) → (x && not y) ≡ false
+pub outside : (x y : Bool) → (x ≡ true → y ≡ true) → (x && not y) ≡ false
 outside true true h = refl
 outside true false h = absurd (false≢true (h refl))
 outside false true h = refl
 outside false false h = refl
 
-within : (x y : Bool) → (x && not y) ≡ false → x ≡ true → y ≡ true
+pub within : (x y : Bool) → (x && not y) ≡ false → x ≡ true → y ≡ true
 within true true e p = refl
 within true false e p = absurd (false≢true (sym e))
 within false y e p = absurd (false≢true p)
 
-apart : (x y : Bool) → (x && y) ≡ false → x ≡ true → y ≡ false
+pub apart : (x y : Bool) → (x && y) ≡ false → x ≡ true → y ≡ false
 apart true true e p = absurd (false≢true (sym e))
 apart true false e p = refl
 apart false y e p = absurd (false≢true p)
 
-both_not : (x y : Bool) → (x ≡ true → y ≡ false) → (x && y) ≡ false
+pub both_not : (x y : Bool) → (x ≡ true → y ≡ false) → (x && y) ≡ false
 both_not true true h = absurd (false≢true (sym (h refl)))
 both_not true false h = refl
 both_not false true h = refl
 both_not false false h = refl
 
-pub outside_bits : (a b k j : ℕ) → b < 2 ^ 32 → j < 32 → on (bit_and a (bit_not w32 b)) j ≡ on a j && not (on b j)
-outside_bits a b k j p l = on_and a (bit_not w32 b) j ∙ ap (λ x. on a j && x) (on_not b j p l)
-
-pub subset_all : (part whole : List ℤ) (i : ℕ) → AreWords whole → length part ≤ i → ((k : ℕ) → k < i → bit_and (word_at part k) (bit_not w32 (word_at whole k)) ≡ 0) → (v : ℕ) → has part v ≡ true → has whole v ≡ true
-subset_all part whole i cells l zeros v =
-    elim (cases_lt (v / 32) i) [
-      | inl m ↦ within (has part v) (has whole v)
-          (ap₂ (λ x y. x && not y) (has-on part v) (has-on whole v) ∙ sym (outside_bits (word_at part (v / 32)) (word_at whole (v / 32)) 0 (v % 32) (word_at-lt whole (v / 32) cells) (omega arith))
-          ∙ ap (λ w. on w (v % 32)) (zeros (v / 32) m) ∙ on_zero (v % 32))
-      | inr m ↦ (λ p. absurd (false≢true (sym (has-past part v (omega arith)) ∙ p)))
-    ]
-
-pub subset_not : (part whole : List ℤ) (i a b : ℕ) → AreWords part → AreWords whole → a ≡ word_at part i → b ≡ word_at whole i → bit_and a (bit_not w32 b) ≢ 0 → ((v : ℕ) → has part v ≡ true → has whole v ≡ true) → ⊥
-subset_not part whole i a b p q e f n h =
-    some_bad (bit_and (word_at part i) (bit_not w32 (word_at whole i))) (λ v. has part v && not (has whole v)) i
-    (and_lt 32 (word_at part i) (bit_not w32 (word_at whole i)) (word_at-lt part i p) (omega arith))
-    (λ j l. outside_bits (word_at part i) (word_at whole i) i j (word_at-lt whole i q) l ∙ ap₂ (λ x y. x && not y) (has_in part i j l) (has_in whole i j l))
-    (λ z. n (ap₂ (λ x y. bit_and x (bit_not w32 y)) e f ∙ z))
-    (λ v. outside (has part v) (has whole v) (h v))
-
-pub disjoint_all : (left right : List ℤ) (i : ℕ) → length left ≤ i → ((k : ℕ) → k < i → bit_and (word_at left k) (word_at right k) ≡ 0) → (v : ℕ) → has left v ≡ true → has right v ≡ false
-disjoint_all left right i l zeros v =
-    elim (cases_lt (v / 32) i) [
-      | inl m ↦ apart (has left v) (has right v)
-          (ap₂ (λ x y. x && y) (has-on left v) (has-on right v) ∙ sym (on_and (word_at left (v / 32)) (word_at right (v / 32)) (v % 32))
-          ∙ ap (λ w. on w (v % 32)) (zeros (v / 32) m) ∙ on_zero (v % 32))
-      | inr m ↦ (λ p. absurd (false≢true (sym (has-past left v (omega arith)) ∙ p)))
-    ]
-
-pub disjoint_not : (left right : List ℤ) (i a b : ℕ) → AreWords left → AreWords right → a ≡ word_at left i → b ≡ word_at right i → bit_and a b ≢ 0 → ((v : ℕ) → has left v ≡ true → has right v ≡ false) → ⊥
-disjoint_not left right i a b p q e f n h =
-    some_bad (bit_and (word_at left i) (word_at right i)) (λ v. has left v && has right v) i
-    (and_lt 32 (word_at left i) (word_at right i) (word_at-lt left i p) (word_at-lt right i q))
-    (λ j l. on_and (word_at left i) (word_at right i) j ∙ ap₂ (λ x y. x && y) (has_in left i j l) (has_in right i j l))
-    (λ z. n (ap₂ bit_and e f ∙ z))
-    (λ v. both_not (has left v) (has right v) (h v))
+-- is_union_subset
 
 either : List ℤ → List ℤ → ℕ → ℕ
 either a b k = bit_or (word_at a k) (word_at b k)
@@ -114,7 +64,7 @@ union_all one two wide more i p q same l zeros v =
     elim (cases_lt (v / 32) i) [
       | inl m ↦ within (has one v || has two v) (has wide v || has more v)
           (ap₂ (λ x y. x && not y) (ap₂ ◌||◌ (has-on one v) (has-on two v) ∙ sym (either-on one two (v / 32) (v % 32))) (ap₂ ◌||◌ (has-on wide v) (has-on more v) ∙ sym (either-on wide more (v / 32) (v % 32)))
-          ∙ sym (outside_bits (either one two (v / 32)) (either wide more (v / 32)) 0 (v % 32) (either-lt wide more (v / 32) p q) (omega arith))
+          ∙ sym (made_bits Difference (either one two (v / 32)) (either wide more (v / 32)) (v % 32) (either-lt wide more (v / 32) p q) (omega arith))
           ∙ ap (λ w. on w (v % 32)) (zeros (v / 32) m) ∙ on_zero (v % 32))
       | inr m ↦ (λ h. absurd (false≢true (sym (ap₂ ◌||◌ (has-past one v (omega arith)) (has-past two v (omega arith))) ∙ h)))
     ]
@@ -124,7 +74,7 @@ unfolding either
 union_not one two wide more i a b c d p q r s ea eb ec ed n h =
     some_bad (bit_and (either one two i) (bit_not w32 (either wide more i))) (λ v. (has one v || has two v) && not (has wide v || has more v)) i
     (and_lt 32 (either one two i) (bit_not w32 (either wide more i)) (either-lt one two i p q) (omega arith))
-    (λ j l. outside_bits (either one two i) (either wide more i) i j (either-lt wide more i r s) l
+    (λ j l. made_bits Difference (either one two i) (either wide more i) j (either-lt wide more i r s) l
     ∙ ap₂ (λ x y. x && not y) (either-on one two i j ∙ ap₂ ◌||◌ (has_in one i j l) (has_in two i j l)) (either-on wide more i j ∙ ap₂ ◌||◌ (has_in wide i j l) (has_in more i j l)))
     (λ z. n (ap₂ (λ x y. bit_and x (bit_not w32 y)) (ap₂ bit_or ea eb) (ap₂ bit_or ec ed) ∙ z))
     (λ v. outside (has one v || has two v) (has wide v || has more v) (h v))

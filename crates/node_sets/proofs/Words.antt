@@ -1,14 +1,20 @@
 -- The words of a row, and its members by them.
-use Rattle.std.proofs.Common.{◌≡◌, ◌≢◌, ℕ, ◌+◌, ◌*◌, ◌/◌, ◌%◌, ◌^◌, ◌<◌, ◌≤◌, ℤ, pos, negsuc, nat_abs, List, length, get_or, set, refl, sym, ap, ap₂, ◌∙◌, subst, arith, inl, inr, get_or-set_same, get_or-set_other}
+use Rattle.std.proofs.Common.{◌≡◌, ◌≢◌, ℕ, Bool, false, ◌+◌, ◌*◌, ◌/◌, ◌%◌, ◌^◌, ◌<◌, ◌≤◌, ℤ, pos, negsuc, nat_abs, List, length, get_or, set, refl, sym, ap, ap₂, ◌∙◌, subst, arith, inl, inr, get_or-set_same, get_or-set_other}
 use Rattle.std.proofs.lemmas.Int.{ints}
 use Rattle.std.proofs.lemmas.Bool.{cases_eq, cases_lt}
 use Rattle.std.proofs.lemmas.List.{get_or_past, ext_get_or, length-set}
 use Rattle.node_sets.specs.Sets.{IsWord, AreWords, word_at, has}
-use Rattle.node_sets.proofs.Bits.{on, same_word}
+use Rattle.node_sets.proofs.Bits.{on, on_zero, none_on, same_word}
 
 pub has-on : (row : List ℤ) (v : ℕ) → has row v ≡ on (word_at row (v / 32)) (v % 32)
 unfolding has word_at
 has-on row v = refl
+
+pub has_in : (row : List ℤ) (k j : ℕ) → j < 32 → on (word_at row k) j ≡ has row (32 * k + j)
+has_in row k j l =
+    let quotient : (32 * k + j) / 32 ≡ k = omega arith in
+    let rest : (32 * k + j) % 32 ≡ j = omega arith in
+    sym (has-on row (32 * k + j) ∙ ap₂ (λ x y. on (word_at row x) y) quotient rest)
 
 word_lt : (z : ℤ) → IsWord z → nat_abs z < 2 ^ 32
 word_lt (pos n) w = omega (arith, ints)
@@ -29,6 +35,17 @@ cell_is row i w = word_is (get_or row i (pos 0)) (w i)
 pub word_at-past : (row : List ℤ) (i : ℕ) → length row ≤ i → word_at row i ≡ 0
 unfolding word_at
 word_at-past row i p = ap nat_abs (get_or_past row i (pos 0) p)
+
+pub has-past : (row : List ℤ) (v : ℕ) → length row ≤ v / 32 → has row v ≡ false
+has-past row v p = has-on row v ∙ ap (λ w. on w (v % 32)) (word_at-past row (v / 32) p) ∙ on_zero (v % 32)
+
+-- words that are all 0 hold no number that they are the test of
+pub none_bad : (t : ℕ → ℕ) (bad : ℕ → Bool) (m : ℕ) → ((v : ℕ) → v / 32 < m → on (t (v / 32)) (v % 32) ≡ bad v) → ((k : ℕ) → k < m → t k ≡ 0) → (v : ℕ) → v / 32 < m → bad v ≡ false
+none_bad t bad m bits zeros v l = sym (bits v l) ∙ ap (λ x. on x (v % 32)) (zeros (v / 32) l) ∙ on_zero (v % 32)
+
+-- a word that is not 0 holds some number
+pub some_bad : (t : ℕ) (bad : ℕ → Bool) (k : ℕ) → t < 2 ^ 32 → ((j : ℕ) → j < 32 → on t j ≡ bad (32 * k + j)) → t ≢ 0 → ((v : ℕ) → bad v ≡ false) → ⊥
+some_bad t bad k p bits n h = n (none_on t p (λ j l. bits j l ∙ h (32 * k + j)))
 
 pub word_at-set_same : (row : List ℤ) (i w : ℕ) → i < length row → word_at (set row i (pos w)) i ≡ w
 unfolding word_at
@@ -57,7 +74,4 @@ same_row a b p q l h =
     ext_get_or (pos 0) a b l (λ i k. cell_is a i p ∙ ap pos (same_word (word_at a i) (word_at b i) (word_at-lt a i p) (word_at-lt b i q) (same i k)) ∙ sym (cell_is b i q))
   where
     same : (i : ℕ) → i < length a → (k : ℕ) → k < 32 → on (word_at a i) k ≡ on (word_at b i) k
-    same i k j m =
-        let quotient : (32 * i + j) / 32 ≡ i = omega arith in
-        let rest : (32 * i + j) % 32 ≡ j = omega arith in
-        sym (has-on a (32 * i + j) ∙ ap₂ (λ x y. on (word_at a x) y) quotient rest) ∙ h (32 * i + j) (omega arith) ∙ (has-on b (32 * i + j) ∙ ap₂ (λ x y. on (word_at b x) y) quotient rest)
+    same i k j m = has_in a i j m ∙ h (32 * i + j) (omega arith) ∙ sym (has_in b i j m)

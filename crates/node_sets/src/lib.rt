@@ -8,6 +8,7 @@
 mod combine;
 mod iter;
 mod member;
+mod pairing;
 mod test;
 mod word;
 mod write;

@@ -1,10 +1,12 @@
 //! What can be asked of sets.
 
 ghost use Rattle.std.specs.Prelude.{◌≡◌, ℕ, ℤ, List, ◌+◌, ◌*◌, ◌/◌, ◌^◌, ◌<◌, ◌≤◌, ◌↔◌, ◌&&◌, ◌||◌, not, true, false, length, IsTrue, IfSome, IfNone};
+ghost use Rattle.node_sets.specs.Pairs.{made};
 ghost use Rattle.node_sets.specs.Sums.{count_below};
 ghost use Rattle.node_sets.specs.Sets as sets;
 ghost use Rattle.node_sets.specs.Sets.{AreWords, IsNext, has};
 
+use crate::pairing::Pairing;
 use crate::word::word;
 
 /// How many cells hold the numbers below `n`.
@@ -72,12 +74,7 @@ pub fn is_subset(part: &[i64], whole: &[i64]) -> bool
     requires same { length part.now ≡ length whole.now }
     ensures { IsTrue result ↔ ((v : ℕ) → has part.now v ≡ true → has whole.now v ≡ true) }
 {
-    for i in 0..part.len() {
-        if word(part, i) & !word(whole, i) != 0 {
-            return false;
-        }
-    }
-    true
+    is_none(part, whole, Pairing::Difference)
 }
 
 /// Whether no number is a member of both.
@@ -87,8 +84,19 @@ pub fn is_disjoint(left: &[i64], right: &[i64]) -> bool
     requires same { length left.now ≡ length right.now }
     ensures { IsTrue result ↔ ((v : ℕ) → has left.now v ≡ true → has right.now v ≡ false) }
 {
+    is_none(left, right, Pairing::Intersection)
+}
+
+// Whether no number is in what is made of both.
+#[inline]
+fn is_none(left: &[i64], right: &[i64], how: Pairing) -> bool
+    requires left_cells { AreWords left.now }
+    requires right_cells { AreWords right.now }
+    requires same { length left.now ≡ length right.now }
+    ensures { IsTrue result ↔ ((v : ℕ) → made how (has left.now v) (has right.now v) ≡ false) }
+{
     for i in 0..left.len() {
-        if word(left, i) & word(right, i) != 0 {
+        if how.words(word(left, i), word(right, i)) != 0 {
             return false;
         }
     }

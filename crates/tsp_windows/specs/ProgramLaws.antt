@@ -7,7 +7,7 @@ use Rattle.std.proofs.lemmas.List.{get_or-take, get_or-drop}
 use Rattle.node_sets.specs.Sums.{count_below}
 use Rattle.node_sets.specs.Sets.{IsWord, IsSet, is_set, row_of, words_for}
 use Rattle.node_sets.proofs.Below.{and_left, and_right, all_below-from, sum_below-le}
-use Rattle.node_sets.proofs.Tests.{has-past}
+use Rattle.node_sets.proofs.Words.{has-past}
 use Rattle.node_sets.proofs.Counts.{is_set-gives, is_set-from}
 use Rattle.node_sets.proofs.Made.{length-row_of, AreWords-row_of, has-row_of}
 use Rattle.dp_model.specs.Lists.{Each}

@@ -4,7 +4,7 @@ use Rattle.std.proofs.Math.Path.{fun_ext}
 use Rattle.std.proofs.lemmas.Bool.{cases_lt}
 use Rattle.std.proofs.lemmas.List.{take_at, drop_at, drop-drop, get_or-append_right, length-append}
 use Rattle.node_sets.specs.Sets.{has, row_of, words_for}
-use Rattle.node_sets.proofs.Tests.{has-past}
+use Rattle.node_sets.proofs.Words.{has-past}
 use Rattle.node_sets.proofs.Made.{length-row_of, has-row_of}
 use Rattle.tsp_windows.specs.States.{TourState, positions_of, must_of, may_of, time_of, shown, row_for}
 

@@ -1,5 +1,5 @@
 -- Tours as lists of decisions, from a state on: what they say of the states that cover it, and what they cost at least.
-use Rattle.std.proofs.Common.{◌≡◌, ◌≢◌, ℕ, ◌+◌, ◌<◌, ◌≤◌, ℤ, pos, ◌+ℤ◌, ◌-ℤ◌, Bool, true, false, not, ◌&&◌, ◌||◌, nat_eq, nat_le, List, [], ◌∷◌, length, refl, sym, ap, ◌∙◌, subst, arith, inl, inr, ◌⊎◌, eq-eqb}
+use Rattle.std.proofs.Common.{◌≡◌, ◌≢◌, ℕ, ◌+◌, ◌<◌, ◌≤◌, ℤ, pos, ◌+ℤ◌, ◌-ℤ◌, Bool, true, false, not, ◌&&◌, ◌||◌, nat_eq, nat_le, List, [], ◌∷◌, length, refl, sym, ap, ◌∙◌, subst, arith, inl, inr, ◌⊎◌, ⊎_elim, eq-eqb}
 use Rattle.std.specs.Prelude.{is_some, unwrap_or}
 use Rattle.std.proofs.lemmas.Int.{ints}
 use Rattle.std.proofs.lemmas.Bool.{cases_eq, cases_lt, false≢true}
@@ -74,23 +74,24 @@ open_joined false false false true h = refl
 open_joined false false false false (inl e) = absurd (false≢true e)
 open_joined false false false false (inr e) = absurd (false≢true e)
 
+-- what is joined covers a state that has no test and no time beyond those of the two
+joined-covers : (n : ℕ) (a b s : TourState) → ((test : TourState → Bool) → test s ≡ true → (test a ≡ true) ⊎ (test b ≡ true)) →
+    ((test : TourState → Bool) → (test a && test b) ≡ true → test s ≡ true) → (joined a b).time ≤ s.time → Covers n (joined a b) s
+unfolding joined
+joined-covers n a b s some both time = record {
+  positions = λ v l e. ⊎_elim (or_left (a.positions v) (b.positions v)) (or_right (a.positions v) (b.positions v)) (some (λ t. t.positions v) e);
+  must = λ v l e. both (λ t. t.must v) e;
+  pending = λ v l e. open_joined (a.must v) (a.may v) (b.must v) (b.may v) (some (λ t. is_open t v) e);
+  time = time;
+}
+
 pub joined-covers-left : (n : ℕ) (a b : TourState) → Covers n (joined a b) a
 unfolding joined
-joined-covers-left n a b = record {
-  positions = λ v l e. or_left (a.positions v) (b.positions v) e;
-  must = λ v l e. and_left (a.must v) (b.must v) e;
-  pending = λ v l e. open_joined (a.must v) (a.may v) (b.must v) (b.may v) (inl e);
-  time = omega arith;
-}
+joined-covers-left n a b = joined-covers n a b a (λ test e. inl e) (λ test e. and_left (test a) (test b) e) (omega arith)
 
 pub joined-covers-right : (n : ℕ) (a b : TourState) → Covers n (joined a b) b
 unfolding joined
-joined-covers-right n a b = record {
-  positions = λ v l e. or_right (a.positions v) (b.positions v) e;
-  must = λ v l e. and_right (a.must v) (b.must v) e;
-  pending = λ v l e. open_joined (a.must v) (a.may v) (b.must v) (b.may v) (inr e);
-  time = omega arith;
-}
+joined-covers-right n a b = joined-covers n a b b (λ test e. inr e) (λ test e. and_right (test a) (test b) e) (omega arith)
 
 leg-within : (i : Instance) (a b : TourState) (d : ℕ) → Covers i.nodes a b → NoMore (leg i a d) (leg i b d)
 unfolding leg

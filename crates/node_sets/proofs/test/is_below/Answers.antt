@@ -1,6 +1,7 @@
 use Rattle.std.proofs.Common.{arith, refl, eq-eqb}
 use Rattle.std.proofs.lemmas.Bool.{eqb-true}
-use Rattle.node_sets.proofs.Tests.{has-past, above_zero, above_some}
+use Rattle.node_sets.proofs.Words.{has-past}
+use Rattle.node_sets.proofs.Tests.{above_zero, above_some}
 use Rattle.node_sets.proofs.test.is_below.Goals as goal
 
 pub returns-then-n-eq0 : goal.returns-then-n-eq0

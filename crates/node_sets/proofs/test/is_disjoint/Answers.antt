@@ -1,10 +1,5 @@
-use Rattle.std.proofs.Common.{arith, refl}
-use Rattle.std.proofs.lemmas.Bool.{false≢true}
-use Rattle.node_sets.proofs.Tests.{disjoint_all, disjoint_not}
+use Rattle.node_sets.proofs.Tests.{apart, both_not}
 use Rattle.node_sets.proofs.test.is_disjoint.Goals as goal
 
-pub returns-then-word-ne0 : goal.returns-then-word-ne0
-returns-then-word-ne0 c = (λ e. absurd (false≢true e), λ h. absurd (disjoint_not _ _ c.loop-i.i _ _ c.requires.left_cells c.requires.right_cells c.word.ensures c.word-in-loop-i.ensures (omega arith) h))
-
 pub returns : goal.returns
-returns c = (λ _. disjoint_all _ _ c.loop-i.i (omega arith) c.loop-i.invariant, λ _. refl)
+returns c = (λ e v. apart _ _ (c.is_none.ensures.0 e v), λ h. c.is_none.ensures.1 (λ v. both_not _ _ (h v)))

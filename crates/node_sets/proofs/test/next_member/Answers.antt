@@ -1,5 +1,6 @@
 use Rattle.std.proofs.Common.{arith}
-use Rattle.node_sets.proofs.Tests.{has-past, none_in_first, next_in_first, none_in_word, next_in_word, none_at_end}
+use Rattle.node_sets.proofs.Words.{has-past}
+use Rattle.node_sets.proofs.Tests.{none_in_first, next_in_first, none_in_word, next_in_word, none_at_end}
 use Rattle.node_sets.proofs.test.next_member.Goals as goal
 
 pub returns-then-from-row-clause-none : goal.returns-then-from-row-clause-none

@@ -1,6 +1,0 @@
-use Rattle.std.proofs.Common.{bit_or}
-use Rattle.node_sets.proofs.Combined.{IsRewritten, combined}
-use Rattle.node_sets.proofs.combine.union_with.Given as goal
-
-abbrev pub invariant-loop-i : goal.invariant-loop-i
-invariant-loop-i l = IsRewritten (combined (λ x y. bit_or x y) l.initial.row l.other) l.initial.row l.row l.i
