@@ -84,14 +84,18 @@ limit-small i k m kept h =
 
 -- a pass that tests the limits
 
-pub within-more : (ts ls : List ℤ) (i : ℕ) (answer : Bool) (limit : ℤ) → i < length ts → length ts ≡ length ls → SFits w64 (get_or ts i (pos 0)) → LimitIsSmall limit →
-    answer ≡ is_within (to_z w64 (of_z w64 (get_or ts i (pos 0)))) (to_z w64 (of_z w64 limit)) → limit ≡ get_or ls i (pos 0) →
-    are_within (drop i ts) (drop i ls) ≡ are_within ts ls → are_within ts ls ≡ (answer && are_within (drop (i + 1) ts) (drop (i + 1) ls))
-within-more ts ls i answer limit h e fits small is limit_is before =
-    let below : i < length ls = omega arith in
-    let limit_read : to_z w64 (of_z w64 limit) ≡ limit = omega (arith, ints) in
-    let here : answer ≡ is_within (get_or ts i (pos 0)) (get_or ls i (pos 0)) = rw (to_z-of_z w64 (get_or ts i (pos 0)) fits, limit_read, limit_is) at is in
-    rw here (sym before ∙ rw (drop_more ts i (pos 0) h, drop_more ls i (pos 0) below) refl)
+pub within-more : (i : Instance) (k m : ℕ) (ts : List ℤ) (answer : Bool) (limit : ℤ) → IsKept i → k ≤ length i.units → length ts + k ≡ words_of (length i.units) → m < length ts →
+    SFits w64 (get_or ts m (pos 0)) → answer ≡ is_within (to_z w64 (of_z w64 (get_or ts m (pos 0)))) (to_z w64 (of_z w64 limit)) → limit ≡ get_or (limits_at i.units i.pairs k) m (pos 0) →
+    are_within (drop m ts) (drop m (limits_at i.units i.pairs k)) ≡ are_within ts (limits_at i.units i.pairs k) →
+    are_within ts (limits_at i.units i.pairs k) ≡ (answer && are_within (drop (m + 1) ts) (drop (m + 1) (limits_at i.units i.pairs k)))
+within-more i k m ts answer limit kept layer cells h fits is limit_is before =
+    let ls : List ℤ = limits_at i.units i.pairs k in
+    let count = (limits i k kept layer).count in
+    let below : m < length ls = omega arith in
+    let small : LimitIsSmall limit = rw limit_is (limit-small i k m kept layer) in
+    let limit_read : to_z w64 (of_z w64 limit) ≡ limit = omega (arith, ints, small.low, small.high) in
+    let here : answer ≡ is_within (get_or ts m (pos 0)) (get_or ls m (pos 0)) = rw (to_z-of_z w64 (get_or ts m (pos 0)) fits, limit_read, limit_is) at is in
+    rw here (sym before ∙ rw (drop_more ts m (pos 0) h, drop_more ls m (pos 0) below) refl)
 
 pub within-done : (ts ls : List ℤ) (i : ℕ) → length ts ≤ i → are_within (drop i ts) (drop i ls) ≡ are_within ts ls → true ≡ are_within ts ls
 within-done ts ls i h before = ap (λ us. are_within us (drop i ls)) (sym (drop_all i ts h)) ∙ before
@@ -136,13 +140,10 @@ pub record LimitAdds (i : Instance) (j v : ℕ) (total weight : ℤ) : Type 0 wh
   pub total_low : pos 0 ≤ℤ total
   pub weight_low : pos 0 ≤ℤ weight
 
-pub limit-adds : (i : Instance) (j v : ℕ) (row : List PairWeights) (total weight : ℤ) → IsKept i → j < v → v < length i.units →
-    row ≡ row_at (rows_of (length i.units) i.pairs) j → total ≡ get_or (limits_at i.units i.pairs j) (v - j) (pos 0) →
-    weight ≡ pair_total (get_or row (v - j - 1) no_pair) → LimitAdds i j v total weight
-limit-adds i j v row total weight kept h g is total_is weight_is =
-    let there = pair-there i j v row kept h g is in
-    let positive = there.positive in
-    let there_weight : weight ≡ pair_total (get_or (row_at (rows_of (length i.units) i.pairs) j) (v - j - 1) no_pair) = weight_is ∙ ap (λ r. pair_total (get_or r (v - j - 1) no_pair)) is in
+pub limit-adds : (i : Instance) (j v : ℕ) (total weight : ℤ) → IsKept i → j < v → v < length i.units → total ≡ get_or (limits_at i.units i.pairs j) (v - j) (pos 0) →
+    weight ≡ pair_total (get_or (row_at (rows_of (length i.units) i.pairs) j) (v - j - 1) no_pair) → LimitAdds i j v total weight
+limit-adds i j v total weight kept h g total_is weight_is =
+    let positive = (pair-there i j v (row_at (rows_of (length i.units) i.pairs) j) kept h g refl).positive in
     let more = limit-more i j v kept h g in
     let before = limit-small i j (v - j) kept (omega arith) in
     let after = limit-small i (j + 1) (v - (j + 1)) kept (omega arith) in

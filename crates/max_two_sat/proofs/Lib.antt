@@ -10,4 +10,6 @@ pub mod Summing
 pub mod PrintedLines
 pub mod RoundTrip
 pub mod Folding
+pub mod Standing
 pub mod ReadsBack
+pub mod TextLengths

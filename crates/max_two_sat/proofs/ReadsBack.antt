@@ -1,9 +1,8 @@
 -- The canonical text is read as the instance.
-use Rattle.std.proofs.Common.{◌≡◌, ℕ, zero, suc, ◌+◌, ◌^◌, ◌<◌, ◌≤◌, ℤ, pos, ◌+ℤ◌, ◌≤ℤ◌, Bool, true, false, List, [], ◌∷◌, ◌++◌, length, take, drop, refl, arith, ap, sym, subst, ◌∙◌, append_assoc, append-nil}
-use Rattle.std.specs.Prelude.{Result, Ok, IsTrue, fold, int_lt, if◌then◌else◌}
+use Rattle.std.proofs.Common.{◌≡◌, ℕ, ◌^◌, ◌≤◌, pos, ◌+ℤ◌, ◌≤ℤ◌, true, false, List, [], ◌∷◌, ◌++◌, length, refl, arith, ap, sym, subst, ◌∙◌, append_assoc, append-nil}
+use Rattle.std.specs.Prelude.{Result, Ok, fold}
 use Rattle.std.specs.List.{flat_map}
 use Rattle.std.proofs.lemmas.Int.{ints}
-use Rattle.std.proofs.lemmas.List.{length-append, length-drop, length-take-le}
 use Rattle.dd_text.specs.declared.comment.Comment.{Comment}
 use Rattle.dd_text.specs.Text.{TextState, text_start, opens_comment, after_token}
 use Rattle.dd_text.specs.Decimal.{decimal_of}
@@ -13,125 +12,20 @@ use Rattle.dd_text.specs.declared.comment.Comment.TheVariants.{LetterC}
 use Rattle.dd_text.specs.declared.instance_error.InstanceError.{InstanceError}
 use Rattle.dd_text.proofs.Printing.{before_start, before_behind, reads_number, reads_word, no_token_before, ends_line_LF}
 use Rattle.dd_text.proofs.Repeats.{times_reads}
-use Rattle.max_two_sat.specs.declared.clause.Literals.{Literals}
-use Rattle.max_two_sat.specs.declared.clause.Literals.TheVariants.{One, Two}
-use Rattle.max_two_sat.specs.declared.weights.UnitWeights.{UnitWeights}
-use Rattle.max_two_sat.specs.declared.weights.PairWeights.{PairWeights}
 use Rattle.max_two_sat.specs.Clauses.{Gathered, gathered_with, nothing_gathered}
-use Rattle.max_two_sat.specs.Instance.{Instance, rows_of, pair_count, unit_total, pair_total, units_total, pairs_total}
-use Rattle.max_two_sat.specs.Kept.{IsKept, PairIsPositive, UnitIsPositive, pairs_are_positive, units_are_positive, pair_is_positive, unit_is_positive, unit-positive, pair-positive, and-left, and-right}
-use Rattle.max_two_sat.specs.Lines.{Clause, clause_where, clauses_of, line_count, literal, tautology_lines, unit_lines, units_lines, pair_lines, row_lines, rows_lines, weighs, units_weighing, pairs_weighing}
+use Rattle.max_two_sat.specs.Instance.{Instance}
+use Rattle.max_two_sat.specs.Kept.{IsKept}
+use Rattle.max_two_sat.specs.Lines.{Clause, clauses_of, line_count}
 use Rattle.max_two_sat.specs.Printed.{first_line_of, line_of, text_of}
 use Rattle.max_two_sat.specs.Texts.{clause_at, ends_clauses, ends_token, form_at, header_at, instance_at, letter_at, top_at}
-use Rattle.max_two_sat.specs.Totals.{all-drop, all-take, total_by-cut}
 use Rattle.max_two_sat.proofs.Folding.{add_to, clauses-added}
-use Rattle.max_two_sat.proofs.RoundTrip.{ClauseStands, LiteralsStand, header_of, reads_clause}
-
--- the clauses stand, and weigh and count so much
-
-abbrev AllStand : ℕ → List Clause → Type 0
-AllStand n [] = Unit {0}
-AllStand n (x ∷ xs) = ClauseStands n x × AllStand n xs
-
-abbrev weights_of : List Clause → ℤ
-weights_of [] = pos 0
-weights_of (x ∷ xs) = x.weight +ℤ weights_of xs
-
-record StandsAs (n : ℕ) (xs : List Clause) (total : ℤ) (count : ℕ) : Type 0 where
-  stand : AllStand n xs
-  weight : weights_of xs ≡ total
-  many : length xs ≡ count
-
-all-append : (n : ℕ) (xs ys : List Clause) → AllStand n xs → AllStand n ys → AllStand n (xs ++ ys)
-all-append n [] ys h g = g
-all-append n (x ∷ xs) ys h g = (h.0, all-append n xs ys h.1 g)
-
-weights-append : (xs ys : List Clause) → weights_of (xs ++ ys) ≡ weights_of xs +ℤ weights_of ys
-weights-append [] ys = omega (arith, ints)
-weights-append (x ∷ xs) ys = omega (arith, ints, weights-append xs ys)
-
-stands-both : (n : ℕ) (xs ys : List Clause) (s t u : ℤ) (a b c : ℕ) → StandsAs n xs s a → StandsAs n ys t b → s +ℤ t ≡ u → a + b ≡ c → StandsAs n (xs ++ ys) u c
-stands-both n xs ys s t u a b c one two sum count = record {
-  stand = all-append n xs ys one.stand two.stand;
-  weight = omega (arith, ints, weights-append xs ys, one.weight, two.weight);
-  many = omega (arith, length-append xs ys, one.many, two.many);
-}
-
-zero-weight : (w : ℤ) → pos 0 ≤ℤ w → int_lt (pos 0) w ≡ false → pos 0 ≡ w
-zero-weight w low test = grind (arith, ints)
-
-stands-where : (n : ℕ) (w : ℤ) (literals : Literals) → pos 0 ≤ℤ w → (int_lt (pos 0) w ≡ true → LiteralsStand n literals) → StandsAs n (clause_where w literals) w (weighs w)
-stands-where n w literals low fits =
-    elim (int_lt (pos 0) w) as (λ t. int_lt (pos 0) w ≡ t → StandsAs n (if t then record { weight = w; literals = literals } ∷ [] else []) w (if t then 1 else 0)) [
-      | true ↦ λ e. record { stand = (record { low = low; literals = fits e }, tt); weight = omega (arith, ints); many = refl }
-      | false ↦ λ e. record { stand = tt; weight = zero-weight w low e; many = refl }
-    ] refl
-
-unit-stands : (n v : ℕ) (u : UnitWeights) → v < n → UnitIsPositive u → StandsAs n (unit_lines v u) (unit_total u) (weighs u.positive + weighs u.negative)
-unit-stands n v u h here =
-    stands-both n (clause_where u.positive (One (literal v true))) (clause_where u.negative (One (literal v false))) u.positive u.negative (unit_total u) (weighs u.positive) (weighs u.negative) _
-    (stands-where n u.positive (One (literal v true)) here.positive (λ e. h)) (stands-where n u.negative (One (literal v false)) here.negative (λ e. h)) refl refl
-
-units-stand : (n : ℕ) (us : List UnitWeights) (v : ℕ) → v + length us ≤ n → IsTrue (units_are_positive us) → StandsAs n (units_lines v us) (units_total us) (units_weighing us)
-units-stand n [] v h g = record { stand = tt; weight = refl; many = refl }
-units-stand n (u ∷ us) v h g =
-    stands-both n (unit_lines v u) (units_lines (v + 1) us) (unit_total u) (units_total us) (units_total (u ∷ us)) _ _ (units_weighing (u ∷ us))
-    (unit-stands n v u (omega arith) (unit-positive u (and-left _ _ g))) (units-stand n us (v + 1) (omega arith) (and-right (unit_is_positive u) _ g)) refl refl
-
-pair-stands : (n i j : ℕ) (p : PairWeights) → i < n → j < n → PairIsPositive p →
-    StandsAs n (pair_lines i j p) (pair_total p) ((weighs p.both + weighs p.first) + (weighs p.second + weighs p.neither))
-pair-stands n i j p h g here =
-    let one = stands-where n p.both (Two (literal i true) (literal j true)) here.both (λ e. (h, g)) in
-    let two = stands-where n p.first (Two (literal i true) (literal j false)) here.first (λ e. (h, g)) in
-    let three = stands-where n p.second (Two (literal i false) (literal j true)) here.second (λ e. (h, g)) in
-    let four = stands-where n p.neither (Two (literal i false) (literal j false)) here.neither (λ e. (h, g)) in
-    let last = stands-both n _ _ p.second p.neither (p.second +ℤ p.neither) (weighs p.second) (weighs p.neither) (weighs p.second + weighs p.neither) three four refl refl in
-    let rest = stands-both n _ _ p.first (p.second +ℤ p.neither) (p.first +ℤ (p.second +ℤ p.neither)) (weighs p.first) (weighs p.second + weighs p.neither) (weighs p.first + (weighs p.second + weighs p.neither)) two last refl refl in
-    stands-both n _ _ p.both (p.first +ℤ (p.second +ℤ p.neither)) (pair_total p) (weighs p.both) (weighs p.first + (weighs p.second + weighs p.neither)) _ one rest (omega (arith, ints)) (omega arith)
-
-row-stands : (n i : ℕ) (ps : List PairWeights) (j : ℕ) → i < j → j + length ps ≤ n → IsTrue (pairs_are_positive ps) → StandsAs n (row_lines i j ps) (pairs_total ps) (pairs_weighing ps)
-row-stands n i [] j h g positive = record { stand = tt; weight = refl; many = refl }
-row-stands n i (p ∷ ps) j h g positive =
-    stands-both n (pair_lines i j p) (row_lines i (j + 1) ps) (pair_total p) (pairs_total ps) (pairs_total (p ∷ ps)) _ _ (pairs_weighing (p ∷ ps))
-    (pair-stands n i j p (omega arith) (omega arith) (pair-positive p (and-left _ _ positive))) (row-stands n i ps (j + 1) (omega arith) (omega arith) (and-right (pair_is_positive p) _ positive)) refl refl
-
-weighing-cut : (m : ℕ) (ps : List PairWeights) → pairs_weighing (take m ps) + pairs_weighing (drop m ps) ≡ pairs_weighing ps
-weighing-cut zero ps = omega arith
-weighing-cut (suc m) [] = refl
-weighing-cut (suc m) (p ∷ ps) = omega (arith, weighing-cut m ps)
-
-rows-stand : (n m : ℕ) (ps : List PairWeights) (i : ℕ) → i + m ≤ n → length ps ≡ pair_count m → IsTrue (pairs_are_positive ps) → StandsAs n (rows_lines i (rows_of m ps)) (pairs_total ps) (pairs_weighing ps)
-rows-stand n zero [] i h e positive = record { stand = tt; weight = refl; many = refl }
-rows-stand n zero (p ∷ ps) i h e positive = absurd (omega arith)
-rows-stand n (suc m) ps i h e positive =
-    stands-both n (row_lines i (i + 1) (take m ps)) (rows_lines (i + 1) (rows_of m (drop m ps))) (pairs_total (take m ps)) (pairs_total (drop m ps)) (pairs_total ps)
-    (pairs_weighing (take m ps)) (pairs_weighing (drop m ps)) (pairs_weighing ps)
-    (row-stands n i (take m ps) (i + 1) (omega arith) (omega (arith, length-take-le m ps (omega arith))) (all-take pair_is_positive m ps positive))
-    (rows-stand n m (drop m ps) (i + 1) (omega arith) (omega (arith, length-drop m ps)) (all-drop pair_is_positive m ps positive)) (total_by-cut pair_total m ps) (weighing-cut m ps)
-
-tautology-stands : (n : ℕ) (w : ℤ) → pos 0 ≤ℤ w → weighs w ≤ n → int_lt (pos 0) w ≡ true → LiteralsStand n (Two (literal 0 true) (literal 0 false))
-tautology-stands n w low some test =
-    let one : 1 ≤ n = subst (λ (b : Bool). (if b then 1 else 0) ≤ n) test some in
-    (omega arith, omega arith)
-
-clauses-stand : (i : Instance) → IsKept i → StandsAs (length i.units) (clauses_of i) (i.tautologies +ℤ (units_total i.units +ℤ pairs_total i.pairs)) (line_count i)
-unfolding clauses_of
-clauses-stand i kept =
-    let n : ℕ = length i.units in
-    let units = units-stand n i.units 0 (omega arith) kept.units in
-    let rows = rows-stand n n i.pairs 0 (omega arith) kept.whole kept.pairs in
-    let both = stands-both n _ _ (units_total i.units) (pairs_total i.pairs) (units_total i.units +ℤ pairs_total i.pairs) (units_weighing i.units) (pairs_weighing i.pairs) (units_weighing i.units + pairs_weighing i.pairs) units rows refl refl in
-    stands-both n (tautology_lines i.tautologies) _ i.tautologies (units_total i.units +ℤ pairs_total i.pairs) _ (weighs i.tautologies) (units_weighing i.units + pairs_weighing i.pairs) _
-    (stands-where n i.tautologies (Two (literal 0 true) (literal 0 false)) kept.tautologies (tautology-stands n i.tautologies kept.tautologies kept.some)) both refl refl
+use Rattle.max_two_sat.proofs.RoundTrip.{header_of, reads_clause}
+use Rattle.max_two_sat.proofs.Standing.{AllStand, weights_of, clauses-stand, weights-positive}
 
 -- reading them one after another
 
 abbrev gather : Gathered → Clause → Gathered
 gather g x = gathered_with g x.weight x.literals
-
-weights-positive : (n : ℕ) (xs : List Clause) → AllStand n xs → pos 0 ≤ℤ weights_of xs
-weights-positive n [] h = omega (arith, ints)
-weights-positive n (x ∷ xs) h = omega (arith, ints, h.0.low, weights-positive n xs h.1)
 
 record Ready (n : ℕ) (made : Gathered) (xs : List Clause) : Type 0 where
   stand : AllStand n xs

@@ -1,5 +1,5 @@
 /// The first line of a text.
-#[derive(Clone, Copy, Debug)]
+#[derive(Clone, Copy)]
 pub(crate) struct Header {
     /// The number of variables.
     pub(crate) variables: usize,
@@ -10,7 +10,7 @@ pub(crate) struct Header {
 }
 
 /// Whether clauses have weights.
-#[derive(Clone, Copy, Debug)]
+#[derive(Clone, Copy)]
 pub(crate) enum Form {
     /// Each clause weighs 1.
     Plain,

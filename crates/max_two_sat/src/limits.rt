@@ -1,5 +1,5 @@
-ghost use Rattle.std.specs.Prelude.{◌≡◌, ◌^◌, ◌+◌, ◌<◌, ◌≤◌, ◌≤ℤ◌, length, pos, slice_index_or};
-ghost use Rattle.max_two_sat.specs.Instance.{pair_total, unit_total, without_tautologies};
+ghost use Rattle.std.specs.Prelude.{◌≡◌, ◌^◌, ◌+◌, ◌-◌, ◌<◌, ◌≤◌, ◌≤ℤ◌, length, pos, slice_index_or};
+ghost use Rattle.max_two_sat.specs.Instance.{no_pair, pair_total, row_at, rows_of, unit_total, without_tautologies};
 ghost use Rattle.max_two_sat.specs.Kept.{IsKept, PairIsPositive, UnitIsPositive};
 ghost use Rattle.max_two_sat.specs.Program.{are_within, limits_at, words_of};
 
@@ -42,10 +42,20 @@ fn limit_of(units: &[UnitWeights], pairs: &[PairWeights], k: usize, index: usize
     }
     let mut total = unit_sum(units[variable]);
     for before in 0..k {
-        let row = row_of(pairs, units.len(), before);
-        total += pair_sum(row[variable - before - 1]);
+        total += weight_between(units, pairs, before, variable);
     }
     total
+}
+
+/// What all clauses on two variables weigh, of which the first is the lesser.
+fn weight_between(units: &[UnitWeights], pairs: &[PairWeights], first: usize, second: usize) -> i64
+    requires kept { IsKept (without_tautologies units.now pairs.now) }
+    requires lesser { first < second }
+    requires variable { second < length units.now }
+    ensures { result ≡ pair_total (slice_index_or (row_at (rows_of (length units.now) pairs.now) first) (second - first - 1) no_pair) }
+{
+    let row = row_of(pairs, units.len(), first);
+    pair_sum(row[second - first - 1])
 }
 
 /// What all clauses on two variables weigh.

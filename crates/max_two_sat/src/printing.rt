@@ -1,6 +1,6 @@
 //! The canonical text of an instance.
 
-ghost use Rattle.std.specs.Prelude.{◌≡◌, ◌++◌, length, IfOk, OnOk, Ok};
+ghost use Rattle.std.specs.Prelude.{◌≡◌, ◌^◌, ◌≤◌, ◌++◌, length, IfOk, OnOk, Ok};
 ghost use Rattle.std.specs.List.{flat_map};
 ghost use Rattle.dd_text.specs.Text.{text_start};
 ghost use Rattle.dd_text.specs.declared.comment.Comment.TheVariants.{LetterC};
@@ -21,6 +21,7 @@ use std::alloc::{AllocError, Global};
 /// `i < j` those of the four signs.
 pub fn print(alloc: Global, model: &MaxTwoSat) -> Result<Vec<u8>, AllocError>
     ensures text { IfOk result (λ v. v.items ≡ text_of (instance_in model.now)) }
+    ensures short { IfOk result (λ v. length v.items ≤ 2 ^ 30) }
     ensures reads_back { IfOk result (λ v. instance_at (text_start LetterC v.items) ≡ Ok (instance_in model.now)) }
 {
     let text = printed(alloc, model)?;

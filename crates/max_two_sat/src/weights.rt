@@ -1,5 +1,5 @@
 /// What the clauses with one literal on a variable weigh.
-#[derive(Clone, Copy, Debug)]
+#[derive(Clone, Copy)]
 pub(crate) struct UnitWeights {
     /// The clauses whose literal is positive.
     pub(crate) positive: i64,
@@ -16,7 +16,7 @@ impl UnitWeights {
 }
 
 /// What the clauses on two different variables weigh, by which of the two literals are positive.
-#[derive(Clone, Copy, Debug)]
+#[derive(Clone, Copy)]
 pub(crate) struct PairWeights {
     /// Both literals are positive.
     pub(crate) both: i64,

@@ -3,7 +3,7 @@ use Rattle.std.proofs.lemmas.Int.{ints, to_z-of_z}
 use Rattle.max_two_sat.specs.Instance.{no_unit, without_tautologies}
 use Rattle.max_two_sat.specs.Program.{first_limits}
 use Rattle.max_two_sat.proofs.Cells.{unit-at, unit_total-at}
-use Rattle.max_two_sat.proofs.LayerLimits.{limit-first, limit-small, pair-there, limit-adds}
+use Rattle.max_two_sat.proofs.LayerLimits.{limit-first, limit-small, limit-adds}
 use Rattle.max_two_sat.proofs.Layers.{units-most}
 use Rattle.max_two_sat.proofs.limits.limit_of.Goals as goal
 
@@ -21,33 +21,16 @@ loop-before-init c =
     to_z-of_z w64 c.unit_sum-total.result (record { sfits = c.unit_sum-total.type_inv }) ∙
     (c.unit_sum-total.ensures ∙ (sym (limit-first c.args.units.now (c.args.k + c.args.index) (omega arith)) ∙ ap (λ v. get_or (first_limits c.args.units.now) v (pos 0)) whole))
 
-pub bounds-row-variable : goal.bounds-row-variable
-bounds-row-variable c =
-    let i = without_tautologies c.args.units.now c.args.pairs.now in
-    (pair-there i c.loop-before.before (c.args.k + c.args.index) c.row_of-row.result.now c.requires.kept (omega arith) (omega arith) c.row_of-row.ensures).inside
-
-pub pair_sum-total-requires-clause-positive : goal.pair_sum-total-requires-clause-positive
-pair_sum-total-requires-clause-positive c =
-    let i = without_tautologies c.args.units.now c.args.pairs.now in
-    (pair-there i c.loop-before.before (c.args.k + c.args.index) c.row_of-row.result.now c.requires.kept (omega arith) (omega arith) c.row_of-row.ensures).positive
-
-pub pair_sum-total-requires-clause-weight : goal.pair_sum-total-requires-clause-weight
-pair_sum-total-requires-clause-weight c =
-    let i = without_tautologies c.args.units.now c.args.pairs.now in
-    (pair-there i c.loop-before.before (c.args.k + c.args.index) c.row_of-row.result.now c.requires.kept (omega arith) (omega arith) c.row_of-row.ensures).weight
-
 pub overflow_add-total : goal.overflow_add-total
 overflow_add-total c =
     let i = without_tautologies c.args.units.now c.args.pairs.now in
-    let sum = limit-adds i c.loop-before.before (c.args.k + c.args.index) c.row_of-row.result.now (to_z w64 c.loop-before.total-bits) c.pair_sum-total.result c.requires.kept
-    (omega arith) (omega arith) c.row_of-row.ensures c.loop-before.invariant c.pair_sum-total.ensures in
+    let sum = limit-adds i c.loop-before.before (c.args.k + c.args.index) (to_z w64 c.loop-before.total-bits) c.weight_between-total.result c.requires.kept (omega arith) (omega arith) c.loop-before.invariant c.weight_between-total.ensures in
     omega (arith, ints)
 
 pub loop-before-preserved : goal.loop-before-preserved
 loop-before-preserved c =
     let i = without_tautologies c.args.units.now c.args.pairs.now in
-    let sum = limit-adds i c.loop-before.before (c.args.k + c.args.index) c.row_of-row.result.now (to_z w64 c.loop-before.total-bits) c.pair_sum-total.result c.requires.kept
-    (omega arith) (omega arith) c.row_of-row.ensures c.loop-before.invariant c.pair_sum-total.ensures in
+    let sum = limit-adds i c.loop-before.before (c.args.k + c.args.index) (to_z w64 c.loop-before.total-bits) c.weight_between-total.result c.requires.kept (omega arith) (omega arith) c.loop-before.invariant c.weight_between-total.ensures in
     omega (arith, ints)
 
 pub returns-clause-low : goal.returns-clause-low
