@@ -1,5 +1,6 @@
 pub mod Text
 pub mod Decimal
 pub mod Grammar
+pub mod Naturals
 pub mod Printed
 pub mod Example

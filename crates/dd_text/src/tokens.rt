@@ -1,4 +1,4 @@
-ghost use Rattle.std.specs.Prelude.{◌≡◌, ◌+◌, ◌-◌, ◌^◌, ◌<◌, ◌≤◌, length, ◌≤ℤ◌, OnOk, OnErr, IfOk, MatchResult, Ok, Err};
+ghost use Rattle.std.specs.Prelude.{◌≡◌, ◌+◌, ◌-◌, ◌^◌, ◌<◌, ◌≤◌, length, ◌≤ℤ◌, pos, OnOk, OnErr, IfOk, MatchResult, Ok, Err};
 ghost use Rattle.dd_text.specs.Text.{text_start, at_token, IsCountable, token, place_of, ends_line, is_at_end, number_at, word_at, after_token, finish_at};
 
 use crate::comment::Comment;
@@ -114,6 +114,19 @@ impl<'a> Tokens<'a> {
         let number = number_of_token(&spot.rest[..len], spot.place, least, greatest)?;
         self.pass(spot, len);
         Ok(number)
+    }
+
+    /// Reads the next token as a natural number from `least` to `greatest`, with the faults of `next_number`.
+    pub fn next_natural(&mut self, least: u64, greatest: u64) -> Result<u64, TextError>
+        requires least { least < 2 ^ 63 }
+        requires greatest { greatest < 2 ^ 63 }
+        ensures value { MatchResult result (λ n. number_at (pos least) (pos greatest) self.old ≡ Ok (pos n)) (λ e. number_at (pos least) (pos greatest) self.old ≡ Err e) }
+        ensures range { IfOk result (λ n. (least ≤ n) × (n ≤ greatest)) }
+        ensures ok { OnOk result (self.new ≡ after_token self.old) }
+        ensures err { OnErr result (self.new ≡ self.old) }
+    {
+        let number = self.next_number(least as i64, greatest as i64)?;
+        Ok(number as u64)
     }
 
     /// Reads the next token as it stands.

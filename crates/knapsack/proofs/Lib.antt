@@ -1,3 +1,4 @@
 pub mod Placing
 pub mod Fills
 pub mod RoundTrip
+pub mod TextLengths

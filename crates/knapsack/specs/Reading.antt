@@ -1,16 +1,13 @@
 -- The grammar of an instance's text.
-use Rattle.std.specs.Prelude.{ℕ, ◌^◌, pos, List, [], ◌∷◌, ◌++◌, Result, Ok, Err, if◌then◌else◌}
+use Rattle.std.specs.Prelude.{ℕ, ◌^◌, List, [], ◌∷◌, ◌++◌, Result, Ok, Err, if◌then◌else◌}
 use Rattle.dd_text.specs.Text.{TextState, text_start, ends_line, place_of}
-use Rattle.dd_text.specs.Grammar.{number_then, part_then, times, end_then}
+use Rattle.dd_text.specs.Grammar.{part_then, times, end_then}
+use Rattle.dd_text.specs.Naturals.{natural_then}
 use Rattle.dd_text.specs.declared.instance_error.InstanceError.{InstanceError}
 use Rattle.dd_text.specs.declared.comment.Comment.TheVariants.{Never}
 use Rattle.dd_text.specs.declared.instance_error.InstanceFault.TheVariants.{Trailing}
 use Rattle.knapsack.specs.declared.item.Item.{Item}
-use Rattle.knapsack.specs.Instance.{Instance, size_of}
-
--- a number from 0 to the greatest, and what is read behind it
-abbrev pub size_then : {B : Type 0} → ℕ → TextState → (ℕ → TextState → Result B InstanceError) → Result B InstanceError
-size_then greatest s more = number_then (pos 0) (pos greatest) s (λ z t. more (size_of z) t)
+use Rattle.knapsack.specs.Instance.{Instance}
 
 -- what is read where the line ends; a token that is left on it is trailing
 abbrev pub line_end_then : {B : Type 0} → TextState → Result B InstanceError → Result B InstanceError
@@ -18,21 +15,21 @@ line_end_then s outcome = if ends_line s then outcome else Err (record { fault =
 
 -- the copies of an item: one where the line ends behind the weight, else a number that is the last token of the line
 unfoldable pub copies_at : TextState → Result (ℕ × TextState) InstanceError
-copies_at s = if ends_line s then Ok (1, s) else size_then 1000 s (λ c t. line_end_then t (Ok (c, t)))
+copies_at s = if ends_line s then Ok (1, s) else natural_then 0 1000 s (λ c t. line_end_then t (Ok (c, t)))
 
 -- an item behind others: profit, weight and copies
 unfoldable pub item_behind : List Item → TextState → Result (List Item × TextState) InstanceError
 item_behind items s =
-    size_then 1000000000 s (λ p t.
-    size_then 1000000000 t (λ w u.
+    natural_then 0 1000000000 s (λ p t.
+    natural_then 0 1000000000 t (λ w u.
     part_then (copies_at u) (λ c v.
     Ok (items ++ record { profit = p; weight = w; copies = c } ∷ [], v))))
 
 -- the whole text: how many items, the capacity, and the items
 unfoldable pub instance_at : TextState → Result Instance InstanceError
 instance_at s =
-    size_then 1000 s (λ count t.
-    size_then (2 ^ 40) t (λ capacity u.
+    natural_then 0 1000 s (λ count t.
+    natural_then 0 (2 ^ 40) t (λ capacity u.
     part_then (times item_behind count [] u) (λ items v.
     end_then v (Ok (record { capacity = capacity; items = items })))))
 

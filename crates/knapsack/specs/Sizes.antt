@@ -1,5 +1,5 @@
 -- The numbers of an instance within the limits keep their sizes.
-use Rattle.std.proofs.Common.{◌≡◌, ℕ, ◌+◌, ◌-◌, ◌*◌, ◌<◌, ◌≤◌, ◌^◌, ℤ, pos, ◌≤ℤ◌, true, List, [], ◌∷◌, length, drop, Some, sym, ap, subst, arith}
+use Rattle.std.proofs.Common.{◌≡◌, ℕ, ◌+◌, ◌-◌, ◌*◌, ◌<◌, ◌≤◌, ◌^◌, ℤ, pos, true, List, [], ◌∷◌, length, drop, Some, sym, ap, subst, arith}
 use Rattle.std.proofs.lemmas.Bool.{and_parts}
 use Rattle.std.proofs.lemmas.Int.{ints}
 use Rattle.std.proofs.lemmas.List.{length-drop}
@@ -9,6 +9,7 @@ use Rattle.std.proofs.lemmas.List.Sums.{AllPass-from_list_all, list_all-from_All
 use Rattle.std.proofs.lemmas.Nat.{mul-le}
 use Rattle.dp_model.specs.Lists.{Each}
 use Rattle.dp_model.specs.Numbers.{IsSmall as IsSmallNumber}
+use Rattle.dp_model.specs.NumberLaws.{small_gap, small_natural}
 use Rattle.dp_model.specs.Laws.{SizesHold}
 use Rattle.knapsack.specs.declared.item.Item.{Item}
 use Rattle.knapsack.specs.Instance.{Instance, is_small, is_small_item}
@@ -17,9 +18,6 @@ use Rattle.knapsack.specs.Order.{in_order, fill}
 use Rattle.knapsack.specs.Greedy.{worth, worth-in_order, fill-le-worth}
 use Rattle.knapsack.specs.Program.{left, item_at, rough_from, program_of}
 use Rattle.knapsack.specs.States.{is_left-is, gap-is}
-
-small_number : (n : ℕ) → n ≤ 2 ^ 50 → IsSmallNumber (pos n)
-small_number n h = record { low = omega (arith, ints); high = omega (arith, ints) }
 
 -- copies of an item are worth at most 10^12
 worth_small : (d p : ℕ) → d ≤ 1000 → p ≤ 1000000000 → d * p ≤ 1000000000000
@@ -63,24 +61,24 @@ sizes_hold i h =
       words = omega arith;
       some_choices = λ k below. omega arith;
       choices = λ k below. let few : (item_at i.items k).copies ≤ 1000 = (small_item_at i.items k small.items below).copies in omega arith;
-      root_value = small_number 0 (omega arith);
+      root_value = small_natural 0 (omega arith);
       cells = λ k s state. ap (λ (l : List ℤ). length l) (is_left-is _ _ state.test).row;
       state = λ k s state.
           let is = is_left-is _ _ state.test in
           let within : left s ≤ i.capacity = is.within in
           let most : i.capacity ≤ 2 ^ 40 = small.capacity in
-          subst (λ (l : List ℤ). Each IsSmallNumber l) (sym is.row) (small_number (left s) (omega arith), tt);
+          subst (λ (l : List ℤ). Each IsSmallNumber l) (sym is.row) (small_natural (left s) (omega arith), tt);
       gain = λ k s d state allowed.
           let x = small_item_at i.items k small.items allowed.layer in
           let few : (item_at i.items k).copies ≤ 1000 = x.copies in
           let choice : d < (item_at i.items k).copies + 1 = allowed.choice in
           let worth : d * (item_at i.items k).profit ≤ 1000000000000 = worth_small d (item_at i.items k).profit (omega arith) x.profit in
-          small_number _ (omega arith);
+          small_natural _ (omega arith);
       gap = λ k a s g kept state is.
-          let zero : g ≡ pos 0 = (gap-is (left a) (left s) g is).zero in
-          (subst (λ (z : ℤ). pos 0 ≤ℤ z) (sym zero) (omega (arith, ints)), subst IsSmallNumber (sym zero) (small_number 0 (omega arith)));
+          let zero = (gap-is (left a) (left s) g is).zero in
+          small_gap g (omega (arith, ints)) (omega (arith, ints));
       rough = λ k s r state is.
           let same : pos (rough_from i.items k (left s)) ≡ r = some-inj is in
           let most : rough_from i.items k (left s) ≤ 1000000000000000 = rough_small i.items k (left s) small.items small.count in
-          subst IsSmallNumber same (small_number _ (omega arith));
+          subst IsSmallNumber same (small_natural _ (omega arith));
     }

@@ -13,7 +13,7 @@ fn write(out: &mut [i64], left: u64)
     requires fits { left < 2 ^ 63 }
     ensures { out.new ≡ pos left ∷ [] }
 {
-    out[0] = left as i64;
+    out.copy_from_slice(&[left as i64]);
 }
 
 impl Knapsack {

@@ -48,7 +48,8 @@ pub fn print(alloc: Global, model: &Knapsack) -> Result<Vec<u8>, AllocError>
     ensures short { IfOk result (λ text. length text.items ≤ 2 ^ 30) }
     ensures reads_back { IfOk result (λ text. instance_text text.items ≡ Ok (instance_in model.now)) }
 {
-    printed(alloc, model)
+    let text = printed(alloc, model)?;
+    Ok(text)
 }
 
 /// Makes the canonical text.

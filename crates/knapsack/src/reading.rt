@@ -1,6 +1,5 @@
 ghost use Rattle.std.specs.Prelude.{◌≡◌, ℕ, ◌-◌, ◌^◌, ◌+◌, ◌<◌, ◌≤◌, ◌≤ℤ◌, pos, length, true, IsTrue, Ok, Err, OnOk, IfOk, MatchResult};
 ghost use Rattle.std.specs.List.{list_all};
-ghost use Rattle.dd_text.specs.Text.{number_at, after_token};
 ghost use Rattle.dd_text.specs.Grammar.{Reads, times};
 ghost use Rattle.knapsack.specs.Instance.{is_small, is_small_item};
 ghost use Rattle.knapsack.specs.Shown.{instance_in};
@@ -8,19 +7,8 @@ ghost use Rattle.knapsack.specs.Reading.{copies_at, item_behind, instance_text};
 
 use crate::item::Item;
 use crate::problem::Knapsack;
-use dd_text::{Comment, InstanceError, InstanceFault, ReadModelError, TextError, Tokens};
+use dd_text::{Comment, InstanceError, InstanceFault, ReadModelError, Tokens};
 use std::alloc::Global;
-
-/// Reads a number from 0 to the greatest.
-fn next_size(tokens: &mut Tokens, greatest: u64) -> Result<u64, TextError>
-    requires { greatest < 2 ^ 63 }
-    ensures value { MatchResult result (λ n. Ok (pos n) ≡ number_at (pos 0) (pos greatest) tokens.old) (λ e. Err e ≡ number_at (pos 0) (pos greatest) tokens.old) }
-    ensures within { IfOk result (λ n. n ≤ greatest) }
-    ensures ok { OnOk result (tokens.new ≡ after_token tokens.old) }
-{
-    let number = tokens.next_number(0, greatest as i64)?;
-    Ok(number as u64)
-}
 
 /// Reads the copies of an item, which are one where the line ends.
 #[tactic(auto, unfolding(crate::specs::Reading::copies_at))]
@@ -31,7 +19,7 @@ fn next_copies(tokens: &mut Tokens) -> Result<u32, ReadModelError>
     if tokens.at_line_end() {
         return Ok(1);
     }
-    let copies = next_size(tokens, 1_000)?;
+    let copies = tokens.next_natural(0, 1_000)?;
     if !tokens.at_line_end() {
         let place = tokens.place();
         let fault = InstanceFault::Trailing;
@@ -48,8 +36,8 @@ fn next_item(tokens: &mut Tokens, items: &mut Vec<Item>) -> Result<(), ReadModel
     ensures one { OnOk result (length items.new.items ≡ length items.old.items + 1) }
     ensures small { OnOk result (list_all is_small_item items.new.items ≡ true) }
 {
-    let profit = next_size(tokens, 1_000_000_000)? as u32;
-    let weight = next_size(tokens, 1_000_000_000)? as u32;
+    let profit = tokens.next_natural(0, 1_000_000_000)? as u32;
+    let weight = tokens.next_natural(0, 1_000_000_000)? as u32;
     let copies = next_copies(tokens)?;
     items.push(Item {
         profit,
@@ -85,8 +73,8 @@ pub fn read(alloc: Global, bytes: &[u8]) -> Result<Knapsack, ReadModelError>
     ensures { Reads instance_in result (instance_text bytes.now) }
 {
     let mut tokens = Tokens::new(bytes, Comment::Never);
-    let count = next_size(&mut tokens, 1_000)?;
-    let capacity = next_size(&mut tokens, 1 << 40)?;
+    let count = tokens.next_natural(0, 1_000)?;
+    let capacity = tokens.next_natural(0, 1 << 40)?;
     let mut items = Vec::with_capacity(alloc, count as usize)?;
     next_items(count, &mut tokens, &mut items)?;
     tokens.finish()?;
