@@ -1,5 +1,4 @@
 -- Weighted MAX-2SAT as a problem of the program.
-use Rattle.std.specs.Prelude.{ℕ, ℤ, List, Option, Some, None}
 use Rattle.std.proofs.Common.{sym, subst}
 use Rattle.dd_text.specs.Text.{text_start}
 use Rattle.dd_text.specs.declared.comment.Comment.TheVariants.{LetterC}
@@ -21,6 +20,9 @@ sat_theory = record {
   canonical = λ numbers. text_of (instance_of numbers);
   own_value = λ numbers x. own_value (instance_of numbers) x;
 }
+
+-- an instance's numbers are read back as the instance
+pub ruleset round_trip = (instance_of-numbers_of)
 
 -- its own words and its program speak of the same solutions
 pub sat_agrees : (i : Instance) → IsKept i → Agrees (program_of (instance_of (numbers_of i))) (sat_theory.own_value (numbers_of i))

@@ -6,13 +6,12 @@ use std::alloc::Global;
 
 #[tactic(auto, using(crate::proofs::Readings::reads_numbers))]
 impl Problem for MaxCut {
+    ghost use Rattle.std.specs.Prelude.{refl};
     ghost use Rattle.problems.specs.Cuts.{cut_theory, cut_agrees};
 
-    ghost spelled = { cut_theory.spelled };
+    ghost theory = { cut_theory };
 
-    ghost canonical = { cut_theory.canonical };
-
-    ghost own_value = { cut_theory.own_value };
+    ghost same_program = { λ _. refl };
 
     ghost agrees = { λ m. cut_agrees (record { vertices = m.vertices; weights = m.weights.items }) m.prepared.graph };
 
@@ -22,5 +21,9 @@ impl Problem for MaxCut {
 
     fn print(alloc: Global, model: &MaxCut) -> Result<Vec<u8>, OutOfMemory> {
         max_cut::print(alloc, model)
+    }
+
+    fn value_of(model: &MaxCut, decisions: &[u32]) -> Option<i64> {
+        max_cut::value_of(model, decisions)
     }
 }

@@ -6,14 +6,13 @@ use std::alloc::Global;
 
 #[tactic(auto, using(crate::proofs::Readings::reads_numbers, knapsack::specs::ProgramLaws::round_trip))]
 impl Problem for Knapsack {
+    ghost use Rattle.std.specs.Prelude.{refl};
     ghost use Rattle.knapsack.specs.Shown.{instance_in};
     ghost use Rattle.problems.specs.Knapsacks.{knapsack_theory, knapsack_agrees};
 
-    ghost spelled = { knapsack_theory.spelled };
+    ghost theory = { knapsack_theory };
 
-    ghost canonical = { knapsack_theory.canonical };
-
-    ghost own_value = { knapsack_theory.own_value };
+    ghost same_program = { λ _. refl };
 
     ghost agrees = { λ m. knapsack_agrees (instance_in m) };
 
@@ -23,5 +22,9 @@ impl Problem for Knapsack {
 
     fn print(alloc: Global, model: &Knapsack) -> Result<Vec<u8>, OutOfMemory> {
         knapsack::print(alloc, model)
+    }
+
+    fn value_of(model: &Knapsack, decisions: &[u32]) -> Option<i64> {
+        knapsack::value_of(model, decisions)
     }
 }

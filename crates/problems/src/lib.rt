@@ -1,8 +1,8 @@
 //! The problems that the program solves, behind one interface: reading an instance, printing it, and what a solution is
 //! in the problem's own words.
 //!
-//! It stands on `dp_model`, `dd_text` and the crates of the problems. To add a problem, give it an `impl Problem` and a
-//! line in `theory_of`.
+//! It stands on `dp_model`, `dd_text` and the crates of the problems. To add a problem, give it a theory with a
+//! line in `theory_of`, and an `impl Problem`.
 #![tactic(auto)]
 
 mod cuts;
@@ -11,4 +11,8 @@ mod problem;
 mod satisfiability;
 mod tours;
 
+pub use knapsack::Knapsack;
+pub use max_cut::MaxCut;
+pub use max_two_sat::MaxTwoSat;
 pub use problem::Problem;
+pub use tsp_windows::TspWindows;

@@ -1,7 +1,6 @@
-ghost use Rattle.std.specs.Prelude.{◌≡◌, ℕ, ◌^◌, ◌-◌, ◌<◌, ℤ, List, length, Option, Result, IfOk};
+ghost use Rattle.std.specs.Prelude.{◌≡◌, ℕ, ◌^◌, ◌-◌, ◌<◌, ℤ, List, length, IfOk};
 ghost use Rattle.dd_text.specs.Grammar.{Reads};
-ghost use Rattle.dd_text.specs.declared.instance_error.InstanceError.{InstanceError};
-ghost use Rattle.problems.specs.Theory.{Agrees};
+ghost use Rattle.problems.specs.Theory.{Theory, Agrees};
 
 use dd_text::ReadModelError;
 use dp_model::{DpModel, OutOfMemory};
@@ -9,14 +8,8 @@ use std::alloc::Global;
 
 /// A problem with texts for its instances, and with words of its own for its solutions.
 pub trait Problem: DpModel {
-    /// The numbers of the instance that a text spells, or the first fault with its place.
-    ghost spelled: { List ℕ → Result (List ℤ) InstanceError };
-
-    /// The canonical text of the instance.
-    ghost canonical: { List ℤ → List ℕ };
-
-    /// The value of a solution in the problem's own words, and none where the list is no solution.
-    ghost own_value: { List ℤ → List ℕ → Option ℤ };
+    /// What the problem is: the texts of its instances, the program of an instance, and its own words.
+    ghost theory: { Theory };
 
     /// Reads an instance.
     ///
@@ -25,12 +18,19 @@ pub trait Problem: DpModel {
     /// `Text` with the first fault, exactly where the text spells no instance; `OutOfMemory` for want of memory.
     fn read(alloc: Global, bytes: &[u8]) -> Result<Self, ReadModelError>
         requires { length bytes.now < 2 ^ 32 - 1 }
-        ensures { Reads Self.numbers result (spelled bytes.now) };
+        ensures { Reads Self.numbers result (theory.spelled bytes.now) };
 
     /// The canonical text of the instance. Fails only for want of memory.
     fn print(alloc: Global, model: &Self) -> Result<Vec<u8>, OutOfMemory>
-        ensures { IfOk result (λ text. text.items ≡ canonical (Self.numbers model.now)) };
+        ensures { IfOk result (λ text. text.items ≡ theory.canonical (Self.numbers model.now)) };
+
+    /// The value of the decisions in the problem's own words, and `None` exactly where they are no solution.
+    fn value_of(model: &Self, decisions: &[u32]) -> Option<i64>
+        ensures { result ≡ theory.own_value (Self.numbers model.now) decisions.now };
+
+    /// The program of the interface is that of the theory.
+    ghost same_program: { (numbers : List ℤ) → Self.meaning numbers ≡ theory.program numbers };
 
     /// The own words and the dynamic program speak of the same solutions.
-    ghost agrees: { (m : Self) → Agrees (Self.meaning (Self.numbers m)) (own_value (Self.numbers m)) };
+    ghost agrees: { (m : Self) → Agrees (Self.meaning (Self.numbers m)) (theory.own_value (Self.numbers m)) };
 }

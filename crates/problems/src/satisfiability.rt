@@ -4,16 +4,15 @@ use dp_model::OutOfMemory;
 use max_two_sat::MaxTwoSat;
 use std::alloc::Global;
 
-#[tactic(auto, using(crate::proofs::Readings::reads_numbers))]
+#[tactic(auto, using(crate::proofs::Readings::reads_numbers, crate::specs::Satisfiability::round_trip))]
 impl Problem for MaxTwoSat {
+    ghost use Rattle.std.specs.Prelude.{refl};
     ghost use Rattle.max_two_sat.specs.Model.{instance_in};
     ghost use Rattle.problems.specs.Satisfiability.{sat_theory, sat_agrees};
 
-    ghost spelled = { sat_theory.spelled };
+    ghost theory = { sat_theory };
 
-    ghost canonical = { sat_theory.canonical };
-
-    ghost own_value = { sat_theory.own_value };
+    ghost same_program = { λ _. refl };
 
     ghost agrees = { λ m. sat_agrees (instance_in m) m.kept };
 
@@ -23,5 +22,9 @@ impl Problem for MaxTwoSat {
 
     fn print(alloc: Global, model: &MaxTwoSat) -> Result<Vec<u8>, OutOfMemory> {
         max_two_sat::print(alloc, model)
+    }
+
+    fn value_of(model: &MaxTwoSat, decisions: &[u32]) -> Option<i64> {
+        max_two_sat::value_of(model, decisions)
     }
 }

@@ -6,14 +6,13 @@ use tsp_windows::TspWindows;
 
 #[tactic(auto, using(crate::proofs::Readings::reads_numbers))]
 impl Problem for TspWindows {
+    ghost use Rattle.std.specs.Prelude.{refl};
     ghost use Rattle.tsp_windows.specs.Shown.{instance_in};
     ghost use Rattle.problems.specs.Tours.{tour_theory, tour_agrees};
 
-    ghost spelled = { tour_theory.spelled };
+    ghost theory = { tour_theory };
 
-    ghost canonical = { tour_theory.canonical };
-
-    ghost own_value = { tour_theory.own_value };
+    ghost same_program = { λ _. refl };
 
     ghost agrees = { λ m. tour_agrees (instance_in m) m.small m.spelled };
 
@@ -23,5 +22,9 @@ impl Problem for TspWindows {
 
     fn print(alloc: Global, model: &TspWindows) -> Result<Vec<u8>, OutOfMemory> {
         tsp_windows::print(alloc, model)
+    }
+
+    fn value_of(model: &TspWindows, decisions: &[u32]) -> Option<i64> {
+        tsp_windows::value_of(model, decisions)
     }
 }

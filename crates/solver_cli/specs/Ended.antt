@@ -3,13 +3,12 @@ use Rattle.std.specs.Prelude.{◌≡◌, ℕ, ◌+◌, ◌^◌, ◌≤◌, ◌==
 use Rattle.std.specs.Io.KnownBytes.{append_known}
 use Rattle.dd_io.specs.Counts.{Rose}
 use Rattle.dd_io.specs.Told.{IsAllOf, Ends, Skips, TakesSome}
-use Rattle.problems.specs.Theories.{theory_of}
 use Rattle.solver_words.specs.Words.{job_of}
 use Rattle.solver_words.specs.declared.job.Job.{Job}
 use Rattle.solver_report.specs.declared.answer.Answer.{Answer}
 use Rattle.solver_report.specs.declared.answer.Answer.TheVariants as answers
 use Rattle.solver_report.specs.Report.{report, status_of}
-use Rattle.solver_jobs.specs.Answers.{model_in, Replies}
+use Rattle.solver_jobs.specs.Answers.{IsReply}
 
 -- the source as the run found it and left it: the bytes that are left, where they are told, and how many calls have failed
 pub record Readings : Type 0 where
@@ -60,7 +59,7 @@ pub record Answers (words : List (List ℕ)) (r : Readings) (answer : Answer) : 
   pub asked : job_of words ≡ Some job
   pub bytes : List ℕ
   pub read : WasRead r bytes
-  pub replies : Replies (theory_of (model_in job)) job ((theory_of (model_in job)).spelled bytes) answer
+  pub replies : IsReply job bytes answer
 
 -- when an answer is right; want of memory may come at any time once the words are read, but no fault is hidden by it
 abbrev pub IsRight : List (List ℕ) → Readings → Answer → Type 0

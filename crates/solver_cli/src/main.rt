@@ -1,9 +1,9 @@
 //! The program: words, reading, the job and its report.
 //!
 //! `run` is the whole of it over any source and sink; `main` lends it standard input and output. It stands on `dd_io`,
-//! `solver_words`, `solver_jobs` with the problems, and `solver_report`. The contract of `run` says how a run ends: with an
-//! answer that is right for the words and the bytes that were read, whose text was written whole with its status, or of which
-//! a part was written, with status 7, where the sink failed or took nothing.
+//! `solver_words`, `solver_jobs` and `solver_report`. The contract of `run` says how a run ends: with an answer that is right
+//! for the words and the bytes that were read, whose text was written whole with its status, or of which a part was written,
+//! with status 7, where the sink failed or took nothing.
 #![tactic(auto)]
 
 mod answering;

@@ -1,5 +1,5 @@
 -- When what a job answers for an instance is right.
-use Rattle.std.specs.Prelude.{◌≡◌, ◌≢◌, ℕ, ◌^◌, ◌≤◌, ℤ, List, [], Option, Some, None, Result, Ok, Err, IsTrue}
+use Rattle.std.specs.Prelude.{◌≡◌, ◌≢◌, ℕ, ◌^◌, ◌≤◌, ℤ, List, [], Option, Some, None, MatchResult, IsTrue}
 use Rattle.dd_text.specs.declared.instance_error.InstanceError.{InstanceError}
 use Rattle.dp_model.specs.Best.{Best, best}
 use Rattle.dp_model.specs.Counts.{tree}
@@ -7,6 +7,7 @@ use Rattle.dp_model.specs.Dp.{Dp}
 use Rattle.dp_model.specs.Numbers.{AtMost}
 use Rattle.dp_model.specs.Prefixes.{IsSolution, value_of}
 use Rattle.dp_model.specs.declared.names.ModelName.{ModelName}
+use Rattle.problems.specs.Theories.{theory_of}
 use Rattle.problems.specs.Theory.{Theory}
 use Rattle.search_core.specs.Board.{BoardState, full_slots}
 use Rattle.search_core.specs.Bound.{bound_of}
@@ -93,6 +94,9 @@ Refuses e answers.OutOfMemory = Unit {0}
 Refuses e _ = ⊥
 
 -- what the job may answer for a text: for the instance that it spells, or its first fault
-abbrev pub Replies : Theory → Job → Result (List ℤ) InstanceError → Answer → Type 0
-Replies t job (Ok numbers) answer = Does t job numbers answer
-Replies t job (Err e) answer = Refuses e answer
+abbrev pub Replies : Theory → Job → List ℕ → Answer → Type 0
+Replies t job bytes answer = MatchResult (t.spelled bytes) (λ numbers. Does t job numbers answer) (λ e. Refuses e answer)
+
+-- what the job may answer for a text of its problem
+abbrev pub IsReply : Job → List ℕ → Answer → Type 0
+IsReply job bytes answer = Replies (theory_of (model_in job)) job bytes answer

@@ -1,18 +1,33 @@
 ghost use Rattle.std.specs.Prelude.{ℕ, ◌^◌, ◌-◌, ◌<◌, length};
-ghost use Rattle.solver_jobs.specs.Answers.{Replies};
+ghost use Rattle.solver_jobs.specs.Answers.{Replies, IsReply};
 
 use crate::digesting::digest;
 use crate::solving::solve;
 use dd_text::ReadModelError;
-use problems::Problem;
+use dp_model::ModelName;
+use problems::{Knapsack, MaxCut, MaxTwoSat, Problem, TspWindows};
 use solver_report::Answer;
 use solver_words::Job;
 use std::alloc::Global;
 
-/// The answer of the job for the instance that the text spells, or its first fault.
-pub fn answer_text<P: Problem>(alloc: Global, job: Job, text: &[u8]) -> Answer
+/// The answer of the job for the instance that the text spells, or its first fault. The job names the problem.
+pub fn reply(alloc: Global, job: Job, text: &[u8]) -> Answer
     requires { length text.now < 2 ^ 32 - 1 }
-    ensures { Replies (record { spelled = P.spelled; program = P.meaning; canonical = P.canonical; own_value = P.own_value }) job (P.spelled text.now) result }
+    ensures { IsReply job text.now result }
+{
+    let (Job::Solve { model, budget: _ } | Job::Digest { model }) = job;
+    match model {
+        ModelName::Knapsack => answer_text::<Knapsack>(alloc, job, text),
+        ModelName::MaxCut => answer_text::<MaxCut>(alloc, job, text),
+        ModelName::MaxTwoSat => answer_text::<MaxTwoSat>(alloc, job, text),
+        ModelName::TspWindows => answer_text::<TspWindows>(alloc, job, text),
+    }
+}
+
+/// The answer of the job for a text of this problem.
+fn answer_text<P: Problem>(alloc: Global, job: Job, text: &[u8]) -> Answer
+    requires { length text.now < 2 ^ 32 - 1 }
+    ensures { Replies P.theory job text.now result }
 {
     match P::read(alloc, text) {
         Ok(model) => match job {

@@ -18,7 +18,7 @@ pub fn conclude<P: Problem>(
 ) -> Result<Answer, OutOfMemory>
     requires numbers { board.now.numbers ≡ P.numbers model.now }
     requires over { IsOver (P.meaning (P.numbers model.now)) budget board.now.board }
-    ensures { IfOk result (Solves (P.meaning (P.numbers model.now)) (P.own_value (P.numbers model.now)) budget) }
+    ensures { IfOk result (Solves (P.meaning (P.numbers model.now)) (P.theory.own_value (P.numbers model.now)) budget) }
 {
     let found = held_solution(alloc, board)?;
     if board.is_explored() {
@@ -45,7 +45,7 @@ fn explored<P: Problem>(board: &Board<P>, model: &P, found: Option<Solution>) ->
     requires numbers { board.now.numbers ≡ P.numbers model.now }
     requires nothing_left { is_explored board.now.board ≡ true }
     requires copied { found ≡ board.now.board.incumbent }
-    ensures { (budget : ℕ) → Solves (P.meaning (P.numbers model.now)) (P.own_value (P.numbers model.now)) budget result }
+    ensures { (budget : ℕ) → Solves (P.meaning (P.numbers model.now)) (P.theory.own_value (P.numbers model.now)) budget result }
 {
     // What the board keeps of its incumbent, and that it is best.
     let _ = board.incumbent_value();
@@ -62,7 +62,7 @@ fn stopped<P: Problem>(board: &Board<P>, model: &P, found: Option<Solution>, bud
     requires over { IsOver (P.meaning (P.numbers model.now)) budget board.now.board }
     requires left { is_explored board.now.board ≡ false }
     requires copied { found ≡ board.now.board.incumbent }
-    ensures { Solves (P.meaning (P.numbers model.now)) (P.own_value (P.numbers model.now)) budget result }
+    ensures { Solves (P.meaning (P.numbers model.now)) (P.theory.own_value (P.numbers model.now)) budget result }
 {
     // What the board keeps of its incumbent.
     let _ = board.incumbent_value();

@@ -9,7 +9,7 @@ use std::alloc::Global;
 
 /// The SHA-256 of the instance's canonical text.
 pub fn digest<P: Problem>(alloc: Global, model: &P) -> Answer
-    ensures { Digests (P.canonical (P.numbers model.now)) result }
+    ensures { Digests (P.theory.canonical (P.numbers model.now)) result }
 {
     match P::print(alloc, model) {
         Ok(text) => Answer::Digest(digest_of(text.as_slice())),

@@ -1,4 +1,4 @@
-//! What each job does for a text: it reads the instance, searches it or digests it, and answers.
+//! What each job does for a text: by the problem that it names it reads the instance, searches it or digests it, and answers.
 //!
 //! It stands on `problems` for instances, on `search_core` and `search_rounds` for the search, on `sha2` for digests and on
 //! `solver_report` for answers. A proved answer is a best solution, an infeasible one says that there is no feasible solution,
@@ -11,4 +11,4 @@ mod concluding;
 mod digesting;
 mod solving;
 
-pub use answering::answer_text;
+pub use answering::reply;

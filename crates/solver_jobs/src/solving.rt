@@ -12,7 +12,7 @@ use std::sync::Arc;
 
 /// Searches the instance, taking at most so many subproblems.
 pub fn solve<P: Problem>(alloc: Global, model: P, budget: u64) -> Answer
-    ensures { Solves (P.meaning (P.numbers model)) (P.own_value (P.numbers model)) budget result }
+    ensures { Solves (P.meaning (P.numbers model)) (P.theory.own_value (P.numbers model)) budget result }
 {
     match search(alloc, model, budget) {
         Ok(answer) => answer,
@@ -22,7 +22,7 @@ pub fn solve<P: Problem>(alloc: Global, model: P, budget: u64) -> Answer
 
 /// The search, which fails only for want of memory before it begins or for its answer.
 fn search<P: Problem>(alloc: Global, model: P, budget: u64) -> Result<Answer, OutOfMemory>
-    ensures { IfOk result (Solves (P.meaning (P.numbers model)) (P.own_value (P.numbers model)) budget) }
+    ensures { IfOk result (Solves (P.meaning (P.numbers model)) (P.theory.own_value (P.numbers model)) budget) }
 {
     let model = Arc::new(alloc, model)?;
     let shared = Arc::try_clone(&model)?;

@@ -7,7 +7,7 @@ use Rattle.solver_jobs.proofs.Conclusions.{proved, infeasible}
 use Rattle.solver_jobs.proofs.concluding.explored.Given as given
 use Rattle.solver_jobs.proofs.concluding.explored.Goals as goal
 
-agrees_of : (g : given.Over) (m : g.row.P.Denot) → Agrees (g.P.DpModel.meaning (g.P.DpModel.numbers m)) (g.P.Problem.own_value (g.P.DpModel.numbers m))
+agrees_of : (g : given.Over) (m : g.row.P.Denot) → Agrees (g.P.DpModel.meaning (g.P.DpModel.numbers m)) (g.P.Problem.theory.own_value (g.P.DpModel.numbers m))
 agrees_of g m = (g.met.P.Problem g.world.𝓛 g.world.𝓜 g.world.𝓡 ((λ s x. x), (λ x. x), (λ x. x), λ x. x)).agrees m
 
 pub returns-in-Some : goal.returns-in-Some

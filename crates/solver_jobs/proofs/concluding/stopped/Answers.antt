@@ -9,7 +9,7 @@ use Rattle.solver_jobs.proofs.Conclusions.{bound_there, is_stopped, memory_held}
 use Rattle.solver_jobs.proofs.concluding.stopped.Given as given
 use Rattle.solver_jobs.proofs.concluding.stopped.Goals as goal
 
-agrees_of : (g : given.Over) (m : g.row.P.Denot) → Agrees (g.P.DpModel.meaning (g.P.DpModel.numbers m)) (g.P.Problem.own_value (g.P.DpModel.numbers m))
+agrees_of : (g : given.Over) (m : g.row.P.Denot) → Agrees (g.P.DpModel.meaning (g.P.DpModel.numbers m)) (g.P.Problem.theory.own_value (g.P.DpModel.numbers m))
 agrees_of g m = (g.met.P.Problem g.world.𝓛 g.world.𝓜 g.world.𝓡 ((λ s x. x), (λ x. x), (λ x. x), λ x. x)).agrees m
 
 pub unreachable-requires : goal.unreachable-requires
@@ -20,7 +20,7 @@ returns-in-Some-cause g c =
     let numbers = c.requires.numbers in
     let b = c.args.board.now.board in
     let dp = g.P.DpModel.meaning (g.P.DpModel.numbers c.args.model.now) in
-    let own = g.P.Problem.own_value (g.P.DpModel.numbers c.args.model.now) in
+    let own = g.P.Problem.theory.own_value (g.P.DpModel.numbers c.args.model.now) in
     let good = subst (λ n. IsGood (g.P.DpModel.meaning n) b) numbers c.incumbent_value.ensures.good in
     let most : (x : List ℕ) → IsSolution dp x → AtMost (value_of dp x) (Some c.in-Some.bound) =
     subst (λ (o : Option ℤ). (x : List ℕ) → IsSolution dp x → AtMost (value_of dp x) o) c.in-Some.is
