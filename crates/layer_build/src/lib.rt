@@ -1,0 +1,13 @@
+//! The layers of a diagram in memory: nodes and candidates whose rows are made once and written in place.
+//!
+//! It stands on `layer_rules`, whose definitions say what each call does. A node in memory keeps the place of its parent in
+//! the layer above and its decision in place of a path, so contracts speak of all paths that the layer above may have.
+#![tactic(auto)]
+
+mod candidate;
+mod extending;
+mod node;
+
+pub use candidate::Candidate;
+pub use extending::extend_layer;
+pub use node::Node;
