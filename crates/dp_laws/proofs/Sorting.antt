@@ -104,7 +104,7 @@ comes_before-cmp cs i j =
     row-test (at cs i).row (at cs j).row _ _
     (then-test (at cs j).value (at cs i).value _ _ _ refl (nat_lt-cmp i j))
 
-comes-strict : (cs : List Reached) → IsStrictWeakOrder (comes_before cs)
+pub comes-strict : (cs : List Reached) → IsStrictWeakOrder (comes_before cs)
 comes-strict cs =
     let lawful = ranks_by (state-total cs) (λ (i : ℕ). i) in
     record {

@@ -1,2 +1,5 @@
 pub mod Candidates
 pub mod Extended
+pub mod Comparisons
+pub mod Sorted
+pub mod Ordered

@@ -1,2 +1,3 @@
 pub mod Stored
 pub mod Extending
+pub mod Ordering

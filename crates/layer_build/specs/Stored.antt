@@ -1,5 +1,5 @@
 -- Nodes and candidates in memory, and the nodes and prefixes that they stand for.
-use Rattle.std.specs.Prelude.{ℕ, ◌+◌, ℤ, pos, Bool, false, List, [], ◌∷◌, ◌++◌, Option, None}
+use Rattle.std.specs.Prelude.{ℕ, ◌+◌, ℤ, Bool, List, [], ◌∷◌, ◌++◌, map, Option}
 use Rattle.dp_model.specs.Reached.{Reached}
 use Rattle.diagram_laws.specs.declared.arc.DdArc.{DdArc}
 use Rattle.diagram_laws.specs.Nodes.{DdNode}
@@ -44,3 +44,7 @@ shown_layer paths nodes = shown_from paths 0 nodes
 -- the prefix that a candidate stands for
 abbrev pub prefix_of : (ℕ → List ℕ) → Made → Reached
 prefix_of paths c = record { decisions = path_below paths c.parent c.decision; row = c.row; value = c.value }
+
+-- the candidates as prefixes of which no path is known
+abbrev pub pathless : List Made → List Reached
+pathless cs = map (prefix_of (λ _. [])) cs

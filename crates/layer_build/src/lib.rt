@@ -5,8 +5,10 @@
 #![tactic(auto)]
 
 mod candidate;
+mod comparing;
 mod extending;
 mod node;
+mod ordering;
 
 pub use candidate::Candidate;
 pub use extending::extend_layer;
