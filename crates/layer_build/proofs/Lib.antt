@@ -3,3 +3,4 @@ pub mod Extended
 pub mod Comparisons
 pub mod Sorted
 pub mod Ordered
+pub mod Landed

@@ -1,3 +1,4 @@
 pub mod Stored
 pub mod Extending
 pub mod Ordering
+pub mod Following

@@ -7,6 +7,8 @@
 mod candidate;
 mod comparing;
 mod extending;
+mod following;
+mod landing;
 mod node;
 mod ordering;
 
