@@ -1,15 +1,11 @@
 -- A candidate as the code writes it.
-use Rattle.std.proofs.Common.{◌≡◌, ℕ, ◌+◌, ◌<◌, ℤ, ◌+ℤ◌, Bool, List, [], ◌∷◌, length, FitsSigned, to_z, of_z, w64, sym, ◌∙◌, ap, subst, refl, arith, IsTrue}
+use Rattle.std.proofs.Common.{◌≡◌, ℕ, ℤ, ◌+ℤ◌, Bool, List, length, FitsSigned, to_z, of_z, w64, sym, ◌∙◌, arith}
 use Rattle.std.proofs.lemmas.Int.{ints, to_z-of_z}
 use Rattle.std.proofs.lemmas.List.{with_items_is}
 use Rattle.std.specs.Vec.{with_items}
 use Rattle.std.proofs.Common.{Vec, Global, vec_len}
-use Rattle.dp_model.specs.Dp.{Dp, IsAllowed}
-use Rattle.dp_model.specs.Gaps.{IsStateOf}
-use Rattle.dp_model.specs.Laws.{IsLawful}
 use Rattle.dp_model.specs.Numbers.{IsSmall, IsFar}
-use Rattle.layer_build.specs.Stored.{Stored, Made}
-use Rattle.layer_build.specs.Extending.{made_from}
+use Rattle.layer_build.specs.Stored.{Made}
 
 -- a number that fits is read back
 pub far_back : (v : ℤ) → IsFar v → to_z w64 (of_z w64 v) ≡ v

@@ -7,7 +7,6 @@ use Rattle.std.proofs.lemmas.List.Elements.{filter-append}
 use Rattle.dp_model.specs.Decisions.{below}
 use Rattle.dp_model.specs.Dp.{Dp, IsAllowed}
 use Rattle.dp_model.specs.Lists.{Each}
-use Rattle.diagram_laws.specs.declared.arc.DdArc.{DdArc}
 use Rattle.layer_build.specs.Stored.{Stored, Made}
 use Rattle.layer_build.specs.Extending.{made_from, allowed_below, all_made, arc_to, arcs_to, all_with_arcs_to, HasExtended, AreExtended}
 

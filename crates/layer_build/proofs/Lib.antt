@@ -4,3 +4,5 @@ pub mod Comparisons
 pub mod Sorted
 pub mod Ordered
 pub mod Landed
+pub mod Joins
+pub mod Exactness

@@ -1,10 +1,11 @@
 -- The order of candidates depends on their rows, values and ranks, and not on their paths.
-use Rattle.std.proofs.Common.{◌≡◌, ℕ, zero, suc, ◌+◌, ◌<◌, ◌≤◌, ℤ, pos, Bool, true, false, cond, List, [], ◌∷◌, length, map, get_or, IsPermutation, IsSortedBy, refl, sym, ◌∙◌, ap, ap₂, subst, arith}
+use Rattle.std.proofs.Common.{◌≡◌, ℕ, zero, suc, ◌+◌, ◌<◌, ◌≤◌, true, false, cond, List, [], ◌∷◌, length, map, get_or, IsPermutation, IsSortedBy, refl, sym, ◌∙◌, ap, ap₂, subst, arith}
+use Rattle.std.proofs.lemmas.List.Sorted.{length_permutation}
 use Rattle.dp_model.specs.Decisions.{below}
 use Rattle.dp_model.specs.Dp.{Dp}
 use Rattle.dp_model.specs.Lists.{Each}
 use Rattle.dp_model.specs.Reached.{Reached}
-use Rattle.dp_model.specs.Rows.{row_same, row_smaller}
+use Rattle.dp_model.specs.Rows.{row_same}
 use Rattle.dp_model.proofs.Members.{each-of-all, Has-below-from}
 use Rattle.dp_laws.specs.Extensions.{all_joined}
 use Rattle.dp_laws.specs.ReductionOrder.{in_order}
@@ -12,7 +13,8 @@ use Rattle.dp_laws.specs.Sorting.{at, comes_before, firsts_after, firsts, places
 use Rattle.dp_laws.proofs.Permutations.{each-permutation}
 use Rattle.dp_laws.proofs.Sorting.{sorting-expands}
 use Rattle.layer_build.specs.Stored.{Made, prefix_of, pathless}
-use Rattle.layer_build.specs.Ordering.{leads, greater_then, rank_at, goes_before, KeepsRank}
+use Rattle.layer_build.proofs.Sorted.{length-below}
+use Rattle.layer_build.specs.Ordering.{rank_at, goes_before, KeepsRank}
 
 -- the candidates as prefixes
 abbrev pub prefixes : (ℕ → List ℕ) → List Made → List Reached
@@ -62,7 +64,7 @@ places-any dp k paths cs i j h a b =
     rw (at-row paths cs i) (rw (at-row paths cs j) (rw (at-value paths cs i) (rw (at-value paths cs j)
     (rw (rank-in dp k cs i h a) (rw (rank-in dp k cs j h b) refl)))))
 
-each-get : {X : Type 0} (P : X → Type 0) (xs : List X) (i : ℕ) (d : X) → Each P xs → i < length xs → P (get_or xs i d)
+pub each-get : {X : Type 0} (P : X → Type 0) (xs : List X) (i : ℕ) (d : X) → Each P xs → i < length xs → P (get_or xs i d)
 each-get P [] i d h less = absurd (omega arith)
 each-get P (x ∷ xs) zero d h less = h.0
 each-get P (x ∷ xs) (suc i) d h less = each-get P xs i d h.1 (omega arith)
@@ -103,3 +105,25 @@ kept-expands cs sorted kept moved by_state again by_order dp k paths ranks =
     (sorted-any paths cs sorted by_state)
     (subst (λ l. IsPermutation l kept) (sym (firsts-any paths cs sorted)) again)
     (ordered-any dp k paths cs kept ranks (kept-within (pathless cs) (length cs) sorted kept moved again) by_order)
+
+-- How many are kept.
+
+few-firsts_after : (cs : List Reached) (i : ℕ) (ps : List ℕ) → length (firsts_after cs i ps) ≤ length ps
+few-firsts_after cs i [] = omega arith
+few-firsts_after cs i (j ∷ ps) =
+    elim (row_same (at cs i).row (at cs j).row) as (λ b. length (cond b (firsts_after cs i ps) (j ∷ firsts_after cs j ps)) ≤ length (j ∷ ps)) [
+      | true ↦ (let few = few-firsts_after cs i ps in omega arith)
+      | false ↦ (let few = few-firsts_after cs j ps in omega arith)
+    ]
+
+few-firsts : (cs : List Reached) (ps : List ℕ) → length (firsts cs ps) ≤ length ps
+few-firsts cs [] = omega arith
+few-firsts cs (i ∷ ps) = let few = few-firsts_after cs i ps in omega arith
+
+pub kept-few : (cs : List Reached) (n : ℕ) (ps kept : List ℕ) → IsPermutation (below n) ps → IsPermutation (firsts cs ps) kept → length kept ≤ n
+kept-few cs n ps kept moved again =
+    let one = length_permutation (below n) ps moved in
+    let two = length_permutation (firsts cs ps) kept again in
+    let count = length-below n in
+    let few = few-firsts cs ps in
+    omega arith

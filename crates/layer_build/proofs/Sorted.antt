@@ -1,5 +1,5 @@
 -- The two orders by which places are sorted.
-use Rattle.std.proofs.Common.{◌≡◌, ℕ, zero, suc, ◌+◌, ◌<◌, ◌≤◌, ℤ, Bool, true, false, cond, List, [], ◌∷◌, ◌++◌, length, drop, get_or, map, refl, sym, ◌∙◌, ap, length-append, append_assoc, append-nil, arith}
+use Rattle.std.proofs.Common.{◌≡◌, ℕ, zero, suc, ◌+◌, ◌<◌, true, false, cond, List, [], ◌∷◌, ◌++◌, length, drop, get_or, refl, sym, ◌∙◌, ap, length-append, append_assoc, arith}
 use Rattle.std.proofs.lemmas.Cmp.{int_cmp_total, on_total, then_total, back_total, lists_total}
 use Rattle.std.proofs.lemmas.List.MinMax.{ranks_by}
 use Rattle.std.proofs.lemmas.List.{drop_more}
@@ -8,9 +8,9 @@ use Rattle.std.specs.Cmp.Lexicographic.{slice_cmp}
 use Rattle.std.specs.Ordering.{int_cmp, on, then_cmp, flip_args, is_lt}
 use Rattle.std.specs.declared.cmp.Ordering.{Ordering}
 use Rattle.dp_model.specs.Decisions.{below}
-use Rattle.dp_model.specs.Rows.{row_same, row_smaller}
+use Rattle.dp_model.specs.Rows.{row_same}
 use Rattle.dp_model.specs.Reached.{Reached}
-use Rattle.dp_laws.specs.Sorting.{at, comes_before, firsts_after, firsts}
+use Rattle.dp_laws.specs.Sorting.{at, firsts_after}
 use Rattle.dp_laws.proofs.Orders.{then-test, int_same-sym, row_smaller-cmp}
 use Rattle.layer_build.specs.Stored.{Made, pathless}
 use Rattle.layer_build.specs.Ordering.{rank_at, goes_before}

@@ -1,5 +1,5 @@
 -- Arcs in memory that follow the landings of their targets.
-use Rattle.std.specs.Prelude.{ℕ, ℤ, List, map, slice_get, Option, IfSome, option_and_then}
+use Rattle.std.specs.Prelude.{ℕ, List, map, slice_get, Option, IfSome, option_and_then}
 use Rattle.dp_model.specs.Lists.{Each}
 use Rattle.dp_model.specs.Numbers.{IsSmall, IsFar}
 use Rattle.layer_rules.specs.Landings.{Landing, landed}

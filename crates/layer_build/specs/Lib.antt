@@ -2,3 +2,4 @@ pub mod Stored
 pub mod Extending
 pub mod Ordering
 pub mod Following
+pub mod Joining

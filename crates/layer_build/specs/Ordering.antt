@@ -1,5 +1,5 @@
 -- Rules 2 and 4: how candidates are ordered by their ranks in memory.
-use Rattle.std.specs.Prelude.{◌≡◌, ℕ, ℤ, pos, nat_lt, int_lt, Bool, false, ◌&&◌, ◌||◌, List, [], ◌∷◌, map, slice_index_or}
+use Rattle.std.specs.Prelude.{◌≡◌, ℕ, ℤ, pos, nat_lt, int_lt, Bool, false, ◌&&◌, ◌||◌, List, [], map, slice_index_or}
 use Rattle.dp_model.specs.Dp.{Dp}
 use Rattle.dp_model.specs.Numbers.{int_same}
 use Rattle.dp_model.specs.Rows.{row_smaller}

@@ -53,4 +53,11 @@ impl Candidate {
             decision: 0,
         })
     }
+
+    /// Whether its parent is exact.
+    pub fn is_exact(&self) -> bool
+        ensures { result ≡ self.now.exact }
+    {
+        self.exact
+    }
 }

@@ -8,6 +8,7 @@ mod candidate;
 mod comparing;
 mod extending;
 mod following;
+mod joining;
 mod landing;
 mod node;
 mod ordering;

@@ -1,4 +1,4 @@
-use Rattle.std.proofs.Common.{rules, ◌≡◌, ap₂, ap, sym, ◌∙◌, Bool, FitsSigned, w64}
+use Rattle.std.proofs.Common.{rules, ◌≡◌, ap₂, ap, sym, ◌∙◌, FitsSigned, w64}
 use Rattle.std.proofs.lemmas.Int.{to_z-of_z}
 use Rattle.std.specs.Ordering.{is_lt}
 use Rattle.dp_model.specs.Rows.{row_smaller}

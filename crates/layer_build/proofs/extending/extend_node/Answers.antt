@@ -1,4 +1,4 @@
-use Rattle.std.proofs.Common.{◌≡◌, ◌+◌, ◌<◌, length, sym, ◌∙◌, ap, subst, arith}
+use Rattle.std.proofs.Common.{◌<◌, sym, ◌∙◌, ap, arith}
 use Rattle.dp_model.specs.Laws.{IsLawful}
 use Rattle.layer_build.specs.Stored.{Stored}
 use Rattle.layer_build.proofs.Extended.{extended_arcs, extended_within, extended_one, extended_refused, step_long}

@@ -1,4 +1,4 @@
-use Rattle.std.proofs.Common.{rules, ◌≡◌, ℤ, ◌+ℤ◌, ◌+◌, IsTrue, arith, length, vec_len, sym, ◌∙◌, ap, subst, to_z, of_z, w64, FitsSigned}
+use Rattle.std.proofs.Common.{rules, ◌≡◌, ◌+ℤ◌, ◌+◌, IsTrue, arith, length, vec_len, sym, ◌∙◌, ap, subst, to_z, of_z, w64, FitsSigned}
 use Rattle.std.proofs.lemmas.Int.{to_z-of_z}
 use Rattle.std.specs.Vec.{with_items}
 use Rattle.dp_model.specs.Gaps.{IsStateOf}

@@ -1,4 +1,4 @@
-use Rattle.std.proofs.Common.{rules, ◌≡◌, sym, ◌∙◌, ap, FitsSigned, to_z, of_z, ◌+ℤ◌, w64, Some}
+use Rattle.std.proofs.Common.{rules, sym, ◌∙◌, ap, FitsSigned, to_z, of_z, ◌+ℤ◌, w64}
 use Rattle.std.proofs.lemmas.Int.{to_z-of_z}
 use Rattle.layer_rules.specs.Landings.{Landing}
 use Rattle.layer_build.proofs.Candidates.{sum_is}

@@ -1,4 +1,4 @@
-use Rattle.std.proofs.Common.{◌≡◌, length, subst, ap, ◌∙◌, sym, IsPermutation, arith}
+use Rattle.std.proofs.Common.{◌≡◌, length, subst, ap, ◌∙◌, IsPermutation, arith}
 use Rattle.std.proofs.lemmas.List.Sorted.{length_permutation}
 use Rattle.dp_model.specs.Decisions.{below}
 use Rattle.dp_laws.specs.Sorting.{firsts}
