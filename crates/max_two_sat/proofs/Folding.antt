@@ -4,13 +4,15 @@ use Rattle.std.specs.Prelude.{IsTrue, fold, int_lt, replicate, if◌then◌else�
 use Rattle.std.proofs.lemmas.Int.{ints}
 use Rattle.std.proofs.lemmas.List.{length-append, length-drop, length-take-le, replicate-append-replicate, take-append-drop}
 use Rattle.std.proofs.lemmas.List.Sums.{fold-append}
+use Rattle.std.proofs.lemmas.Bool.{and_parts}
+use Rattle.dp_model.specs.NumberLaws.{int_lt-is_not}
 use Rattle.max_two_sat.specs.declared.clause.Literals.{Literals}
 use Rattle.max_two_sat.specs.declared.clause.Literals.TheVariants.{One, Two}
 use Rattle.max_two_sat.specs.declared.weights.UnitWeights.{UnitWeights}
 use Rattle.max_two_sat.specs.declared.weights.PairWeights.{PairWeights}
 use Rattle.max_two_sat.specs.Clauses.{empty_instance, heavier_unit, heavier_pair, place_of_pair, with_clause}
 use Rattle.max_two_sat.specs.Instance.{Instance, rows_of, pair_count, no_pair, no_unit}
-use Rattle.max_two_sat.specs.Kept.{IsKept, PairIsPositive, UnitIsPositive, pairs_are_positive, units_are_positive, pair_is_positive, unit_is_positive, unit-positive, pair-positive, and-left, and-right}
+use Rattle.max_two_sat.specs.Kept.{IsKept, PairIsPositive, UnitIsPositive, pairs_are_positive, units_are_positive, pair_is_positive, unit_is_positive, unit-positive, pair-positive}
 use Rattle.max_two_sat.specs.Lines.{Clause, clause_where, clauses_of, literal, tautology_lines, unit_lines, units_lines, pair_lines, row_lines, rows_lines}
 use Rattle.max_two_sat.specs.Table.{entries_before, entries_before-more}
 use Rattle.max_two_sat.specs.Totals.{all-drop, all-take}
@@ -38,15 +40,12 @@ plus-zero z = omega (arith, ints)
 zero-plus : (z : ℤ) → pos 0 +ℤ z ≡ z
 zero-plus z = omega (arith, ints)
 
-is-zero : (w : ℤ) → pos 0 ≤ℤ w → int_lt (pos 0) w ≡ false → w ≡ pos 0
-is-zero w low test = grind (arith, ints)
-
 -- a clause where it has weight, or nothing
 line-added : (i : Instance) (w : ℤ) (literals : Literals) (next : Instance) → pos 0 ≤ℤ w → with_clause i w literals ≡ next → (w ≡ pos 0 → i ≡ next) → fold add_to i (clause_where w literals) ≡ next
 line-added i w literals next low added none =
     elim (int_lt (pos 0) w) as (λ t. int_lt (pos 0) w ≡ t → fold add_to i (if t then record { weight = w; literals = literals } ∷ [] else []) ≡ next) [
       | true ↦ λ e. added
-      | false ↦ λ e. none (is-zero w low e)
+      | false ↦ λ e. none (omega (arith, ints, int_lt-is_not (pos 0) w e))
     ] refl
 
 -- units
@@ -81,11 +80,11 @@ units-added [] t done ps h = refl
 units-added (u ∷ us) t done ps h =
     let v : ℕ = length done in
     let next : length (done ++ u ∷ []) ≡ v + 1 = length-append done (u ∷ []) in
-    let rest = units-added us t (done ++ u ∷ []) ps (and-right (unit_is_positive u) _ h) in
+    let rest = units-added us t (done ++ u ∷ []) ps (and_parts (unit_is_positive u) _ h).1 in
     let turned : instance_with t (done ++ u ∷ replicate (length us) no_unit) ps ≡ instance_with t ((done ++ u ∷ []) ++ replicate (length us) no_unit) ps =
     ap (λ xs. instance_with t xs ps) (sym (append_assoc done (u ∷ []) (replicate (length us) no_unit))) in
     fold-append add_to (instance_with t (done ++ no_unit ∷ replicate (length us) no_unit) ps) (unit_lines v u) (units_lines (v + 1) us) ∙
-    (ap (λ i. fold add_to i (units_lines (v + 1) us)) (unit-lines-added t done (replicate (length us) no_unit) u ps (unit-positive u (and-left _ _ h)) ∙ turned) ∙
+    (ap (λ i. fold add_to i (units_lines (v + 1) us)) (unit-lines-added t done (replicate (length us) no_unit) u ps (unit-positive u (and_parts _ _ h).0) ∙ turned) ∙
     (ap (λ m. fold add_to (instance_with t ((done ++ u ∷ []) ++ replicate (length us) no_unit) ps) (units_lines m us)) (sym next) ∙
     (rest ∙ ap (λ xs. instance_with t xs ps) (append_assoc done (u ∷ []) us))))
 
@@ -143,8 +142,8 @@ row-added (p ∷ ps) t us done more i j h less place =
     let next : place_of_pair (length us) i (j + 1) ≡ length (done ++ p ∷ []) = omega (arith, length-append done (p ∷ [])) in
     let turned : instance_with t us (done ++ p ∷ rest) ≡ instance_with t us ((done ++ p ∷ []) ++ rest) = ap (λ xs. instance_with t us xs) (sym (append_assoc done (p ∷ []) rest)) in
     fold-append add_to (instance_with t us (done ++ no_pair ∷ rest)) (pair_lines i j p) (row_lines i (j + 1) ps) ∙
-    (ap (λ x. fold add_to x (row_lines i (j + 1) ps)) (pair-lines-added t us done rest p i j (pair-positive p (and-left _ _ h)) less place ∙ turned) ∙
-    (row-added ps t us (done ++ p ∷ []) more i (j + 1) (and-right (pair_is_positive p) _ h) (omega arith) next ∙
+    (ap (λ x. fold add_to x (row_lines i (j + 1) ps)) (pair-lines-added t us done rest p i j (pair-positive p (and_parts _ _ h).0) less place ∙ turned) ∙
+    (row-added ps t us (done ++ p ∷ []) more i (j + 1) (and_parts (pair_is_positive p) _ h).1 (omega arith) next ∙
     ap (λ xs. instance_with t us xs) (append_assoc done (p ∷ []) (ps ++ more))))
 
 rows-added : (m : ℕ) (ps : List PairWeights) (t : ℤ) (us : List UnitWeights) (done : List PairWeights) (i : ℕ) → IsTrue (pairs_are_positive ps) → length ps ≡ pair_count m → i + m ≡ length us → entries_before (length us) i ≡ length done →

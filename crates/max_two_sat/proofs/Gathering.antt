@@ -5,6 +5,10 @@ use Rattle.std.specs.List.{list_all}
 use Rattle.std.proofs.lemmas.Bool.Decides.{nat_tests}
 use Rattle.std.proofs.lemmas.Int.{ints}
 use Rattle.std.proofs.lemmas.List.{length-replicate, length-set}
+use Rattle.std.proofs.lemmas.Bool.{and_parts, and_from}
+use Rattle.std.proofs.lemmas.List.Sums.{sum_by-set}
+use Rattle.std.proofs.lemmas.List.Folds.{sum_by-replicate}
+use Rattle.dp_model.specs.NumberLaws.{int_le-from}
 use Rattle.max_two_sat.specs.declared.clause.Literal.{Literal}
 use Rattle.max_two_sat.specs.declared.clause.Literals.{Literals}
 use Rattle.max_two_sat.specs.declared.clause.Literals.TheVariants.{Empty, One, Two}
@@ -14,8 +18,8 @@ use Rattle.max_two_sat.specs.declared.weights.UnitWeights.{UnitWeights}
 use Rattle.max_two_sat.specs.declared.weights.PairWeights.{PairWeights}
 use Rattle.max_two_sat.specs.Clauses.{FitsLiteral, FitsLiterals, Gathered, gathered_with, nothing_gathered, heavier_unit, heavier_pair, place_of_pair, same_sign, with_clause, with_two, with_pair, with_tautology, with_unit}
 use Rattle.max_two_sat.specs.Instance.{Instance, pair_count, unit_total, pair_total, units_total, pairs_total, total_by, no_pair, no_unit}
-use Rattle.max_two_sat.specs.Kept.{PairIsPositive, UnitIsPositive, pairs_are_positive, units_are_positive, pair_is_positive, unit_is_positive, and-left, and-right, and-both, is-le}
-use Rattle.max_two_sat.specs.Lines.{line_count, lines_by, pair_weighing, unit_weighing, weighs}
+use Rattle.max_two_sat.specs.Kept.{PairIsPositive, UnitIsPositive, pairs_are_positive, units_are_positive, pair_is_positive, unit_is_positive}
+use Rattle.max_two_sat.specs.Lines.{line_count, pair_weighing, unit_weighing, weighs}
 use Rattle.max_two_sat.specs.Room.{FormGives, FormKeeps, HasRoom, IsGathered}
 use Rattle.max_two_sat.specs.Table.{entries_before, entries_before-more, entries_before-most}
 use Rattle.max_two_sat.specs.Totals.{units_total-positive, pairs_total-positive}
@@ -53,24 +57,21 @@ room-leaves i weight room =
 
 -- one entry replaced
 
-pub record EntryPut (X : Type 0) (number : X → ℤ) (count : X → ℕ) (test : X → Bool) (xs : List X) (k : ℕ) (x none : X) : Type 0 where
+pub record EntryPut (X : Type 0) (number : X → ℤ) (test : X → Bool) (xs : List X) (k : ℕ) (x none : X) : Type 0 where
   pub weight : total_by number (set xs k x) +ℤ number (get_or xs k none) ≡ total_by number xs +ℤ number x
-  pub lines : lines_by count (set xs k x) + count (get_or xs k none) ≡ lines_by count xs + count x
   pub positive : IsTrue (list_all test xs) → IsTrue (test x) → IsTrue (list_all test (set xs k x))
 
-pub entry-put : {X : Type 0} (number : X → ℤ) (count : X → ℕ) (test : X → Bool) (xs : List X) (k : ℕ) (x none : X) → k < length xs → EntryPut X number count test xs k x none
-entry-put number count test [] k x none h = absurd (omega arith)
-entry-put number count test (y ∷ xs) zero x none h = record {
+pub entry-put : {X : Type 0} (number : X → ℤ) (test : X → Bool) (xs : List X) (k : ℕ) (x none : X) → k < length xs → EntryPut X number test xs k x none
+entry-put number test [] k x none h = absurd (omega arith)
+entry-put number test (y ∷ xs) zero x none h = record {
   weight = omega (arith, ints);
-  lines = omega arith;
-  positive = λ all one. and-both (test x) _ one (and-right (test y) _ all);
+  positive = λ all one. and_from (test x) _ one (and_parts (test y) _ all).1;
 }
-entry-put number count test (y ∷ xs) (suc k) x none h =
-    let rest = entry-put number count test xs k x none (omega arith) in
+entry-put number test (y ∷ xs) (suc k) x none h =
+    let rest = entry-put number test xs k x none (omega arith) in
     record {
       weight = omega (arith, ints, rest.weight);
-      lines = omega (arith, rest.lines);
-      positive = λ all one. and-both (test y) _ (and-left _ _ all) (rest.positive (and-right (test y) _ all) one);
+      positive = λ all one. and_from (test y) _ (and_parts _ _ all).0 (rest.positive (and_parts (test y) _ all).1 one);
     }
 
 -- a weight is above zero or not
@@ -89,8 +90,8 @@ heavier_unit-lines u true w = omega (arith, weighs-most (u.positive +ℤ w))
 heavier_unit-lines u false w = omega (arith, weighs-most (u.negative +ℤ w))
 
 pub heavier_unit-positive : (u : UnitWeights) (sign : Bool) (w : ℤ) → UnitIsPositive u → pos 0 ≤ℤ w → IsTrue (unit_is_positive (heavier_unit u sign w))
-heavier_unit-positive u true w here low = and-both _ _ (is-le (pos 0) (u.positive +ℤ w) (omega (arith, ints, here.positive))) (is-le (pos 0) u.negative here.negative)
-heavier_unit-positive u false w here low = and-both _ _ (is-le (pos 0) u.positive here.positive) (is-le (pos 0) (u.negative +ℤ w) (omega (arith, ints, here.negative)))
+heavier_unit-positive u true w here low = and_from _ _ (int_le-from (pos 0) (u.positive +ℤ w) (omega (arith, ints, here.positive))) (int_le-from (pos 0) u.negative here.negative)
+heavier_unit-positive u false w here low = and_from _ _ (int_le-from (pos 0) u.positive here.positive) (int_le-from (pos 0) (u.negative +ℤ w) (omega (arith, ints, here.negative)))
 
 pub heavier_pair-total : (p : PairWeights) (s t : Bool) (w : ℤ) → pair_total (heavier_pair p s t w) ≡ pair_total p +ℤ w
 heavier_pair-total p true true w = omega (arith, ints)
@@ -106,7 +107,7 @@ heavier_pair-lines p false true w = omega (arith, weighs-most (p.second +ℤ w))
 heavier_pair-lines p false false w = omega (arith, weighs-most (p.neither +ℤ w))
 
 positive-of : (a b c d : ℤ) → pos 0 ≤ℤ a → pos 0 ≤ℤ b → pos 0 ≤ℤ c → pos 0 ≤ℤ d → IsTrue (pair_is_positive (record { both = a; first = b; second = c; neither = d }))
-positive-of a b c d h1 h2 h3 h4 = and-both _ _ (and-both _ _ (is-le (pos 0) a h1) (is-le (pos 0) b h2)) (and-both _ _ (is-le (pos 0) c h3) (is-le (pos 0) d h4))
+positive-of a b c d h1 h2 h3 h4 = and_from _ _ (and_from _ _ (int_le-from (pos 0) a h1) (int_le-from (pos 0) b h2)) (and_from _ _ (int_le-from (pos 0) c h3) (int_le-from (pos 0) d h4))
 
 pub heavier_pair-positive : (p : PairWeights) (s t : Bool) (w : ℤ) → PairIsPositive p → pos 0 ≤ℤ w → IsTrue (pair_is_positive (heavier_pair p s t w))
 heavier_pair-positive p true true w here low = positive-of (p.both +ℤ w) p.first p.second p.neither (omega (arith, ints, here.both)) here.first here.second here.neither
@@ -129,7 +130,8 @@ keeps-unit : (i : Instance) (w : ℤ) (a : Literal) → HasRoom i w → weighs i
 keeps-unit i w a room some fits =
     let old : UnitWeights = get_or i.units a.variable no_unit in
     let there = unit-at i.units a.variable no_unit fits room.units in
-    let put = entry-put unit_total unit_weighing unit_is_positive i.units a.variable (heavier_unit old a.positive w) no_unit fits in
+    let put = entry-put unit_total unit_is_positive i.units a.variable (heavier_unit old a.positive w) no_unit fits in
+    let counted = sum_by-set unit_weighing i.units a.variable (heavier_unit old a.positive w) no_unit fits in
     let count = length-set {A = UnitWeights} i.units a.variable (heavier_unit old a.positive w) in
     record {
       units_count = count;
@@ -138,7 +140,7 @@ keeps-unit i w a room some fits =
       units = put.positive room.units (heavier_unit-positive old a.positive w there room.low);
       pairs = room.pairs;
       weight = omega (arith, ints, put.weight, heavier_unit-total old a.positive w);
-      lines = omega (arith, put.lines, heavier_unit-lines old a.positive w);
+      lines = omega (arith, counted, heavier_unit-lines old a.positive w);
       some = omega (arith, count);
     }
 
@@ -148,7 +150,8 @@ keeps-pair i w a b room some less fits =
     let inside : place < length i.pairs = omega (arith, place-inside (length i.units) a.variable b.variable less fits, room.whole) in
     let old : PairWeights = get_or i.pairs place no_pair in
     let there = pair-at i.pairs place no_pair inside room.pairs in
-    let put = entry-put pair_total pair_weighing pair_is_positive i.pairs place (heavier_pair old a.positive b.positive w) no_pair inside in
+    let put = entry-put pair_total pair_is_positive i.pairs place (heavier_pair old a.positive b.positive w) no_pair inside in
+    let counted = sum_by-set pair_weighing i.pairs place (heavier_pair old a.positive b.positive w) no_pair inside in
     record {
       units_count = refl;
       pairs_count = length-set {A = PairWeights} i.pairs place (heavier_pair old a.positive b.positive w);
@@ -156,7 +159,7 @@ keeps-pair i w a b room some less fits =
       units = room.units;
       pairs = put.positive room.pairs (heavier_pair-positive old a.positive b.positive w there room.low);
       weight = omega (arith, ints, put.weight, heavier_pair-total old a.positive b.positive w);
-      lines = omega (arith, put.lines, heavier_pair-lines old a.positive b.positive w);
+      lines = omega (arith, counted, heavier_pair-lines old a.positive b.positive w);
       some = some;
     }
 
@@ -257,13 +260,9 @@ total-none : {X : Type 0} (number : X → ℤ) (x : X) → number x ≡ pos 0 �
 total-none number x e zero = refl
 total-none number x e (suc n) = omega (arith, ints, total-none number x e n)
 
-lines-none : {X : Type 0} (count : X → ℕ) (x : X) → count x ≡ 0 → (n : ℕ) → lines_by count (replicate n x) ≡ 0
-lines-none count x e zero = refl
-lines-none count x e (suc n) = omega (arith, lines-none count x e n)
-
 all-none : {X : Type 0} (test : X → Bool) (x : X) → IsTrue (test x) → (n : ℕ) → IsTrue (list_all test (replicate n x))
 all-none test x e zero = refl
-all-none test x e (suc n) = and-both (test x) _ e (all-none test x e n)
+all-none test x e (suc n) = and_from (test x) _ e (all-none test x e n)
 
 pub nothing-gathered : (n : ℕ) → n ≤ 1024 → IsGathered (nothing_gathered n)
 nothing-gathered n h = record {
@@ -274,7 +273,7 @@ nothing-gathered n h = record {
   pairs = all-none pair_is_positive no_pair refl (pair_count n);
   weight = omega (arith, ints, total-none unit_total no_unit refl n, total-none pair_total no_pair refl (pair_count n));
   total = omega (arith, ints);
-  lines = omega (arith, lines-none unit_weighing no_unit refl n, lines-none pair_weighing no_pair refl (pair_count n));
+  lines = omega (arith, sum_by-replicate unit_weighing n no_unit, sum_by-replicate pair_weighing (pair_count n) no_pair);
   some = omega arith;
 }
 

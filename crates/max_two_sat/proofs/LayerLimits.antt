@@ -3,11 +3,13 @@ use Rattle.std.proofs.Common.{◌≡◌, ℕ, zero, suc, ◌+◌, ◌-◌, ◌^�
 use Rattle.std.specs.Prelude.{IsTrue, ◌&&◌, int_le}
 use Rattle.std.proofs.lemmas.Int.{ints, to_z-of_z}
 use Rattle.std.proofs.lemmas.List.{drop_more, drop_all, length-drop}
+use Rattle.std.proofs.lemmas.Bool.{and_parts}
 use mir.Val.{SFits}
+use Rattle.dp_model.specs.NumberLaws.{int_le-is}
 use Rattle.max_two_sat.specs.declared.weights.UnitWeights.{UnitWeights}
 use Rattle.max_two_sat.specs.declared.weights.PairWeights.{PairWeights}
 use Rattle.max_two_sat.specs.Instance.{Instance, rows_of, row_at, unit_total, pair_total, pairs_total, no_pair, no_unit, without_tautologies}
-use Rattle.max_two_sat.specs.Kept.{IsKept, PairIsPositive, and-left, and-right, le-is, pairs_are_positive}
+use Rattle.max_two_sat.specs.Kept.{IsKept, PairIsPositive, pairs_are_positive}
 use Rattle.max_two_sat.specs.Program.{raised, first_limits, limits_at, are_within, is_within, words_of}
 use Rattle.max_two_sat.specs.Rows.{length-row_at, words_of-some}
 use Rattle.max_two_sat.specs.SizeLaws.{later-positive}
@@ -67,10 +69,10 @@ limit-more i j v kept h g =
 limit-within : (ls : List ℤ) (m : ℕ) → IsTrue (none_negative ls) → (pos 0 ≤ℤ get_or ls m (pos 0)) × (get_or ls m (pos 0) ≤ℤ sum_of ls)
 limit-within [] m h = (omega (arith, ints), omega (arith, ints))
 limit-within (l ∷ ls) zero h =
-    (le-is (pos 0) l (and-left _ _ h), omega (arith, ints, sum_of-positive ls (and-right (int_le (pos 0) l) _ h)))
+    (int_le-is (pos 0) l (and_parts _ _ h).0, omega (arith, ints, sum_of-positive ls (and_parts (int_le (pos 0) l) _ h).1))
 limit-within (l ∷ ls) (suc m) h =
-    let rest = limit-within ls m (and-right (int_le (pos 0) l) _ h) in
-    (rest.0, omega (arith, ints, rest.1, le-is (pos 0) l (and-left _ _ h)))
+    let rest = limit-within ls m (and_parts (int_le (pos 0) l) _ h).1 in
+    (rest.0, omega (arith, ints, rest.1, int_le-is (pos 0) l (and_parts _ _ h).0))
 
 pub record LimitIsSmall (limit : ℤ) : Type 0 where
   pub low : pos 0 ≤ℤ limit

@@ -2,15 +2,15 @@
 use Rattle.std.proofs.Common.{◌≡◌, ℕ, suc, ◌+◌, ◌<◌, ◌≤◌, ℤ, pos, ◌≤ℤ◌, true, false, List, [], ◌++◌, length, drop, get_or, refl, arith, ap, sym, ◌∙◌, append_assoc, append-nil}
 use Rattle.std.specs.Prelude.{int_lt}
 use Rattle.std.specs.List.{flat_map}
-use Rattle.std.proofs.lemmas.Int.{ints}
 use Rattle.std.proofs.lemmas.List.{drop_more, drop_all}
 use Rattle.std.proofs.lemmas.List.Concat.{flat_map-append}
+use Rattle.dp_model.specs.NumberLaws.{int_lt-fails}
 use Rattle.max_two_sat.specs.declared.clause.Literals.{Literals}
 use Rattle.max_two_sat.specs.declared.clause.Literals.TheVariants.{Two}
 use Rattle.max_two_sat.specs.declared.weights.UnitWeights.{UnitWeights}
 use Rattle.max_two_sat.specs.declared.weights.PairWeights.{PairWeights}
 use Rattle.max_two_sat.specs.Instance.{Instance, rows_of, row_at, no_pair, no_unit}
-use Rattle.max_two_sat.specs.Lines.{Clause, clause_where, literal, clauses_of, tautology_lines, unit_lines, units_lines, pair_lines, row_lines, rows_lines, lines_by}
+use Rattle.max_two_sat.specs.Lines.{Clause, clause_where, literal, clauses_of, tautology_lines, unit_lines, units_lines, pair_lines, row_lines, rows_lines}
 use Rattle.max_two_sat.specs.Printed.{line_of, text_of, first_line_of}
 use Rattle.max_two_sat.specs.Rows.{drop-rows}
 
@@ -76,24 +76,10 @@ text-printed i start first tautologies units rows none first_is tautologies_is u
 
 pub clause-none : (w : ℤ) (literals : Literals) → w ≤ℤ pos 0 → clause_where w literals ≡ []
 clause-none w literals h =
-    let test : int_lt (pos 0) w ≡ false = grind (arith, ints) in
-    rw test refl
+    rw (int_lt-fails (pos 0) w h) refl
 
 pub clause-some : (w : ℤ) (literals : Literals) → int_lt (pos 0) w ≡ true → flat_map line_of (clause_where w literals) ≡ line_of (record { weight = w; literals = literals })
 clause-some w literals test = rw test (append-nil (line_of (record { weight = w; literals = literals })))
-
--- how many lines there are
-
-pub lines-counted : {X : Type 0} (lines_of : X → ℕ) (xs : List X) (i count cell : ℕ) (none : X) → i < length xs → cell ≡ lines_of (get_or xs i none) →
-    count + lines_by lines_of (drop i xs) ≡ lines_by lines_of xs → (count + cell) + lines_by lines_of (drop (i + 1) xs) ≡ lines_by lines_of xs
-lines-counted lines_of xs i count cell none h is before =
-    let cut = ap (lines_by lines_of) (drop_more xs i none h) in
-    omega arith
-
-pub all-counted : {X : Type 0} (lines_of : X → ℕ) (xs : List X) (i count : ℕ) → length xs ≤ i → count + lines_by lines_of (drop i xs) ≡ lines_by lines_of xs → count ≡ lines_by lines_of xs
-all-counted lines_of xs i count h before =
-    let none = ap (lines_by lines_of) (drop_all i xs h) in
-    omega arith
 
 four-parts : (start one two three four : List ℕ) (a b d e : List Clause) → one ≡ start ++ flat_map line_of a → two ≡ one ++ flat_map line_of b → three ≡ two ++ flat_map line_of d → four ≡ three ++ flat_map line_of e →
     four ≡ start ++ flat_map line_of (a ++ (b ++ (d ++ e)))

@@ -10,7 +10,7 @@ use Rattle.dd_text.specs.Grammar.{times}
 use Rattle.dd_text.specs.Printed.{IsBefore, ReadsPart}
 use Rattle.dd_text.specs.declared.comment.Comment.TheVariants.{LetterC}
 use Rattle.dd_text.specs.declared.instance_error.InstanceError.{InstanceError}
-use Rattle.dd_text.proofs.Printing.{before_start, before_behind, reads_number, reads_word, no_token_before, ends_line_LF}
+use Rattle.dd_text.proofs.Printing.{before_start, before_behind, passes_natural, reads_natural, reads_word, no_token_before, ends_line_LF}
 use Rattle.dd_text.proofs.Repeats.{times_reads}
 use Rattle.max_two_sat.specs.Clauses.{Gathered, gathered_with, nothing_gathered}
 use Rattle.max_two_sat.specs.Instance.{Instance}
@@ -64,9 +64,9 @@ reads_back i kept =
     let form = reads_word 119 (99 ∷ 110 ∷ 102 ∷ []) 32 behind_n t refl (omega arith) (subst (λ (c : Comment). opens_comment c 119 ≡ false) (sym p.comment_is) refl) refl
     (before_behind 32 (119 ∷ 99 ∷ 110 ∷ 102 ∷ 32 ∷ behind_n) t refl p.rest_is) in
     let u : TextState = after_token t in
-    let variables = reads_number (pos n) (pos 0) (pos 1024) 32 behind_m u (omega (arith, kept.variables)) (omega (arith, ints)) (omega (arith, ints, kept.variables)) refl (before_behind 32 behind_n u refl form.rest_is) in
+    let variables = passes_natural n 0 1024 32 behind_m u (omega arith) kept.variables (omega arith) refl (before_behind 32 behind_n u refl form.rest_is) in
     let v : TextState = after_token u in
-    let count = reads_number (pos m) (pos 0) (pos (2 ^ 20)) 10 lines v (omega (arith, kept.lines)) (omega (arith, ints)) (omega (arith, ints, kept.lines)) refl (before_behind 32 behind_m v refl variables.rest_is) in
+    let count = reads_natural m 0 (2 ^ 20) 10 lines v (omega arith) kept.lines (omega arith) refl variables.before in
     let w : TextState = after_token v in
     let ends = ends_line_LF lines w count.rest_is in
     let there = clauses-stand i kept in

@@ -1,6 +1,6 @@
 -- A printed clause is read.
-use Rattle.std.proofs.Common.{◌≡◌, ℕ, suc, ◌+◌, ◌^◌, ◌<◌, ◌≤◌, ℤ, pos, ◌+ℤ◌, ◌≤ℤ◌, Bool, true, false, cond, List, [], ◌∷◌, ◌++◌, refl, arith, ap, sym, subst, ◌∙◌, append_assoc}
-use Rattle.std.specs.Prelude.{Ok, Option, Some, None, nat_abs, neg_ℤ, int_lt, ◌==◌}
+use Rattle.std.proofs.Common.{◌≡◌, ℕ, suc, ◌+◌, ◌^◌, ◌<◌, ◌≤◌, ℤ, pos, ◌+ℤ◌, ◌≤ℤ◌, Bool, true, false, cond, List, [], ◌∷◌, ◌++◌, refl, arith, ap, subst, ◌∙◌, append_assoc}
+use Rattle.std.specs.Prelude.{Ok, Option, Some, None, nat_abs, neg_ℤ, ◌==◌}
 use Rattle.std.specs.Fmt.{digits}
 use Rattle.std.proofs.lemmas.Int.{ints}
 use Rattle.std.proofs.lemmas.Bool.{eqb-true}
@@ -8,7 +8,8 @@ use Rattle.dd_text.specs.Text.{TextState, is_blank, token, after_token, number_a
 use Rattle.dd_text.specs.declared.place.Place.{Place}
 use Rattle.dd_text.specs.Decimal.{decimal_of}
 use Rattle.dd_text.specs.Printed.{IsBefore, ReadsPart}
-use Rattle.dd_text.proofs.Printing.{before_behind, reads_number}
+use Rattle.dd_text.proofs.Printing.{passes_number}
+use Rattle.dp_model.specs.NumberLaws.{int_lt-fails}
 use Rattle.max_two_sat.specs.declared.clause.Literal.{Literal}
 use Rattle.max_two_sat.specs.declared.clause.Literals.{Literals}
 use Rattle.max_two_sat.specs.declared.clause.Literals.TheVariants.{Empty, One, Two}
@@ -28,57 +29,47 @@ literal_of-number a =
       | false ↦ rw one refl
     ]
 
-record LiteralSize (n : ℕ) (a : Literal) : Type 0 where
-  small : nat_abs (number_of_literal a) < 2 ^ 64
-  low : neg_ℤ (pos n) ≤ℤ number_of_literal a
-  high : number_of_literal a ≤ℤ pos n
+-- the size of the number, for the type, for the grammar and for the text
+pub record LiteralSize (n : ℕ) (a : Literal) : Type 0 where
+  pub small : nat_abs (number_of_literal a) < 2 ^ 64
+  pub digits : nat_abs (number_of_literal a) < 10 ^ 4
+  pub low : neg_ℤ (pos n) ≤ℤ number_of_literal a
+  pub high : number_of_literal a ≤ℤ pos n
 
-number-size : (n v : ℕ) (sign : Bool) → n ≤ 1024 → v < n →
-    (nat_abs (cond sign (pos (suc v)) (neg_ℤ (pos (suc v)))) < 2 ^ 64) × ((neg_ℤ (pos n) ≤ℤ cond sign (pos (suc v)) (neg_ℤ (pos (suc v)))) × (cond sign (pos (suc v)) (neg_ℤ (pos (suc v))) ≤ℤ pos n))
-number-size n v true few fits = (omega arith, (omega (arith, ints), omega (arith, ints)))
-number-size n v false few fits = (omega arith, (omega (arith, ints), omega (arith, ints)))
+number-size : (z : ℤ) (n v : ℕ) (sign : Bool) → n ≤ 1024 → v < n → z ≡ cond sign (pos (suc v)) (neg_ℤ (pos (suc v))) → (nat_abs z ≤ 1024) × ((neg_ℤ (pos n) ≤ℤ z) × (z ≤ℤ pos n))
+number-size z n v true few fits e = rw e (omega arith, (omega (arith, ints), omega (arith, ints)))
+number-size z n v false few fits e = rw e (omega arith, (omega (arith, ints), omega (arith, ints)))
 
-literal-size : (n : ℕ) (a : Literal) → n ≤ 1024 → a.variable < n → LiteralSize n a
+pub literal-size : (n : ℕ) (a : Literal) → n ≤ 1024 → a.variable < n → LiteralSize n a
 literal-size n a few fits =
-    let one : suc a.variable ≡ a.variable + 1 = omega arith in
-    let sizes = number-size n a.variable a.positive few fits in
-    record {
-      small = subst (λ (m : ℕ). nat_abs (cond a.positive (pos m) (neg_ℤ (pos m))) < 2 ^ 64) one sizes.0;
-      low = subst (λ (m : ℕ). neg_ℤ (pos n) ≤ℤ cond a.positive (pos m) (neg_ℤ (pos m))) one sizes.1.0;
-      high = subst (λ (m : ℕ). cond a.positive (pos m) (neg_ℤ (pos m)) ≤ℤ pos n) one sizes.1.1;
-    }
+    let one : a.variable + 1 ≡ suc a.variable = omega arith in
+    let sizes = number-size (number_of_literal a) n a.variable a.positive few fits (ap (λ (m : ℕ). cond a.positive (pos m) (neg_ℤ (pos m))) one) in
+    record { small = omega (arith, sizes.0); digits = omega (arith, sizes.0); low = sizes.1.0; high = sizes.1.1 }
 
--- a printed literal is read, and reading stands right behind it
-record ReadsLiteral (n : ℕ) (read : Option Literal) (behind : List ℕ) (s : TextState) : Type 0 where
+-- a printed literal is read, and so is the blank behind it
+record ReadsLiteral (n : ℕ) (read : Option Literal) (more : List ℕ) (s : TextState) : Type 0 where
   value : literal_at n s ≡ Ok (read, after_token s)
-  rest_is : (after_token s).rest ≡ behind
+  before : IsBefore more (after_token s)
   comment_is : (after_token s).comment ≡ s.comment
 
-reads_literal : (n : ℕ) (a : Literal) (b : ℕ) (more : List ℕ) (s : TextState) → n ≤ 1024 → a.variable < n → is_blank b ≡ true → IsBefore (decimal_of (number_of_literal a) ++ b ∷ more) s → ReadsLiteral n (Some a) (b ∷ more) s
+reads_literal : (n : ℕ) (a : Literal) (b : ℕ) (more : List ℕ) (s : TextState) → n ≤ 1024 → a.variable < n → is_blank b ≡ true →
+    IsBefore (decimal_of (number_of_literal a) ++ b ∷ more) s → ReadsLiteral n (Some a) more s
 unfolding literal_at
 reads_literal n a b more s few fits blank before =
     let size = literal-size n a few fits in
-    let r = reads_number (number_of_literal a) (neg_ℤ (pos n)) (pos n) b more s size.small size.low size.high blank before in
-    record {
-      value = rw (r.value, literal_of-number a) refl;
-      rest_is = r.rest_is;
-      comment_is = r.comment_is;
-    }
+    let number = passes_number (number_of_literal a) (neg_ℤ (pos n)) (pos n) b more s size.small size.low size.high blank before in
+    record { value = rw (number.value, literal_of-number a) refl; before = number.before; comment_is = number.comment_is }
 
 zero_digits : 48 ∷ [] ≡ decimal_of (pos 0)
 unfolding digits
 zero_digits = refl
 
-reads_zero : (n : ℕ) (more : List ℕ) (s : TextState) → IsBefore (48 ∷ 10 ∷ more) s → ReadsLiteral n None (10 ∷ more) s
+reads_zero : (n : ℕ) (more : List ℕ) (s : TextState) → IsBefore (48 ∷ 10 ∷ more) s → ReadsLiteral n None more s
 unfolding literal_at
 reads_zero n more s before =
     let ahead : IsBefore (decimal_of (pos 0) ++ 10 ∷ more) s = subst (λ (zero_text : List ℕ). IsBefore (zero_text ++ 10 ∷ more) s) zero_digits before in
-    let r = reads_number (pos 0) (neg_ℤ (pos n)) (pos n) 10 more s (omega arith) (omega (arith, ints)) (omega (arith, ints)) refl ahead in
-    record {
-      value = rw r.value refl;
-      rest_is = r.rest_is;
-      comment_is = r.comment_is;
-    }
+    let number = passes_number (pos 0) (neg_ℤ (pos n)) (pos n) 10 more s (omega arith) (omega (arith, ints)) (omega (arith, ints)) refl ahead in
+    record { value = rw number.value refl; before = number.before; comment_is = number.comment_is }
 
 -- a number that stands ahead is no end of the clauses
 goes-on : (least greatest z : ℤ) (place : Place) (bytes : List ℕ) → number_in least greatest place bytes ≡ Ok z → ends_token bytes ≡ false
@@ -105,35 +96,31 @@ record ReadsLiterals (n : ℕ) (literals : Literals) (tail : List ℕ) (s : Text
   comment_is : behind.comment ≡ s.comment
 
 reads_one : (n : ℕ) (a : Literal) (tail : List ℕ) (s : TextState) → n ≤ 1024 → a.variable < n →
-    s.rest ≡ 32 ∷ (decimal_of (number_of_literal a) ++ (32 ∷ 48 ∷ 10 ∷ tail)) → ReadsLiterals n (One a) tail s
+    IsBefore (decimal_of (number_of_literal a) ++ (32 ∷ 48 ∷ 10 ∷ tail)) s → ReadsLiterals n (One a) tail s
 unfolding literals_at behind_first
-reads_one n a tail s few fits at =
-    let one = reads_literal n a 32 (48 ∷ 10 ∷ tail) s few fits refl (before_behind 32 (decimal_of (number_of_literal a) ++ (32 ∷ 48 ∷ 10 ∷ tail)) s refl at) in
-    let t : TextState = after_token s in
-    let last = reads_zero n tail t (before_behind 32 (48 ∷ 10 ∷ tail) t refl one.rest_is) in
-    let u : TextState = after_token t in
+reads_one n a tail s few fits before =
+    let one = reads_literal n a 32 (48 ∷ 10 ∷ tail) s few fits refl before in
+    let last = reads_zero n tail (after_token s) one.before in
     record {
-      behind = u;
+      behind = after_token (after_token s);
       read = rw (one.value, last.value) refl;
-      before = before_behind 10 tail u refl last.rest_is;
+      before = last.before;
       comment_is = last.comment_is ∙ one.comment_is;
     }
 
 reads_two : (n : ℕ) (a b : Literal) (tail : List ℕ) (s : TextState) → n ≤ 1024 → a.variable < n → b.variable < n →
-    s.rest ≡ 32 ∷ (decimal_of (number_of_literal a) ++ (32 ∷ (decimal_of (number_of_literal b) ++ (32 ∷ 48 ∷ 10 ∷ tail)))) → ReadsLiterals n (Two a b) tail s
+    IsBefore (decimal_of (number_of_literal a) ++ (32 ∷ (decimal_of (number_of_literal b) ++ (32 ∷ 48 ∷ 10 ∷ tail)))) s → ReadsLiterals n (Two a b) tail s
 unfolding literals_at behind_first end_of_clause
-reads_two n a b tail s few first second at =
-    let rest : List ℕ = decimal_of (number_of_literal b) ++ (32 ∷ 48 ∷ 10 ∷ tail) in
-    let one = reads_literal n a 32 rest s few first refl (before_behind 32 (decimal_of (number_of_literal a) ++ (32 ∷ rest)) s refl at) in
+reads_two n a b tail s few first second before =
     let t : TextState = after_token s in
-    let two = reads_literal n b 32 (48 ∷ 10 ∷ tail) t few second refl (before_behind 32 rest t refl one.rest_is) in
     let u : TextState = after_token t in
-    let last = reads_zero n tail u (before_behind 32 (48 ∷ 10 ∷ tail) u refl two.rest_is) in
-    let v : TextState = after_token u in
+    let one = reads_literal n a 32 (decimal_of (number_of_literal b) ++ (32 ∷ 48 ∷ 10 ∷ tail)) s few first refl before in
+    let two = reads_literal n b 32 (48 ∷ 10 ∷ tail) t few second refl one.before in
+    let last = reads_zero n tail u two.before in
     record {
-      behind = v;
+      behind = after_token u;
       read = rw (one.value, two.value, last.value) refl;
-      before = before_behind 10 tail v refl last.rest_is;
+      before = last.before;
       comment_is = last.comment_is ∙ (two.comment_is ∙ one.comment_is);
     }
 
@@ -147,22 +134,22 @@ pub record ClauseStands (n : ℕ) (x : Clause) : Type 0 where
   pub low : pos 0 ≤ℤ x.weight
   pub literals : LiteralsStand n x.literals
 
--- the literals stand behind a blank
-record LiteralsAhead (literals : Literals) (tail : List ℕ) : Type 0 where
-  more : List ℕ
-  is : literals_text literals ++ (32 ∷ 48 ∷ 10 ∷ tail) ≡ 32 ∷ more
+-- the literals with the zero, behind the first blank
+abbrev literals_behind : Literals → List ℕ → List ℕ
+literals_behind Empty tail = []
+literals_behind (One a) tail = decimal_of (number_of_literal a) ++ (32 ∷ 48 ∷ 10 ∷ tail)
+literals_behind (Two a b) tail = decimal_of (number_of_literal a) ++ (32 ∷ (decimal_of (number_of_literal b) ++ (32 ∷ 48 ∷ 10 ∷ tail)))
 
-literals-ahead : (n : ℕ) (literals : Literals) (tail : List ℕ) → LiteralsStand n literals → LiteralsAhead literals tail
+literals-ahead : (n : ℕ) (literals : Literals) (tail : List ℕ) → LiteralsStand n literals → literals_text literals ++ (32 ∷ 48 ∷ 10 ∷ tail) ≡ 32 ∷ literals_behind literals tail
 literals-ahead n Empty tail h = absurd h
-literals-ahead n (One a) tail h = record { more = decimal_of (number_of_literal a) ++ (32 ∷ 48 ∷ 10 ∷ tail); is = refl }
-literals-ahead n (Two a b) tail h = record { more = (decimal_of (number_of_literal a) ++ literal_text b) ++ (32 ∷ 48 ∷ 10 ∷ tail); is = refl }
+literals-ahead n (One a) tail h = refl
+literals-ahead n (Two a b) tail h = ap (λ (bytes : List ℕ). 32 ∷ bytes) (append_assoc (decimal_of (number_of_literal a)) (literal_text b) (32 ∷ 48 ∷ 10 ∷ tail))
 
 reads_literals : (n : ℕ) (literals : Literals) (tail : List ℕ) (s : TextState) → n ≤ 1024 → LiteralsStand n literals →
-    s.rest ≡ literals_text literals ++ (32 ∷ 48 ∷ 10 ∷ tail) → ReadsLiterals n literals tail s
-reads_literals n Empty tail s few h at = absurd h
-reads_literals n (One a) tail s few h at = reads_one n a tail s few h at
-reads_literals n (Two a b) tail s few h at =
-    reads_two n a b tail s few h.0 h.1 (at ∙ ap (λ (bytes : List ℕ). 32 ∷ bytes) (append_assoc (decimal_of (number_of_literal a)) (literal_text b) (32 ∷ 48 ∷ 10 ∷ tail)))
+    IsBefore (literals_behind literals tail) s → ReadsLiterals n literals tail s
+reads_literals n Empty tail s few h before = absurd h
+reads_literals n (One a) tail s few h before = reads_one n a tail s few h before
+reads_literals n (Two a b) tail s few h before = reads_two n a b tail s few h.0 h.1 before
 
 line_before : (x : Clause) (tail : List ℕ) → line_of x ++ tail ≡ decimal_of x.weight ++ (literals_text x.literals ++ (32 ∷ 48 ∷ 10 ∷ tail))
 line_before x tail = simp append_assoc
@@ -176,16 +163,15 @@ pub reads_clause : (n m : ℕ) (x : Clause) (made : Gathered) (tail : List ℕ) 
     IsBefore (line_of x ++ tail) s → ReadsPart (clause_at (header_of n m)) made (gathered_with made x.weight x.literals) tail s
 unfolding clause_at weight_at
 reads_clause n m x made tail s few stands low most before =
-    let ahead = literals-ahead n x.literals tail stands.literals in
-    let line : line_of x ++ tail ≡ decimal_of x.weight ++ (32 ∷ ahead.more) = line_before x tail ∙ ap (λ (bytes : List ℕ). decimal_of x.weight ++ bytes) ahead.is in
-    let weight = reads_number x.weight (pos 0) (pos (2 ^ 48)) 32 ahead.more s (omega (arith, ints, stands.low)) stands.low (omega (arith, ints)) refl (subst (λ (bytes : List ℕ). IsBefore bytes s) line before) in
+    let more : List ℕ = literals_behind x.literals tail in
+    let line : line_of x ++ tail ≡ decimal_of x.weight ++ (32 ∷ more) = line_before x tail ∙ ap (λ (bytes : List ℕ). decimal_of x.weight ++ bytes) (literals-ahead n x.literals tail stands.literals) in
+    let weight = passes_number x.weight (pos 0) (pos (2 ^ 48)) 32 more s (omega (arith, ints, stands.low)) stands.low (omega (arith, ints)) refl (subst (λ (bytes : List ℕ). IsBefore bytes s) line before) in
     let t : TextState = after_token s in
     let starts : ends_clauses s ≡ false = number-goes-on (pos 0) (pos (2 ^ 48)) x.weight s weight.value in
-    let within_limit : int_lt (pos (2 ^ 48)) (made.total +ℤ x.weight) ≡ false = grind (arith, ints) in
-    let literals = reads_literals n x.literals tail t few stands.literals (weight.rest_is ∙ sym ahead.is) in
+    let literals = reads_literals n x.literals tail t few stands.literals weight.before in
     record {
       behind = literals.behind;
-      read = rw (starts, weight.value, within_limit, literals.read) refl;
+      read = rw (starts, weight.value, int_lt-fails (pos (2 ^ 48)) (made.total +ℤ x.weight) most, literals.read) refl;
       before = literals.before;
       comment_is = literals.comment_is ∙ weight.comment_is;
     }

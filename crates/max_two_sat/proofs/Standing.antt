@@ -1,15 +1,18 @@
 -- The clauses of the canonical text: that they stand, and what they weigh and count.
-use Rattle.std.proofs.Common.{◌≡◌, ℕ, zero, suc, ◌+◌, ◌<◌, ◌≤◌, ℤ, pos, ◌+ℤ◌, ◌≤ℤ◌, Bool, true, false, List, [], ◌∷◌, ◌++◌, length, take, drop, refl, arith, subst}
+use Rattle.std.proofs.Common.{◌≡◌, ℕ, zero, suc, ◌+◌, ◌<◌, ◌≤◌, ℤ, pos, ◌+ℤ◌, ◌≤ℤ◌, Bool, true, false, List, [], ◌∷◌, ◌++◌, length, take, drop, refl, arith, sym, subst}
 use Rattle.std.specs.Prelude.{IsTrue, int_lt, if◌then◌else◌}
 use Rattle.std.proofs.lemmas.Int.{ints}
 use Rattle.std.proofs.lemmas.List.{length-append, length-drop, length-take-le}
+use Rattle.std.proofs.lemmas.Bool.{and_parts}
+use Rattle.std.proofs.lemmas.List.Sums.{sum_by-cons, sum_by-take-drop}
+use Rattle.dp_model.specs.NumberLaws.{int_lt-is_not}
 use Rattle.max_two_sat.specs.declared.clause.Literals.{Literals}
 use Rattle.max_two_sat.specs.declared.clause.Literals.TheVariants.{One, Two}
 use Rattle.max_two_sat.specs.declared.weights.UnitWeights.{UnitWeights}
 use Rattle.max_two_sat.specs.declared.weights.PairWeights.{PairWeights}
 use Rattle.max_two_sat.specs.Instance.{Instance, rows_of, pair_count, unit_total, pair_total, units_total, pairs_total}
-use Rattle.max_two_sat.specs.Kept.{IsKept, PairIsPositive, UnitIsPositive, pairs_are_positive, units_are_positive, pair_is_positive, unit_is_positive, unit-positive, pair-positive, and-left, and-right}
-use Rattle.max_two_sat.specs.Lines.{Clause, clause_where, clauses_of, line_count, literal, tautology_lines, unit_lines, units_lines, pair_lines, row_lines, rows_lines, weighs, units_weighing, pairs_weighing}
+use Rattle.max_two_sat.specs.Kept.{IsKept, PairIsPositive, UnitIsPositive, pairs_are_positive, units_are_positive, pair_is_positive, unit_is_positive, unit-positive, pair-positive}
+use Rattle.max_two_sat.specs.Lines.{Clause, clause_where, clauses_of, line_count, literal, tautology_lines, unit_lines, units_lines, pair_lines, row_lines, rows_lines, weighs, pair_weighing, unit_weighing, units_weighing, pairs_weighing}
 use Rattle.max_two_sat.specs.Totals.{all-drop, all-take, total_by-cut}
 use Rattle.max_two_sat.proofs.RoundTrip.{ClauseStands, LiteralsStand}
 
@@ -43,14 +46,11 @@ stands-both n xs ys s t u a b c one two sum count = record {
   many = omega (arith, length-append xs ys, one.many, two.many);
 }
 
-zero-weight : (w : ℤ) → pos 0 ≤ℤ w → int_lt (pos 0) w ≡ false → pos 0 ≡ w
-zero-weight w low test = grind (arith, ints)
-
 stands-where : (n : ℕ) (w : ℤ) (literals : Literals) → pos 0 ≤ℤ w → (int_lt (pos 0) w ≡ true → LiteralsStand n literals) → StandsAs n (clause_where w literals) w (weighs w)
 stands-where n w literals low fits =
     elim (int_lt (pos 0) w) as (λ t. int_lt (pos 0) w ≡ t → StandsAs n (if t then record { weight = w; literals = literals } ∷ [] else []) w (if t then 1 else 0)) [
       | true ↦ λ e. record { stand = (record { low = low; literals = fits e }, tt); weight = omega (arith, ints); many = refl }
-      | false ↦ λ e. record { stand = tt; weight = zero-weight w low e; many = refl }
+      | false ↦ λ e. record { stand = tt; weight = omega (arith, ints, int_lt-is_not (pos 0) w e); many = refl }
     ] refl
 
 unit-stands : (n v : ℕ) (u : UnitWeights) → v < n → UnitIsPositive u → StandsAs n (unit_lines v u) (unit_total u) (weighs u.positive + weighs u.negative)
@@ -62,7 +62,7 @@ units-stand : (n : ℕ) (us : List UnitWeights) (v : ℕ) → v + length us ≤ 
 units-stand n [] v h g = record { stand = tt; weight = refl; many = refl }
 units-stand n (u ∷ us) v h g =
     stands-both n (unit_lines v u) (units_lines (v + 1) us) (unit_total u) (units_total us) (units_total (u ∷ us)) _ _ (units_weighing (u ∷ us))
-    (unit-stands n v u (omega arith) (unit-positive u (and-left _ _ g))) (units-stand n us (v + 1) (omega arith) (and-right (unit_is_positive u) _ g)) refl refl
+    (unit-stands n v u (omega arith) (unit-positive u (and_parts _ _ g).0)) (units-stand n us (v + 1) (omega arith) (and_parts (unit_is_positive u) _ g).1) refl (sym (sum_by-cons unit_weighing u us))
 
 pair-stands : (n i j : ℕ) (p : PairWeights) → i < n → j < n → PairIsPositive p →
     StandsAs n (pair_lines i j p) (pair_total p) ((weighs p.both + weighs p.first) + (weighs p.second + weighs p.neither))
@@ -79,12 +79,7 @@ row-stands : (n i : ℕ) (ps : List PairWeights) (j : ℕ) → i < j → j + len
 row-stands n i [] j h g positive = record { stand = tt; weight = refl; many = refl }
 row-stands n i (p ∷ ps) j h g positive =
     stands-both n (pair_lines i j p) (row_lines i (j + 1) ps) (pair_total p) (pairs_total ps) (pairs_total (p ∷ ps)) _ _ (pairs_weighing (p ∷ ps))
-    (pair-stands n i j p (omega arith) (omega arith) (pair-positive p (and-left _ _ positive))) (row-stands n i ps (j + 1) (omega arith) (omega arith) (and-right (pair_is_positive p) _ positive)) refl refl
-
-weighing-cut : (m : ℕ) (ps : List PairWeights) → pairs_weighing (take m ps) + pairs_weighing (drop m ps) ≡ pairs_weighing ps
-weighing-cut zero ps = omega arith
-weighing-cut (suc m) [] = refl
-weighing-cut (suc m) (p ∷ ps) = omega (arith, weighing-cut m ps)
+    (pair-stands n i j p (omega arith) (omega arith) (pair-positive p (and_parts _ _ positive).0)) (row-stands n i ps (j + 1) (omega arith) (omega arith) (and_parts (pair_is_positive p) _ positive).1) refl (sym (sum_by-cons pair_weighing p ps))
 
 rows-stand : (n m : ℕ) (ps : List PairWeights) (i : ℕ) → i + m ≤ n → length ps ≡ pair_count m → IsTrue (pairs_are_positive ps) → StandsAs n (rows_lines i (rows_of m ps)) (pairs_total ps) (pairs_weighing ps)
 rows-stand n zero [] i h e positive = record { stand = tt; weight = refl; many = refl }
@@ -93,7 +88,7 @@ rows-stand n (suc m) ps i h e positive =
     stands-both n (row_lines i (i + 1) (take m ps)) (rows_lines (i + 1) (rows_of m (drop m ps))) (pairs_total (take m ps)) (pairs_total (drop m ps)) (pairs_total ps)
     (pairs_weighing (take m ps)) (pairs_weighing (drop m ps)) (pairs_weighing ps)
     (row-stands n i (take m ps) (i + 1) (omega arith) (omega (arith, length-take-le m ps (omega arith))) (all-take pair_is_positive m ps positive))
-    (rows-stand n m (drop m ps) (i + 1) (omega arith) (omega (arith, length-drop m ps)) (all-drop pair_is_positive m ps positive)) (total_by-cut pair_total m ps) (weighing-cut m ps)
+    (rows-stand n m (drop m ps) (i + 1) (omega arith) (omega (arith, length-drop m ps)) (all-drop pair_is_positive m ps positive)) (total_by-cut pair_total m ps) (sum_by-take-drop pair_weighing ps m)
 
 tautology-stands : (n : ℕ) (w : ℤ) → pos 0 ≤ℤ w → weighs w ≤ n → int_lt (pos 0) w ≡ true → LiteralsStand n (Two (literal 0 true) (literal 0 false))
 tautology-stands n w low some test =

@@ -1,30 +1,26 @@
 -- The canonical text is short.
-use Rattle.std.proofs.Common.{◌≡◌, ℕ, suc, ◌+◌, ◌*◌, ◌^◌, ◌<◌, ◌≤◌, ℤ, pos, negsuc, ◌≤ℤ◌, Bool, true, false, cond, List, [], ◌∷◌, ◌++◌, length, arith, subst}
-use Rattle.std.specs.Prelude.{codes, neg_ℤ}
+use Rattle.std.proofs.Common.{ℕ, ◌*◌, ◌^◌, ◌<◌, ◌≤◌, ℤ, pos, negsuc, ◌≤ℤ◌, List, [], ◌∷◌, ◌++◌, length, arith}
+use Rattle.std.specs.Prelude.{codes}
 use Rattle.std.specs.List.{flat_map}
 use Rattle.std.proofs.lemmas.Fmt.{length-decimal-le}
 use Rattle.std.proofs.lemmas.Int.{ints}
 use Rattle.std.proofs.lemmas.List.{length-append}
 use Rattle.dd_text.specs.Decimal.{decimal_of}
+use Rattle.dd_text.proofs.Lengths.{number_short, parts_short}
 use Rattle.max_two_sat.specs.declared.clause.Literal.{Literal}
 use Rattle.max_two_sat.specs.declared.clause.Literals.{Literals}
 use Rattle.max_two_sat.specs.declared.clause.Literals.TheVariants.{Empty, One, Two}
 use Rattle.max_two_sat.specs.Instance.{Instance}
 use Rattle.max_two_sat.specs.Kept.{IsKept}
 use Rattle.max_two_sat.specs.Lines.{Clause, clauses_of, line_count}
-use Rattle.max_two_sat.specs.Printed.{first_line_of, line_of, literal_text, literals_text, text_of}
-use Rattle.max_two_sat.proofs.RoundTrip.{LiteralsStand}
+use Rattle.max_two_sat.specs.Printed.{first_line_of, line_of, literal_text, literals_text, number_of_literal, text_of}
+use Rattle.max_two_sat.proofs.RoundTrip.{ClauseStands, LiteralsStand, literal-size}
 use Rattle.max_two_sat.proofs.Standing.{AllStand, weights_of, clauses-stand, weights-positive}
-
-number_short : (v : ℕ) (sign : Bool) → v < 1024 → length (decimal_of (cond sign (pos (suc v)) (neg_ℤ (pos (suc v))))) ≤ 5
-number_short v true few = omega (arith, length-decimal-le 4 (suc v) (omega arith) (omega arith) (omega arith))
-number_short v false few = omega (arith, length-decimal-le 4 (suc v) (omega arith) (omega arith) (omega arith))
 
 literal_short : (a : Literal) → a.variable < 1024 → length (literal_text a) ≤ 6
 literal_short a few =
-    let one : suc a.variable ≡ a.variable + 1 = omega arith in
-    let number = subst (λ (m : ℕ). length (decimal_of (cond a.positive (pos m) (neg_ℤ (pos m)))) ≤ 5) one (number_short a.variable a.positive few) in
-    omega (arith, number)
+    let size = literal-size 1024 a (omega arith) few in
+    omega (arith, number_short 4 (number_of_literal a) (omega arith) size.digits size.small)
 
 literals_short : (n : ℕ) (literals : Literals) → n ≤ 1024 → LiteralsStand n literals → length (literals_text literals) ≤ 12
 literals_short n Empty few h = omega arith
@@ -41,23 +37,29 @@ weight_short (pos n) low high =
 weight_short (negsuc n) low high = absurd (omega (arith, ints))
 
 -- a line has at most 15 digits, two literals, and the 0 with the line's end
-lines_short : (n : ℕ) (xs : List Clause) → n ≤ 1024 → AllStand n xs → weights_of xs ≤ℤ pos (2 ^ 48) → length (flat_map line_of xs) ≤ 30 * length xs
-lines_short n [] few h most = omega arith
-lines_short n (x ∷ xs) few h most =
-    let later = weights-positive n xs h.1 in
-    let weight = weight_short x.weight h.0.low (omega (arith, ints)) in
-    let literals = literals_short n x.literals few h.0.literals in
-    let low = h.0.low in
-    let rest = lines_short n xs few h.1 (omega (arith, ints)) in
+line_short : (n : ℕ) (x : Clause) → n ≤ 1024 → ClauseStands n x → x.weight ≤ℤ pos (2 ^ 48) → length (line_of x) ≤ 30
+line_short n x few stands most =
     omega (
       arith,
-      weight,
-      literals,
-      rest,
-      length-append (line_of x) (flat_map line_of xs),
+      weight_short x.weight stands.low most,
+      literals_short n x.literals few stands.literals,
       length-append (decimal_of x.weight) (literals_text x.literals ++ codes " 0\n"),
       length-append (literals_text x.literals) (codes " 0\n"),
     )
+
+-- clauses that stand, and weigh at most 2^48
+record AreLight (n : ℕ) (xs : List Clause) : Type 0 where
+  stand : AllStand n xs
+  weight : weights_of xs ≤ℤ pos (2 ^ 48)
+
+lines_short : (n : ℕ) (xs : List Clause) → n ≤ 1024 → AreLight n xs → length (flat_map line_of xs) ≤ 30 * length xs
+lines_short n xs few light =
+    parts_short line_of 30 (AreLight n)
+    (λ x rest here.
+    let first = here.stand.0 in
+    let later = weights-positive n rest here.stand.1 in
+    (line_short n x few first (omega (arith, ints, here.weight)), record { stand = here.stand.1; weight = omega (arith, ints, here.weight, first.low) }))
+    xs light
 
 first_line_short : (i : Instance) → IsKept i → length (first_line_of i) ≤ 20
 unfolding first_line_of
@@ -76,5 +78,5 @@ first_line_short i kept =
 pub text_short : (i : Instance) → IsKept i → length (text_of i) ≤ 2 ^ 25
 text_short i kept =
     let there = clauses-stand i kept in
-    let lines = lines_short (length i.units) (clauses_of i) kept.variables there.stand (omega (arith, ints, there.weight, kept.total)) in
+    let lines = lines_short (length i.units) (clauses_of i) kept.variables (record { stand = there.stand; weight = omega (arith, ints, there.weight, kept.total) }) in
     omega (arith, first_line_short i kept, lines, there.many, kept.lines, length-append (first_line_of i) (flat_map line_of (clauses_of i)))

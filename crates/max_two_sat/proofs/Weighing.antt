@@ -1,7 +1,7 @@
 -- Passes over a list of truth values.
 use Rattle.std.proofs.Common.{◌≡◌, ℕ, zero, suc, ◌+◌, ◌^◌, ◌<◌, ◌≤◌, ℤ, pos, ◌+ℤ◌, ◌-ℤ◌, ◌≤ℤ◌, Bool, true, false, List, [], ◌∷◌, length, drop, get_or, refl, arith, ap, subst, sym, ◌∙◌, to_z, of_z, w64}
 use Rattle.std.specs.Prelude.{IsTrue, ◌&&◌, ◌==◌, nat_lt, Some, None, if◌then◌else◌}
-use Rattle.std.proofs.lemmas.Bool.{eqb-true}
+use Rattle.std.proofs.lemmas.Bool.{eqb-true, and_parts}
 use Rattle.std.proofs.lemmas.Bool.Decides.{nat_tests}
 use Rattle.std.proofs.lemmas.Int.{ints}
 use Rattle.std.proofs.lemmas.List.{drop_more, drop_all}
@@ -11,7 +11,7 @@ use Rattle.max_two_sat.specs.Instance.{Instance, rows_of, row_at, pair_count, un
 use Rattle.dp_model.specs.Prefixes.{IsSolution}
 use Rattle.dp_model.specs.Worth.{IsWorth, SolutionGives}
 use Rattle.max_two_sat.specs.GapLaws.{row_value-most, rows_value-most}
-use Rattle.max_two_sat.specs.Kept.{IsKept, PairIsPositive, UnitIsPositive, pairs_are_positive, units_are_positive, pair_is_positive, unit_is_positive, unit-positive, pair-positive, and-left, and-right}
+use Rattle.max_two_sat.specs.Kept.{IsKept, PairIsPositive, UnitIsPositive, pairs_are_positive, units_are_positive, pair_is_positive, unit_is_positive, unit-positive, pair-positive}
 use Rattle.max_two_sat.specs.OwnWords.{all_truth_values, own_value, weight_of, unit_value, pair_value, pair_left, units_value, row_value, rows_value}
 use Rattle.max_two_sat.specs.Program.{program_of}
 use Rattle.max_two_sat.specs.Solutions.{own_value-agrees}
@@ -59,13 +59,13 @@ pub units_value-positive : (us : List UnitWeights) (xs : List ℕ) → IsTrue (u
 units_value-positive [] xs h = omega (arith, ints)
 units_value-positive (u ∷ us) [] h = omega (arith, ints)
 units_value-positive (u ∷ us) (x ∷ xs) h =
-    omega (arith, ints, unit_value-positive u x (unit-positive u (and-left _ _ h)), units_value-positive us xs (and-right (unit_is_positive u) _ h))
+    omega (arith, ints, unit_value-positive u x (unit-positive u (and_parts _ _ h).0), units_value-positive us xs (and_parts (unit_is_positive u) _ h).1)
 
 pub units_value-most : (us : List UnitWeights) (xs : List ℕ) → IsTrue (units_are_positive us) → units_value us xs ≤ℤ units_total us
 units_value-most [] xs h = omega (arith, ints)
 units_value-most (u ∷ us) [] h = units_total-positive (u ∷ us) h
 units_value-most (u ∷ us) (x ∷ xs) h =
-    omega (arith, ints, unit_value-most u x (unit-positive u (and-left _ _ h)), units_value-most us xs (and-right (unit_is_positive u) _ h))
+    omega (arith, ints, unit_value-most u x (unit-positive u (and_parts _ _ h).0), units_value-most us xs (and_parts (unit_is_positive u) _ h).1)
 
 -- the sum so far, and one variable more
 pub units-grow : (us : List UnitWeights) (xs : List ℕ) (i : ℕ) (total cell : ℤ) → i < length us → length xs ≡ length us → IsTrue (units_are_positive us) → units_total us ≤ℤ pos (2 ^ 48) →
@@ -129,13 +129,13 @@ row_value-positive : (ps : List PairWeights) (x : ℕ) (ys : List ℕ) → IsTru
 row_value-positive [] x ys h = omega (arith, ints)
 row_value-positive (p ∷ ps) x [] h = omega (arith, ints)
 row_value-positive (p ∷ ps) x (y ∷ ys) h =
-    omega (arith, ints, pair_value-positive p x y (pair-positive p (and-left _ _ h)), row_value-positive ps x ys (and-right (pair_is_positive p) _ h))
+    omega (arith, ints, pair_value-positive p x y (pair-positive p (and_parts _ _ h).0), row_value-positive ps x ys (and_parts (pair_is_positive p) _ h).1)
 
 rows_value-positive : (rows : List (List PairWeights)) (xs : List ℕ) → IsTrue (rows_are_positive rows) → pos 0 ≤ℤ rows_value rows xs
 rows_value-positive [] xs h = omega (arith, ints)
 rows_value-positive (row ∷ rows) [] h = omega (arith, ints)
 rows_value-positive (row ∷ rows) (x ∷ xs) h =
-    omega (arith, ints, row_value-positive row x xs (and-left _ _ h), rows_value-positive rows xs (and-right (pairs_are_positive row) _ h))
+    omega (arith, ints, row_value-positive row x xs (and_parts _ _ h).0, rows_value-positive rows xs (and_parts (pairs_are_positive row) _ h).1)
 
 pub row-grows : (ps : List PairWeights) (x : ℕ) (ys : List ℕ) (i : ℕ) (total cell : ℤ) → i < length ps → length ps ≡ length ys → IsTrue (pairs_are_positive ps) → pairs_total ps ≤ℤ pos (2 ^ 48) →
     cell ≡ pair_value (get_or ps i no_pair) x (get_or ys i 0) → (total +ℤ row_value (drop i ps) x (drop i ys) ≡ row_value ps x ys) × (pos 0 ≤ℤ total) →
@@ -215,7 +215,7 @@ pub value-is : (i : Instance) (xs : List ℕ) (answer : Bool) (units_part pairs_
     units_part ≡ units_value i.units xs → pairs_part ≡ rows_value (rows_of (length xs) i.pairs) xs → ValueIs i xs units_part pairs_part
 value-is i xs answer units_part pairs_part kept is yes_assignment units_is pairs_is =
     let test : ((length xs == length i.units) && all_truth_values xs) ≡ true = sym is ∙ yes_assignment in
-    let whole : length xs ≡ length i.units = eqb-true (length xs) (length i.units) (and-left _ _ test) in
+    let whole : length xs ≡ length i.units = eqb-true (length xs) (length i.units) (and_parts _ _ test).0 in
     let pairs : pairs_part ≡ rows_value (rows_of (length i.units) i.pairs) xs = pairs_is ∙ ap (λ n. rows_value (rows_of n i.pairs) xs) whole in
     let sum : i.tautologies +ℤ (units_part +ℤ pairs_part) ≡ weight_of i xs = omega (arith, ints) in
     let agrees : IsWorth (program_of i) xs (weight_of i xs) =

@@ -3,6 +3,7 @@ use Rattle.std.specs.Prelude.{◌≡◌, ℕ, zero, suc, ◌+◌, ◌≤◌, ℤ
 use Rattle.std.proofs.Common.{arith, sym, ap}
 use Rattle.std.proofs.lemmas.Int.{ints}
 use Rattle.std.proofs.lemmas.List.{length-drop}
+use Rattle.std.proofs.lemmas.Bool.{and_parts}
 use Rattle.benefit_rows.specs.Benefits.{gains_of, rank_of, gap_of}
 use Rattle.benefit_rows.specs.BenefitLaws.{gap_of-self, gap_of-bounds, gap_of-chain, gains_of-most, rank_of-positive}
 use Rattle.dp_model.specs.Gaps.{IsStateOf, IsSoundGap}
@@ -11,7 +12,7 @@ use Rattle.dp_model.specs.Prefixes.{IsPath, IsContinuation, gain_of as gain_alon
 use Rattle.max_two_sat.specs.declared.weights.UnitWeights.{UnitWeights}
 use Rattle.max_two_sat.specs.declared.weights.PairWeights.{PairWeights}
 use Rattle.max_two_sat.specs.Instance.{Instance, rows_of, pair_total, pairs_total, rows_total}
-use Rattle.max_two_sat.specs.Kept.{IsKept, pairs_are_positive, pair_is_positive, pair-positive, and-left, and-right}
+use Rattle.max_two_sat.specs.Kept.{IsKept, pairs_are_positive, pair_is_positive, pair-positive}
 use Rattle.max_two_sat.specs.OwnWords.{pair_value, row_value, rows_value}
 use Rattle.max_two_sat.specs.Program.{first_limits, limits_at, are_within, program_of}
 use Rattle.max_two_sat.specs.Rows.{length-rows_of, words_of-some}
@@ -80,13 +81,13 @@ pub row_value-most : (ps : List PairWeights) (x : ℕ) (ys : List ℕ) → IsTru
 row_value-most [] x ys h = omega (arith, ints)
 row_value-most (p ∷ ps) x [] h = pairs_total-positive (p ∷ ps) h
 row_value-most (p ∷ ps) x (y ∷ ys) h =
-    omega (arith, ints, pair_value-most p x y (and-left _ _ h), row_value-most ps x ys (and-right (pair_is_positive p) _ h))
+    omega (arith, ints, pair_value-most p x y (and_parts _ _ h).0, row_value-most ps x ys (and_parts (pair_is_positive p) _ h).1)
 
 pub rows_value-most : (rows : List (List PairWeights)) (xs : List ℕ) → IsTrue (rows_are_positive rows) → rows_value rows xs ≤ℤ rows_total rows
 rows_value-most [] xs h = omega (arith, ints)
 rows_value-most (row ∷ rows) [] h = rows_total-positive (row ∷ rows) h
 rows_value-most (row ∷ rows) (x ∷ xs) h =
-    omega (arith, ints, row_value-most row x xs (and-left _ _ h), rows_value-most rows xs (and-right (pairs_are_positive row) _ h))
+    omega (arith, ints, row_value-most row x xs (and_parts _ _ h).0, rows_value-most rows xs (and_parts (pairs_are_positive row) _ h).1)
 
 rough-bounds : (i : Instance) (k : ℕ) (s : List ℤ) (c : List ℕ) → IsKept i → IsStateOf (program_of i) k s → IsContinuation (program_of i) k s c →
     gain_along (program_of i) k s c ≤ℤ (rank_of (drop k s) +ℤ rows_total (drop k (rows_of (length i.units) i.pairs)))

@@ -1,9 +1,11 @@
 -- What every instance keeps to.
-use Rattle.std.specs.Prelude.{◌≡◌, ◌^◌, ◌≤◌, ℤ, pos, neg_ℤ, ◌+ℤ◌, ◌≤ℤ◌, Bool, true, false, ◌&&◌, int_le, List, length, IsTrue, refl}
+use Rattle.std.specs.Prelude.{◌≡◌, ◌^◌, ◌≤◌, ℤ, pos, neg_ℤ, ◌+ℤ◌, ◌≤ℤ◌, Bool, ◌&&◌, int_le, List, length, IsTrue}
 use Rattle.std.specs.List.{list_all}
 use Rattle.std.proofs.Common.{arith}
 use Rattle.std.proofs.lemmas.Int.{ints, clamps}
+use Rattle.std.proofs.lemmas.Bool.{and_parts, and_from}
 use Rattle.benefit_rows.specs.Benefits.{size_of}
+use Rattle.dp_model.specs.NumberLaws.{int_le-is, int_le-from}
 use Rattle.max_two_sat.specs.declared.weights.UnitWeights.{UnitWeights}
 use Rattle.max_two_sat.specs.declared.weights.PairWeights.{PairWeights}
 use Rattle.max_two_sat.specs.Instance.{Instance, pair_count, units_total, pairs_total}
@@ -36,31 +38,13 @@ pub record IsKept (i : Instance) : Type 0 where
 
 -- what the tests say
 
-pub and-left : (a b : Bool) → IsTrue (a && b) → IsTrue a
-and-left true b h = refl
-and-left false b h = h
-
-pub and-right : (a b : Bool) → IsTrue (a && b) → IsTrue b
-and-right true b h = h
-and-right false b h = absurd (grind arith)
-
-pub and-both : (a b : Bool) → IsTrue a → IsTrue b → IsTrue (a && b)
-and-both true b h g = g
-and-both false b h g = h
-
-pub le-is : (a b : ℤ) → IsTrue (int_le a b) → a ≤ℤ b
-le-is a b h = grind (arith, ints)
-
-pub is-le : (a b : ℤ) → a ≤ℤ b → IsTrue (int_le a b)
-is-le a b h = grind (arith, ints)
-
 pub size-is : (t limit : ℤ) → IsTrue (is_within t limit) → size_of t ≤ℤ limit
 size-is t limit h =
-    omega (arith, ints, clamps, le-is (neg_ℤ limit) t (and-left _ _ h), le-is t limit (and-right (int_le (neg_ℤ limit) t) _ h))
+    omega (arith, ints, clamps, int_le-is (neg_ℤ limit) t (and_parts _ _ h).0, int_le-is t limit (and_parts (int_le (neg_ℤ limit) t) _ h).1)
 
 pub is-size : (t limit : ℤ) → size_of t ≤ℤ limit → IsTrue (is_within t limit)
 is-size t limit h =
-    and-both (int_le (neg_ℤ limit) t) _ (is-le (neg_ℤ limit) t (omega (arith, ints, clamps))) (is-le t limit (omega (arith, ints, clamps)))
+    and_from (int_le (neg_ℤ limit) t) _ (int_le-from (neg_ℤ limit) t (omega (arith, ints, clamps))) (int_le-from t limit (omega (arith, ints, clamps)))
 
 pub record UnitIsPositive (u : UnitWeights) : Type 0 where
   pub positive : pos 0 ≤ℤ u.positive
@@ -74,17 +58,17 @@ pub record PairIsPositive (p : PairWeights) : Type 0 where
 
 pub unit-positive : (u : UnitWeights) → IsTrue (unit_is_positive u) → UnitIsPositive u
 unit-positive u h = record {
-  positive = le-is (pos 0) u.positive (and-left _ _ h);
-  negative = le-is (pos 0) u.negative (and-right (int_le (pos 0) u.positive) _ h);
+  positive = int_le-is (pos 0) u.positive (and_parts _ _ h).0;
+  negative = int_le-is (pos 0) u.negative (and_parts (int_le (pos 0) u.positive) _ h).1;
 }
 
 pub pair-positive : (p : PairWeights) → IsTrue (pair_is_positive p) → PairIsPositive p
 pair-positive p h =
-    let front : IsTrue (int_le (pos 0) p.both && int_le (pos 0) p.first) = and-left _ _ h in
-    let back : IsTrue (int_le (pos 0) p.second && int_le (pos 0) p.neither) = and-right (int_le (pos 0) p.both && int_le (pos 0) p.first) _ h in
+    let front : IsTrue (int_le (pos 0) p.both && int_le (pos 0) p.first) = (and_parts _ _ h).0 in
+    let back : IsTrue (int_le (pos 0) p.second && int_le (pos 0) p.neither) = (and_parts (int_le (pos 0) p.both && int_le (pos 0) p.first) _ h).1 in
     record {
-      both = le-is (pos 0) p.both (and-left _ _ front);
-      first = le-is (pos 0) p.first (and-right (int_le (pos 0) p.both) _ front);
-      second = le-is (pos 0) p.second (and-left _ _ back);
-      neither = le-is (pos 0) p.neither (and-right (int_le (pos 0) p.second) _ back);
+      both = int_le-is (pos 0) p.both (and_parts _ _ front).0;
+      first = int_le-is (pos 0) p.first (and_parts (int_le (pos 0) p.both) _ front).1;
+      second = int_le-is (pos 0) p.second (and_parts _ _ back).0;
+      neither = int_le-is (pos 0) p.neither (and_parts (int_le (pos 0) p.second) _ back).1;
     }

@@ -1,5 +1,6 @@
 -- The lines of a canonical text: a clause for each weight above zero.
 use Rattle.std.specs.Prelude.{ℕ, ◌+◌, ℤ, pos, int_lt, List, [], ◌∷◌, ◌++◌, length, Bool, true, false, if◌then◌else◌}
+use Rattle.std.specs.List.{sum_by}
 use Rattle.max_two_sat.specs.declared.clause.Literal.{Literal}
 use Rattle.max_two_sat.specs.declared.clause.Literals.{Literals}
 use Rattle.max_two_sat.specs.declared.clause.Literals.TheVariants.{One, Two}
@@ -58,16 +59,11 @@ unit_weighing u = weighs u.positive + weighs u.negative
 abbrev pub pair_weighing : PairWeights → ℕ
 pair_weighing p = (weighs p.both + weighs p.first) + (weighs p.second + weighs p.neither)
 
--- the sum of a count of each entry
-abbrev pub lines_by : {X : Type 0} → (X → ℕ) → List X → ℕ
-lines_by count [] = 0
-lines_by count (x ∷ xs) = count x + lines_by count xs
-
 abbrev pub units_weighing : List UnitWeights → ℕ
-units_weighing us = lines_by unit_weighing us
+units_weighing us = sum_by unit_weighing us
 
 abbrev pub pairs_weighing : List PairWeights → ℕ
-pairs_weighing ps = lines_by pair_weighing ps
+pairs_weighing ps = sum_by pair_weighing ps
 
 abbrev pub line_count : Instance → ℕ
 line_count i = weighs i.tautologies + (units_weighing i.units + pairs_weighing i.pairs)

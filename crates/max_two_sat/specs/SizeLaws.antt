@@ -3,8 +3,11 @@ use Rattle.std.specs.Prelude.{◌≡◌, ℕ, zero, suc, ◌<◌, ◌≤◌, ◌
 use Rattle.std.proofs.Common.{arith, get_or, lit≤}
 use Rattle.std.proofs.Math.Seq.{drop-cons}
 use Rattle.std.proofs.lemmas.Int.{ints, clamps}
+use Rattle.std.proofs.lemmas.Bool.{and_parts}
 use Rattle.benefit_rows.specs.Benefits.{size_of, gain_of, rank_of, gap_of}
-use Rattle.benefit_rows.specs.BenefitLaws.{size_of-positive, rank_of-positive, gain_of-positive, gain_of-most, gap_of-positive, gap_of-most}
+use Rattle.benefit_rows.specs.BenefitLaws.{rank_of-positive, gain_of-positive, gain_of-most, gap_of-positive, gap_of-most, size_of-bounds}
+use Rattle.benefit_rows.proofs.Steps.{size_of-at}
+use Rattle.dp_model.specs.NumberLaws.{small_positive, small_gap, small_between, each_small}
 use Rattle.dp_model.specs.Gaps.{IsStateOf}
 use Rattle.dp_model.specs.Laws.{IsLawful, SizesHold}
 use Rattle.dp_model.specs.Lists.{Each}
@@ -13,36 +16,29 @@ use Rattle.max_two_sat.specs.declared.weights.UnitWeights.{UnitWeights}
 use Rattle.max_two_sat.specs.declared.weights.PairWeights.{PairWeights}
 use Rattle.max_two_sat.specs.Instance.{Instance, rows_of, row_at, pair_total, units_total, pairs_total, rows_total}
 use Rattle.max_two_sat.specs.GapLaws.{gaps_are_sound, rough_bounds}
-use Rattle.max_two_sat.specs.Kept.{IsKept, units_are_positive, unit_is_positive, unit-positive, pairs_are_positive, pair_is_positive, PairIsPositive, pair-positive, and-left, and-right}
+use Rattle.max_two_sat.specs.Kept.{IsKept, units_are_positive, unit_is_positive, unit-positive, pairs_are_positive, pair_is_positive, PairIsPositive, pair-positive}
 use Rattle.max_two_sat.specs.Program.{cell_part, shared_gain, row_gain, lesser_units, words_of, limits_at, program_of}
 use Rattle.max_two_sat.specs.Rows.{length-rows_of, drop-rows, words_of-some}
 use Rattle.max_two_sat.specs.StateLaws.{state-is, steps_are_states}
 use Rattle.max_two_sat.specs.Totals.{pairs_total-positive, positive-rows_of, positive-row_at, rows_total-positive, LimitsAt, limits, rank_of-within, rank_of-zero, all-drop}
-
--- a number from zero to 2^48 is small
-small-positive : (z : ℤ) → pos 0 ≤ℤ z → z ≤ℤ pos (2 ^ 48) → IsSmall z
-small-positive z low high = record { low = omega (arith, ints); high = omega (arith, ints) }
-
-small-size : (z : ℤ) → size_of z ≤ℤ pos (2 ^ 48) → IsSmall z
-small-size z high = record { low = omega (arith, ints, clamps); high = omega (arith, ints, clamps) }
 
 -- the root value
 
 pub lesser_units-positive : (us : List UnitWeights) → IsTrue (units_are_positive us) → pos 0 ≤ℤ lesser_units us
 lesser_units-positive [] h = omega (arith, ints)
 lesser_units-positive (u ∷ us) h =
-    let here = unit-positive u (and-left _ _ h) in
-    omega (arith, ints, clamps, lesser_units-positive us (and-right (unit_is_positive u) _ h))
+    let here = unit-positive u (and_parts _ _ h).0 in
+    omega (arith, ints, clamps, lesser_units-positive us (and_parts (unit_is_positive u) _ h).1)
 
 pub lesser_units-most : (us : List UnitWeights) → IsTrue (units_are_positive us) → lesser_units us ≤ℤ units_total us
 lesser_units-most [] h = omega (arith, ints)
 lesser_units-most (u ∷ us) h =
-    let here = unit-positive u (and-left _ _ h) in
-    omega (arith, ints, clamps, lesser_units-most us (and-right (unit_is_positive u) _ h))
+    let here = unit-positive u (and_parts _ _ h).0 in
+    omega (arith, ints, clamps, lesser_units-most us (and_parts (unit_is_positive u) _ h).1)
 
 root_value-small : (i : Instance) → IsKept i → IsSmall (i.tautologies +ℤ lesser_units i.units)
 root_value-small i kept =
-    small-positive _ (omega (arith, ints, kept.tautologies, lesser_units-positive i.units kept.units))
+    small_positive _ (omega (arith, ints, kept.tautologies, lesser_units-positive i.units kept.units))
     (omega (arith, ints, kept.total, lesser_units-most i.units kept.units, pairs_total-positive i.pairs kept.pairs))
 
 -- states
@@ -59,11 +55,6 @@ later-positive i k kept =
     let rows : List (List PairWeights) = rows_of (length i.units) i.pairs in
     rows_total-positive (drop k rows) (all-drop pairs_are_positive k rows (positive-rows_of (length i.units) i.pairs kept.pairs))
 
-each-small : (ts : List ℤ) → rank_of ts ≤ℤ pos (2 ^ 48) → Each IsSmall ts
-each-small [] h = tt
-each-small (t ∷ ts) h =
-    (small-size t (omega (arith, ints, rank_of-positive ts)), each-small ts (omega (arith, ints, size_of-positive t)))
-
 rank_of-cut : (k : ℕ) (s : List ℤ) → rank_of s ≡ rank_of (take k s) +ℤ rank_of (drop k s)
 rank_of-cut zero s = omega (arith, ints)
 rank_of-cut (suc k) [] = refl
@@ -75,7 +66,9 @@ rank_of-state i k s state = omega (arith, ints, rank_of-cut k s, rank_of-zero (t
 
 state-small : (i : Instance) (k : ℕ) (s : List ℤ) → IsKept i → IsStateOf (program_of i) k s → Each IsSmall s
 state-small i k s kept state =
-    each-small s (omega (arith, ints, rank-most i k s kept state, later-positive i k kept, rank_of-state i k s state))
+    let most : rank_of s ≤ℤ pos (2 ^ 48) = omega (arith, ints, rank-most i k s kept state, later-positive i k kept, rank_of-state i k s state) in
+    each_small s (λ j below. let bounds = size_of-bounds (get_or s j (pos 0)) in
+    small_between (get_or s j (pos 0)) (rank_of s) (omega (arith, ints, bounds, size_of-at s j (pos 0) below)) (omega (arith, ints, bounds, size_of-at s j (pos 0) below)) (omega (arith, ints)))
 
 -- gains
 
@@ -92,13 +85,13 @@ pub shared_gain-positive : (ps : List PairWeights) (ts : List ℤ) (d : ℕ) →
 shared_gain-positive [] ts d h = omega (arith, ints)
 shared_gain-positive (p ∷ ps) [] d h = omega (arith, ints)
 shared_gain-positive (p ∷ ps) (t ∷ ts) d h =
-    omega (arith, ints, cell_part-positive p t d (pair-positive p (and-left _ _ h)), shared_gain-positive ps ts d (and-right (pair_is_positive p) _ h))
+    omega (arith, ints, cell_part-positive p t d (pair-positive p (and_parts _ _ h).0), shared_gain-positive ps ts d (and_parts (pair_is_positive p) _ h).1)
 
 pub shared_gain-most : (ps : List PairWeights) (ts : List ℤ) (d : ℕ) → IsTrue (pairs_are_positive ps) → shared_gain ps ts d ≤ℤ (rank_of ts +ℤ pairs_total ps)
 shared_gain-most [] ts d h = omega (arith, ints, rank_of-positive ts)
 shared_gain-most (p ∷ ps) [] d h = omega (arith, ints, pairs_total-positive (p ∷ ps) h)
 shared_gain-most (p ∷ ps) (t ∷ ts) d h =
-    omega (arith, ints, cell-most p t d (and-left _ _ h), shared_gain-most ps ts d (and-right (pair_is_positive p) _ h))
+    omega (arith, ints, cell-most p t d (and_parts _ _ h).0, shared_gain-most ps ts d (and_parts (pair_is_positive p) _ h).1)
 
 gain-small : (i : Instance) (k : ℕ) (s : List ℤ) (d : ℕ) → IsKept i → IsStateOf (program_of i) k s → k < length i.units → IsSmall ((program_of i).gain k s d)
 gain-small i k s d kept state layer =
@@ -112,7 +105,7 @@ gain-small i k s d kept state layer =
     let rest : rows_total (drop k rows) ≡ pairs_total row +ℤ rows_total (drop (suc k) rows) = rw (drop-rows rows k (omega (arith, length-rows_of (length i.units) i.pairs))) refl in
     let rank : rank_of (drop k s) ≡ size_of t +ℤ rank_of ts = rw cut refl in
     let here : row_gain row (drop k s) d ≡ gain_of t d +ℤ shared_gain row ts d = rw cut refl in
-    small-positive (row_gain row (drop k s) d)
+    small_positive (row_gain row (drop k s) d)
     (omega (arith, ints, here, gain_of-positive t d, shared_gain-positive row ts d positive_row))
     (omega (arith, ints, here, gain_of-most t d, shared_gain-most row ts d positive_row, rest, rank, rank-most i k s kept state, later-positive i (suc k) kept))
 
@@ -121,14 +114,14 @@ gain-small i k s d kept state layer =
 gap-small : (i : Instance) (k : ℕ) (a s : List ℤ) (g : ℤ) → IsKept i → IsStateOf (program_of i) k s → Some (gap_of (drop k a) (drop k s)) ≡ Some g → (pos 0 ≤ℤ g) × IsSmall g
 gap-small i k a s g kept state e =
     let is : gap_of (drop k a) (drop k s) ≡ g = cc in
-    let low : pos 0 ≤ℤ g = omega (arith, ints, is, gap_of-positive (drop k a) (drop k s)) in
-    (low, small-positive g low (omega (arith, ints, is, gap_of-most (drop k a) (drop k s), rank-most i k s kept state, later-positive i k kept)))
+    small_gap g (omega (arith, ints, is, gap_of-positive (drop k a) (drop k s)))
+    (omega (arith, ints, is, gap_of-most (drop k a) (drop k s), rank-most i k s kept state, later-positive i k kept))
 
 rough-small : (i : Instance) (k : ℕ) (s : List ℤ) (r : ℤ) → IsKept i → IsStateOf (program_of i) k s →
     Some (rank_of (drop k s) +ℤ rows_total (drop k (rows_of (length i.units) i.pairs))) ≡ Some r → IsSmall r
 rough-small i k s r kept state e =
     let is : rank_of (drop k s) +ℤ rows_total (drop k (rows_of (length i.units) i.pairs)) ≡ r = cc in
-    small-positive r (omega (arith, ints, is, rank_of-positive (drop k s), later-positive i k kept)) (omega (arith, ints, is, rank-most i k s kept state))
+    small_positive r (omega (arith, ints, is, rank_of-positive (drop k s), later-positive i k kept)) (omega (arith, ints, is, rank-most i k s kept state))
 
 words-some : (n : ℕ) → 1 ≤ words_of n
 words-some zero = lit≤ tt

@@ -2,7 +2,7 @@
 use Rattle.std.specs.Prelude.{◌≡◌, ℕ, zero, suc, ◌+◌, ◌<◌, ◌≤◌, ℤ, ◌+ℤ◌, ◌-ℤ◌, Bool, true, false, ◌&&◌, ◌==◌, nat_lt, List, [], ◌∷◌, length, map, Some, None, IsTrue, refl, if◌then◌else◌}
 use Rattle.std.specs.Int.{int_min}
 use Rattle.std.proofs.Common.{arith, eq-eqb, sym}
-use Rattle.std.proofs.lemmas.Bool.{eqb-true}
+use Rattle.std.proofs.lemmas.Bool.{eqb-true, and_parts, and_from}
 use Rattle.std.proofs.lemmas.Bool.Decides.{nat_tests}
 use Rattle.std.proofs.lemmas.Int.{ints, clamps}
 use Rattle.benefit_rows.specs.Benefits.{gain_of, gains_of}
@@ -10,7 +10,7 @@ use Rattle.dp_model.specs.Prefixes.{IsPath, value_of}
 use Rattle.dp_model.specs.Worth.{SolutionGives}
 use Rattle.max_two_sat.specs.declared.weights.UnitWeights.{UnitWeights}
 use Rattle.max_two_sat.specs.Instance.{Instance}
-use Rattle.max_two_sat.specs.Kept.{IsKept, and-left, and-right, and-both}
+use Rattle.max_two_sat.specs.Kept.{IsKept}
 use Rattle.max_two_sat.specs.OwnWords.{unit_value, units_value, weight_of, all_truth_values, own_value}
 use Rattle.max_two_sat.specs.Program.{lesser_units, root_of, program_of}
 use Rattle.max_two_sat.specs.Split.{gain_split}
@@ -21,9 +21,9 @@ use Rattle.max_two_sat.specs.StateLaws.{state-is, steps_are_states}
 truth-path : (i : Instance) (k : ℕ) (s : List ℤ) (ds : List ℕ) → k + length ds ≤ length i.units → IsTrue (all_truth_values ds) → IsPath (program_of i) k s ds
 truth-path i k s [] h g = tt
 truth-path i k s (d ∷ ds) h g =
-    let first : IsTrue (nat_lt d 2) = and-left (nat_lt d 2) _ g in (
+    let first : IsTrue (nat_lt d 2) = (and_parts (nat_lt d 2) _ g).0 in (
       record { layer = omega arith; choice = grind (arith, nat_tests); test = refl },
-      truth-path i (k + 1) ((program_of i).step k s d) ds (omega arith) (and-right (nat_lt d 2) _ g),
+      truth-path i (k + 1) ((program_of i).step k s d) ds (omega arith) (and_parts (nat_lt d 2) _ g).1,
     )
 
 path-truth : (i : Instance) (k : ℕ) (s : List ℤ) (ds : List ℕ) → IsPath (program_of i) k s ds → IsTrue (all_truth_values ds)
@@ -31,7 +31,7 @@ path-truth i k s [] h = refl
 path-truth i k s (d ∷ ds) h =
     let choice : d < 2 = h.0.choice in
     let first : IsTrue (nat_lt d 2) = grind (arith, nat_tests) in
-    and-both (nat_lt d 2) _ first (path-truth i (k + 1) ((program_of i).step k s d) ds h.1)
+    and_from (nat_lt d 2) _ first (path-truth i (k + 1) ((program_of i).step k s d) ds h.1)
 
 -- the root's benefits and the lesser weights are the units' weights
 
@@ -63,12 +63,12 @@ own_value-agrees i xs kept = cases ((length xs == length i.units) && all_truth_v
   where
     cases : (b : Bool) → ((length xs == length i.units) && all_truth_values xs) ≡ b → SolutionGives (program_of i) xs (if b then Some (weight_of i xs) else None)
     cases true e =
-        let whole : length xs ≡ length i.units = eqb-true (length xs) (length i.units) (and-left _ _ e) in
+        let whole : length xs ≡ length i.units = eqb-true (length xs) (length i.units) (and_parts _ _ e).0 in
         record {
-          solution = record { prefix = truth-path i 0 (root_of i.units) xs (omega arith) (and-right (length xs == length i.units) _ e); whole = whole };
+          solution = record { prefix = truth-path i 0 (root_of i.units) xs (omega arith) (and_parts (length xs == length i.units) _ e).1; whole = whole };
           value = sym (value_of-solution i xs kept whole);
         }
     cases false e = λ solution.
-        let here : IsTrue ((length xs == length i.units) && all_truth_values xs) = and-both (length xs == length i.units) _
+        let here : IsTrue ((length xs == length i.units) && all_truth_values xs) = and_from (length xs == length i.units) _
         (eq-eqb (length xs) (length i.units) solution.whole) (path-truth i 0 (root_of i.units) xs solution.prefix) in
         absurd (grind arith)

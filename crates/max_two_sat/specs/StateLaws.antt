@@ -2,7 +2,7 @@
 use Rattle.std.specs.Prelude.{◌≡◌, ℕ, zero, suc, ◌+◌, ◌<◌, ◌≤◌, ℤ, pos, ◌+ℤ◌, ◌-ℤ◌, ◌≤ℤ◌, ◌&&◌, ◌==◌, List, [], ◌∷◌, ◌++◌, length, take, drop, map, IsTrue, refl}
 use Rattle.std.proofs.Common.{arith, sym, ◌∙◌, get_or, add-one, eq-eqb}
 use Rattle.std.proofs.Math.Seq.{drop-cons}
-use Rattle.std.proofs.lemmas.Bool.{eqb-true}
+use Rattle.std.proofs.lemmas.Bool.{eqb-true, and_parts, and_from}
 use Rattle.std.proofs.lemmas.Int.{ints, clamps}
 use Rattle.benefit_rows.specs.Benefits.{size_of, benefit_merged, merged_of}
 use Rattle.benefit_rows.specs.BenefitLaws.{benefit_merged-left, length-merged_of}
@@ -10,7 +10,7 @@ use Rattle.dp_model.specs.Laws.{StepsAreStates}
 use Rattle.max_two_sat.specs.declared.weights.UnitWeights.{UnitWeights}
 use Rattle.max_two_sat.specs.declared.weights.PairWeights.{PairWeights}
 use Rattle.max_two_sat.specs.Instance.{Instance, rows_of, row_at, unit_total, pair_total}
-use Rattle.max_two_sat.specs.Kept.{IsKept, units_are_positive, unit_is_positive, pairs_are_positive, pair_is_positive, and-left, and-right, and-both, size-is, is-size, unit-positive, pair-positive}
+use Rattle.max_two_sat.specs.Kept.{IsKept, units_are_positive, unit_is_positive, pairs_are_positive, pair_is_positive, size-is, is-size, unit-positive, pair-positive}
 use Rattle.max_two_sat.specs.Program.{is_within, open_true, open_false, grown, row_step, words_of, root_of, raised, first_limits, limits_at, all_zero, are_within, is_state_of, program_of}
 use Rattle.max_two_sat.specs.Rows.{length-row_at, words_of-some, length-step, drop-step}
 use Rattle.max_two_sat.specs.Totals.{positive-rows_of, positive-row_at}
@@ -23,16 +23,16 @@ pub record IsSatState (i : Instance) (k : ℕ) (s : List ℤ) : Type 0 where
 
 pub state-is : (i : Instance) (k : ℕ) (s : List ℤ) → IsTrue (is_state_of i k s) → IsSatState i k s
 state-is i k s h =
-    let rest : IsTrue (all_zero (take k s) && are_within (drop k s) (limits_at i.units i.pairs k)) = and-right (length s == words_of (length i.units)) _ h in
+    let rest : IsTrue (all_zero (take k s) && are_within (drop k s) (limits_at i.units i.pairs k)) = (and_parts (length s == words_of (length i.units)) _ h).1 in
     record {
-      cells = eqb-true (length s) (words_of (length i.units)) (and-left _ _ h);
-      before = and-left _ _ rest;
-      after = and-right (all_zero (take k s)) _ rest;
+      cells = eqb-true (length s) (words_of (length i.units)) (and_parts _ _ h).0;
+      before = (and_parts _ _ rest).0;
+      after = (and_parts (all_zero (take k s)) _ rest).1;
     }
 
 pub is-state : (i : Instance) (k : ℕ) (s : List ℤ) → IsSatState i k s → IsTrue (is_state_of i k s)
 is-state i k s h =
-    and-both (length s == words_of (length i.units)) _ (eq-eqb (length s) (words_of (length i.units)) h.cells) (and-both (all_zero (take k s)) _ h.before h.after)
+    and_from (length s == words_of (length i.units)) _ (eq-eqb (length s) (words_of (length i.units)) h.cells) (and_from (all_zero (take k s)) _ h.before h.after)
 
 -- the root
 
@@ -47,10 +47,10 @@ length-root_of (u ∷ us) = length-root (u ∷ us)
 within-units : (us : List UnitWeights) → IsTrue (units_are_positive us) → IsTrue (are_within (map (λ v. v.positive -ℤ v.negative) us) (map unit_total us))
 within-units [] h = refl
 within-units (u ∷ us) h =
-    let here = unit-positive u (and-left _ _ h) in
-    and-both (is_within (u.positive -ℤ u.negative) (unit_total u)) _
+    let here = unit-positive u (and_parts _ _ h).0 in
+    and_from (is_within (u.positive -ℤ u.negative) (unit_total u)) _
     (is-size (u.positive -ℤ u.negative) (unit_total u) (omega (arith, ints, clamps)))
-    (within-units us (and-right (unit_is_positive u) _ h))
+    (within-units us (and_parts (unit_is_positive u) _ h).1)
 
 within-root : (us : List UnitWeights) → IsTrue (units_are_positive us) → IsTrue (are_within (root_of us) (first_limits us))
 within-root [] h = refl
@@ -74,20 +74,20 @@ within-grown [] ts ls d h g = refl
 within-grown (p ∷ ps) [] ls d h g = refl
 within-grown (p ∷ ps) (t ∷ ts) [] d h g = absurd (grind arith)
 within-grown (p ∷ ps) (t ∷ ts) (l ∷ ls) d h g =
-    and-both (is_within (t +ℤ (open_true p d -ℤ open_false p d)) (l +ℤ pair_total p)) _
-    (is-size _ _ (grown-within p t l d (and-left _ _ h) (size-is t l (and-left _ _ g))))
-    (within-grown ps ts ls d (and-right (pair_is_positive p) _ h) (and-right (is_within t l) _ g))
+    and_from (is_within (t +ℤ (open_true p d -ℤ open_false p d)) (l +ℤ pair_total p)) _
+    (is-size _ _ (grown-within p t l d (and_parts _ _ h).0 (size-is t l (and_parts _ _ g).0)))
+    (within-grown ps ts ls d (and_parts (pair_is_positive p) _ h).1 (and_parts (is_within t l) _ g).1)
 
 -- what stands behind the first benefit is within the limits behind the first
 pub within-rest : (t : ℤ) (ts ls : List ℤ) → IsTrue (are_within (t ∷ ts) ls) → IsTrue (are_within ts (drop 1 ls))
 within-rest t ts [] h = absurd (grind arith)
-within-rest t ts (l ∷ ls) h = and-right (is_within t l) _ h
+within-rest t ts (l ∷ ls) h = (and_parts (is_within t l) _ h).1
 
 zero-step : (k : ℕ) (s more : List ℤ) → k ≤ length s → IsTrue (all_zero (take k s)) → IsTrue (all_zero (take (suc k) (take k s ++ pos 0 ∷ more)))
 zero-step zero s more h g = refl
 zero-step (suc k) [] more h g = absurd (omega arith)
 zero-step (suc k) (t ∷ ts) more h g =
-    and-both (is_within t (pos 0)) _ (and-left _ _ g) (zero-step k ts more (omega arith) (and-right (is_within t (pos 0)) _ g))
+    and_from (is_within t (pos 0)) _ (and_parts _ _ g).0 (zero-step k ts more (omega arith) (and_parts (is_within t (pos 0)) _ g).1)
 
 step-state : (i : Instance) (k : ℕ) (s : List ℤ) (d : ℕ) → IsKept i → k < length i.units → IsTrue (is_state_of i k s) →
     IsTrue (is_state_of i (k + 1) (take k s ++ row_step (row_at (rows_of (length i.units) i.pairs) k) (drop k s) d))
@@ -115,9 +115,9 @@ zero-merged (suc k) [] s h = refl
 zero-merged (suc k) (x ∷ a) [] h = refl
 zero-merged (suc k) (x ∷ a) (y ∷ s) h =
     let smaller = benefit_merged-left x y in
-    let zero_there = size-is x (pos 0) (and-left _ _ h) in
-    and-both (is_within (benefit_merged x y) (pos 0)) _ (is-size (benefit_merged x y) (pos 0) (omega (arith, ints, smaller, zero_there)))
-    (zero-merged k a s (and-right (is_within x (pos 0)) _ h))
+    let zero_there = size-is x (pos 0) (and_parts _ _ h).0 in
+    and_from (is_within (benefit_merged x y) (pos 0)) _ (is-size (benefit_merged x y) (pos 0) (omega (arith, ints, smaller, zero_there)))
+    (zero-merged k a s (and_parts (is_within x (pos 0)) _ h).1)
 
 within-merged : (k : ℕ) (a s ls : List ℤ) → IsTrue (are_within (drop k a) ls) → IsTrue (are_within (drop k (merged_of a s)) ls)
 within-merged zero [] s ls h = refl
@@ -125,9 +125,9 @@ within-merged zero (x ∷ a) [] ls h = refl
 within-merged zero (x ∷ a) (y ∷ s) [] h = absurd (grind arith)
 within-merged zero (x ∷ a) (y ∷ s) (l ∷ ls) h =
     let smaller = benefit_merged-left x y in
-    let there = size-is x l (and-left _ _ h) in
-    and-both (is_within (benefit_merged x y) l) _ (is-size (benefit_merged x y) l (omega (arith, ints, smaller, there)))
-    (within-merged zero a s ls (and-right (is_within x l) _ h))
+    let there = size-is x l (and_parts _ _ h).0 in
+    and_from (is_within (benefit_merged x y) l) _ (is-size (benefit_merged x y) l (omega (arith, ints, smaller, there)))
+    (within-merged zero a s ls (and_parts (is_within x l) _ h).1)
 within-merged (suc k) [] s ls h = refl
 within-merged (suc k) (x ∷ a) [] ls h = refl
 within-merged (suc k) (x ∷ a) (y ∷ s) ls h = within-merged k a s ls h

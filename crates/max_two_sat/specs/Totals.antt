@@ -4,12 +4,14 @@ use Rattle.std.specs.List.{list_all}
 use Rattle.std.proofs.Common.{arith, get_or}
 use Rattle.std.proofs.lemmas.Int.{ints}
 use Rattle.std.proofs.lemmas.List.{length-drop}
+use Rattle.std.proofs.lemmas.Bool.{and_parts, and_from}
 use Rattle.benefit_rows.specs.Benefits.{rank_of}
 use Rattle.benefit_rows.specs.BenefitLaws.{size_of-positive}
+use Rattle.dp_model.specs.NumberLaws.{int_le-is, int_le-from}
 use Rattle.max_two_sat.specs.declared.weights.UnitWeights.{UnitWeights}
 use Rattle.max_two_sat.specs.declared.weights.PairWeights.{PairWeights}
 use Rattle.max_two_sat.specs.Instance.{Instance, rows_of, row_at, pair_count, unit_total, pair_total, units_total, pairs_total, rows_total, total_by}
-use Rattle.max_two_sat.specs.Kept.{IsKept, units_are_positive, pairs_are_positive, pair_is_positive, unit_is_positive, and-left, and-right, and-both, le-is, is-le, size-is, unit-positive, pair-positive}
+use Rattle.max_two_sat.specs.Kept.{IsKept, units_are_positive, pairs_are_positive, pair_is_positive, unit_is_positive, size-is, unit-positive, pair-positive}
 use Rattle.max_two_sat.specs.Program.{is_within, raised, first_limits, limits_at, are_within, all_zero, words_of}
 use Rattle.max_two_sat.specs.Rows.{length-rows_of, length-row_at, drop-rows, words_of-some}
 
@@ -18,17 +20,17 @@ use Rattle.max_two_sat.specs.Rows.{length-rows_of, length-row_at, drop-rows, wor
 pub all-take : {X : Type 0} (test : X → Bool) (m : ℕ) (xs : List X) → IsTrue (list_all test xs) → IsTrue (list_all test (take m xs))
 all-take test zero xs h = refl
 all-take test (suc m) [] h = refl
-all-take test (suc m) (x ∷ xs) h = and-both (test x) _ (and-left _ _ h) (all-take test m xs (and-right (test x) _ h))
+all-take test (suc m) (x ∷ xs) h = and_from (test x) _ (and_parts _ _ h).0 (all-take test m xs (and_parts (test x) _ h).1)
 
 pub all-drop : {X : Type 0} (test : X → Bool) (m : ℕ) (xs : List X) → IsTrue (list_all test xs) → IsTrue (list_all test (drop m xs))
 all-drop test zero xs h = h
 all-drop test (suc m) [] h = refl
-all-drop test (suc m) (x ∷ xs) h = all-drop test m xs (and-right (test x) _ h)
+all-drop test (suc m) (x ∷ xs) h = all-drop test m xs (and_parts (test x) _ h).1
 
 pub all-at : {X : Type 0} (test : X → Bool) (xs : List X) (i : ℕ) (none : X) → i < length xs → IsTrue (list_all test xs) → IsTrue (test (get_or xs i none))
 all-at test [] i none h g = absurd (omega arith)
-all-at test (x ∷ xs) zero none h g = and-left _ _ g
-all-at test (x ∷ xs) (suc i) none h g = all-at test xs i none (omega arith) (and-right (test x) _ g)
+all-at test (x ∷ xs) zero none h g = (and_parts _ _ g).0
+all-at test (x ∷ xs) (suc i) none h g = all-at test xs i none (omega arith) (and_parts (test x) _ g).1
 
 -- sums of numbers that are not negative where the entries pass a test
 
@@ -36,14 +38,14 @@ pub total_by-positive : {X : Type 0} (number : X → ℤ) (test : X → Bool) �
     IsTrue (list_all test xs) → pos 0 ≤ℤ total_by number xs
 total_by-positive number test low [] h = omega (arith, ints)
 total_by-positive number test low (x ∷ xs) h =
-    omega (arith, ints, low x (and-left _ _ h), total_by-positive number test low xs (and-right (test x) _ h))
+    omega (arith, ints, low x (and_parts _ _ h).0, total_by-positive number test low xs (and_parts (test x) _ h).1)
 
 pub total_by-at : {X : Type 0} (number : X → ℤ) (test : X → Bool) → ((x : X) → IsTrue (test x) → pos 0 ≤ℤ number x) → (xs : List X) (i : ℕ) (none : X) →
     i < length xs → IsTrue (list_all test xs) → number (get_or xs i none) ≤ℤ total_by number xs
 total_by-at number test low [] i none h g = absurd (omega arith)
-total_by-at number test low (x ∷ xs) zero none h g = omega (arith, ints, total_by-positive number test low xs (and-right (test x) _ g))
+total_by-at number test low (x ∷ xs) zero none h g = omega (arith, ints, total_by-positive number test low xs (and_parts (test x) _ g).1)
 total_by-at number test low (x ∷ xs) (suc i) none h g =
-    omega (arith, ints, low x (and-left _ _ g), total_by-at number test low xs i none (omega arith) (and-right (test x) _ g))
+    omega (arith, ints, low x (and_parts _ _ g).0, total_by-at number test low xs i none (omega arith) (and_parts (test x) _ g).1)
 
 -- a sum is that of the front and that of the rest
 pub total_by-cut : {X : Type 0} (number : X → ℤ) (m : ℕ) (xs : List X) → total_by number (take m xs) +ℤ total_by number (drop m xs) ≡ total_by number xs
@@ -59,7 +61,7 @@ abbrev pub none_negative : List ℤ → Bool
 none_negative ls = list_all (int_le (pos 0)) ls
 
 pub sum_of-positive : (ls : List ℤ) → IsTrue (none_negative ls) → pos 0 ≤ℤ sum_of ls
-sum_of-positive ls h = total_by-positive (λ l. l) (int_le (pos 0)) (le-is (pos 0)) ls h
+sum_of-positive ls h = total_by-positive (λ l. l) (int_le (pos 0)) (int_le-is (pos 0)) ls h
 
 -- weights
 
@@ -89,12 +91,12 @@ rows_are_positive rows = list_all pairs_are_positive rows
 pub positive-rows_of : (n : ℕ) (ps : List PairWeights) → IsTrue (pairs_are_positive ps) → IsTrue (rows_are_positive (rows_of n ps))
 positive-rows_of zero ps h = refl
 positive-rows_of (suc later) ps h =
-    and-both (pairs_are_positive (take later ps)) _ (all-take pair_is_positive later ps h) (positive-rows_of later (drop later ps) (all-drop pair_is_positive later ps h))
+    and_from (pairs_are_positive (take later ps)) _ (all-take pair_is_positive later ps h) (positive-rows_of later (drop later ps) (all-drop pair_is_positive later ps h))
 
 pub positive-row_at : (rows : List (List PairWeights)) (k : ℕ) → IsTrue (rows_are_positive rows) → IsTrue (pairs_are_positive (row_at rows k))
 positive-row_at [] k h = refl
-positive-row_at (row ∷ rows) zero h = and-left (pairs_are_positive row) _ h
-positive-row_at (row ∷ rows) (suc k) h = positive-row_at rows k (and-right (pairs_are_positive row) _ h)
+positive-row_at (row ∷ rows) zero h = (and_parts (pairs_are_positive row) _ h).0
+positive-row_at (row ∷ rows) (suc k) h = positive-row_at rows k (and_parts (pairs_are_positive row) _ h).1
 
 pub rows_total-positive : (rows : List (List PairWeights)) → IsTrue (rows_are_positive rows) → pos 0 ≤ℤ rows_total rows
 rows_total-positive rows h = total_by-positive pairs_total pairs_are_positive pairs_total-positive rows h
@@ -121,20 +123,20 @@ pub none_negative-raised : (ps : List PairWeights) (ls : List ℤ) → IsTrue (p
 none_negative-raised [] ls h g = refl
 none_negative-raised (p ∷ ps) [] h g = refl
 none_negative-raised (p ∷ ps) (l ∷ ls) h g =
-    let here = pair-positive p (and-left _ _ h) in
-    let low = le-is (pos 0) l (and-left _ _ g) in
-    and-both (int_le (pos 0) (l +ℤ pair_total p)) _ (is-le (pos 0) (l +ℤ pair_total p) (omega (arith, ints)))
-    (none_negative-raised ps ls (and-right (pair_is_positive p) _ h) (and-right (int_le (pos 0) l) _ g))
+    let here = pair-positive p (and_parts _ _ h).0 in
+    let low = int_le-is (pos 0) l (and_parts _ _ g).0 in
+    and_from (int_le (pos 0) (l +ℤ pair_total p)) _ (int_le-from (pos 0) (l +ℤ pair_total p) (omega (arith, ints)))
+    (none_negative-raised ps ls (and_parts (pair_is_positive p) _ h).1 (and_parts (int_le (pos 0) l) _ g).1)
 
 -- the limits behind the first
 
 pub sum_of-drop_one : (ls : List ℤ) → IsTrue (none_negative ls) → sum_of (drop 1 ls) ≤ℤ sum_of ls
 sum_of-drop_one [] h = omega (arith, ints)
-sum_of-drop_one (l ∷ ls) h = omega (arith, ints, le-is (pos 0) l (and-left _ _ h))
+sum_of-drop_one (l ∷ ls) h = omega (arith, ints, int_le-is (pos 0) l (and_parts _ _ h).0)
 
 pub none_negative-drop_one : (ls : List ℤ) → IsTrue (none_negative ls) → IsTrue (none_negative (drop 1 ls))
 none_negative-drop_one [] h = refl
-none_negative-drop_one (l ∷ ls) h = and-right (int_le (pos 0) l) _ h
+none_negative-drop_one (l ∷ ls) h = (and_parts (int_le (pos 0) l) _ h).1
 
 pub sum_of-units : (us : List UnitWeights) → sum_of (map unit_total us) ≡ units_total us
 sum_of-units [] = refl
@@ -147,8 +149,8 @@ sum_of-first_limits (u ∷ us) = sum_of-units (u ∷ us)
 none_negative-units : (us : List UnitWeights) → IsTrue (units_are_positive us) → IsTrue (none_negative (map unit_total us))
 none_negative-units [] h = refl
 none_negative-units (u ∷ us) h =
-    let here = unit-positive u (and-left _ _ h) in
-    and-both (int_le (pos 0) (unit_total u)) _ (is-le (pos 0) (unit_total u) (omega (arith, ints))) (none_negative-units us (and-right (unit_is_positive u) _ h))
+    let here = unit-positive u (and_parts _ _ h).0 in
+    and_from (int_le (pos 0) (unit_total u)) _ (int_le-from (pos 0) (unit_total u) (omega (arith, ints))) (none_negative-units us (and_parts (unit_is_positive u) _ h).1)
 
 none_negative-first : (us : List UnitWeights) → IsTrue (units_are_positive us) → IsTrue (none_negative (first_limits us))
 none_negative-first [] h = refl
@@ -197,9 +199,9 @@ pub rank_of-within : (ts ls : List ℤ) → IsTrue (none_negative ls) → IsTrue
 rank_of-within [] ls h g = sum_of-positive ls h
 rank_of-within (t ∷ ts) [] h g = absurd (grind arith)
 rank_of-within (t ∷ ts) (l ∷ ls) h g =
-    omega (arith, ints, size-is t l (and-left _ _ g), rank_of-within ts ls (and-right (int_le (pos 0) l) _ h) (and-right (is_within t l) _ g))
+    omega (arith, ints, size-is t l (and_parts _ _ g).0, rank_of-within ts ls (and_parts (int_le (pos 0) l) _ h).1 (and_parts (is_within t l) _ g).1)
 
 pub rank_of-zero : (ts : List ℤ) → IsTrue (all_zero ts) → rank_of ts ≡ pos 0
 rank_of-zero [] h = refl
 rank_of-zero (t ∷ ts) h =
-    omega (arith, ints, size-is t (pos 0) (and-left _ _ h), size_of-positive t, rank_of-zero ts (and-right (is_within t (pos 0)) _ h))
+    omega (arith, ints, size-is t (pos 0) (and_parts _ _ h).0, size_of-positive t, rank_of-zero ts (and_parts (is_within t (pos 0)) _ h).1)

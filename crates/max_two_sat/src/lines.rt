@@ -13,40 +13,28 @@ use std::alloc::AllocError;
 
 /// How many of the unit weights are above zero.
 pub(crate) fn count_units(units: &[UnitWeights]) -> usize
-    requires { length units.now ≤ 1024 }
-    ensures lines { result ≡ units_weighing units.now }
-    ensures few { result ≤ 2 * length units.now }
+    requires { units_weighing units.now ≤ 2 ^ 20 }
+    ensures { result ≡ units_weighing units.now }
 {
-    let mut count = 0;
-    for i in 0..units.len() {
-        count += lines_of_unit(units[i]);
-    }
-    count
+    units.iter().map(|unit| lines_of_unit(*unit)).sum()
 }
 
 /// How many of the weights of pairs are above zero.
 pub(crate) fn count_pairs(pairs: &[PairWeights]) -> usize
-    requires { length pairs.now ≤ 2 ^ 20 }
-    ensures lines { result ≡ pairs_weighing pairs.now }
-    ensures few { result ≤ 4 * length pairs.now }
+    requires { pairs_weighing pairs.now ≤ 2 ^ 20 }
+    ensures { result ≡ pairs_weighing pairs.now }
 {
-    let mut count = 0;
-    for i in 0..pairs.len() {
-        count += lines_of_pair(pairs[i]);
-    }
-    count
+    pairs.iter().map(|pair| lines_of_pair(*pair)).sum()
 }
 
 fn lines_of_unit(unit: UnitWeights) -> usize
-    ensures lines { result ≡ unit_weighing unit }
-    ensures few { result ≤ 2 }
+    ensures { result ≡ unit_weighing unit }
 {
     weighs(unit.positive) + weighs(unit.negative)
 }
 
 fn lines_of_pair(pair: PairWeights) -> usize
-    ensures lines { result ≡ pair_weighing pair }
-    ensures few { result ≤ 4 }
+    ensures { result ≡ pair_weighing pair }
 {
     (weighs(pair.both) + weighs(pair.first)) + (weighs(pair.second) + weighs(pair.neither))
 }

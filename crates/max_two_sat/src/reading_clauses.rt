@@ -17,7 +17,7 @@ use dd_text::{InstanceError, InstanceFault, ReadModelError, Tokens};
 const MOST_WEIGHT: i64 = 1 << 48;
 
 /// Reads as many clauses as the header counts.
-#[tactic(auto, using(dd_text::proofs::Chains::times_more, dd_text::proofs::Chains::times_done))]
+#[tactic(auto, using(dd_text::proofs::Chains::times_steps))]
 pub(crate) fn read_clauses(
     tokens: &mut Tokens<'_>,
     header: Header,

@@ -1,25 +1,17 @@
 -- Sums, counts, least amounts and tests over the numbers below a limit.
 use Rattle.std.proofs.Common.{◌≡◌, ◌≢◌, ℕ, zero, suc, ◌+◌, ◌*◌, ◌<◌, ◌≤◌, Bool, true, false, cond, ◌&&◌, None, refl, sym, ap, ap₂, ◌∙◌, arith, inl, inr}
 use Rattle.std.proofs.Common.{add-one, add-zero, add-suc, add_assoc}
-use Rattle.std.proofs.lemmas.Bool.{cases_eq, cases_lt, false≢true}
+use Rattle.std.proofs.lemmas.Bool.{cases_eq, cases_lt, and_parts}
 use Rattle.node_sets.specs.Sums.{all_below, sum_below, count_below, lesser, least_amount}
 
 -- ---- tests
-
-pub and_left : (a b : Bool) → (a && b) ≡ true → a ≡ true
-and_left true b e = refl
-and_left false b e = absurd (false≢true e)
-
-pub and_right : (a b : Bool) → (a && b) ≡ true → b ≡ true
-and_right true b e = e
-and_right false b e = absurd (false≢true e)
 
 pub all_below-gives : (n : ℕ) (test : ℕ → Bool) → all_below n test ≡ true → (v : ℕ) → v < n → test v ≡ true
 all_below-gives zero test e v l = absurd (omega arith)
 all_below-gives (suc n) test e v l =
     elim (cases_eq v n) [
-      | inl s ↦ ap test s ∙ and_left (test n) (all_below n test) e
-      | inr s ↦ all_below-gives n test (and_right (test n) (all_below n test) e) v (omega arith)
+      | inl s ↦ ap test s ∙ (and_parts (test n) (all_below n test) e).0
+      | inr s ↦ all_below-gives n test (and_parts (test n) (all_below n test) e).1 v (omega arith)
     ]
 
 pub all_below-from : (n : ℕ) (test : ℕ → Bool) → ((v : ℕ) → v < n → test v ≡ true) → all_below n test ≡ true

@@ -1,16 +1,12 @@
 -- A row after one word of it was changed, or all were cleared.
 use Rattle.std.proofs.Common.{◌≡◌, ◌≢◌, ℕ, ◌*◌, ◌/◌, ◌%◌, ◌^◌, ◌<◌, ℤ, pos, nat_abs, Bool, true, false, cond, not, ◌&&◌, ◌||◌, nat_eq, List, length, get_or, set, replicate, refl, sym, ap, ap₂, ◌∙◌, subst, arith, inl, inr, bit_and, bit_or, eq-eqb}
 use Rattle.std.specs.Int.{bit_not, w32}
-use Rattle.std.proofs.lemmas.Bool.{cases_eq, cases_lt}
-use Rattle.std.proofs.lemmas.Bool.Decides.{nat_tests}
+use Rattle.std.proofs.lemmas.Bool.{cases_eq, cases_lt, ne_eqb}
 use Rattle.std.proofs.lemmas.List.{get_or-replicate, get_or_past, length-replicate}
 use Rattle.std.proofs.lemmas.Nat.Bits.{bit_at_set_same, bit_at_set_other, bit_at_clear_same, bit_at_clear_other, shr_and_one}
 use Rattle.node_sets.specs.Sets.{IsWord, AreWords, HasMembers, word_at, has}
 use Rattle.node_sets.proofs.Bits.{on, on_zero}
 use Rattle.node_sets.proofs.Words.{has-on, IsWord-pos, word_at-set_same, word_at-set_other}
-
-pub differ : (u v : ℕ) → u ≢ v → nat_eq u v ≡ false
-differ u v n = grind (arith, nat_tests)
 
 changed_members : (row : List ℤ) (v w : ℕ) (after : Bool) → v / 32 < length row → on w (v % 32) ≡ after → ((k : ℕ) → k < 32 → k ≢ v % 32 → on w k ≡ on (word_at row (v / 32)) k) → (u : ℕ) → has (set row (v / 32) (pos w)) u ≡ cond (nat_eq u v) after (has row u)
 changed_members row v w after l here others u =
@@ -23,11 +19,11 @@ changed_members row v w after l here others u =
         | inr n ↦
             let apart : u ≢ v = λ s. n (ap (λ x. x % 32) s) in
             has-on (set row (v / 32) (pos w)) u ∙ ap (λ i. on (word_at (set row (v / 32) (pos w)) i) (u % 32)) e ∙ ap (λ x. on x (u % 32)) (word_at-set_same row (v / 32) w l) ∙ others (u % 32) (omega arith) n
-            ∙ ap (λ i. on (word_at row i) (u % 32)) (sym e) ∙ sym (has-on row u) ∙ ap (λ b. cond b after (has row u)) (sym (differ u v apart))
+            ∙ ap (λ i. on (word_at row i) (u % 32)) (sym e) ∙ sym (has-on row u) ∙ ap (λ b. cond b after (has row u)) (sym (ne_eqb u v apart))
       ])
       | inr n ↦
           let apart : u ≢ v = λ s. n (ap (λ x. x / 32) s) in
-          has-on (set row (v / 32) (pos w)) u ∙ ap (λ x. on x (u % 32)) (word_at-set_other row (v / 32) (u / 32) w n) ∙ sym (has-on row u) ∙ ap (λ b. cond b after (has row u)) (sym (differ u v apart))
+          has-on (set row (v / 32) (pos w)) u ∙ ap (λ x. on x (u % 32)) (word_at-set_other row (v / 32) (u / 32) w n) ∙ sym (has-on row u) ∙ ap (λ b. cond b after (has row u)) (sym (ne_eqb u v apart))
     ]
 
 true_or : (same member : Bool) → cond same true member ≡ member || same

@@ -2,7 +2,7 @@
 use Rattle.std.proofs.Common.{◌≡◌, ℕ, zero, suc, ◌+◌, ◌*◌, ◌/◌, ◌%◌, ◌^◌, ◌<◌, ◌≤◌, ℤ, pos, negsuc, Bool, true, false, cond, not, ◌&&◌, ◌||◌, nat_eq, nat_lt, List, [], ◌∷◌, length, refl, sym, ap, ap₂, ◌∙◌, arith, inl, inr, eq-eqb}
 use Rattle.std.proofs.lemmas.Int.{ints}
 use Rattle.std.specs.Int.Count.{ones, ones_cat}
-use Rattle.std.proofs.lemmas.Bool.{cases_lt, false≢true}
+use Rattle.std.proofs.lemmas.Bool.{cases_lt, false≢true, and_parts}
 use Rattle.std.proofs.lemmas.Bool.Decides.{nat_tests, same_from_decides}
 use Rattle.std.proofs.lemmas.Nat.Bits.{bit_at_cat_low}
 use Rattle.std.proofs.lemmas.Nat.{div-add-mod'}
@@ -13,7 +13,7 @@ use Rattle.node_sets.specs.Sets.{IsWord, AreWords, IsSet, is_word, are_words, is
 use Rattle.node_sets.proofs.Bits.{on}
 use Rattle.node_sets.proofs.Words.{IsWord-pos}
 use Rattle.node_sets.proofs.Words.{has_in, has-past}
-use Rattle.node_sets.proofs.Below.{and_left, and_right, all_below-gives, all_below-from, sum_below-same, sum_below-add}
+use Rattle.node_sets.proofs.Below.{all_below-gives, all_below-from, sum_below-same, sum_below-add}
 
 small_ones : (n : ℕ) → n < 2 → ones n ≡ cond (nat_eq n 1) 1 0
 unfolding ones
@@ -102,8 +102,8 @@ set_last n row last l cells to from =
 pub is_set-gives : (n : ℕ) (row : List ℤ) → is_set n row ≡ true → IsSet n row
 is_set-gives n row e =
     let l : length row ≡ words_for n = grind (arith, nat_tests) in
-    let cells : are_words row ≡ true = and_left (are_words row) (all_below (32 * length row) (λ v. nat_lt v n || not (has row v))) (and_right (nat_eq (length row) (words_for n)) (are_words row && all_below (32 * length row) (λ v. nat_lt v n || not (has row v))) e) in
-    let rest = and_right (are_words row) (all_below (32 * length row) (λ v. nat_lt v n || not (has row v))) (and_right (nat_eq (length row) (words_for n)) (are_words row && all_below (32 * length row) (λ v. nat_lt v n || not (has row v))) e) in
+    let cells : are_words row ≡ true = (and_parts (are_words row) (all_below (32 * length row) (λ v. nat_lt v n || not (has row v))) (and_parts (nat_eq (length row) (words_for n)) (are_words row && all_below (32 * length row) (λ v. nat_lt v n || not (has row v))) e).1).0 in
+    let rest = (and_parts (are_words row) (all_below (32 * length row) (λ v. nat_lt v n || not (has row v))) (and_parts (nat_eq (length row) (words_for n)) (are_words row && all_below (32 * length row) (λ v. nat_lt v n || not (has row v))) e).1).1 in
     record {
       words = l;
       cells = are_words-gives row cells;

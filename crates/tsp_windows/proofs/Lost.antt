@@ -1,11 +1,11 @@
 -- The least ways to the nodes that must be visited, as the code adds them up.
 use Rattle.std.proofs.Common.{◌≡◌, ℕ, zero, suc, ◌+◌, ◌*◌, ◌<◌, ◌≤◌, ℤ, Bool, true, false, cond, not, ◌&&◌, ◌||◌, nat_lt, nat_le, List, length, get_or, refl, sym, ap, ap₂, ◌∙◌, arith}
+use Rattle.std.proofs.lemmas.Bool.{or_left, or_right, lt-ltb, le-ltb}
 use Rattle.node_sets.specs.Sums.{all_below, sum_below, count_below}
 use Rattle.node_sets.specs.Sets.{IsSet, has}
 use Rattle.node_sets.proofs.Below.{sum_below-skip, sum_below-same, count_below-le}
 use Rattle.tsp_windows.specs.Instance.{Instance, IsSmall, Window, no_window, closing, near}
 use Rattle.tsp_windows.specs.States.{TourState, must_of, shown, is_lost, way_left}
-use Rattle.tsp_windows.specs.Tours.{or_left, or_right, true_lt, false_lt}
 use Rattle.tsp_windows.specs.ProgramLaws.{way-most}
 use Rattle.tsp_windows.proofs.StateLemmas.{must-shown}
 use Rattle.tsp_windows.proofs.WayLemmas.{in_time}
@@ -38,7 +38,7 @@ ways_shown i w s m nearest l each e =
     ap (λ n. sum_below n (has m) (λ v. get_or nearest v 0)) l ∙ sum_below-both i.nodes (has m) (shown w s).must (λ v. get_or nearest v 0) (near i) (λ v a. must-shown w s m v e) each
 
 pub lost_many : (i : Instance) (k : ℕ) (t : TourState) (count : ℕ) → count ≡ count_below i.nodes t.must → i.nodes < count + k + 1 → is_lost i k t ≡ true
-lost_many i k t count e l = or_left (nat_lt i.nodes (count_below i.nodes t.must + k + 1)) _ (true_lt i.nodes (count_below i.nodes t.must + k + 1) (omega (arith, e)))
+lost_many i k t count e l = or_left (nat_lt i.nodes (count_below i.nodes t.must + k + 1)) _ (lt-ltb i.nodes (count_below i.nodes t.must + k + 1) (omega (arith, e)))
 
 pub lost_late : (i : Instance) (k : ℕ) (t : TourState) → all_below i.nodes (λ v. nat_le (t.time + near i v) (closing i v) || not (t.must v)) ≡ false → is_lost i k t ≡ true
 lost_late i k t e =
@@ -46,8 +46,8 @@ lost_late i k t e =
 
 pub not_lost : (i : Instance) (k : ℕ) (t : TourState) (count home : ℕ) → count ≡ count_below i.nodes t.must → count + k + 1 ≤ i.nodes → all_below i.nodes (λ v. nat_le (t.time + near i v) (closing i v) || not (t.must v)) ≡ true → home ≡ near i 0 → t.time + home ≤ closing i 0 → is_lost i k t ≡ false
 not_lost i k t count home e few times h late =
-    ap₂ ◌||◌ (false_lt i.nodes (count_below i.nodes t.must + k + 1) (omega (arith, e)))
-    (ap₂ ◌||◌ (ap not times) (false_lt (closing i 0) (t.time + near i 0) (omega (arith, h))))
+    ap₂ ◌||◌ (le-ltb i.nodes (count_below i.nodes t.must + k + 1) (omega (arith, e)))
+    (ap₂ ◌||◌ (ap not times) (le-ltb (closing i 0) (t.time + near i 0) (omega (arith, h))))
 
 -- what is left to go from a state that is not lost
 pub record IsLeft (i : Instance) (k : ℕ) (t : TourState) (way : ℕ) : Type 0 where

@@ -1,9 +1,8 @@
 -- A printed instance is read as it was.
 use Rattle.std.proofs.Common.{◌≡◌, ℕ, suc, ◌+◌, ◌*◌, ◌/◌, ◌%◌, ◌<◌, ◌≤◌, ℤ, pos, nat_abs, true, false, cond, nat_eq, List, [], ◌∷◌, ◌++◌, length, get_or, refl, sym, ap, ap₂, ◌∙◌, subst, arith, inl, inr, ◌⊎◌, append_assoc, fold}
-use Rattle.std.specs.Prelude.{Result, Ok, Err, int_lt}
+use Rattle.std.specs.Prelude.{Result, Ok, Err}
 use Rattle.std.specs.List.{flat_map}
-use Rattle.std.proofs.lemmas.Int.{ints}
-use Rattle.std.proofs.lemmas.Bool.{eqb-true}
+use Rattle.std.proofs.lemmas.Bool.{eqb-true, cases_Bool, le-ltb}
 use Rattle.std.proofs.lemmas.List.{get_or_at, length-append, append-nil}
 use Rattle.std.proofs.lemmas.Nat.{div-add-mod'}
 use Rattle.std.proofs.Math.Nat.{div-lt_iff_lt-mul}
@@ -14,11 +13,10 @@ use Rattle.dd_text.specs.declared.instance_error.InstanceFault.TheVariants as fa
 use Rattle.dd_text.specs.Decimal.{decimal_of}
 use Rattle.dd_text.specs.Grammar.{part_then, end_then, times}
 use Rattle.dd_text.specs.Printed.{IsBefore, ReadsPart}
-use Rattle.dd_text.proofs.Printing.{before_start, before_behind, reads_number, finishes}
+use Rattle.dd_text.proofs.Printing.{before_start, passes_natural, finishes}
 use Rattle.dd_text.proofs.Chains.{number_then_ok, end_then_ok}
-use Rattle.dd_text.proofs.Repeats.{times_reads}
+use Rattle.dd_text.proofs.Repeats.{fold_pushes, times_reads}
 use Rattle.tsp_windows.specs.Instance.{Instance, Window, IsSmall, no_window}
-use Rattle.tsp_windows.specs.Tours.{cases_Bool, false_lt}
 use Rattle.tsp_windows.specs.Texts.{distance_at, window_at, nodes_at, spelled, separator, printed_distances, printed_window, printed_windows, printed}
 use Rattle.tsp_windows.proofs.Readings.{closing_in, opening_in}
 
@@ -84,13 +82,13 @@ distance-reads i small d rest made tail s whole before =
     let here : get_or i.distances (length made) 0 ≡ d = ap (λ xs. get_or xs (length made) 0) whole ∙ get_or_at made d rest 0 (length made) refl in
     let short = small.short (length made) in
     let long : length i.distances ≡ length made + suc (length rest) = ap length whole ∙ length-append made (d ∷ rest) in
-    let read = reads_number (pos d) (pos 0) (pos 1000000000) (separator i.nodes (length made)) tail s (omega (arith, here, short)) (omega (arith, ints)) (omega (arith, ints, here, short)) (blank_separator i.nodes (length made))
+    let read = passes_natural d 0 1000000000 (separator i.nodes (length made)) tail s (omega arith) (omega (arith, here, short)) (omega arith) (blank_separator i.nodes (length made))
     (subst (λ bytes. IsBefore bytes s) (append_assoc (decimal_of (pos d)) (separator i.nodes (length made) ∷ []) tail) before) in
     record {
       behind = after_token s;
       read = number_then_ok (pos 0) (pos 1000000000) (pos d) s (λ z t. Ok (made ++ cond (nat_eq (length made / i.nodes) (length made % i.nodes)) 0 (nat_abs z) ∷ [], t)) (sym read.value)
           ∙ ap (λ x. Ok (made ++ x ∷ [], after_token s)) (kept (cases_Bool (nat_eq (length made / i.nodes) (length made % i.nodes))) here (omega (arith, long)));
-      before = before_behind (separator i.nodes (length made)) tail (after_token s) (blank_separator i.nodes (length made)) read.rest_is;
+      before = read.before;
       comment_is = read.comment_is;
     }
   where
@@ -132,16 +130,15 @@ unfolding window_at
 each_window w ws made tail s held same before =
     let opens = held.0.opens in
     let closes = held.0.closes in
-    let first = reads_number (pos w.opening) (pos 0) (pos 1000000000000) 32 (decimal_of (pos w.closing) ++ 10 ∷ tail) s (omega arith) (omega (arith, ints)) (omega (arith, ints)) refl
+    let first = passes_natural w.opening 0 1000000000000 32 (decimal_of (pos w.closing) ++ 10 ∷ tail) s (omega arith) (omega arith) (omega arith) refl
     (subst (λ bytes. IsBefore bytes s) (regroup (decimal_of (pos w.opening)) (decimal_of (pos w.closing)) tail) before) in
-    let second = reads_number (pos w.closing) (pos 0) (pos 1000000000000) 10 tail (after_token s) (omega arith) (omega (arith, ints)) (omega (arith, ints)) refl
-    (before_behind 32 (decimal_of (pos w.closing) ++ 10 ∷ tail) (after_token s) refl first.rest_is) in (
+    let second = passes_natural w.closing 0 1000000000000 10 tail (after_token s) (omega arith) (omega arith) (omega arith) refl first.before in (
       record {
         behind = after_token (after_token s);
         read = number_then_ok (pos 0) (pos 1000000000000) (pos w.opening) s (opening_in made) (sym first.value)
             ∙ number_then_ok (pos 0) (pos 1000000000000) (pos w.closing) (after_token s) (closing_in made (pos w.opening) (after_token s)) (sym second.value)
-            ∙ ap (λ b. cond {A = Result (List Window × TextState) InstanceError} b (Err (record { fault = faults.Window; place = place_of (after_token s) })) (Ok (made ++ w ∷ [], after_token (after_token s)))) (not_early w.opening w.closing opens);
-        before = before_behind 10 tail (after_token (after_token s)) refl second.rest_is;
+            ∙ ap (λ b. cond {A = Result (List Window × TextState) InstanceError} b (Err (record { fault = faults.Window; place = place_of (after_token s) })) (Ok (made ++ w ∷ [], after_token (after_token s)))) (le-ltb w.closing w.opening opens);
+        before = second.before;
         comment_is = second.comment_is ∙ first.comment_is;
       },
       held.1,
@@ -149,21 +146,6 @@ each_window w ws made tail s held same before =
   where
     regroup : (a b t : List ℕ) → (a ++ 32 ∷ (b ++ 10 ∷ [])) ++ t ≡ a ++ 32 ∷ (b ++ 10 ∷ t)
     regroup a b t = append_assoc a (32 ∷ (b ++ 10 ∷ [])) t ∙ ap (λ x. a ++ 32 ∷ x) (append_assoc b (10 ∷ []) t)
-
-    not_early : (a b : ℕ) → a ≤ b → int_lt (pos b) (pos a) ≡ false
-    not_early a b l = false_lt b a l
-
-add_window : List Window → Window → List Window
-add_window made w = made ++ w ∷ []
-
-fold-windows : (ws made : List Window) → fold add_window made ws ≡ made ++ ws
-unfolding add_window
-fold-windows [] made = sym (append-nil made)
-fold-windows (w ∷ ws) made = fold-windows ws (made ++ w ∷ []) ∙ append_assoc made (w ∷ []) ws
-
-each_added : (w : Window) (ws made : List Window) (tail : List ℕ) (s : TextState) → AreOpen (w ∷ ws) → s.comment ≡ Hash → IsBefore (printed_window w ++ tail) s → ReadsPart window_at made (add_window made w) tail s × AreOpen ws
-unfolding add_window
-each_added w ws made tail s held same before = each_window w ws made tail s held same before
 
 open_from : (ws : List Window) → ((v : ℕ) → (get_or ws v no_window).opening ≤ (get_or ws v no_window).closing) → ((v : ℕ) → (get_or ws v no_window).closing ≤ 1000000000000) → AreOpen ws
 open_from [] h k = tt
@@ -177,12 +159,12 @@ nodes-read i s small same before =
     let xs = marked i.nodes 0 i.distances in
     let first = times_reads (distance_at i.nodes) print_marked add_distance Hash (IsMarked i.nodes i.distances) (each_distance i small) (marked i.nodes 0 i.distances) [] (printed_windows i.windows) s
     (record { rest = i.distances; is = refl; whole = refl }) same (subst (λ bytes. IsBefore (bytes ++ printed_windows i.windows) s) (printed-marked i.nodes 0 i.distances) before) in
-    let second = times_reads window_at printed_window add_window Hash (λ _ ws. AreOpen ws) each_added i.windows [] [] first.behind (open_from i.windows small.opens small.closes) (first.comment_is ∙ same)
+    let second = times_reads window_at printed_window (λ made w. made ++ w ∷ []) Hash (λ _ ws. AreOpen ws) each_window i.windows [] [] first.behind (open_from i.windows small.opens small.closes) (first.comment_is ∙ same)
     (subst (λ bytes. IsBefore bytes first.behind) (sym (append-nil (printed_windows i.windows))) first.before) in
     let distances : times (distance_at i.nodes) (i.nodes * i.nodes) [] s ≡ Ok (i.distances, first.behind) =
     ap (λ k. times (distance_at i.nodes) k [] s) (sym (length-marked i.nodes 0 i.distances ∙ small.square)) ∙ first.read ∙ ap (λ ds. Ok (ds, first.behind)) (fold-marked i.nodes 0 i.distances []) in
     let windows : times window_at i.nodes [] first.behind ≡ Ok (i.windows, second.behind) =
-    ap (λ k. times window_at k [] first.behind) (sym small.each_window) ∙ second.read ∙ ap (λ ws. Ok (ws, second.behind)) (fold-windows i.windows []) in
+    ap (λ k. times window_at k [] first.behind) (sym small.each_window) ∙ second.read ∙ ap (λ ws. Ok (ws, second.behind)) (fold_pushes i.windows []) in
     ap (λ (r : Result (List ℕ × TextState) InstanceError). part_then r (λ distances t. part_then (times window_at i.nodes [] t) (λ windows u. end_then u (Ok (made i.nodes distances windows))))) distances
     ∙ ap (λ (r : Result (List Window × TextState) InstanceError). part_then r (λ windows u. end_then u (Ok (made i.nodes i.distances windows)))) windows
     ∙ end_then_ok second.behind (Ok i) (sym (finishes second.behind second.before))
@@ -193,15 +175,10 @@ nodes-read i s small same before =
 spelled-printed : (i : Instance) → IsSmall i → spelled (printed i) ≡ Ok i
 unfolding spelled printed
 spelled-printed i small =
-    let bytes = printed_distances i.nodes 0 i.distances ++ printed_windows i.windows in
-    let start = text_start Hash (decimal_of (pos i.nodes) ++ 10 ∷ (printed_distances i.nodes 0 i.distances ++ printed_windows i.windows)) in
-    let some = small.some in
-    let few = small.few in
-    let read = reads_number (pos i.nodes) (pos 1) (pos 300) 10 (printed_distances i.nodes 0 i.distances ++ printed_windows i.windows) (text_start Hash (decimal_of (pos i.nodes) ++ 10 ∷ (printed_distances i.nodes 0 i.distances ++ printed_windows i.windows)))
-    (omega (arith, few)) (omega (arith, ints, some)) (omega (arith, ints, few)) refl (before_start Hash (decimal_of (pos i.nodes) ++ 10 ∷ (printed_distances i.nodes 0 i.distances ++ printed_windows i.windows))) in
-    number_then_ok (pos 1) (pos 300) (pos i.nodes) (text_start Hash (decimal_of (pos i.nodes) ++ 10 ∷ (printed_distances i.nodes 0 i.distances ++ printed_windows i.windows))) (λ n s. nodes_at (nat_abs n) s) (sym read.value)
-    ∙ nodes-read i (after_token (text_start Hash (decimal_of (pos i.nodes) ++ 10 ∷ (printed_distances i.nodes 0 i.distances ++ printed_windows i.windows)))) small read.comment_is
-    (before_behind 10 (printed_distances i.nodes 0 i.distances ++ printed_windows i.windows) (after_token (text_start Hash (decimal_of (pos i.nodes) ++ 10 ∷ (printed_distances i.nodes 0 i.distances ++ printed_windows i.windows)))) refl read.rest_is)
+    let bytes : List ℕ = printed_distances i.nodes 0 i.distances ++ printed_windows i.windows in
+    let start : TextState = text_start Hash (decimal_of (pos i.nodes) ++ 10 ∷ bytes) in
+    let read = passes_natural i.nodes 1 300 10 bytes start small.some small.few (omega arith) refl (before_start Hash (decimal_of (pos i.nodes) ++ 10 ∷ bytes)) in
+    number_then_ok (pos 1) (pos 300) (pos i.nodes) start (λ n s. nodes_at (nat_abs n) s) (sym read.value) ∙ nodes-read i (after_token start) small read.comment_is read.before
 
 pub printed_reads_back : (i : Instance) (text : List ℕ) → IsSmall i → text ≡ printed i → spelled text ≡ Ok i
 printed_reads_back i text small e = ap spelled e ∙ spelled-printed i small

@@ -5,7 +5,7 @@ use Rattle.std.proofs.Common.{add-zero, zero-add}
 use Rattle.dd_text.specs.declared.instance_error.InstanceFault.TheVariants as faults
 use Rattle.std.specs.List.{list_all}
 use Rattle.std.proofs.lemmas.Int.{ints}
-use Rattle.std.proofs.lemmas.Bool.{cases_lt, false≢true}
+use Rattle.std.proofs.lemmas.Bool.{cases_lt, false≢true, and_from, le-leb}
 use Rattle.std.proofs.lemmas.Bool.Decides.{nat_tests}
 use Rattle.std.proofs.lemmas.Nat.{mod-mul-add, div-mul-add, mul-add-lt}
 use Rattle.std.proofs.lemmas.List.{get_or_append_left, get_or_at, length-append}
@@ -19,7 +19,6 @@ use Rattle.dd_text.specs.Grammar.{read_then, number_then, part_then, times}
 use Rattle.dd_text.proofs.Ranges.{number_at_range}
 use Rattle.tsp_windows.specs.Instance.{Window, is_window, is_small}
 use Rattle.tsp_windows.specs.Texts.{distance_at, window_at}
-use Rattle.tsp_windows.specs.Tours.{and_both, true_le}
 
 -- ---- one step
 
@@ -41,8 +40,8 @@ size_most (pos n) most low high = omega (arith, ints)
 size_most (negsuc n) most low high = absurd (omega (arith, ints))
 
 all_push : {X : Type 0} (p : X → Bool) (xs : List X) (x : X) → list_all p xs ≡ true → p x ≡ true → list_all p (xs ++ x ∷ []) ≡ true
-all_push p [] x all here = and_both (p x) true here refl
-all_push p (y ∷ ys) x all here = and_both (p y) (list_all p (ys ++ x ∷ [])) (left (p y) (list_all p ys) all) (all_push p ys x (right (p y) (list_all p ys) all) here)
+all_push p [] x all here = and_from (p x) true here refl
+all_push p (y ∷ ys) x all here = and_from (p y) (list_all p (ys ++ x ∷ [])) (left (p y) (list_all p ys) all) (all_push p ys x (right (p y) (list_all p ys) all) here)
   where
     left : (a b : Bool) → (a && b) ≡ true → a ≡ true
     left true b e = refl
@@ -60,7 +59,7 @@ pub record AreRead (n : ℕ) (ds : List ℕ) : Type 0 where
 
 read-more : (n : ℕ) (ds : List ℕ) (x : ℕ) → AreRead n ds → x ≤ 1000000000 → (length ds / n ≡ length ds % n → x ≡ 0) → AreRead n (ds ++ x ∷ [])
 read-more n ds x h small diagonal = record {
-  short = all_push (λ d. nat_le d 1000000000) ds x h.short (true_le x 1000000000 small);
+  short = all_push (λ d. nat_le d 1000000000) ds x h.short (le-leb x 1000000000 small);
   home = λ k l e. elim (cases_lt k (length ds)) [
     | inl a ↦ get_or_append_left ds (x ∷ []) 0 k a ∙ h.home k a e
     | inr a ↦ (let here : k ≡ length ds = omega (arith, length-append ds (x ∷ [])) in
@@ -121,7 +120,7 @@ record IsWindowStep (made next : List Window) : Type 0 where
   longer : length next ≡ length made + 1
 
 open_window : (a b : ℤ) → pos 0 ≤ℤ a → pos 0 ≤ℤ b → b ≤ℤ pos 1000000000000 → int_lt b a ≡ false → (nat_le (nat_abs a) (nat_abs b) && nat_le (nat_abs b) 1000000000000) ≡ true
-open_window (pos a) (pos b) p q r e = and_both (nat_le a b) (nat_le b 1000000000000) (grind (arith, nat_tests)) (true_le b 1000000000000 (omega (arith, ints)))
+open_window (pos a) (pos b) p q r e = and_from (nat_le a b) (nat_le b 1000000000000) (grind (arith, nat_tests)) (le-leb b 1000000000000 (omega (arith, ints)))
 open_window (pos a) (negsuc b) p q r e = absurd (omega (arith, ints))
 open_window (negsuc a) b p q r e = absurd (omega (arith, ints))
 
@@ -178,7 +177,7 @@ read_small n d0 ds w0 ws s t u v some few de we d w =
     let read = distances.kept (subst (AreRead n) (sym de) (record { short = refl; home = λ k l e. absurd (omega arith) })) in
     let square : length ds ≡ n * n = distances.longer ∙ ap (λ (l : List ℕ). length l + n * n) de ∙ zero-add (n * n) in
     let each : length ws ≡ n = windows.longer ∙ ap (λ (l : List Window). length l + n) we ∙ zero-add n in
-    and_both (nat_le 1 n) _ (true_le 1 n some) (and_both (nat_le n 300) _ (true_le n 300 few) (and_both (nat_eq (length ds) (n * n)) _ (eq-eqb (length ds) (n * n) square) (and_both (list_all (λ d. nat_le d 1000000000) ds) _ read.short
-    (and_both (all_below n (λ v. nat_eq (get_or ds (v * n + v) 0) 0)) _ (all_below-from n (λ v. nat_eq (get_or ds (v * n + v) 0) 0) (λ v l. eq-eqb (get_or ds (v * n + v) 0) 0
+    and_from (nat_le 1 n) _ (le-leb 1 n some) (and_from (nat_le n 300) _ (le-leb n 300 few) (and_from (nat_eq (length ds) (n * n)) _ (eq-eqb (length ds) (n * n) square) (and_from (list_all (λ d. nat_le d 1000000000) ds) _ read.short
+    (and_from (all_below n (λ v. nat_eq (get_or ds (v * n + v) 0) 0)) _ (all_below-from n (λ v. nat_eq (get_or ds (v * n + v) 0) 0) (λ v l. eq-eqb (get_or ds (v * n + v) 0) 0
     (read.home (v * n + v) (subst (λ m. v * n + v < m) (sym square) (mul-add-lt v n v n l l)) (div-mul-add v n v l ∙ sym (mod-mul-add v n v l)))))
-    (and_both (nat_eq (length ws) n) _ (eq-eqb (length ws) n each) (windows.kept (subst (λ l. list_all is_window l ≡ true) (sym we) refl)))))))
+    (and_from (nat_eq (length ws) n) _ (eq-eqb (length ws) n each) (windows.kept (subst (λ l. list_all is_window l ≡ true) (sym we) refl)))))))

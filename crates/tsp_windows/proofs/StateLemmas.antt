@@ -2,7 +2,7 @@
 use Rattle.std.proofs.Common.{zero, suc, cond, min, Option, ◌≡◌, ℕ, ◌+◌, ◌*◌, ◌<◌, ◌≤◌, ℤ, pos, nat_abs, Bool, true, false, not, ◌&&◌, ◌||◌, nat_eq, nat_le, List, length, Some, ◌≢◌, refl, sym, ap, ap₂, ◌∙◌, arith, w64, to_z, of_z, FitsSigned, inl, inr, ◌⊎◌, eq-eqb}
 use Rattle.std.specs.Prelude.{int_le, is_some, unwrap_or}
 use Rattle.std.proofs.lemmas.Int.{to_z-of_z}
-use Rattle.std.proofs.lemmas.Bool.{cases_eq, cases_lt, false≢true}
+use Rattle.std.proofs.lemmas.Bool.{cases_eq, cases_lt, false≢true, or_cases, not-true, cases_Bool, ne_eqb}
 use Rattle.std.proofs.lemmas.Bool.Decides.{same_from_decides}
 use Rattle.node_sets.specs.Sums.{all_below, lesser, least_amount}
 use Rattle.node_sets.specs.Sets.{IsNext, IsSet, has, is_set, words_for}
@@ -11,7 +11,7 @@ use Rattle.node_sets.proofs.Counts.{is_set-gives}
 use Rattle.tsp_windows.specs.States.{TourState, positions_of, must_of, may_of, time_of, shown, leg, may_visit, may_return, covers, is_sound, is_state_row}
 use Rattle.tsp_windows.specs.Instance.{Instance, closing}
 use Rattle.tsp_windows.specs.Apart.{IsApart}
-use Rattle.tsp_windows.specs.Tours.{differ, cases_Bool, not_true, or_cases, all_below-not, sound-gives, sound-from}
+use Rattle.tsp_windows.specs.Tours.{all_below-not, sound-gives, sound-from}
 use Rattle.tsp_windows.specs.Walks.{Covers, covers-gives, covers-from}
 
 pub fits_time : (t : ℕ) → t ≤ 1000000000000 → FitsSigned w64 (pos t)
@@ -94,7 +94,7 @@ apart_sound n w s p m y e f g set h =
     here false k = absurd (false≢true (sym k))
 
     seek : (all_below n (λ v. not (has p v)) ≡ true) ⊎ (all_below n (λ v. not (has p v)) ≡ false) → (v : ℕ) × (v < n) × (has p v ≡ true)
-    seek (inl a) = absurd (h.some (λ v. elim (cases_lt v n) [ inl l ↦ not_true (has p v) (all_below-gives n (λ v. not (has p v)) a v l) | inr l ↦ set.within v l ]))
+    seek (inl a) = absurd (h.some (λ v. elim (cases_lt v n) [ inl l ↦ not-true (has p v) (all_below-gives n (λ v. not (has p v)) a v l) | inr l ↦ set.within v l ]))
     seek (inr a) = let found = all_below-not n (λ v. not (has p v)) a in (found.0, found.1, here (has p found.0) found.2)
 
     some : (v : ℕ) × (v < n) × (has p v ≡ true)
@@ -138,11 +138,11 @@ visit_no i t d e = and_no (not (nat_eq d 0)) _ (no_and (t.must d || t.may d) _ e
 
 pub visit_some : (i : Instance) (t : TourState) (d way : ℕ) → d ≢ 0 → (t.must d || t.may d) ≡ true → leg i t d ≡ Some way → nat_le (t.time + way) (closing i d) ≡ may_visit i t d
 visit_some i t d way n e l =
-    sym (ap₂ ◌&&◌ (ap not (differ d 0 n)) (ap₂ ◌&&◌ e (ap (λ o. is_some o && nat_le (t.time + unwrap_or o 0) (closing i d)) l)))
+    sym (ap₂ ◌&&◌ (ap not (ne_eqb d 0 n)) (ap₂ ◌&&◌ e (ap (λ o. is_some o && nat_le (t.time + unwrap_or o 0) (closing i d)) l)))
 
 pub return_no : (i : Instance) (t : TourState) (d : ℕ) → (((v : ℕ) → v < i.nodes → t.must v ≡ false) → ⊥) → may_return i t d ≡ false
 return_no i t d h =
-    and_no (nat_eq d 0) _ (no_and (all_below i.nodes (λ v. not (t.must v))) _ (by_cases (all_below i.nodes (λ v. not (t.must v))) (λ a. h (λ v l. not_true (t.must v) (all_below-gives i.nodes (λ v. not (t.must v)) a v l)))))
+    and_no (nat_eq d 0) _ (no_and (all_below i.nodes (λ v. not (t.must v))) _ (by_cases (all_below i.nodes (λ v. not (t.must v))) (λ a. h (λ v l. not-true (t.must v) (all_below-gives i.nodes (λ v. not (t.must v)) a v l)))))
 
 pub return_some : (i : Instance) (t : TourState) (d way : ℕ) → d ≡ 0 → ((v : ℕ) → t.must v ≡ false) → leg i t d ≡ Some way → nat_le (t.time + way) (closing i d) ≡ may_return i t d
 return_some i t d way n e l =

@@ -4,6 +4,7 @@ use Rattle.std.proofs.Math.Nat.{mul-le-mul_left}
 use Rattle.std.proofs.lemmas.Fmt.{length-decimal-le}
 use Rattle.std.proofs.lemmas.List.{length-append}
 use Rattle.dd_text.specs.Decimal.{decimal_of}
+use Rattle.dd_text.proofs.Lengths.{parts_short}
 use Rattle.tsp_windows.specs.Instance.{Instance, Window, IsSmall, no_window}
 use Rattle.tsp_windows.specs.Texts.{separator, printed_distances, printed_window, printed_windows, printed}
 
@@ -21,12 +22,14 @@ window_short w opens closes =
     let second : length (decimal_of (pos w.closing)) ≤ 13 = length-decimal-le 13 w.closing (omega arith) (omega arith) (omega arith) in
     omega (arith, first, second, length-append (decimal_of (pos w.opening)) (32 ∷ (decimal_of (pos w.closing) ++ 10 ∷ [])), length-append (decimal_of (pos w.closing)) (10 ∷ []))
 
-windows_short : (ws : List Window) → ((v : ℕ) → (get_or ws v no_window).opening ≤ (get_or ws v no_window).closing) → ((v : ℕ) → (get_or ws v no_window).closing ≤ 1000000000000) → length (printed_windows ws) ≤ 28 * length ws
-windows_short [] h k = omega arith
-windows_short (w ∷ ws) h k =
-    let here = window_short w (h 0) (k 0) in
-    let others = windows_short ws (λ v. h (suc v)) (λ v. k (suc v)) in
-    omega (arith, here, others, length-append (printed_window w) (printed_windows ws))
+record AreClosed (ws : List Window) : Type 0 where
+  opens : (v : ℕ) → (get_or ws v no_window).opening ≤ (get_or ws v no_window).closing
+  closes : (v : ℕ) → (get_or ws v no_window).closing ≤ 1000000000000
+
+windows_short : (ws : List Window) → AreClosed ws → length (printed_windows ws) ≤ 28 * length ws
+windows_short ws closed =
+    parts_short printed_window 28 AreClosed
+    (λ w rest h. (window_short w (h.opens 0) (h.closes 0), record { opens = λ v. h.opens (suc v); closes = λ v. h.closes (suc v) })) ws closed
 
 printed_short : (i : Instance) → IsSmall i → length (printed i) ≤ 2 ^ 30
 unfolding printed
@@ -35,7 +38,7 @@ printed_short i small =
     let nodes : length (decimal_of (pos i.nodes)) ≤ 3 = length-decimal-le 3 i.nodes (omega arith) (omega arith) (omega arith) in
     let square = mul-le-mul_left i.nodes few in
     let distances = distances_short i.nodes 0 i.distances small.short in
-    let windows = windows_short i.windows small.opens small.closes in
+    let windows = windows_short i.windows (record { opens = small.opens; closes = small.closes }) in
     omega (arith, nodes, square, distances, windows, small.square, small.each_window, length-append (decimal_of (pos i.nodes)) (10 ∷ (printed_distances i.nodes 0 i.distances ++ printed_windows i.windows)), length-append (printed_distances i.nodes 0 i.distances) (printed_windows i.windows))
 
 pub printed_is_short : (i : Instance) (text : List ℕ) → IsSmall i → text ≡ printed i → length text ≤ 2 ^ 30

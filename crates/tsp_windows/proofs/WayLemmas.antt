@@ -1,12 +1,11 @@
 -- Loops over the members of a set: what the next member adds.
 use Rattle.std.proofs.Common.{◌≡◌, ◌≢◌, ℕ, ◌+◌, ◌*◌, ◌<◌, ◌≤◌, ℤ, Bool, true, false, not, ◌&&◌, ◌||◌, nat_eq, nat_le, List, get_or, Option, refl, sym, ap, ap₂, ◌∙◌, arith, inl, inr, eq-eqb}
-use Rattle.std.proofs.lemmas.Bool.{cases_eq, cases_lt, false≢true}
+use Rattle.std.proofs.lemmas.Bool.{cases_eq, cases_lt, false≢true, or_left, or_right, ne_eqb, le-leb}
 use Rattle.std.proofs.lemmas.Bool.Decides.{nat_tests}
 use Rattle.node_sets.specs.Sums.{all_below, sum_below, lesser, least_amount}
 use Rattle.node_sets.specs.Sets.{IsNext, IsSet, has}
 use Rattle.node_sets.proofs.Below.{all_below-gives, all_below-from, sum_below-skip, sum_below-next, sum_below-le, least_amount-skip, least_amount-next}
 use Rattle.tsp_windows.specs.Instance.{Window, no_window}
-use Rattle.tsp_windows.specs.Tours.{differ, true_le, or_left, or_right}
 
 -- a member is one of the nodes
 pub member_inside : (n : ℕ) (row : List ℤ) (from v : ℕ) → IsSet n row → IsNext (has row) from v → v < n
@@ -20,7 +19,7 @@ member_inside n row from v set next =
 pub leg_takes : (row : List ℤ) (f : ℕ → ℕ) (from p to way : ℕ) (least : Option ℕ) → IsNext (has row) from p → p ≢ to → way ≡ f p → least ≡ least_amount from (λ p. has row p && not (nat_eq p to)) f → lesser way least ≡ least_amount (p + 1) (λ p. has row p && not (nat_eq p to)) f
 leg_takes row f from p to way least next apart e l =
     ap₂ lesser e l
-    ∙ sym (least_amount-next from p (λ p. has row p && not (nat_eq p to)) f next.reached (λ u a b. ap (λ x. x && not (nat_eq u to)) (next.skipped u a b)) (ap₂ (λ x y. x && not y) next.passes (differ p to apart)))
+    ∙ sym (least_amount-next from p (λ p. has row p && not (nat_eq p to)) f next.reached (λ u a b. ap (λ x. x && not (nat_eq u to)) (next.skipped u a b)) (ap₂ (λ x y. x && not y) next.passes (ne_eqb p to apart)))
 
 -- the member that does not count
 pub leg_skips : (row : List ℤ) (f : ℕ → ℕ) (from p to : ℕ) (least : Option ℕ) → IsNext (has row) from p → p ≡ to → least ≡ least_amount from (λ p. has row p && not (nat_eq p to)) f → least ≡ least_amount (p + 1) (λ p. has row p && not (nat_eq p to)) f
@@ -68,7 +67,7 @@ members_early nearest windows members time from v way close next e f early befor
     elim (cases_lt u from) [
       | inl a ↦ before u a
       | inr a ↦ (elim (cases_eq u v) [
-        | inl s ↦ ap (in_time nearest windows members time) s ∙ or_left (nat_le (time + get_or nearest v 0) (get_or windows v no_window).closing) (not (has members v)) (true_le (time + get_or nearest v 0) (get_or windows v no_window).closing (omega (arith, e, f)))
+        | inl s ↦ ap (in_time nearest windows members time) s ∙ or_left (nat_le (time + get_or nearest v 0) (get_or windows v no_window).closing) (not (has members v)) (le-leb (time + get_or nearest v 0) (get_or windows v no_window).closing (omega (arith, e, f)))
         | inr s ↦ or_right (nat_le (time + get_or nearest u 0) (get_or windows u no_window).closing) (not (has members u)) (ap not (next.skipped u a (omega arith)))
       ])
     ]

@@ -3,10 +3,10 @@ use Rattle.std.proofs.Common.{◌≡◌, ◌≢◌, ℕ, zero, suc, ◌+◌, ◌
 use Rattle.std.specs.Prelude.{is_some, unwrap_or}
 use Rattle.std.specs.List.{list_any, list_all}
 use Rattle.std.proofs.lemmas.Int.{ints}
-use Rattle.std.proofs.lemmas.Bool.{cases_eq, cases_lt, false≢true, eqb-true}
+use Rattle.std.proofs.lemmas.Bool.{cases_eq, cases_lt, false≢true, eqb-true, and_parts, and_from, or_left, not-true, cases_Bool, ne_eqb, leb-true, le-leb, ltb-true, lt-ltb}
 use Rattle.node_sets.specs.Sums.{count_below}
 use Rattle.node_sets.specs.Sets.{words_for}
-use Rattle.node_sets.proofs.Below.{and_left, and_right, sum_below-removed, sum_below-none, least_amount-none, least_amount-same, least_amount-skip, least_amount-next}
+use Rattle.node_sets.proofs.Below.{sum_below-removed, sum_below-none, least_amount-none, least_amount-same, least_amount-skip, least_amount-next}
 use Rattle.dp_model.specs.Prefixes.{IsSolution, gain_of, value_of}
 use Rattle.tsp_windows.specs.Instance.{Instance, IsSmall, distance, opening, closing}
 use Rattle.tsp_windows.specs.States.{TourState, from_elsewhere, leg, arrival, departure, moved, start, shown, row_for}
@@ -14,7 +14,7 @@ use Rattle.tsp_windows.specs.Rows.{IsBounded, shown-row_for, words_enough}
 use Rattle.tsp_windows.specs.Program.{program_of}
 use Rattle.tsp_windows.specs.OwnWords.{are_different, ends_at_home, is_order, end_time, negated, tour_value}
 use Rattle.dp_model.specs.Worth.{IsWorth, SolutionGives}
-use Rattle.tsp_windows.specs.Tours.{and_both, or_left, cases_Bool, not_true, not_false, differ, le_true, true_le, lt_true, true_lt, visits, returns, may_visit-from, may_return-from, goes_on, goes_home, start-bounded}
+use Rattle.tsp_windows.specs.Tours.{visits, returns, may_visit-from, may_return-from, goes_on, goes_home, start-bounded}
 use Rattle.tsp_windows.specs.Walks.{IsGone, IsTour, last_time, tour-of_path, path-of_tour, gain-of_tour}
 
 -- ---- a state of one position, as every state is that a tour reaches
@@ -30,8 +30,8 @@ pub record IsAt (n here : ℕ) (t : TourState) : Type 0 where
 elsewhere-at : (n here d p : ℕ) (t : TourState) → IsAt n here t → here ≢ d → from_elsewhere t d p ≡ nat_eq p here
 elsewhere-at n here d p t a apart_ =
     elim (cases_eq p here) [
-      | inl s ↦ ap₂ ◌&&◌ (a.there p ∙ eq-eqb p here s) (ap not (differ p d (λ e. apart_ (sym s ∙ e)))) ∙ sym (eq-eqb p here s)
-      | inr s ↦ ap (λ b. b && not (nat_eq p d)) (a.there p ∙ differ p here s) ∙ sym (differ p here s)
+      | inl s ↦ ap₂ ◌&&◌ (a.there p ∙ eq-eqb p here s) (ap not (ne_eqb p d (λ e. apart_ (sym s ∙ e)))) ∙ sym (eq-eqb p here s)
+      | inr s ↦ ap (λ b. b && not (nat_eq p d)) (a.there p ∙ ne_eqb p here s) ∙ sym (ne_eqb p here s)
     ]
 
 -- from there each other node is reached on one way
@@ -39,8 +39,8 @@ leg-at : (i : Instance) (here d : ℕ) (t : TourState) → IsAt i.nodes here t �
 unfolding leg
 leg-at i here d t a far =
     least_amount-same i.nodes (from_elsewhere t d) (λ p. nat_eq p here) (λ p. distance i p d) (λ v l. elsewhere-at i.nodes here d v t a far)
-    ∙ least_amount-skip (here + 1) i.nodes (λ p. nat_eq p here) (λ p. distance i p d) (omega (arith, a.inside)) (λ v l m. differ v here (omega arith))
-    ∙ least_amount-next 0 here (λ p. nat_eq p here) (λ p. distance i p d) (omega arith) (λ v l m. differ v here (omega arith)) (eq-eqb here here refl)
+    ∙ least_amount-skip (here + 1) i.nodes (λ p. nat_eq p here) (λ p. distance i p d) (omega (arith, a.inside)) (λ v l m. ne_eqb v here (omega arith))
+    ∙ least_amount-next 0 here (λ p. nat_eq p here) (λ p. distance i p d) (omega arith) (λ v l m. ne_eqb v here (omega arith)) (eq-eqb here here refl)
 
 pub arrival-at : (i : Instance) (here d : ℕ) (t : TourState) → IsAt i.nodes here t → here ≢ d → arrival i t d ≡ t.time + distance i here d
 arrival-at i here d t a far = ap (λ o. t.time + unwrap_or o 0) (leg-at i here d t a far)
@@ -50,7 +50,7 @@ unfolding leg
 leg-same i here t a = least_amount-none i.nodes (from_elsewhere t here) (λ p. distance i p here) (λ v l.
     elim (cases_eq v here) [
       | inl s ↦ right (t.positions v) (nat_eq v here) (eq-eqb v here s)
-      | inr s ↦ ap (λ b. b && not (nat_eq v here)) (a.there v ∙ differ v here s)
+      | inr s ↦ ap (λ b. b && not (nat_eq v here)) (a.there v ∙ ne_eqb v here s)
     ])
   where
     right : (x y : Bool) → y ≡ true → (x && not y) ≡ false
@@ -96,8 +96,8 @@ pub record Lists (n : ℕ) (must : ℕ → Bool) (ds : List ℕ) : Type 0 where
 any-none : (d : ℕ) (ds : List ℕ) → list_any (λ u. nat_eq u d) ds ≡ false → (test : ℕ → Bool) → list_all (λ v. test v || nat_eq v 0) ds ≡ true → list_all (λ v. (test v && not (nat_eq v d)) || nat_eq v 0) ds ≡ true
 any-none d [] e test h = refl
 any-none d (v ∷ vs) e test h =
-    and_both ((test v && not (nat_eq v d)) || nat_eq v 0) _ (kept (test v) (nat_eq v d) (nat_eq v 0) (first (nat_eq v d) (list_any (λ u. nat_eq u d) vs) e) (and_left (test v || nat_eq v 0) (list_all (λ v. test v || nat_eq v 0) vs) h))
-    (any-none d vs (second (nat_eq v d) (list_any (λ u. nat_eq u d) vs) e) test (and_right (test v || nat_eq v 0) (list_all (λ v. test v || nat_eq v 0) vs) h))
+    and_from ((test v && not (nat_eq v d)) || nat_eq v 0) _ (kept (test v) (nat_eq v d) (nat_eq v 0) (first (nat_eq v d) (list_any (λ u. nat_eq u d) vs) e) (and_parts (test v || nat_eq v 0) (list_all (λ v. test v || nat_eq v 0) vs) h).0)
+    (any-none d vs (second (nat_eq v d) (list_any (λ u. nat_eq u d) vs) e) test (and_parts (test v || nat_eq v 0) (list_all (λ v. test v || nat_eq v 0) vs) h).1)
   where
     first : (a b : Bool) → (a || b) ≡ false → a ≡ false
     first true b e = absurd (false≢true (sym e))
@@ -117,10 +117,10 @@ none-any : (d : ℕ) (ds : List ℕ) (test : ℕ → Bool) → d ≢ 0 → list_
 none-any d [] test n h = refl
 none-any d (v ∷ vs) test n h =
     let first : nat_eq v d ≡ false = elim (cases_eq v d) [
-      | inl s ↦ absurd (false≢true (sym (hit (test v) (nat_eq v d) (nat_eq v 0) (eq-eqb v d s) (differ v 0 (λ z. n (sym s ∙ z)))) ∙ and_left ((test v && not (nat_eq v d)) || nat_eq v 0) (list_all (λ v. (test v && not (nat_eq v d)) || nat_eq v 0) vs) h))
-      | inr s ↦ differ v d s
+      | inl s ↦ absurd (false≢true (sym (hit (test v) (nat_eq v d) (nat_eq v 0) (eq-eqb v d s) (ne_eqb v 0 (λ z. n (sym s ∙ z)))) ∙ (and_parts ((test v && not (nat_eq v d)) || nat_eq v 0) (list_all (λ v. (test v && not (nat_eq v d)) || nat_eq v 0) vs) h).0))
+      | inr s ↦ ne_eqb v d s
     ] in
-    ap₂ ◌||◌ first (none-any d vs test n (and_right ((test v && not (nat_eq v d)) || nat_eq v 0) (list_all (λ v. (test v && not (nat_eq v d)) || nat_eq v 0) vs) h))
+    ap₂ ◌||◌ first (none-any d vs test n (and_parts ((test v && not (nat_eq v d)) || nat_eq v 0) (list_all (λ v. (test v && not (nat_eq v d)) || nat_eq v 0) vs) h).1)
   where
     hit : (x y z : Bool) → y ≡ true → z ≡ false → ((x && not y) || z) ≡ false
     hit x false z e f = absurd (false≢true e)
@@ -131,8 +131,8 @@ none-any d (v ∷ vs) test n h =
 wider : (d : ℕ) (ds : List ℕ) (test : ℕ → Bool) → list_all (λ v. (test v && not (nat_eq v d)) || nat_eq v 0) ds ≡ true → list_all (λ v. test v || nat_eq v 0) ds ≡ true
 wider d [] test h = refl
 wider d (v ∷ vs) test h =
-    and_both (test v || nat_eq v 0) _ (drop_not (test v) (nat_eq v d) (nat_eq v 0) (and_left ((test v && not (nat_eq v d)) || nat_eq v 0) (list_all (λ v. (test v && not (nat_eq v d)) || nat_eq v 0) vs) h))
-    (wider d vs test (and_right ((test v && not (nat_eq v d)) || nat_eq v 0) (list_all (λ v. (test v && not (nat_eq v d)) || nat_eq v 0) vs) h))
+    and_from (test v || nat_eq v 0) _ (drop_not (test v) (nat_eq v d) (nat_eq v 0) (and_parts ((test v && not (nat_eq v d)) || nat_eq v 0) (list_all (λ v. (test v && not (nat_eq v d)) || nat_eq v 0) vs) h).0)
+    (wider d vs test (and_parts ((test v && not (nat_eq v d)) || nat_eq v 0) (list_all (λ v. (test v && not (nat_eq v d)) || nat_eq v 0) vs) h).1)
   where
     drop_not : (x y z : Bool) → ((x && not y) || z) ≡ true → (x || z) ≡ true
     drop_not true y z e = refl
@@ -142,7 +142,7 @@ wider d (v ∷ vs) test h =
 count-moved : (i : Instance) (t : TourState) (d : ℕ) → d < i.nodes → t.must d ≡ true → count_below i.nodes t.must ≡ count_below i.nodes (moved i t d).must + 1
 unfolding moved
 count-moved i t d l e =
-    sum_below-removed i.nodes d t.must (λ v. t.must v && not (nat_eq v d)) (λ _. 1) l e (gone (t.must d) (nat_eq d d) (eq-eqb d d refl)) (λ v n. kept (t.must v) (nat_eq v d) (differ v d n))
+    sum_below-removed i.nodes d t.must (λ v. t.must v && not (nat_eq v d)) (λ _. 1) l e (gone (t.must d) (nat_eq d d) (eq-eqb d d refl)) (λ v n. kept (t.must v) (nat_eq v d) (ne_eqb v d n))
   where
     gone : (x y : Bool) → y ≡ true → (x && not y) ≡ false
     gone true true e = refl
@@ -169,7 +169,7 @@ pub record IsKept (i : Instance) (here : ℕ) (t : TourState) (ds : List ℕ) : 
   pub time : end_time i here t.time ds ≡ Some (last_time i t ds)
 
 on_time : (i : Instance) (here d : ℕ) (time : ℕ) (vs : List ℕ) → time + distance i here d ≤ closing i d → end_time i here time (d ∷ vs) ≡ end_time i d (max (time + distance i here d) (opening i d)) vs
-on_time i here d time vs l = ap (λ b. cond b (end_time i d (max (time + distance i here d) (opening i d)) vs) None) (true_le (time + distance i here d) (closing i d) l)
+on_time i here d time vs l = ap (λ b. cond b (end_time i d (max (time + distance i here d) (opening i d)) vs) None) (le-leb (time + distance i here d) (closing i d) l)
 
 all-same : (ds : List ℕ) (p q : ℕ → Bool) → ((v : ℕ) → p v ≡ q v) → list_all p ds ≡ list_all q ds
 all-same [] p q h = refl
@@ -193,10 +193,10 @@ kept-last i here t d k small a l g =
     record {
       visits = record {
         whole = ap (λ c. c + 1) (sym (sum_below-none i.nodes t.must (λ _. 1) r.done));
-        inside = and_both (nat_lt d i.nodes) true (true_lt d i.nodes g.choice) refl;
+        inside = and_from (nat_lt d i.nodes) true (lt-ltb d i.nodes g.choice) refl;
         different = refl;
         home = eq-eqb d 0 r.home;
-        wanted = and_both (t.must d || nat_eq d 0) true (right (t.must d) (nat_eq d 0) (eq-eqb d 0 r.home)) refl;
+        wanted = and_from (t.must d || nat_eq d 0) true (right (t.must d) (nat_eq d 0) (eq-eqb d 0 r.home)) refl;
       };
       time = on_time i here d t.time [] (omega (arith, way, r.on_time)) ∙ ap (λ x. Some (max x (opening i d))) (sym way) ∙ ap Some (sym (time-moved-is i t d));
     }
@@ -215,10 +215,10 @@ kept-more i here t d k ds a l g tail rest home =
     record {
       visits = record {
         whole = (let count = count-moved i t d g.choice must in omega (arith, count, rest.visits.whole));
-        inside = and_both (nat_lt d i.nodes) _ (true_lt d i.nodes g.choice) rest.visits.inside;
-        different = and_both (not (list_any (λ u. nat_eq u d) ds)) _ (not_false _ (none-any d ds t.must v.away wanted)) rest.visits.different;
+        inside = and_from (nat_lt d i.nodes) _ (lt-ltb d i.nodes g.choice) rest.visits.inside;
+        different = and_from (not (list_any (λ u. nat_eq u d) ds)) _ (ap not (none-any d ds t.must v.away wanted)) rest.visits.different;
         home = home;
-        wanted = and_both (t.must d || nat_eq d 0) _ (or_left (t.must d) (nat_eq d 0) must) (wider d ds t.must wanted);
+        wanted = and_from (t.must d || nat_eq d 0) _ (or_left (t.must d) (nat_eq d 0) must) (wider d ds t.must wanted);
       };
       time = on_time i here d t.time ds (omega (arith, way, v.on_time))
           ∙ ap (λ x. end_time i d (max x (opening i d)) ds) (sym way) ∙ ap (λ x. end_time i d x ds) (sym (time-moved-is i t d)) ∙ rest.time;
@@ -242,7 +242,7 @@ late i here d time last vs e =
   where
     never : closing i d < time + distance i here d → nat_le (time + distance i here d) (closing i d) ≡ false
     never l = elim (cases_Bool (nat_le (time + distance i here d) (closing i d))) [
-      | inl t ↦ absurd (let m = le_true (time + distance i here d) (closing i d) t in omega arith)
+      | inl t ↦ absurd (let m = leb-true (time + distance i here d) (closing i d) t in omega arith)
       | inr f ↦ f
     ]
 
@@ -277,7 +277,7 @@ made-last i k here t d last small a l single h e =
       tour = (
         record {
           layer = omega arith;
-          choice = lt_true d i.nodes (and_left (nat_lt d i.nodes) true h.inside);
+          choice = ltb-true d i.nodes (and_parts (nat_lt d i.nodes) true h.inside).0;
           test = goes_home i k t d (omega arith) ∙ may_return-from i t d (record {
             home = home;
             done = none-must i.nodes t.must (omega (arith, h.whole));
@@ -305,24 +305,24 @@ home-behind d (v ∷ u ∷ vs) e n s = home-behind d (u ∷ vs) e (second (nat_e
 -- the rest of the list is one of the nodes that must be visited behind it
 lists-rest : (i : Instance) (t : TourState) (d f : ℕ) (ds : List ℕ) → Lists i.nodes t.must (d ∷ f ∷ ds) → d < i.nodes → t.must d ≡ true → Lists i.nodes (moved i t d).must (f ∷ ds)
 lists-rest i t d f ds h l must =
-    let different = not_true (list_any (λ u. nat_eq u d) (f ∷ ds)) (and_left (not (list_any (λ u. nat_eq u d) (f ∷ ds))) (are_different (f ∷ ds)) h.different) in
+    let different = not-true (list_any (λ u. nat_eq u d) (f ∷ ds)) (and_parts (not (list_any (λ u. nat_eq u d) (f ∷ ds))) (are_different (f ∷ ds)) h.different).0 in
     record {
       whole = (let count = count-moved i t d l must in omega (arith, count, h.whole));
-      inside = and_right (nat_lt d i.nodes) (list_all (λ v. nat_lt v i.nodes) (f ∷ ds)) h.inside;
-      different = and_right (not (list_any (λ u. nat_eq u d) (f ∷ ds))) (are_different (f ∷ ds)) h.different;
+      inside = (and_parts (nat_lt d i.nodes) (list_all (λ v. nat_lt v i.nodes) (f ∷ ds)) h.inside).1;
+      different = (and_parts (not (list_any (λ u. nat_eq u d) (f ∷ ds))) (are_different (f ∷ ds)) h.different).1;
       home = h.home;
       wanted = all-same (f ∷ ds) (λ v. (moved i t d).must v || nat_eq v 0) (λ v. (t.must v && not (nat_eq v d)) || nat_eq v 0) (λ v. ap (λ b. b || nat_eq v 0) (must-moved-is i t d v))
-          ∙ any-none d (f ∷ ds) different t.must (and_right (t.must d || nat_eq d 0) (list_all (λ v. t.must v || nat_eq v 0) (f ∷ ds)) h.wanted);
+          ∙ any-none d (f ∷ ds) different t.must (and_parts (t.must d || nat_eq d 0) (list_all (λ v. t.must v || nat_eq v 0) (f ∷ ds)) h.wanted).1;
     }
 
 pub made : (i : Instance) (k here : ℕ) (t : TourState) (ds : List ℕ) (last : ℕ) → IsSmall i → IsAt i.nodes here t → k + length ds ≡ i.nodes → (here ≡ 0 → k ≡ 0) → Lists i.nodes t.must ds → end_time i here t.time ds ≡ Some last → IsMade i k t ds last
 made i k here t [] last small a l single h e = absurd (omega (arith, h.whole))
 made i k here t (d ∷ []) last small a l single h e = made-last i k here t d last small a (omega arith) (λ z. omega (arith, single z)) h e
 made i k here t (d ∷ f ∷ ds) last small a l single h e =
-    let choice = lt_true d i.nodes (and_left (nat_lt d i.nodes) (list_all (λ v. nat_lt v i.nodes) (f ∷ ds)) h.inside) in
-    let different = not_true (list_any (λ u. nat_eq u d) (f ∷ ds)) (and_left (not (list_any (λ u. nat_eq u d) (f ∷ ds))) (are_different (f ∷ ds)) h.different) in
+    let choice = ltb-true d i.nodes (and_parts (nat_lt d i.nodes) (list_all (λ v. nat_lt v i.nodes) (f ∷ ds)) h.inside).0 in
+    let different = not-true (list_any (λ u. nat_eq u d) (f ∷ ds)) (and_parts (not (list_any (λ u. nat_eq u d) (f ∷ ds))) (are_different (f ∷ ds)) h.different).0 in
     let away = home-behind d (f ∷ ds) h.home different in
-    let must = only (t.must d) (nat_eq d 0) (differ d 0 away) (and_left (t.must d || nat_eq d 0) (list_all (λ v. t.must v || nat_eq v 0) (f ∷ ds)) h.wanted) in
+    let must = only (t.must d) (nat_eq d 0) (ne_eqb d 0 away) (and_parts (t.must d || nat_eq d 0) (list_all (λ v. t.must v || nat_eq v 0) (f ∷ ds)) h.wanted).0 in
     let apart_ = far t here d a.left must in
     let way = arrival-at i here d t a apart_ in
     let soon = late i here d t.time last (f ∷ ds) e in
@@ -372,7 +372,7 @@ count_others n (suc zero) l = ap (λ b. 0 + cond {A = ℕ} b 1 0) (no_home (nat_
     no_home true = refl
     no_home false = refl
 count_others n (suc (suc m)) l =
-    ap₂ (λ s b. s + cond b 1 0) (count_others n (suc m) (omega arith)) (and_both (nat_lt (suc m) n) (not (nat_eq (suc m) 0)) (true_lt (suc m) n (omega arith)) (ap not (differ (suc m) 0 (λ z. absurd (omega arith)))))
+    ap₂ (λ s b. s + cond b 1 0) (count_others n (suc m) (omega arith)) (and_from (nat_lt (suc m) n) (not (nat_eq (suc m) 0)) (lt-ltb (suc m) n (omega arith)) (ap not (ne_eqb (suc m) 0 (λ z. absurd (omega arith)))))
     ∙ (let e : suc m - 1 + 1 ≡ suc (suc m) - 1 = omega arith in e)
 
 start-must : (i : Instance) → (start i).must ≡ others i.nodes
@@ -390,7 +390,7 @@ all-wanted : (n : ℕ) (ds : List ℕ) → list_all (λ v. nat_lt v n) ds ≡ tr
 unfolding others
 all-wanted n [] e = refl
 all-wanted n (v ∷ vs) e =
-    and_both ((nat_lt v n && not (nat_eq v 0)) || nat_eq v 0) _ (either (nat_lt v n) (nat_eq v 0) (and_left (nat_lt v n) (list_all (λ v. nat_lt v n) vs) e)) (all-wanted n vs (and_right (nat_lt v n) (list_all (λ v. nat_lt v n) vs) e))
+    and_from ((nat_lt v n && not (nat_eq v 0)) || nat_eq v 0) _ (either (nat_lt v n) (nat_eq v 0) (and_parts (nat_lt v n) (list_all (λ v. nat_lt v n) vs) e).0) (all-wanted n vs (and_parts (nat_lt v n) (list_all (λ v. nat_lt v n) vs) e).1)
   where
     either : (x y : Bool) → x ≡ true → ((x && not y) || y) ≡ true
     either true true e = refl
@@ -399,21 +399,21 @@ all-wanted n (v ∷ vs) e =
 
 order-gives : (i : Instance) (ds : List ℕ) → 1 ≤ i.nodes → is_order i.nodes ds ≡ true → Lists i.nodes (start i).must ds
 order-gives i ds some e =
-    let e1 = and_right (nat_eq (length ds) i.nodes) (list_all (λ v. nat_lt v i.nodes) ds && (are_different ds && ends_at_home ds)) e in
-    let e2 = and_right (list_all (λ v. nat_lt v i.nodes) ds) (are_different ds && ends_at_home ds) e1 in
-    let inside = and_left (list_all (λ v. nat_lt v i.nodes) ds) (are_different ds && ends_at_home ds) e1 in
+    let e1 = (and_parts (nat_eq (length ds) i.nodes) (list_all (λ v. nat_lt v i.nodes) ds && (are_different ds && ends_at_home ds)) e).1 in
+    let e2 = (and_parts (list_all (λ v. nat_lt v i.nodes) ds) (are_different ds && ends_at_home ds) e1).1 in
+    let inside = (and_parts (list_all (λ v. nat_lt v i.nodes) ds) (are_different ds && ends_at_home ds) e1).0 in
     record {
-      whole = eqb-true (length ds) i.nodes (and_left (nat_eq (length ds) i.nodes) _ e) ∙ sym (start-count i some);
+      whole = eqb-true (length ds) i.nodes (and_parts (nat_eq (length ds) i.nodes) _ e).0 ∙ sym (start-count i some);
       inside = inside;
-      different = and_left (are_different ds) (ends_at_home ds) e2;
-      home = and_right (are_different ds) (ends_at_home ds) e2;
+      different = (and_parts (are_different ds) (ends_at_home ds) e2).0;
+      home = (and_parts (are_different ds) (ends_at_home ds) e2).1;
       wanted = ap (λ (p : ℕ → Bool). list_all (λ v. p v || nat_eq v 0) ds) (start-must i) ∙ all-wanted i.nodes ds inside;
     }
 
 order-from : (i : Instance) (ds : List ℕ) → 1 ≤ i.nodes → Lists i.nodes (start i).must ds → is_order i.nodes ds ≡ true
 order-from i ds some h =
-    and_both (nat_eq (length ds) i.nodes) _ (eq-eqb (length ds) i.nodes (h.whole ∙ start-count i some))
-    (and_both (list_all (λ v. nat_lt v i.nodes) ds) _ h.inside (and_both (are_different ds) (ends_at_home ds) h.different h.home))
+    and_from (nat_eq (length ds) i.nodes) _ (eq-eqb (length ds) i.nodes (h.whole ∙ start-count i some))
+    (and_from (list_all (λ v. nat_lt v i.nodes) ds) _ h.inside (and_from (are_different ds) (ends_at_home ds) h.different h.home))
 
 root-shown : (i : Instance) → 1 ≤ i.nodes → shown (words_for i.nodes) (row_for (words_for i.nodes) (start i)) ≡ start i
 root-shown i some = shown-row_for (words_for i.nodes) i.nodes (start i) (words_enough i.nodes) (start-bounded i some)

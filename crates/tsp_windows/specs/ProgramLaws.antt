@@ -1,16 +1,16 @@
 -- The dynamic program of an instance within the limits meets the laws.
-use Rattle.std.proofs.Common.{◌≡◌, ℕ, suc, ◌+◌, ◌-◌, ◌*◌, ◌<◌, ◌≤◌, ℤ, pos, negsuc, ◌+ℤ◌, ◌-ℤ◌, ◌≤ℤ◌, neg_ℤ, nat_abs, Bool, true, false, cond, not, ◌&&◌, ◌||◌, nat_eq, nat_le, List, [], ◌∷◌, length, drop, get_or, Some, None, refl, sym, ap, ap₂, ◌∙◌, subst, arith, inl, inr, ◌⊎◌, eq-eqb}
+use Rattle.std.proofs.Common.{◌≡◌, ℕ, ◌+◌, ◌-◌, ◌*◌, ◌<◌, ◌≤◌, ℤ, pos, negsuc, ◌+ℤ◌, ◌-ℤ◌, ◌≤ℤ◌, neg_ℤ, nat_abs, Bool, true, false, cond, not, ◌&&◌, ◌||◌, nat_eq, nat_le, List, [], ◌∷◌, length, drop, get_or, Some, None, refl, sym, ap, ap₂, ◌∙◌, subst, arith, inl, inr, ◌⊎◌, eq-eqb}
 use Rattle.std.specs.Prelude.{int_le}
 use Rattle.std.proofs.lemmas.Int.{ints}
-use Rattle.std.proofs.lemmas.Bool.{cases_lt, false≢true, eqb-true}
+use Rattle.std.proofs.lemmas.Bool.{cases_lt, false≢true, eqb-true, and_parts, and_from, or_left, or_right, cases_Bool, leb-true, le-leb, lt-ltb, le-ltb}
 use Rattle.std.proofs.lemmas.List.{get_or-take, get_or-drop}
+use Rattle.dp_model.specs.NumberLaws.{each_small, small_natural, small_negated, small_difference, small_positive, small_gap}
 use Rattle.node_sets.specs.Sums.{count_below}
 use Rattle.node_sets.specs.Sets.{IsWord, IsSet, is_set, row_of, words_for}
-use Rattle.node_sets.proofs.Below.{and_left, and_right, all_below-from, sum_below-le}
+use Rattle.node_sets.proofs.Below.{all_below-from, sum_below-le}
 use Rattle.node_sets.proofs.Words.{has-past}
 use Rattle.node_sets.proofs.Counts.{is_set-gives, is_set-from}
 use Rattle.node_sets.proofs.Made.{length-row_of, AreWords-row_of, has-row_of}
-use Rattle.dp_model.specs.Lists.{Each}
 use Rattle.dp_model.specs.Dp.{IsAllowed}
 use Rattle.dp_model.specs.Prefixes.{IsContinuation, gain_of}
 use Rattle.dp_model.specs.Gaps.{IsStateOf, IsSoundGap, HasGap}
@@ -20,7 +20,7 @@ use Rattle.tsp_windows.specs.Instance.{Instance, IsSmall, distance, opening, clo
 use Rattle.tsp_windows.specs.States.{TourState, positions_of, must_of, may_of, time_of, shown, row_for, arrival, departure, moved, joined, covers, is_lost, way_left, start, is_sound, is_state_row}
 use Rattle.tsp_windows.specs.Rows.{IsBounded, shown-row_for, positions_of-row_for, must_of-row_for, may_of-row_for, time_of-row_for, length-row_for, words_enough}
 use Rattle.tsp_windows.specs.Program.{program_of, rough_of, gap_of}
-use Rattle.tsp_windows.specs.Tours.{and_both, or_left, or_right, cases_Bool, le_true, true_le, true_lt, false_lt, IsSound, sound-gives, sound-from, moved-sound, joined-sound, start-sound, moved-bounded, joined-bounded, start-bounded, least_amount-most, visits, returns, goes_on, goes_home}
+use Rattle.tsp_windows.specs.Tours.{IsSound, sound-gives, sound-from, moved-sound, joined-sound, start-sound, moved-bounded, joined-bounded, start-bounded, least_amount-most, visits, returns, goes_on, goes_home}
 use Rattle.tsp_windows.specs.Walks.{IsGone, last_time, Covers, covers-gives, covers-from, Covers-self, Covers-chain, joined-covers-left, joined-covers-right, tour-covered, Costs, costs, tour-of_path, path-of_tour, gain-of_tour}
 
 -- ---- rows that are states
@@ -40,28 +40,28 @@ record IsTime (z : ℤ) : Type 0 where
   most : nat_abs z ≤ 1000000000000
 
 time-gives : (z : ℤ) → int_le (pos 0) z ≡ true → int_le z (pos 1000000000000) ≡ true → IsTime z
-time-gives (pos n) p q = record { is = refl; most = le_true n 1000000000000 q }
+time-gives (pos n) p q = record { is = refl; most = leb-true n 1000000000000 q }
 time-gives (negsuc n) p q = absurd (false≢true p)
 
 pub state_row-gives : (n : ℕ) (s : List ℤ) → is_state_row n s ≡ true → IsStateRow n s
 unfolding shown
 state_row-gives n s e0 =
     let w = words_for n in
-    let e1 = and_right (nat_eq (length s) (3 * words_for n + 1)) (is_set n (positions_of (words_for n) s) && (is_set n (must_of (words_for n) s) && (is_set n (may_of (words_for n) s) && (is_sound n (shown (words_for n) s) && (int_le (pos 0) (time_of (words_for n) s) && int_le (time_of (words_for n) s) (pos 1000000000000)))))) e0 in
-    let e2 = and_right (is_set n (positions_of (words_for n) s)) (is_set n (must_of (words_for n) s) && (is_set n (may_of (words_for n) s) && (is_sound n (shown (words_for n) s) && (int_le (pos 0) (time_of (words_for n) s) && int_le (time_of (words_for n) s) (pos 1000000000000))))) e1 in
-    let e3 = and_right (is_set n (must_of (words_for n) s)) (is_set n (may_of (words_for n) s) && (is_sound n (shown (words_for n) s) && (int_le (pos 0) (time_of (words_for n) s) && int_le (time_of (words_for n) s) (pos 1000000000000)))) e2 in
-    let e4 = and_right (is_set n (may_of (words_for n) s)) (is_sound n (shown (words_for n) s) && (int_le (pos 0) (time_of (words_for n) s) && int_le (time_of (words_for n) s) (pos 1000000000000))) e3 in
-    let e5 = and_right (is_sound n (shown (words_for n) s)) (int_le (pos 0) (time_of (words_for n) s) && int_le (time_of (words_for n) s) (pos 1000000000000)) e4 in
-    let time = time-gives (time_of (words_for n) s) (and_left (int_le (pos 0) (time_of (words_for n) s)) _ e5) (and_right (int_le (pos 0) (time_of (words_for n) s)) _ e5) in
-    let p = is_set-gives n (positions_of (words_for n) s) (and_left (is_set n (positions_of (words_for n) s)) _ e1) in
-    let m = is_set-gives n (must_of (words_for n) s) (and_left (is_set n (must_of (words_for n) s)) _ e2) in
-    let y = is_set-gives n (may_of (words_for n) s) (and_left (is_set n (may_of (words_for n) s)) _ e3) in
+    let e1 = (and_parts (nat_eq (length s) (3 * words_for n + 1)) (is_set n (positions_of (words_for n) s) && (is_set n (must_of (words_for n) s) && (is_set n (may_of (words_for n) s) && (is_sound n (shown (words_for n) s) && (int_le (pos 0) (time_of (words_for n) s) && int_le (time_of (words_for n) s) (pos 1000000000000)))))) e0).1 in
+    let e2 = (and_parts (is_set n (positions_of (words_for n) s)) (is_set n (must_of (words_for n) s) && (is_set n (may_of (words_for n) s) && (is_sound n (shown (words_for n) s) && (int_le (pos 0) (time_of (words_for n) s) && int_le (time_of (words_for n) s) (pos 1000000000000))))) e1).1 in
+    let e3 = (and_parts (is_set n (must_of (words_for n) s)) (is_set n (may_of (words_for n) s) && (is_sound n (shown (words_for n) s) && (int_le (pos 0) (time_of (words_for n) s) && int_le (time_of (words_for n) s) (pos 1000000000000)))) e2).1 in
+    let e4 = (and_parts (is_set n (may_of (words_for n) s)) (is_sound n (shown (words_for n) s) && (int_le (pos 0) (time_of (words_for n) s) && int_le (time_of (words_for n) s) (pos 1000000000000))) e3).1 in
+    let e5 = (and_parts (is_sound n (shown (words_for n) s)) (int_le (pos 0) (time_of (words_for n) s) && int_le (time_of (words_for n) s) (pos 1000000000000)) e4).1 in
+    let time = time-gives (time_of (words_for n) s) (and_parts (int_le (pos 0) (time_of (words_for n) s)) _ e5).0 (and_parts (int_le (pos 0) (time_of (words_for n) s)) _ e5).1 in
+    let p = is_set-gives n (positions_of (words_for n) s) (and_parts (is_set n (positions_of (words_for n) s)) _ e1).0 in
+    let m = is_set-gives n (must_of (words_for n) s) (and_parts (is_set n (must_of (words_for n) s)) _ e2).0 in
+    let y = is_set-gives n (may_of (words_for n) s) (and_parts (is_set n (may_of (words_for n) s)) _ e3).0 in
     record {
-      cells = eqb-true (length s) (3 * words_for n + 1) (and_left (nat_eq (length s) (3 * words_for n + 1)) _ e0);
+      cells = eqb-true (length s) (3 * words_for n + 1) (and_parts (nat_eq (length s) (3 * words_for n + 1)) _ e0).0;
       positions = p;
       must = m;
       may = y;
-      sound = sound-gives n (shown (words_for n) s) (and_left (is_sound n (shown (words_for n) s)) _ e4);
+      sound = sound-gives n (shown (words_for n) s) (and_parts (is_sound n (shown (words_for n) s)) _ e4).0;
       time = time.is;
       in_time = time.most;
       bounded = record { positions = p.within; must = m.within; may = y.within };
@@ -79,12 +79,12 @@ set-row_of n test h = is_set-from n (row_of (words_for n) test) (record {
 
 pub state_row-from : (n : ℕ) (t : TourState) → IsBounded n t → IsSound n t → t.time ≤ 1000000000000 → is_state_row n (row_for (words_for n) t) ≡ true
 state_row-from n t b s l =
-    and_both (nat_eq (length (row_for (words_for n) t)) (3 * words_for n + 1)) _ (eq-eqb (length (row_for (words_for n) t)) (3 * words_for n + 1) (length-row_for (words_for n) t))
-    (and_both (is_set n (positions_of (words_for n) (row_for (words_for n) t))) _ (ap (is_set n) (positions_of-row_for (words_for n) t) ∙ set-row_of n t.positions b.positions)
-    (and_both (is_set n (must_of (words_for n) (row_for (words_for n) t))) _ (ap (is_set n) (must_of-row_for (words_for n) t) ∙ set-row_of n t.must b.must)
-    (and_both (is_set n (may_of (words_for n) (row_for (words_for n) t))) _ (ap (is_set n) (may_of-row_for (words_for n) t) ∙ set-row_of n t.may b.may)
-    (and_both (is_sound n (shown (words_for n) (row_for (words_for n) t))) _ (ap (is_sound n) (shown-row_for (words_for n) n t (words_enough n) b) ∙ sound-from n t s)
-    (ap (λ z. int_le (pos 0) z && int_le z (pos 1000000000000)) (time_of-row_for (words_for n) t) ∙ and_both (int_le (pos 0) (pos t.time)) _ (true_le 0 t.time (omega arith)) (true_le t.time 1000000000000 l))))))
+    and_from (nat_eq (length (row_for (words_for n) t)) (3 * words_for n + 1)) _ (eq-eqb (length (row_for (words_for n) t)) (3 * words_for n + 1) (length-row_for (words_for n) t))
+    (and_from (is_set n (positions_of (words_for n) (row_for (words_for n) t))) _ (ap (is_set n) (positions_of-row_for (words_for n) t) ∙ set-row_of n t.positions b.positions)
+    (and_from (is_set n (must_of (words_for n) (row_for (words_for n) t))) _ (ap (is_set n) (must_of-row_for (words_for n) t) ∙ set-row_of n t.must b.must)
+    (and_from (is_set n (may_of (words_for n) (row_for (words_for n) t))) _ (ap (is_set n) (may_of-row_for (words_for n) t) ∙ set-row_of n t.may b.may)
+    (and_from (is_sound n (shown (words_for n) (row_for (words_for n) t))) _ (ap (is_sound n) (shown-row_for (words_for n) n t (words_enough n) b) ∙ sound-from n t s)
+    (ap (λ z. int_le (pos 0) z && int_le z (pos 1000000000000)) (time_of-row_for (words_for n) t) ∙ and_from (int_le (pos 0) (pos t.time)) _ (le-leb 0 t.time (omega arith)) (le-leb t.time 1000000000000 l))))))
 
 -- ---- steps are states
 
@@ -202,21 +202,21 @@ chained_program i k a b c g h p q r e f =
 
 not_lost : (i : Instance) (k : ℕ) (t : TourState) (ds : List ℕ) → Costs i k t ds → is_lost i k t ≡ false
 not_lost i k t ds c =
-    ap₂ ◌||◌ (false_lt i.nodes (count_below i.nodes t.must + k + 1) c.few)
+    ap₂ ◌||◌ (le-ltb i.nodes (count_below i.nodes t.must + k + 1) c.few)
     (ap₂ ◌||◌ (ap not (all_below-from i.nodes (λ v. nat_le (t.time + near i v) (closing i v) || not (t.must v)) (λ v l. on_time v l (cases_Bool (t.must v)))))
-    (false_lt (closing i 0) (t.time + near i 0) c.home))
+    (le-ltb (closing i 0) (t.time + near i 0) c.home))
   where
     on_time : (v : ℕ) → v < i.nodes → (t.must v ≡ true) ⊎ (t.must v ≡ false) → (nat_le (t.time + near i v) (closing i v) || not (t.must v)) ≡ true
-    on_time v l (inl m) = or_left (nat_le (t.time + near i v) (closing i v)) (not (t.must v)) (true_le (t.time + near i v) (closing i v) (c.on_time v l m))
+    on_time v l (inl m) = or_left (nat_le (t.time + near i v) (closing i v)) (not (t.must v)) (le-leb (t.time + near i v) (closing i v) (c.on_time v l m))
     on_time v l (inr m) = or_right (nat_le (t.time + near i v) (closing i v)) (not (t.must v)) (ap not m)
 
 rough-inside : (i : Instance) (k : ℕ) (t : TourState) (ds : List ℕ) → k < i.nodes → Costs i k t ds → rough_of i k t ≡ Some (neg_ℤ (pos (way_left i t)))
 rough-inside i k t ds l c =
-    ap (λ b. cond b (cond (is_lost i k t) None (Some (neg_ℤ (pos (way_left i t))))) (Some (pos 0))) (true_lt k i.nodes l)
+    ap (λ b. cond b (cond (is_lost i k t) None (Some (neg_ℤ (pos (way_left i t))))) (Some (pos 0))) (lt-ltb k i.nodes l)
     ∙ ap (λ b. cond b None (Some (neg_ℤ (pos (way_left i t))))) (not_lost i k t ds c)
 
 rough-last : (i : Instance) (k : ℕ) (t : TourState) → i.nodes ≤ k → rough_of i k t ≡ Some (pos 0)
-rough-last i k t l = ap (λ b. cond b (cond (is_lost i k t) None (Some (neg_ℤ (pos (way_left i t))))) (Some (pos 0))) (false_lt k i.nodes l)
+rough-last i k t l = ap (λ b. cond b (cond (is_lost i k t) None (Some (neg_ℤ (pos (way_left i t))))) (Some (pos 0))) (le-ltb k i.nodes l)
 
 at_most : (t last way : ℕ) (gain : ℤ) → gain ≡ pos t -ℤ pos last → t + way ≤ last → gain ≤ℤ neg_ℤ (pos way)
 at_most t last way gain e l = omega (arith, ints, e)
@@ -257,21 +257,8 @@ way-most i t small =
     let product : i.nodes * 1000000000 ≤ 300000000000 = omega (arith, few) in
     omega (arith, ways, home, product)
 
-each_from : (s : List ℤ) → ((k : ℕ) → k < length s → IsSmallNumber (get_or s k (pos 0))) → Each IsSmallNumber s
-each_from [] h = tt
-each_from (z ∷ s) h = (h 0 (omega arith), each_from s (λ k l. h (suc k) (omega arith)))
-
 word_small : (z : ℤ) → IsWord z → IsSmallNumber z
-word_small z w = record { low = omega (arith, ints, w.low); high = omega (arith, ints, w.high) }
-
-time_small : (n : ℕ) → n ≤ 1000000000000 → IsSmallNumber (pos n)
-time_small n l = record { low = omega (arith, ints); high = omega (arith, ints) }
-
-difference_small : (a b : ℕ) → a ≤ 1000000000000 → b ≤ 1000000000000 → IsSmallNumber (pos a -ℤ pos b)
-difference_small a b p q = record { low = omega (arith, ints); high = omega (arith, ints) }
-
-negated_small : (a : ℕ) → a ≤ 1000000000000 → IsSmallNumber (neg_ℤ (pos a))
-negated_small a p = record { low = omega (arith, ints); high = omega (arith, ints) }
+word_small z w = small_positive z w.low (omega (arith, ints, w.high))
 
 cell_small : (n : ℕ) (s : List ℤ) → IsStateRow n s → (k : ℕ) → k < length s → IsSmallNumber (get_or s k (pos 0))
 cell_small n s row k l =
@@ -287,25 +274,25 @@ cell_small n s row k l =
               subst IsSmallNumber (get_or-take (words_for n) (drop (2 * words_for n) s) (k - 2 * words_for n) (pos 0) (omega arith) ∙ get_or-drop (2 * words_for n) s (k - 2 * words_for n) (pos 0) ∙ ap (λ j. get_or s j (pos 0)) at)
               (word_small (get_or (may_of (words_for n) s) (k - 2 * words_for n) (pos 0)) (row.may.cells (k - 2 * words_for n))))
           | inr c ↦ (let at : 3 * words_for n ≡ k = omega (arith, row.cells) in
-              subst IsSmallNumber (sym row.time ∙ ap (λ j. get_or s j (pos 0)) at) (time_small (shown (words_for n) s).time row.in_time))
+              subst IsSmallNumber (sym row.time ∙ ap (λ j. get_or s j (pos 0)) at) (small_natural (shown (words_for n) s).time (omega (arith, row.in_time))))
         ])
       ])
     ]
 
 gap_size : (a b : ℕ) (g : ℤ) → a ≤ b → b ≤ 1000000000000 → g ≡ pos b -ℤ pos a → (pos 0 ≤ℤ g) × IsSmallNumber g
-gap_size a b g p q e = (omega (arith, ints, e), record { low = omega (arith, ints, e); high = omega (arith, ints, e) })
+gap_size a b g p q e = small_gap g (omega (arith, ints, e)) (omega (arith, ints, e))
 
 rough_size : (i : Instance) (k : ℕ) (t : TourState) (r : ℤ) → IsSmall i → rough_of i k t ≡ Some r → IsSmallNumber r
 rough_size i k t r small e =
     elim (cases_lt k i.nodes) [
       | inl l ↦ (elim (cases_Bool (is_lost i k t)) [
-        | inl f ↦ absurd (let none : None ≡ Some r = sym (ap (λ b. cond b (cond (is_lost i k t) None (Some (neg_ℤ (pos (way_left i t))))) (Some (pos 0))) (true_lt k i.nodes l) ∙ ap (λ b. cond b None (Some (neg_ℤ (pos (way_left i t))))) f) ∙ e in cc)
-        | inr f ↦ (let some : Some (neg_ℤ (pos (way_left i t))) ≡ Some r = sym (ap (λ b. cond b (cond (is_lost i k t) None (Some (neg_ℤ (pos (way_left i t))))) (Some (pos 0))) (true_lt k i.nodes l) ∙ ap (λ b. cond b None (Some (neg_ℤ (pos (way_left i t))))) f) ∙ e in
+        | inl f ↦ absurd (let none : None ≡ Some r = sym (ap (λ b. cond b (cond (is_lost i k t) None (Some (neg_ℤ (pos (way_left i t))))) (Some (pos 0))) (lt-ltb k i.nodes l) ∙ ap (λ b. cond b None (Some (neg_ℤ (pos (way_left i t))))) f) ∙ e in cc)
+        | inr f ↦ (let some : Some (neg_ℤ (pos (way_left i t))) ≡ Some r = sym (ap (λ b. cond b (cond (is_lost i k t) None (Some (neg_ℤ (pos (way_left i t))))) (Some (pos 0))) (lt-ltb k i.nodes l) ∙ ap (λ b. cond b None (Some (neg_ℤ (pos (way_left i t))))) f) ∙ e in
             let same : neg_ℤ (pos (way_left i t)) ≡ r = cc in
             let most = way-most i t small in
-            subst IsSmallNumber same (negated_small (way_left i t) (omega (arith, most))))
+            subst IsSmallNumber same (small_negated (way_left i t) (omega (arith, most))))
       ])
-      | inr l ↦ (let some : Some (pos 0) ≡ Some r = sym (rough-last i k t l) ∙ e in let same : pos 0 ≡ r = cc in subst IsSmallNumber same (time_small 0 (omega arith)))
+      | inr l ↦ (let some : Some (pos 0) ≡ Some r = sym (rough-last i k t l) ∙ e in let same : pos 0 ≡ r = cc in subst IsSmallNumber same (small_natural 0 (omega arith)))
     ]
 
 pub sizes_hold : (i : Instance) → IsSmall i → SizesHold (program_of i)
@@ -315,10 +302,10 @@ sizes_hold i small = record {
   words = omega (arith, small.few);
   some_choices = λ k l. small.some;
   choices = λ k l. omega (arith, small.few);
-  root_value = (let at = small.opens 0 in let shut = small.closes 0 in negated_small (opening i 0) (omega (arith, at, shut)));
+  root_value = (let at = small.opens 0 in let shut = small.closes 0 in small_negated (opening i 0) (omega (arith, at, shut)));
   cells = λ k s state. (state_row-gives i.nodes s state.test).cells;
-  state = λ k s state. each_from s (cell_small i.nodes s (state_row-gives i.nodes s state.test));
-  gain = λ k s d state allowed. difference_small (shown (words_for i.nodes) s).time (departure i (shown (words_for i.nodes) s) d) (state_row-gives i.nodes s state.test).in_time (departure-most i k (shown (words_for i.nodes) s) d small (gone i k s d allowed));
+  state = λ k s state. each_small s (cell_small i.nodes s (state_row-gives i.nodes s state.test));
+  gain = λ k s d state allowed. small_difference (shown (words_for i.nodes) s).time (departure i (shown (words_for i.nodes) s) d) (omega (arith, (state_row-gives i.nodes s state.test).in_time)) (omega (arith, (departure-most i k (shown (words_for i.nodes) s) d small (gone i k s d allowed))));
   gap = λ k a s g left right e.
       let gap = gap-gives i.nodes (shown (words_for i.nodes) a) (shown (words_for i.nodes) s) g e in
       gap_size (shown (words_for i.nodes) a).time (shown (words_for i.nodes) s).time g gap.covered.time (state_row-gives i.nodes s right.test).in_time gap.is;

@@ -1,72 +1,20 @@
 -- Tours from a state on, and what one state's tours tell of another's.
 use Rattle.std.proofs.Common.{◌≡◌, ◌≢◌, ℕ, zero, suc, ◌+◌, ◌<◌, ◌≤◌, Bool, true, false, cond, not, ◌&&◌, ◌||◌, nat_eq, nat_lt, nat_le, Option, Some, None, refl, sym, ap, ap₂, ◌∙◌, subst, arith, inl, inr, ◌⊎◌, eq-eqb}
 use Rattle.std.specs.Prelude.{is_some, unwrap_or}
-use Rattle.std.proofs.lemmas.Bool.{cases_eq, false≢true, eqb-true}
-use Rattle.std.proofs.lemmas.Bool.Decides.{nat_tests}
+use Rattle.std.proofs.lemmas.Bool.{cases_eq, false≢true, eqb-true, and_parts, and_from, or_left, or_right, or_cases, not-true, cases_Bool, ne_eqb, leb-true, le-leb, lt-ltb, le-ltb, eqb-false}
 use Rattle.node_sets.specs.Sums.{all_below, lesser, least_amount}
-use Rattle.node_sets.proofs.Below.{and_left, and_right, all_below-gives, all_below-from}
+use Rattle.node_sets.proofs.Below.{all_below-gives, all_below-from}
 use Rattle.tsp_windows.specs.Instance.{Instance, distance, closing, near, least_way}
 use Rattle.tsp_windows.specs.States.{TourState, from_elsewhere, leg, arrival, may_visit, may_return, may_go, moved, is_open, joined, is_within, start, is_sound}
 use Rattle.tsp_windows.specs.Rows.{IsBounded}
 
 -- ---- tests
 
-pub and_both : (a b : Bool) → a ≡ true → b ≡ true → (a && b) ≡ true
-and_both a b p q = ap₂ ◌&&◌ p q
-
-pub or_left : (a b : Bool) → a ≡ true → (a || b) ≡ true
-or_left true b e = refl
-or_left false b e = absurd (false≢true e)
-
-pub or_right : (a b : Bool) → b ≡ true → (a || b) ≡ true
-or_right true b e = refl
-or_right false b e = e
-
-pub or_cases : (a b : Bool) → (a || b) ≡ true → (a ≡ true) ⊎ (b ≡ true)
-or_cases true b e = inl refl
-or_cases false b e = inr e
-
-pub not_true : (a : Bool) → not a ≡ true → a ≡ false
-not_true true e = absurd (false≢true e)
-not_true false e = refl
-
-pub not_false : (a : Bool) → a ≡ false → not a ≡ true
-not_false true e = absurd (false≢true (sym e))
-not_false false e = refl
-
-pub cases_Bool : (b : Bool) → (b ≡ true) ⊎ (b ≡ false)
-cases_Bool true = inl refl
-cases_Bool false = inr refl
-
-pub differ : (u v : ℕ) → u ≢ v → nat_eq u v ≡ false
-differ u v n = grind (arith, nat_tests)
-
-pub apart : (u v : ℕ) → nat_eq u v ≡ false → u ≢ v
-apart u v e s = false≢true (sym e ∙ eq-eqb u v s)
-
-pub le_true : (a b : ℕ) → nat_le a b ≡ true → a ≤ b
-le_true a b e = grind (arith, nat_tests)
-
-pub true_le : (a b : ℕ) → a ≤ b → nat_le a b ≡ true
-true_le a b e = grind (arith, nat_tests)
-
-pub lt_true : (a b : ℕ) → nat_lt a b ≡ true → a < b
-lt_true a b e = grind (arith, nat_tests)
-
-pub true_lt : (a b : ℕ) → a < b → nat_lt a b ≡ true
-true_lt a b e = grind (arith, nat_tests)
-
-pub false_lt : (a b : ℕ) → b ≤ a → nat_lt a b ≡ false
-false_lt a b e = grind (arith, nat_tests)
-
-pub lt_false : (a b : ℕ) → nat_lt a b ≡ false → b ≤ a
-lt_false a b e = grind (arith, nat_tests)
-
 pub within-gives : (n : ℕ) (part whole : ℕ → Bool) → is_within n part whole ≡ true → (v : ℕ) → v < n → part v ≡ true → whole v ≡ true
 within-gives n part whole e v l p =
     elim (or_cases (whole v) (not (part v)) (all_below-gives n (λ v. whole v || not (part v)) e v l)) [
       | inl w ↦ w
-      | inr q ↦ absurd (false≢true (sym (not_true (part v) q) ∙ p))
+      | inr q ↦ absurd (false≢true (sym (not-true (part v) q) ∙ p))
     ]
 
 within-one : (a b : Bool) → (a ≡ true → b ≡ true) → (b || not a) ≡ true
@@ -166,7 +114,7 @@ pub near-le-leg : (i : Instance) (t : TourState) (d : ℕ) → is_some (leg i t 
 unfolding least_way leg
 near-le-leg i t d e =
     NoMore-or (least_amount i.nodes (λ u. not (nat_eq u d)) (λ u. distance i u d)) (least_amount i.nodes (from_elsewhere t d) (λ p. distance i p d))
-    (least_amount-wider i.nodes (λ u. not (nat_eq u d)) (from_elsewhere t d) (λ u. distance i u d) (λ v l. and_right (t.positions v) (not (nat_eq v d)))) e
+    (least_amount-wider i.nodes (λ u. not (nat_eq u d)) (from_elsewhere t d) (λ u. distance i u d) (λ v l e. (and_parts (t.positions v) (not (nat_eq v d)) e).1)) e
 
 -- a single node has no other node near
 pub near-alone : (i : Instance) → i.nodes ≡ 1 → near i 0 ≡ 0
@@ -195,44 +143,44 @@ pub record Returns (i : Instance) (t : TourState) (d : ℕ) : Type 0 where
 
 pub visits : (i : Instance) (t : TourState) (d : ℕ) → may_visit i t d ≡ true → Visits i t d
 visits i t d e =
-    let rest = and_right (not (nat_eq d 0)) ((t.must d || t.may d) && (is_some (leg i t d) && nat_le (arrival i t d) (closing i d))) e in
-    let last = and_right (t.must d || t.may d) (is_some (leg i t d) && nat_le (arrival i t d) (closing i d)) rest in
+    let rest = (and_parts (not (nat_eq d 0)) ((t.must d || t.may d) && (is_some (leg i t d) && nat_le (arrival i t d) (closing i d))) e).1 in
+    let last = (and_parts (t.must d || t.may d) (is_some (leg i t d) && nat_le (arrival i t d) (closing i d)) rest).1 in
     record {
-      away = apart d 0 (not_true (nat_eq d 0) (and_left (not (nat_eq d 0)) _ e));
-      pending = and_left (t.must d || t.may d) _ rest;
-      reached = and_left (is_some (leg i t d)) _ last;
-      on_time = le_true (arrival i t d) (closing i d) (and_right (is_some (leg i t d)) _ last);
+      away = eqb-false d 0 (not-true (nat_eq d 0) (and_parts (not (nat_eq d 0)) _ e).0);
+      pending = (and_parts (t.must d || t.may d) _ rest).0;
+      reached = (and_parts (is_some (leg i t d)) _ last).0;
+      on_time = leb-true (arrival i t d) (closing i d) (and_parts (is_some (leg i t d)) _ last).1;
     }
 
 pub may_visit-from : (i : Instance) (t : TourState) (d : ℕ) → Visits i t d → may_visit i t d ≡ true
 may_visit-from i t d v =
-    and_both (not (nat_eq d 0)) _ (not_false (nat_eq d 0) (differ d 0 v.away))
-    (and_both (t.must d || t.may d) _ v.pending (and_both (is_some (leg i t d)) _ v.reached (true_le (arrival i t d) (closing i d) v.on_time)))
+    and_from (not (nat_eq d 0)) _ (ap not (ne_eqb d 0 v.away))
+    (and_from (t.must d || t.may d) _ v.pending (and_from (is_some (leg i t d)) _ v.reached (le-leb (arrival i t d) (closing i d) v.on_time)))
 
 pub returns : (i : Instance) (t : TourState) (d : ℕ) → may_return i t d ≡ true → Returns i t d
 returns i t d e =
-    let rest = and_right (nat_eq d 0) (all_below i.nodes (λ v. not (t.must v)) && ((is_some (leg i t d) || nat_eq i.nodes 1) && nat_le (arrival i t d) (closing i d))) e in
-    let last = and_right (all_below i.nodes (λ v. not (t.must v))) ((is_some (leg i t d) || nat_eq i.nodes 1) && nat_le (arrival i t d) (closing i d)) rest in
+    let rest = (and_parts (nat_eq d 0) (all_below i.nodes (λ v. not (t.must v)) && ((is_some (leg i t d) || nat_eq i.nodes 1) && nat_le (arrival i t d) (closing i d))) e).1 in
+    let last = (and_parts (all_below i.nodes (λ v. not (t.must v))) ((is_some (leg i t d) || nat_eq i.nodes 1) && nat_le (arrival i t d) (closing i d)) rest).1 in
     record {
-      home = eqb-true d 0 (and_left (nat_eq d 0) _ e);
-      done = λ v l. not_true (t.must v) (all_below-gives i.nodes (λ v. not (t.must v)) (and_left (all_below i.nodes (λ v. not (t.must v))) _ rest) v l);
-      reached = elim (or_cases (is_some (leg i t d)) (nat_eq i.nodes 1) (and_left (is_some (leg i t d) || nat_eq i.nodes 1) _ last)) [ inl s ↦ inl s | inr s ↦ inr (eqb-true i.nodes 1 s) ];
-      on_time = le_true (arrival i t d) (closing i d) (and_right (is_some (leg i t d) || nat_eq i.nodes 1) _ last);
+      home = eqb-true d 0 (and_parts (nat_eq d 0) _ e).0;
+      done = λ v l. not-true (t.must v) (all_below-gives i.nodes (λ v. not (t.must v)) (and_parts (all_below i.nodes (λ v. not (t.must v))) _ rest).0 v l);
+      reached = elim (or_cases (is_some (leg i t d)) (nat_eq i.nodes 1) (and_parts (is_some (leg i t d) || nat_eq i.nodes 1) _ last).0) [ inl s ↦ inl s | inr s ↦ inr (eqb-true i.nodes 1 s) ];
+      on_time = leb-true (arrival i t d) (closing i d) (and_parts (is_some (leg i t d) || nat_eq i.nodes 1) _ last).1;
     }
 
 pub may_return-from : (i : Instance) (t : TourState) (d : ℕ) → Returns i t d → may_return i t d ≡ true
 may_return-from i t d r =
-    and_both (nat_eq d 0) _ (eq-eqb d 0 r.home)
-    (and_both (all_below i.nodes (λ v. not (t.must v))) _ (all_below-from i.nodes (λ v. not (t.must v)) (λ v l. not_false (t.must v) (r.done v l)))
-    (and_both (is_some (leg i t d) || nat_eq i.nodes 1) _
+    and_from (nat_eq d 0) _ (eq-eqb d 0 r.home)
+    (and_from (all_below i.nodes (λ v. not (t.must v))) _ (all_below-from i.nodes (λ v. not (t.must v)) (λ v l. ap not (r.done v l)))
+    (and_from (is_some (leg i t d) || nat_eq i.nodes 1) _
     (elim r.reached [ inl s ↦ or_left (is_some (leg i t d)) (nat_eq i.nodes 1) s | inr s ↦ or_right (is_some (leg i t d)) (nat_eq i.nodes 1) (eq-eqb i.nodes 1 s) ])
-    (true_le (arrival i t d) (closing i d) r.on_time)))
+    (le-leb (arrival i t d) (closing i d) r.on_time)))
 
 pub goes_on : (i : Instance) (k : ℕ) (t : TourState) (d : ℕ) → k + 1 < i.nodes → may_go i k t d ≡ may_visit i t d
-goes_on i k t d l = ap (λ b. cond b (may_visit i t d) (may_return i t d)) (true_lt (k + 1) i.nodes l)
+goes_on i k t d l = ap (λ b. cond b (may_visit i t d) (may_return i t d)) (lt-ltb (k + 1) i.nodes l)
 
 pub goes_home : (i : Instance) (k : ℕ) (t : TourState) (d : ℕ) → i.nodes ≤ k + 1 → may_go i k t d ≡ may_return i t d
-goes_home i k t d l = ap (λ b. cond b (may_visit i t d) (may_return i t d)) (false_lt (k + 1) i.nodes l)
+goes_home i k t d l = ap (λ b. cond b (may_visit i t d) (may_return i t d)) (le-ltb (k + 1) i.nodes l)
 
 -- however it is reached, a node is left no earlier than on the least way to it
 pub near-le-arrival : (i : Instance) (t : TourState) (d : ℕ) → is_some (leg i t d) ≡ true → t.time + near i d ≤ arrival i t d
@@ -243,7 +191,7 @@ near-le-arrival i t d e = let least = near-le-leg i t d e in omega (arith, least
 pub moved-bounded : (i : Instance) (t : TourState) (d : ℕ) → d < i.nodes → IsBounded i.nodes t → IsBounded i.nodes (moved i t d)
 unfolding moved
 moved-bounded i t d l b = record {
-  positions = λ v m. differ v d (omega arith);
+  positions = λ v m. ne_eqb v d (omega arith);
   must = λ v m. ap (λ x. x && not (nat_eq v d)) (b.must v m);
   may = λ v m. ap (λ x. x && not (nat_eq v d)) (b.may v m);
 }
@@ -259,8 +207,8 @@ joined-bounded n a b p q = record {
 pub start-bounded : (i : Instance) → 1 ≤ i.nodes → IsBounded i.nodes (start i)
 unfolding start
 start-bounded i some = record {
-  positions = λ v m. differ v 0 (omega arith);
-  must = λ v m. ap (λ x. x && not (nat_eq v 0)) (false_lt v i.nodes m);
+  positions = λ v m. ne_eqb v 0 (omega arith);
+  must = λ v m. ap (λ x. x && not (nat_eq v 0)) (le-ltb v i.nodes m);
   may = λ v m. refl;
 }
 
@@ -275,26 +223,26 @@ pub record IsSound (n : ℕ) (t : TourState) : Type 0 where
   pub no_may : t.may 0 ≡ false
 
 one_of : (a b : Bool) → not (a && b) ≡ true → a ≡ true → b ≡ false
-one_of true b e p = not_true b e
+one_of true b e p = not-true b e
 one_of false b e p = absurd (false≢true p)
 
 one_of-from : (a b : Bool) → (a ≡ true → b ≡ false) → not (a && b) ≡ true
-one_of-from true b h = not_false b (h refl)
+one_of-from true b h = ap not (h refl)
 one_of-from false b h = refl
 
 pub sound-gives : (n : ℕ) (t : TourState) → is_sound n t ≡ true → IsSound n t
 sound-gives n t e =
-    let first = and_left (not (all_below n (λ p. not (t.positions p)))) (all_below n (λ v. not (t.must v && t.may v)) && (not (t.must 0) && not (t.may 0))) e in
-    let rest = and_right (not (all_below n (λ p. not (t.positions p)))) (all_below n (λ v. not (t.must v && t.may v)) && (not (t.must 0) && not (t.may 0))) e in
-    let last = and_right (all_below n (λ v. not (t.must v && t.may v))) (not (t.must 0) && not (t.may 0)) rest in
-    let some = all_below-not n (λ p. not (t.positions p)) (not_true (all_below n (λ p. not (t.positions p))) first) in
+    let first = (and_parts (not (all_below n (λ p. not (t.positions p)))) (all_below n (λ v. not (t.must v && t.may v)) && (not (t.must 0) && not (t.may 0))) e).0 in
+    let rest = (and_parts (not (all_below n (λ p. not (t.positions p)))) (all_below n (λ v. not (t.must v && t.may v)) && (not (t.must 0) && not (t.may 0))) e).1 in
+    let last = (and_parts (all_below n (λ v. not (t.must v && t.may v))) (not (t.must 0) && not (t.may 0)) rest).1 in
+    let some = all_below-not n (λ p. not (t.positions p)) (not-true (all_below n (λ p. not (t.positions p))) first) in
     record {
       position = some.0;
       inside = some.1;
       there = still (t.positions some.0) some.2;
-      either = λ v l. one_of (t.must v) (t.may v) (all_below-gives n (λ v. not (t.must v && t.may v)) (and_left (all_below n (λ v. not (t.must v && t.may v))) _ rest) v l);
-      no_must = not_true (t.must 0) (and_left (not (t.must 0)) (not (t.may 0)) last);
-      no_may = not_true (t.may 0) (and_right (not (t.must 0)) (not (t.may 0)) last);
+      either = λ v l. one_of (t.must v) (t.may v) (all_below-gives n (λ v. not (t.must v && t.may v)) (and_parts (all_below n (λ v. not (t.must v && t.may v))) _ rest).0 v l);
+      no_must = not-true (t.must 0) (and_parts (not (t.must 0)) (not (t.may 0)) last).0;
+      no_may = not-true (t.may 0) (and_parts (not (t.must 0)) (not (t.may 0)) last).1;
     }
   where
     still : (b : Bool) → not b ≡ false → b ≡ true
@@ -303,12 +251,12 @@ sound-gives n t e =
 
 pub sound-from : (n : ℕ) (t : TourState) → IsSound n t → is_sound n t ≡ true
 sound-from n t s =
-    and_both (not (all_below n (λ p. not (t.positions p)))) _ (not_false _ (some (cases_Bool (all_below n (λ p. not (t.positions p))))))
-    (and_both (all_below n (λ v. not (t.must v && t.may v))) _ (all_below-from n (λ v. not (t.must v && t.may v)) (λ v l. one_of-from (t.must v) (t.may v) (s.either v l)))
-    (and_both (not (t.must 0)) (not (t.may 0)) (not_false (t.must 0) s.no_must) (not_false (t.may 0) s.no_may)))
+    and_from (not (all_below n (λ p. not (t.positions p)))) _ (ap not (some (cases_Bool (all_below n (λ p. not (t.positions p))))))
+    (and_from (all_below n (λ v. not (t.must v && t.may v))) _ (all_below-from n (λ v. not (t.must v && t.may v)) (λ v l. one_of-from (t.must v) (t.may v) (s.either v l)))
+    (and_from (not (t.must 0)) (not (t.may 0)) (ap not s.no_must) (ap not s.no_may)))
   where
     some : (all_below n (λ p. not (t.positions p)) ≡ true) ⊎ (all_below n (λ p. not (t.positions p)) ≡ false) → all_below n (λ p. not (t.positions p)) ≡ false
-    some (inl e) = absurd (false≢true (sym (not_true (t.positions s.position) (all_below-gives n (λ p. not (t.positions p)) e s.position s.inside)) ∙ s.there))
+    some (inl e) = absurd (false≢true (sym (not-true (t.positions s.position) (all_below-gives n (λ p. not (t.positions p)) e s.position s.inside)) ∙ s.there))
     some (inr e) = e
 
 pub moved-sound : (i : Instance) (t : TourState) (d : ℕ) → d < i.nodes → IsSound i.nodes t → IsSound i.nodes (moved i t d)
@@ -317,7 +265,7 @@ moved-sound i t d l s = record {
   position = d;
   inside = l;
   there = eq-eqb d d refl;
-  either = λ v m e. ap (λ x. x && not (nat_eq v d)) (s.either v m (and_left (t.must v) (not (nat_eq v d)) e));
+  either = λ v m e. ap (λ x. x && not (nat_eq v d)) (s.either v m (and_parts (t.must v) (not (nat_eq v d)) e).0);
   no_must = ap (λ x. x && not (nat_eq 0 d)) s.no_must;
   no_may = ap (λ x. x && not (nat_eq 0 d)) s.no_may;
 }

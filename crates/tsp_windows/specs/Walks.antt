@@ -2,16 +2,16 @@
 use Rattle.std.proofs.Common.{◌≡◌, ◌≢◌, ℕ, ◌+◌, ◌<◌, ◌≤◌, ℤ, pos, ◌+ℤ◌, ◌-ℤ◌, Bool, true, false, not, ◌&&◌, ◌||◌, nat_eq, nat_le, List, [], ◌∷◌, length, refl, sym, ap, ◌∙◌, subst, arith, inl, inr, ◌⊎◌, ⊎_elim, eq-eqb}
 use Rattle.std.specs.Prelude.{is_some, unwrap_or}
 use Rattle.std.proofs.lemmas.Int.{ints}
-use Rattle.std.proofs.lemmas.Bool.{cases_eq, cases_lt, false≢true}
+use Rattle.std.proofs.lemmas.Bool.{cases_eq, cases_lt, false≢true, and_parts, and_from, or_left, or_right, cases_Bool, ne_eqb, leb-true, le-leb}
 use Rattle.node_sets.specs.Sums.{sum_below, count_below}
 use Rattle.node_sets.specs.Sets.{words_for}
-use Rattle.node_sets.proofs.Below.{and_left, and_right, sum_below-same, sum_below-removed, sum_below-none}
+use Rattle.node_sets.proofs.Below.{sum_below-same, sum_below-removed, sum_below-none}
 use Rattle.dp_model.specs.Prefixes.{IsPath, gain_of}
 use Rattle.tsp_windows.specs.Instance.{Instance, distance, closing, near}
 use Rattle.tsp_windows.specs.States.{TourState, from_elsewhere, leg, arrival, departure, may_go, moved, is_open, joined, is_within, covers, way_left, shown, row_for}
 use Rattle.tsp_windows.specs.Rows.{IsBounded, shown-row_for, words_enough}
 use Rattle.tsp_windows.specs.Program.{program_of}
-use Rattle.tsp_windows.specs.Tours.{and_both, or_left, or_right, cases_Bool, differ, le_true, true_le, within-gives, within-from, NoMore, least_amount-wider, NoMore-or, NoMore-some, near-le-arrival, near-alone, leg-alone, visits, returns, may_visit-from, may_return-from, goes_on, goes_home, moved-bounded}
+use Rattle.tsp_windows.specs.Tours.{within-gives, within-from, NoMore, least_amount-wider, NoMore-or, NoMore-some, near-le-arrival, near-alone, leg-alone, visits, returns, may_visit-from, may_return-from, goes_on, goes_home, moved-bounded}
 
 -- the decision may be taken
 pub record IsGone (i : Instance) (k : ℕ) (t : TourState) (d : ℕ) : Type 0 where
@@ -39,20 +39,20 @@ pub record Covers (n : ℕ) (a b : TourState) : Type 0 where
 
 pub covers-gives : (n : ℕ) (a b : TourState) → covers n a b ≡ true → Covers n a b
 covers-gives n a b e =
-    let rest = and_right (is_within n b.positions a.positions) (is_within n a.must b.must && (is_within n (is_open b) (is_open a) && nat_le a.time b.time)) e in
-    let last = and_right (is_within n a.must b.must) (is_within n (is_open b) (is_open a) && nat_le a.time b.time) rest in
+    let rest = (and_parts (is_within n b.positions a.positions) (is_within n a.must b.must && (is_within n (is_open b) (is_open a) && nat_le a.time b.time)) e).1 in
+    let last = (and_parts (is_within n a.must b.must) (is_within n (is_open b) (is_open a) && nat_le a.time b.time) rest).1 in
     record {
-      positions = within-gives n b.positions a.positions (and_left (is_within n b.positions a.positions) _ e);
-      must = within-gives n a.must b.must (and_left (is_within n a.must b.must) _ rest);
-      pending = within-gives n (is_open b) (is_open a) (and_left (is_within n (is_open b) (is_open a)) _ last);
-      time = le_true a.time b.time (and_right (is_within n (is_open b) (is_open a)) _ last);
+      positions = within-gives n b.positions a.positions (and_parts (is_within n b.positions a.positions) _ e).0;
+      must = within-gives n a.must b.must (and_parts (is_within n a.must b.must) _ rest).0;
+      pending = within-gives n (is_open b) (is_open a) (and_parts (is_within n (is_open b) (is_open a)) _ last).0;
+      time = leb-true a.time b.time (and_parts (is_within n (is_open b) (is_open a)) _ last).1;
     }
 
 pub covers-from : (n : ℕ) (a b : TourState) → Covers n a b → covers n a b ≡ true
 covers-from n a b c =
-    and_both (is_within n b.positions a.positions) _ (within-from n b.positions a.positions c.positions)
-    (and_both (is_within n a.must b.must) _ (within-from n a.must b.must c.must)
-    (and_both (is_within n (is_open b) (is_open a)) _ (within-from n (is_open b) (is_open a) c.pending) (true_le a.time b.time c.time)))
+    and_from (is_within n b.positions a.positions) _ (within-from n b.positions a.positions c.positions)
+    (and_from (is_within n a.must b.must) _ (within-from n a.must b.must c.must)
+    (and_from (is_within n (is_open b) (is_open a)) _ (within-from n (is_open b) (is_open a) c.pending) (le-leb a.time b.time c.time)))
 
 pub Covers-self : (n : ℕ) (a : TourState) → Covers n a a
 Covers-self n a = record { positions = λ v l e. e; must = λ v l e. e; pending = λ v l e. e; time = omega arith }
@@ -87,17 +87,17 @@ joined-covers n a b s some both time = record {
 
 pub joined-covers-left : (n : ℕ) (a b : TourState) → Covers n (joined a b) a
 unfolding joined
-joined-covers-left n a b = joined-covers n a b a (λ test e. inl e) (λ test e. and_left (test a) (test b) e) (omega arith)
+joined-covers-left n a b = joined-covers n a b a (λ test e. inl e) (λ test e. (and_parts (test a) (test b) e).0) (omega arith)
 
 pub joined-covers-right : (n : ℕ) (a b : TourState) → Covers n (joined a b) b
 unfolding joined
-joined-covers-right n a b = joined-covers n a b b (λ test e. inr e) (λ test e. and_right (test a) (test b) e) (omega arith)
+joined-covers-right n a b = joined-covers n a b b (λ test e. inr e) (λ test e. (and_parts (test a) (test b) e).1) (omega arith)
 
 leg-within : (i : Instance) (a b : TourState) (d : ℕ) → Covers i.nodes a b → NoMore (leg i a d) (leg i b d)
 unfolding leg
 leg-within i a b d c =
     least_amount-wider i.nodes (from_elsewhere a d) (from_elsewhere b d) (λ p. distance i p d)
-    (λ v l e. and_both (a.positions v) (not (nat_eq v d)) (c.positions v l (and_left (b.positions v) (not (nat_eq v d)) e)) (and_right (b.positions v) (not (nat_eq v d)) e))
+    (λ v l e. and_from (a.positions v) (not (nat_eq v d)) (c.positions v l (and_parts (b.positions v) (not (nat_eq v d)) e).0) (and_parts (b.positions v) (not (nat_eq v d)) e).1)
 
 arrival-reached : (i : Instance) (a b : TourState) (d : ℕ) → Covers i.nodes a b → is_some (leg i b d) ≡ true → arrival i a d ≤ arrival i b d
 arrival-reached i a b d c e = let least = NoMore-or (leg i a d) (leg i b d) (leg-within i a b d c) e in omega (arith, least, c.time)
@@ -116,7 +116,7 @@ moved-covers : (i : Instance) (a b : TourState) (d : ℕ) → Covers i.nodes a b
 unfolding moved
 moved-covers i a b d c l = record {
   positions = λ v m e. e;
-  must = λ v m e. and_both (b.must v) (not (nat_eq v d)) (c.must v m (and_left (a.must v) (not (nat_eq v d)) e)) (and_right (a.must v) (not (nat_eq v d)) e);
+  must = λ v m e. and_from (b.must v) (not (nat_eq v d)) (c.must v m (and_parts (a.must v) (not (nat_eq v d)) e).0) (and_parts (a.must v) (not (nat_eq v d)) e).1;
   pending = λ v m e. part (a.must v) (a.may v) (b.must v) (b.may v) (not (nat_eq v d)) (c.pending v m) e;
   time = omega arith;
 }
@@ -214,7 +214,7 @@ sum-moved i t d f l =
     gone false v = refl
 
     kept : (b : Bool) (v : ℕ) → v ≢ d → (b && not (nat_eq v d)) ≡ b
-    kept true v n = ap not (differ v d n)
+    kept true v n = ap not (ne_eqb v d n)
     kept false v n = refl
 
     still : (v : ℕ) → t.must d ≡ false → t.must v ≡ (t.must v && not (nat_eq v d))
@@ -225,7 +225,7 @@ sum-moved i t d f l =
 
 must-moved : (i : Instance) (t : TourState) (d v : ℕ) → v ≢ d → t.must v ≡ true → (moved i t d).must v ≡ true
 unfolding moved
-must-moved i t d v n e = and_both (t.must v) (not (nat_eq v d)) e (ap not (differ v d n))
+must-moved i t d v n e = and_from (t.must v) (not (nat_eq v d)) e (ap not (ne_eqb v d n))
 
 time-moved : (i : Instance) (t : TourState) (d : ℕ) → arrival i t d ≤ (moved i t d).time
 unfolding moved

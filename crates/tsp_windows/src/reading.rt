@@ -55,7 +55,7 @@ fn read_window(tokens: &mut Tokens, windows: &mut Vec<Window>) -> Result<(), Rea
 }
 
 /// Reads so many distances.
-#[tactic(auto, using(dd_text::proofs::Chains::times_more, dd_text::proofs::Chains::times_done))]
+#[tactic(auto, using(dd_text::proofs::Chains::times_steps))]
 fn read_distances(
     nodes: usize,
     count: usize,
@@ -72,7 +72,7 @@ fn read_distances(
 }
 
 /// Reads so many windows.
-#[tactic(auto, using(dd_text::proofs::Chains::times_more, dd_text::proofs::Chains::times_done))]
+#[tactic(auto, using(dd_text::proofs::Chains::times_steps))]
 fn read_windows(
     count: usize,
     tokens: &mut Tokens,

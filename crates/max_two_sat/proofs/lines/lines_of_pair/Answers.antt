@@ -3,8 +3,8 @@ use Rattle.std.proofs.lemmas.Int.{to_z-of_z}
 use mir.Val.{SFits}
 use Rattle.max_two_sat.proofs.lines.lines_of_pair.Goals as goal
 
-pub returns-clause-lines : goal.returns-clause-lines
-returns-clause-lines c =
+pub returns : goal.returns
+returns c =
     let fits_both : SFits w64 c.args.pair.both = search rules in
     let fits_first : SFits w64 c.args.pair.first = search rules in
     let fits_second : SFits w64 c.args.pair.second = search rules in

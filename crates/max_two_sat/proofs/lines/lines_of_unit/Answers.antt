@@ -3,8 +3,8 @@ use Rattle.std.proofs.lemmas.Int.{to_z-of_z}
 use mir.Val.{SFits}
 use Rattle.max_two_sat.proofs.lines.lines_of_unit.Goals as goal
 
-pub returns-clause-lines : goal.returns-clause-lines
-returns-clause-lines c =
+pub returns : goal.returns
+returns c =
     let fits : SFits w64 c.args.unit.positive = search rules in
     let fits_too : SFits w64 c.args.unit.negative = search rules in
     let positive = to_z-of_z w64 c.args.unit.positive fits in
