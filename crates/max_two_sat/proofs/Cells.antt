@@ -133,6 +133,46 @@ pub lesser-done : (us : List UnitWeights) (i : ℕ) (total : ℤ) → length us 
 lesser-done us i total h before =
     sum-done (lesser_units us) (lesser_units (drop i us)) total (ap lesser_units (drop_all i us h)) before
 
+-- the two sides of a later variable are read as they are
+pub record SidesAre (p : PairWeights) (t : ℤ) (d : ℕ) (if_true if_false : ℤ) : Type 0 where
+  pub on_true : if_true ≡ above_zero t +ℤ open_true p d
+  pub on_false : if_false ≡ below_zero t +ℤ open_false p d
+  pub false_low : pos 0 ≤ℤ if_false
+  pub false_high : if_false ≤ℤ pos (2 ^ 50)
+  pub lesser : (z : ℤ) → z ≡ int_min (to_z w64 (of_z w64 if_true)) (to_z w64 (of_z w64 if_false)) → to_z w64 (of_z w64 z) ≡ int_min (above_zero t +ℤ open_true p d) (below_zero t +ℤ open_false p d)
+
+pub sides-are : (p : PairWeights) (t : ℤ) (d : ℕ) (above below on_true on_false : ℤ) → PairIsPositive p → pair_total p ≤ℤ pos (2 ^ 48) → size_of t ≤ℤ pos (2 ^ 48) →
+    above ≡ above_zero (to_z w64 (of_z w64 t)) → below ≡ below_zero (to_z w64 (of_z w64 t)) → on_true ≡ open_true p d → on_false ≡ open_false p d →
+    SidesAre p t d (to_z w64 (of_z w64 above) +ℤ to_z w64 (of_z w64 on_true)) (to_z w64 (of_z w64 below) +ℤ to_z w64 (of_z w64 on_false))
+sides-are p t d above below on_true on_false here weight size above_is below_is true_is false_is =
+    let split = parts p d here in
+    let read : to_z w64 (of_z w64 t) ≡ t = read_by_size t (omega (arith, ints)) in
+    let above_there : above ≡ above_zero t = rw read at above_is in
+    let below_there : below ≡ below_zero t = rw read at below_is in
+    let above_low : pos 0 ≤ℤ above_zero t = omega (arith, ints, clamps) in
+    let above_high : above_zero t ≤ℤ pos (2 ^ 48) = omega (arith, ints, clamps) in
+    let below_low : pos 0 ≤ℤ below_zero t = omega (arith, ints, clamps) in
+    let below_high : below_zero t ≤ℤ pos (2 ^ 48) = omega (arith, ints, clamps) in
+    let if_true : to_z w64 (of_z w64 above) +ℤ to_z w64 (of_z w64 on_true) ≡ above_zero t +ℤ open_true p d = omega (arith, ints) in
+    let if_false : to_z w64 (of_z w64 below) +ℤ to_z w64 (of_z w64 on_false) ≡ below_zero t +ℤ open_false p d = omega (arith, ints) in
+    record {
+      on_true = if_true;
+      on_false = if_false;
+      false_low = omega (arith, ints);
+      false_high = omega (arith, ints);
+      lesser = λ z is. lesser-read z (above_zero t +ℤ open_true p d) (below_zero t +ℤ open_false p d) (omega (arith, ints)) (omega (arith, ints)) (omega (arith, ints)) (omega (arith, ints)) (rw (if_true, if_false) at is);
+    }
+  where
+    lesser-read : (z a b : ℤ) → pos 0 ≤ℤ a → a ≤ℤ pos (2 ^ 50) → pos 0 ≤ℤ b → b ≤ℤ pos (2 ^ 50) → z ≡ int_min (to_z w64 (of_z w64 a)) (to_z w64 (of_z w64 b)) → to_z w64 (of_z w64 z) ≡ int_min a b
+    lesser-read z a b a_low a_high b_low b_high is =
+        let first : to_z w64 (of_z w64 a) ≡ a = omega (arith, ints) in
+        let second : to_z w64 (of_z w64 b) ≡ b = omega (arith, ints) in
+        let least : z ≡ int_min a b = rw (first, second) at is in
+        let low : pos 0 ≤ℤ z = omega (arith, ints, clamps) in
+        let high : z ≤ℤ pos (2 ^ 50) = omega (arith, ints, clamps) in
+        let read : to_z w64 (of_z w64 z) ≡ z = omega (arith, ints) in
+        read ∙ least
+
 -- the sum of the parts is read as it is
 pub record CellAdds (p : PairWeights) (t : ℤ) (d : ℕ) (settled_part lesser : ℤ) : Type 0 where
   pub sum : settled_part +ℤ lesser ≡ cell_part p t d
@@ -141,18 +181,12 @@ pub record CellAdds (p : PairWeights) (t : ℤ) (d : ℕ) (settled_part lesser :
   pub settled_low : pos 0 ≤ℤ settled_part
   pub settled_high : settled_part ≤ℤ pos (2 ^ 48)
 
-pub cell-adds : (p : PairWeights) (t : ℤ) (d : ℕ) (above below on_true on_false lesser settled_part : ℤ) → PairIsPositive p → pair_total p ≤ℤ pos (2 ^ 48) → size_of t ≤ℤ pos (2 ^ 48) →
-    above ≡ above_zero (to_z w64 (of_z w64 t)) → below ≡ below_zero (to_z w64 (of_z w64 t)) → on_true ≡ open_true p d → on_false ≡ open_false p d →
-    lesser ≡ int_min (to_z w64 (of_z w64 (to_z w64 (of_z w64 above) +ℤ to_z w64 (of_z w64 on_true)))) (to_z w64 (of_z w64 (to_z w64 (of_z w64 below) +ℤ to_z w64 (of_z w64 on_false)))) →
-    settled_part ≡ settled p d → CellAdds p t d settled_part lesser
-cell-adds p t d above below on_true on_false lesser settled_part here weight size above_is below_is true_is false_is lesser_is settled_is =
+pub cell-adds : (p : PairWeights) (t : ℤ) (d : ℕ) (lesser settled_part : ℤ) → PairIsPositive p → pair_total p ≤ℤ pos (2 ^ 48) → size_of t ≤ℤ pos (2 ^ 48) →
+    lesser ≡ int_min (above_zero (to_z w64 (of_z w64 t)) +ℤ open_true p d) (below_zero (to_z w64 (of_z w64 t)) +ℤ open_false p d) → settled_part ≡ settled p d → CellAdds p t d settled_part lesser
+cell-adds p t d lesser settled_part here weight size is settled_is =
     let split = parts p d here in
     let read : to_z w64 (of_z w64 t) ≡ t = read_by_size t (omega (arith, ints)) in
-    let above_there : above ≡ above_zero t = rw read at above_is in
-    let below_there : below ≡ below_zero t = rw read at below_is in
-    let if_true : to_z w64 (of_z w64 (to_z w64 (of_z w64 above) +ℤ to_z w64 (of_z w64 on_true))) ≡ above_zero t +ℤ open_true p d = omega (arith, ints, clamps) in
-    let if_false : to_z w64 (of_z w64 (to_z w64 (of_z w64 below) +ℤ to_z w64 (of_z w64 on_false))) ≡ below_zero t +ℤ open_false p d = omega (arith, ints, clamps) in
-    let least : lesser ≡ int_min (above_zero t +ℤ open_true p d) (below_zero t +ℤ open_false p d) = rw (if_true, if_false) at lesser_is in
+    let lesser_is : lesser ≡ int_min (above_zero t +ℤ open_true p d) (below_zero t +ℤ open_false p d) = rw read at is in
     record {
       sum = omega (arith, ints);
       low = omega (arith, ints, clamps);

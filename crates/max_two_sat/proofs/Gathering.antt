@@ -1,5 +1,5 @@
 -- What a clause more keeps.
-use Rattle.std.proofs.Common.{◌≡◌, ℕ, zero, suc, ◌+◌, ◌^◌, ◌<◌, ◌≤◌, ℤ, pos, ◌+ℤ◌, ◌≤ℤ◌, Bool, true, false, List, [], ◌∷◌, length, get_or, set, refl, arith, ap, sym, ◌∙◌, eq-eqb}
+use Rattle.std.proofs.Common.{◌≡◌, ℕ, zero, suc, ◌+◌, ◌^◌, ◌<◌, ◌≤◌, ℤ, pos, ◌+ℤ◌, ◌≤ℤ◌, Bool, true, false, List, [], ◌∷◌, length, get_or, set, refl, arith, ap, sym, ◌∙◌, eq-eqb, to_z, of_z, w64}
 use Rattle.std.specs.Prelude.{IsTrue, ◌==◌, nat_lt, int_lt, replicate, if◌then◌else◌}
 use Rattle.std.specs.List.{list_all}
 use Rattle.std.proofs.lemmas.Bool.Decides.{nat_tests}
@@ -12,6 +12,7 @@ use Rattle.dp_model.specs.NumberLaws.{int_le-from}
 use Rattle.max_two_sat.specs.declared.clause.Literal.{Literal}
 use Rattle.max_two_sat.specs.declared.clause.Literals.{Literals}
 use Rattle.max_two_sat.specs.declared.clause.Literals.TheVariants.{Empty, One, Two}
+use Rattle.max_two_sat.specs.declared.header.Header.{Header}
 use Rattle.max_two_sat.specs.declared.header.Form.{Form}
 use Rattle.max_two_sat.specs.declared.header.Form.TheVariants.{Plain, Weighted}
 use Rattle.max_two_sat.specs.declared.weights.UnitWeights.{UnitWeights}
@@ -20,7 +21,7 @@ use Rattle.max_two_sat.specs.Clauses.{FitsLiteral, FitsLiterals, Gathered, gathe
 use Rattle.max_two_sat.specs.Instance.{Instance, pair_count, unit_total, pair_total, units_total, pairs_total, total_by, no_pair, no_unit}
 use Rattle.max_two_sat.specs.Kept.{PairIsPositive, UnitIsPositive, pairs_are_positive, units_are_positive, pair_is_positive, unit_is_positive}
 use Rattle.max_two_sat.specs.Lines.{line_count, pair_weighing, unit_weighing, weighs}
-use Rattle.max_two_sat.specs.Room.{FormGives, FormKeeps, HasRoom, IsGathered}
+use Rattle.max_two_sat.specs.Room.{FormGives, FormKeeps, HasRoom, IsGathered, IsUnderWay}
 use Rattle.max_two_sat.specs.Table.{entries_before, entries_before-more, entries_before-most}
 use Rattle.max_two_sat.specs.Totals.{units_total-positive, pairs_total-positive}
 use Rattle.max_two_sat.proofs.Cells.{pair-at, unit-at}
@@ -211,7 +212,7 @@ pub total-low : (g : Gathered) → IsGathered g → pos 0 ≤ℤ g.total
 total-low g kept =
     omega (arith, ints, kept.weight, kept.tautologies, units_total-positive g.instance.units kept.units, pairs_total-positive g.instance.pairs kept.pairs)
 
-pub room-for : (g : Gathered) (w : ℤ) → IsGathered g → pos 0 ≤ℤ w → (g.total +ℤ w) ≤ℤ pos (2 ^ 48) → HasRoom g.instance w
+room-for : (g : Gathered) (w : ℤ) → IsGathered g → pos 0 ≤ℤ w → (g.total +ℤ w) ≤ℤ pos (2 ^ 48) → HasRoom g.instance w
 room-for g w kept low most = record {
   variables = kept.variables;
   whole = kept.whole;
@@ -222,37 +223,60 @@ room-for g w kept low most = record {
   total = omega (arith, ints, kept.weight);
 }
 
-pub gathered-more : (g : Gathered) (w : ℤ) (literals : Literals) → IsGathered g → pos 0 ≤ℤ w → (g.total +ℤ w) ≤ℤ pos (2 ^ 48) → FitsLiterals (length g.instance.units) literals → IsGathered (gathered_with g w literals)
-gathered-more g w literals kept low most fits =
-    let next : Keeps g.instance (with_clause g.instance w literals) w = keeps g.instance w literals (room-for g w kept low most) kept.some fits in
-    record {
-      variables = omega (arith, next.units_count, kept.variables);
-      whole = next.pairs_count ∙ (kept.whole ∙ ap pair_count (sym next.units_count));
-      tautologies = next.tautologies;
-      units = next.units;
-      pairs = next.pairs;
-      weight = omega (arith, ints, next.weight, kept.weight);
-      total = most;
-      lines = omega (arith, next.lines, kept.lines);
-      some = next.some;
-    }
+gathered-more : (g : Gathered) (w : ℤ) (literals : Literals) → IsGathered g → (g.total +ℤ w) ≤ℤ pos (2 ^ 48) → Keeps g.instance (with_clause g.instance w literals) w → IsGathered (gathered_with g w literals)
+gathered-more g w literals kept most next = record {
+  variables = omega (arith, next.units_count, kept.variables);
+  whole = next.pairs_count ∙ (kept.whole ∙ ap pair_count (sym next.units_count));
+  tautologies = next.tautologies;
+  units = next.units;
+  pairs = next.pairs;
+  weight = omega (arith, ints, next.weight, kept.weight);
+  total = most;
+  lines = omega (arith, next.lines, kept.lines);
+  some = next.some;
+}
 
-pub count-stays : (g : Gathered) (w : ℤ) (literals : Literals) → IsGathered g → pos 0 ≤ℤ w → (g.total +ℤ w) ≤ℤ pos (2 ^ 48) → FitsLiterals (length g.instance.units) literals → length (gathered_with g w literals).instance.units ≡ length g.instance.units
-count-stays g w literals kept low most fits = (keeps g.instance w literals (room-for g w kept low most) kept.some fits).units_count
+form-more : (form : Form) (g : Gathered) (w : ℤ) (literals : Literals) → FormKeeps form g → FormGives form g.total w → FormKeeps form (gathered_with g w literals)
+form-more Plain g w literals keep gives = omega (arith, ints)
+form-more (Weighted top) g w literals keep gives = tt
 
 -- the weight of a clause fits
 
-pub record WeightFits (g : Gathered) (w : ℤ) : Type 0 where
-  pub low : pos 0 ≤ℤ w
-  pub most : (g.total +ℤ w) ≤ℤ pos (2 ^ 48)
+record WeightFits (g : Gathered) (w : ℤ) : Type 0 where
+  low : pos 0 ≤ℤ w
+  most : (g.total +ℤ w) ≤ℤ pos (2 ^ 48)
 
-pub weight-fits : (form : Form) (g : Gathered) (w : ℤ) → g.clauses < 2 ^ 20 → FormKeeps form g → FormGives form g.total w → WeightFits g w
+weight-fits : (form : Form) (g : Gathered) (w : ℤ) → g.clauses < 2 ^ 20 → FormKeeps form g → FormGives form g.total w → WeightFits g w
 weight-fits Plain g w few keep gives = record { low = omega (arith, ints); most = omega (arith, ints) }
 weight-fits (Weighted top) g w few keep gives = record { low = gives.0; most = gives.1 }
 
-pub form-more : (form : Form) (g : Gathered) (w : ℤ) (literals : Literals) → FormKeeps form g → FormGives form g.total w → FormKeeps form (gathered_with g w literals)
-form-more Plain g w literals keep gives = omega (arith, ints)
-form-more (Weighted top) g w literals keep gives = tt
+-- a clause that was read may be added, and leaves what is gathered under way
+pub record ClauseFits (h : Header) (g : Gathered) (w : ℤ) (literals : Literals) : Type 0 where
+  pub read : to_z w64 (of_z w64 w) ≡ w
+  pub room : HasRoom g.instance w
+  pub total : (g.total +ℤ w) ≤ℤ pos (2 ^ 48)
+  pub after : IsUnderWay h (gathered_with g w literals)
+
+pub clause-fits : (h : Header) (g : Gathered) (w : ℤ) (literals : Literals) → IsUnderWay h g → g.clauses < 2 ^ 20 → FormGives h.form (to_z w64 (of_z w64 g.total)) w → FitsLiterals h.variables literals →
+    ClauseFits h g w literals
+clause-fits h g w literals way few gives fits =
+    let low = total-low g way.gathered in
+    let most = way.gathered.total in
+    let total_read : to_z w64 (of_z w64 g.total) ≡ g.total = omega (arith, ints) in
+    let given : FormGives h.form g.total w = rw total_read at gives in
+    let weight = weight-fits h.form g w few way.form given in
+    let room = room-for g w way.gathered weight.low weight.most in
+    let next : Keeps g.instance (with_clause g.instance w literals) w = keeps g.instance w literals room way.gathered.some (rw way.variables fits) in
+    record {
+      read = omega (arith, ints, weight.low, weight.most);
+      room = room;
+      total = weight.most;
+      after = record {
+        gathered = gathered-more g w literals way.gathered weight.most next;
+        form = form-more h.form g w literals way.form given;
+        variables = next.units_count ∙ way.variables;
+      };
+    }
 
 -- nothing is gathered at first
 
@@ -264,7 +288,7 @@ all-none : {X : Type 0} (test : X → Bool) (x : X) → IsTrue (test x) → (n :
 all-none test x e zero = refl
 all-none test x e (suc n) = and_from (test x) _ e (all-none test x e n)
 
-pub nothing-gathered : (n : ℕ) → n ≤ 1024 → IsGathered (nothing_gathered n)
+nothing-gathered : (n : ℕ) → n ≤ 1024 → IsGathered (nothing_gathered n)
 nothing-gathered n h = record {
   variables = omega (arith, length-replicate n no_unit);
   whole = length-replicate (pair_count n) no_pair ∙ ap pair_count (sym (length-replicate n no_unit));
@@ -277,7 +301,7 @@ nothing-gathered n h = record {
   some = omega arith;
 }
 
-pub form-first : (form : Form) (n : ℕ) → FormKeeps form (nothing_gathered n)
+form-first : (form : Form) (n : ℕ) → FormKeeps form (nothing_gathered n)
 form-first Plain n = refl
 form-first (Weighted top) n = tt
 
@@ -304,3 +328,10 @@ two-turned i w a b less =
     let other : (a.variable == b.variable) ≡ false = grind (arith, nat_tests) in
     let first : nat_lt a.variable b.variable ≡ false = grind (arith, nat_tests) in
     rw (other, first) refl
+
+pub way-begins : (h : Header) → h.variables ≤ 1024 → IsUnderWay h (nothing_gathered h.variables)
+way-begins h few = record {
+  gathered = nothing-gathered h.variables few;
+  form = form-first h.form h.variables;
+  variables = length-replicate h.variables no_unit;
+}

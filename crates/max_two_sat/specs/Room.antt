@@ -1,6 +1,7 @@
 -- What an instance keeps to while its clauses are read.
 use Rattle.std.specs.Prelude.{◌≡◌, ℕ, ◌^◌, ◌≤◌, ℤ, pos, ◌+ℤ◌, ◌≤ℤ◌, length, Option, Some, None, IsTrue}
 use Rattle.max_two_sat.specs.declared.clause.Literal.{Literal}
+use Rattle.max_two_sat.specs.declared.header.Header.{Header}
 use Rattle.max_two_sat.specs.declared.header.Form.{Form}
 use Rattle.max_two_sat.specs.declared.header.Form.TheVariants.{Plain, Weighted}
 use Rattle.max_two_sat.specs.Instance.{Instance, pair_count, units_total, pairs_total}
@@ -44,3 +45,9 @@ FormGives (Weighted top) total weight = (pos 0 ≤ℤ weight) × ((total +ℤ we
 abbrev pub FitsOption : ℕ → Option Literal → Type 0
 FitsOption n None = Unit {0}
 FitsOption n (Some a) = FitsLiteral n a
+
+-- clauses are read behind this first line, and so much is gathered of them
+pub record IsUnderWay (h : Header) (g : Gathered) : Type 0 where
+  pub gathered : IsGathered g
+  pub form : FormKeeps h.form g
+  pub variables : length g.instance.units ≡ h.variables

@@ -1,6 +1,6 @@
 ghost use Rattle.std.specs.Prelude.{◌≡◌, ◌^◌, pos, ◌+ℤ◌, ◌-ℤ◌, ◌≤ℤ◌, ◌++◌, length, take, drop, IsTrue};
 ghost use Rattle.std.specs.Int.{int_min};
-ghost use Rattle.benefit_rows.specs.Benefits.{gain_of, size_of};
+ghost use Rattle.benefit_rows.specs.Benefits.{above_zero, below_zero, gain_of, size_of};
 ghost use Rattle.max_two_sat.specs.Instance.{pair_total, unit_total, units_total};
 ghost use Rattle.max_two_sat.specs.Fitting.{FitsBenefits, FitsState};
 ghost use Rattle.max_two_sat.specs.Kept.{PairIsPositive, UnitIsPositive, units_are_positive};
@@ -119,10 +119,20 @@ fn cell_gain(pair: PairWeights, benefit: i64, d: u32) -> i64
     requires size { size_of benefit ≤ℤ pos (2 ^ 48) }
     ensures { result ≡ cell_part pair benefit d }
 {
+    settled_weight(pair, d) + lesser_side(pair, benefit, d)
+}
+
+/// What a later variable has on the lesser of its two sides.
+fn lesser_side(pair: PairWeights, benefit: i64, d: u32) -> i64
+    requires positive { PairIsPositive pair }
+    requires weight { pair_total pair ≤ℤ pos (2 ^ 48) }
+    requires size { size_of benefit ≤ℤ pos (2 ^ 48) }
+    ensures { result ≡ int_min (above_zero benefit +ℤ open_true pair d) (below_zero benefit +ℤ open_false pair d) }
+{
     let (on_true, on_false) = open_weights(pair, d);
     let if_true = above_zero(benefit) + on_true;
     let if_false = below_zero(benefit) + on_false;
-    settled_weight(pair, d) + lesser_of(if_true, if_false)
+    lesser_of(if_true, if_false)
 }
 
 fn lesser_of(a: i64, b: i64) -> i64
