@@ -7,7 +7,7 @@ ghost use Rattle.dd_text.specs.declared.read_model_error.ReadModelError.TheVaria
 ghost use Rattle.max_two_sat.specs.Clauses.{FitsLiterals};
 ghost use Rattle.max_two_sat.specs.Drafted.{gathered_in};
 ghost use Rattle.max_two_sat.specs.Room.{FitsOption, FormGives, IsGathered, IsUnderWay};
-ghost use Rattle.max_two_sat.specs.Texts.{behind_first, clause_at, end_of_clause, ends_clauses, literal_at, literal_of, literals_at, reaches, weight_at};
+ghost use Rattle.max_two_sat.specs.Texts.{behind_first, clause_at, end_of_clause, ends_clauses, ends_token, literal_at, literal_of, literals_at, reaches, weight_at};
 
 use crate::clause::{Literal, Literals};
 use crate::draft::Draft;
@@ -183,10 +183,13 @@ fn literal_from(number: i64) -> Option<Literal>
 pub(crate) fn ends_clauses(tokens: &Tokens<'_>) -> bool
     ensures { result ≡ ends_clauses tokens.now }
 {
-    match tokens.peek_word() {
-        [] => true,
-        [first, ..] => *first == b'%',
-    }
+    ends_token(tokens.peek_word())
+}
+
+fn ends_token(word: &[u8]) -> bool
+    ensures { result ≡ ends_token word.now }
+{
+    word.is_empty() || word[0] == b'%'
 }
 
 /// A fault at the next token.
