@@ -16,7 +16,7 @@ use Rattle.max_two_sat.specs.Fitting.{FitsBenefits, FitsState}
 use Rattle.max_two_sat.specs.Program.{settled, open_true, open_false, cell_part, grown, row_gain, shared_gain, lesser_units}
 use Rattle.max_two_sat.specs.SizeLaws.{cell_part-positive, shared_gain-positive, shared_gain-most, lesser_units-positive, lesser_units-most}
 use Rattle.max_two_sat.specs.Totals.{all-at, all-drop, pair_total-low, total_by-at, unit_total-low}
-use Rattle.max_two_sat.proofs.RunningSums.{SumGrows, sum-grows, sum-done}
+use Rattle.max_two_sat.proofs.RunningSums.{PartsAdd, SumGrows, parts-add, sum-grows, sum-done}
 
 -- the parts of an entry for a decision
 pub record HasParts (p : PairWeights) (d : ℕ) : Type 0 where
@@ -174,26 +174,17 @@ sides-are p t d above below on_true on_false here weight size above_is below_is 
         read ∙ least
 
 -- the sum of the parts is read as it is
-pub record CellAdds (p : PairWeights) (t : ℤ) (d : ℕ) (settled_part lesser : ℤ) : Type 0 where
-  pub sum : settled_part +ℤ lesser ≡ cell_part p t d
-  pub low : pos 0 ≤ℤ lesser
-  pub high : lesser ≤ℤ pos (2 ^ 50)
-  pub settled_low : pos 0 ≤ℤ settled_part
-  pub settled_high : settled_part ≤ℤ pos (2 ^ 48)
-
 pub cell-adds : (p : PairWeights) (t : ℤ) (d : ℕ) (lesser settled_part : ℤ) → PairIsPositive p → pair_total p ≤ℤ pos (2 ^ 48) → size_of t ≤ℤ pos (2 ^ 48) →
-    lesser ≡ int_min (above_zero (to_z w64 (of_z w64 t)) +ℤ open_true p d) (below_zero (to_z w64 (of_z w64 t)) +ℤ open_false p d) → settled_part ≡ settled p d → CellAdds p t d settled_part lesser
+    lesser ≡ int_min (above_zero (to_z w64 (of_z w64 t)) +ℤ open_true p d) (below_zero (to_z w64 (of_z w64 t)) +ℤ open_false p d) → settled_part ≡ settled p d →
+    PartsAdd (cell_part p t d) settled_part lesser
 cell-adds p t d lesser settled_part here weight size is settled_is =
     let split = parts p d here in
     let read : to_z w64 (of_z w64 t) ≡ t = read_by_size t (omega (arith, ints)) in
     let lesser_is : lesser ≡ int_min (above_zero t +ℤ open_true p d) (below_zero t +ℤ open_false p d) = rw read at is in
-    record {
-      sum = omega (arith, ints);
-      low = omega (arith, ints, clamps);
-      high = omega (arith, ints, clamps);
-      settled_low = omega (arith, ints);
-      settled_high = omega (arith, ints);
-    }
+    let low : pos 0 ≤ℤ lesser = omega (arith, ints, clamps) in
+    let high : lesser ≤ℤ pos (2 ^ 49) = omega (arith, ints, clamps) in
+    let sum : settled_part +ℤ lesser ≡ cell_part p t d = omega (arith, ints) in
+    parts-add _ settled_part lesser sum (omega (arith, ints)) low (omega (arith, ints, sum, high))
 
 -- the benefits of the root
 
@@ -218,15 +209,9 @@ benefit-read s k h rank =
     record { read = there; small = rw there size }
 
 -- the side of the decided variable and the parts of the later ones
-pub record GainAdds (row : List PairWeights) (s : List ℤ) (k d : ℕ) (side shared : ℤ) : Type 0 where
-  pub sum : side +ℤ shared ≡ row_gain row (drop k s) d
-  pub side_low : pos 0 ≤ℤ side
-  pub side_high : side ≤ℤ pos (2 ^ 48)
-  pub shared_low : pos 0 ≤ℤ shared
-  pub shared_high : shared ≤ℤ pos (2 ^ 49)
-
 pub gain-adds : (row : List PairWeights) (s : List ℤ) (k d : ℕ) (side shared : ℤ) → FitsState row k s →
-    side ≡ gain_of (to_z w64 (of_z w64 (get_or s k (pos 0)))) d → shared ≡ shared_gain row (drop (k + 1) s) d → GainAdds row s k d side shared
+    side ≡ gain_of (to_z w64 (of_z w64 (get_or s k (pos 0)))) d → shared ≡ shared_gain row (drop (k + 1) s) d →
+    PartsAdd (row_gain row (drop k s) d) side shared
 gain-adds row s k d side shared fits side_is shared_is =
     let below : k < length s = omega arith in
     let t : ℤ = get_or s k (pos 0) in
@@ -241,10 +226,4 @@ gain-adds row s k d side shared fits side_is shared_is =
     let high = gain_of-most t d in
     let shared_least = shared_gain-positive row ts d fits.positive in
     let shared_greatest = shared_gain-most row ts d fits.positive in
-    record {
-      sum = omega (arith, ints);
-      side_low = omega (arith, ints);
-      side_high = omega (arith, ints);
-      shared_low = omega (arith, ints);
-      shared_high = omega (arith, ints);
-    }
+    parts-add _ side shared (omega (arith, ints)) (omega (arith, ints)) (omega (arith, ints)) (omega (arith, ints))

@@ -4,6 +4,7 @@ use Rattle.std.specs.Prelude.{IsTrue, ◌==◌}
 use Rattle.std.proofs.lemmas.Int.{ints}
 use Rattle.benefit_rows.specs.Benefits.{rank_of}
 use Rattle.benefit_rows.specs.BenefitLaws.{rank_of-positive}
+use Rattle.max_two_sat.proofs.RunningSums.{PartsAdd, parts-add}
 use Rattle.dp_model.specs.Dp.{IsAllowed}
 use Rattle.dp_model.specs.Gaps.{IsStateOf}
 use Rattle.max_two_sat.specs.declared.weights.PairWeights.{PairWeights}
@@ -104,47 +105,21 @@ words-some (suc n) h = refl
 
 -- the sums that are made
 
-pub record RootValueAdds (i : Instance) (lesser : ℤ) : Type 0 where
-  pub sum : i.tautologies +ℤ lesser ≡ i.tautologies +ℤ lesser_units i.units
-  pub low : pos 0 ≤ℤ lesser
-  pub high : lesser ≤ℤ pos (2 ^ 48)
-  pub tautologies_low : pos 0 ≤ℤ i.tautologies
-  pub tautologies_high : i.tautologies ≤ℤ pos (2 ^ 48)
-
-pub root-value-adds : (i : Instance) (lesser : ℤ) → IsKept i → lesser ≡ lesser_units i.units → RootValueAdds i lesser
+pub root-value-adds : (i : Instance) (lesser : ℤ) → IsKept i → lesser ≡ lesser_units i.units → PartsAdd (i.tautologies +ℤ lesser_units i.units) i.tautologies lesser
 root-value-adds i lesser kept is =
     let low = lesser_units-positive i.units kept.units in
     let most = lesser_units-most i.units kept.units in
-    let units = units_total-positive i.units kept.units in
     let pairs = pairs_total-positive i.pairs kept.pairs in
-    record {
-      sum = ap (λ z. i.tautologies +ℤ z) is;
-      low = omega (arith, ints);
-      high = omega (arith, ints, kept.total, kept.tautologies);
-      tautologies_low = kept.tautologies;
-      tautologies_high = omega (arith, ints, kept.total);
-    }
-
-pub record RoughAdds (i : Instance) (k : ℕ) (s : List ℤ) (rank later : ℤ) : Type 0 where
-  pub sum : rank +ℤ later ≡ rank_of (drop k s) +ℤ rows_total (drop k (rows_of (length i.units) i.pairs))
-  pub rank_low : pos 0 ≤ℤ rank
-  pub rank_high : rank ≤ℤ pos (2 ^ 48)
-  pub later_low : pos 0 ≤ℤ later
-  pub later_high : later ≤ℤ pos (2 ^ 48)
+    parts-add _ i.tautologies lesser (ap (λ z. i.tautologies +ℤ z) is) kept.tautologies (omega (arith, ints)) (omega (arith, ints, kept.total))
 
 pub rough-adds : (i : Instance) (k : ℕ) (s laters : List ℤ) (rank later : ℤ) → IsKept i → IsStateOf (program_of i) k s →
-    laters ≡ later_totals (rows_of (length i.units) i.pairs) → rank ≡ rank_of (drop k s) → later ≡ get_or laters k later → RoughAdds i k s rank later
+    laters ≡ later_totals (rows_of (length i.units) i.pairs) → rank ≡ rank_of (drop k s) → later ≡ get_or laters k later →
+    PartsAdd (rank_of (drop k s) +ℤ rows_total (drop k (rows_of (length i.units) i.pairs))) rank later
 rough-adds i k s laters rank later kept state summed rank_is later_is =
     let has = layer-has i k s kept state in
     let there : later ≡ rows_total (drop k (rows_of (length i.units) i.pairs)) = later_is ∙ later-read i laters k later summed state.layer in
     let low = rank_of-positive (drop k s) in
-    record {
-      sum = omega (arith, ints);
-      rank_low = omega (arith, ints);
-      rank_high = omega (arith, ints);
-      later_low = omega (arith, ints);
-      later_high = omega (arith, ints);
-    }
+    parts-add _ rank later (omega (arith, ints)) (omega (arith, ints)) (omega (arith, ints, has.later_low)) (omega (arith, ints, has.rough))
 
 pub words-over : (n : ℕ) → n ≤ words_of n
 words-over zero = omega arith

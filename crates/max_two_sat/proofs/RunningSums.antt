@@ -26,3 +26,20 @@ sum-grows whole left part rest total cut part_low rest_low high before = record 
 -- where nothing is left, the sum so far is the whole
 pub sum-done : (whole left total : ℤ) → left ≡ pos 0 → total +ℤ left ≡ whole → total ≡ whole
 sum-done whole left total none before = omega (arith, ints)
+
+-- two parts of a whole, neither of them negative, and both small
+pub record PartsAdd (whole first second : ℤ) : Type 0 where
+  pub sum : first +ℤ second ≡ whole
+  pub first_low : pos 0 ≤ℤ first
+  pub first_high : first ≤ℤ pos (2 ^ 50)
+  pub second_low : pos 0 ≤ℤ second
+  pub second_high : second ≤ℤ pos (2 ^ 50)
+
+pub parts-add : (whole first second : ℤ) → first +ℤ second ≡ whole → pos 0 ≤ℤ first → pos 0 ≤ℤ second → whole ≤ℤ pos (2 ^ 50) → PartsAdd whole first second
+parts-add whole first second sum first_low second_low high = record {
+  sum = sum;
+  first_low = first_low;
+  first_high = omega (arith, ints);
+  second_low = second_low;
+  second_high = omega (arith, ints);
+}
