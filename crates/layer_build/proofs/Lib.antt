@@ -6,3 +6,5 @@ pub mod Ordered
 pub mod Landed
 pub mod Joins
 pub mod Exactness
+pub mod Shown
+pub mod Written

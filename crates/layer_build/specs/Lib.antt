@@ -3,3 +3,4 @@ pub mod Extending
 pub mod Ordering
 pub mod Following
 pub mod Joining
+pub mod Expanding

@@ -7,11 +7,11 @@ use Rattle.dp_model.specs.Lists.{Each}
 use Rattle.dp_laws.specs.Extensions.{all_joined}
 use Rattle.dp_laws.specs.ReductionOrder.{in_order}
 use Rattle.dp_laws.specs.Sorting.{at}
-use Rattle.layer_build.specs.Stored.{Made, prefix_of, pathless}
+use Rattle.layer_build.specs.Stored.{Made, prefix_of, pathless, made_at}
 
 -- the rank that the candidate at the place keeps
 abbrev pub rank_at : List Made → ℕ → ℤ
-rank_at cs i = (slice_index_or cs i (record { row = []; value = pos 0; rank = pos 0; exact = false; parent = 0; decision = 0 })).rank
+rank_at cs i = (made_at cs i).rank
 
 -- whether a value at a place is greater than another, or the same at an earlier place
 abbrev pub leads : ℤ → ℕ → ℤ → ℕ → Bool

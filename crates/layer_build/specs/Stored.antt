@@ -1,5 +1,5 @@
 -- Nodes and candidates in memory, and the nodes and prefixes that they stand for.
-use Rattle.std.specs.Prelude.{ℕ, ◌+◌, ℤ, Bool, List, [], ◌∷◌, ◌++◌, map, Option}
+use Rattle.std.specs.Prelude.{ℕ, ◌+◌, ℤ, pos, Bool, false, List, [], ◌∷◌, ◌++◌, map, slice_index_or, Option}
 use Rattle.dp_model.specs.Reached.{Reached}
 use Rattle.diagram_laws.specs.declared.arc.DdArc.{DdArc}
 use Rattle.diagram_laws.specs.Nodes.{DdNode}
@@ -48,3 +48,11 @@ prefix_of paths c = record { decisions = path_below paths c.parent c.decision; r
 -- the candidates as prefixes of which no path is known
 abbrev pub pathless : List Made → List Reached
 pathless cs = map (prefix_of (λ _. [])) cs
+
+-- the candidate at the place, and one without cells where there is none
+abbrev pub made_at : List Made → ℕ → Made
+made_at cs i = slice_index_or cs i (record { row = []; value = pos 0; rank = pos 0; exact = false; parent = 0; decision = 0 })
+
+-- a node of the layer below, with its path
+abbrev pub shown_below : (ℕ → List ℕ) → Stored → DdNode
+shown_below paths node = shown (path_below paths node.parent node.decision) node

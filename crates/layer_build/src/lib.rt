@@ -12,6 +12,7 @@ mod joining;
 mod landing;
 mod node;
 mod ordering;
+mod writing;
 
 pub use candidate::Candidate;
 pub use extending::extend_layer;

@@ -1,0 +1,50 @@
+-- The kept candidates are written, one after another.
+use Rattle.std.proofs.Common.{◌≡◌, ℕ, zero, suc, ◌+◌, ◌<◌, Bool, false, pos, List, [], ◌∷◌, ◌++◌, length, map, take, drop, set, get_or, Option, None, refl, sym, ◌∙◌, ap, ap₂, subst, append_assoc, append-nil, arith}
+use Rattle.std.proofs.lemmas.List.{take_more_set, drop_more, drop_all, take_all, length-set, map-append}
+use Rattle.std.proofs.Math.Seq.{map-set_same}
+use Rattle.dp_model.specs.Lists.{Each}
+use Rattle.layer_build.specs.Stored.{Stored, Made, made_at, shown_below}
+use Rattle.layer_build.specs.Expanding.{node_from, kept_nodes, AreWritten}
+use Rattle.layer_build.proofs.Extended.{each-set}
+use Rattle.layer_build.proofs.Joins.{get_or-any}
+use Rattle.layer_build.proofs.Ordered.{each-get}
+
+-- a node that is written from a candidate
+abbrev pub from_candidate : Made → Bool → Stored → Stored
+from_candidate c e node = record node { row = c.row; value = c.value; exact = e; parent = c.parent; decision = c.decision; arcs = []; suffix = None }
+
+made-is-at : (cs : List Made) (p : ℕ) (c : Made) → p < length cs → c ≡ get_or cs p c → made_at cs p ≡ c
+made-is-at cs p c less is = get_or-any cs p _ c less ∙ sym is
+
+pub written-none : (cs : List Made) (kept : List ℕ) (marks : List Bool) (old : List Stored) → AreWritten cs kept marks old old 0
+written-none cs kept marks old = record { size = refl; written = λ paths. refl; cells = λ words a b. b; rooms = refl }
+
+pub written-more : (cs : List Made) (kept : List ℕ) (marks : List Bool) (old now : List Stored) (i : ℕ) (c : Made) (x y : Stored) (d : ℕ) (b : Bool) → AreWritten cs kept marks old now i
+    → i < length kept → length marks ≡ length kept → i < length old → get_or kept i d < length cs → c ≡ get_or cs (get_or kept i d) c → x ≡ get_or now i x → y ≡ from_candidate c (get_or marks i b) x
+    → AreWritten cs kept marks old (set now i y) (i + 1)
+written-more cs kept marks old now i c x y d b h more same inside less is here put =
+    let p = get_or kept i d in
+    let e = get_or marks i b in
+    let within : i < length now = (let size = h.size in omega arith) in
+    record {
+      size = length-set now i y ∙ h.size;
+      written = λ paths. (
+          let rest = kept_nodes paths cs (drop (i + 1) kept) (drop (i + 1) marks) in
+          let left : kept_nodes paths cs (drop i kept) (drop i marks) ≡ node_from paths (made_at cs p) e ∷ rest =
+          ap₂ (kept_nodes paths cs) (drop_more kept i d more) (drop_more marks i b (omega arith)) in
+          let one : shown_below paths y ≡ node_from paths (made_at cs p) e = ap (shown_below paths) put ∙ ap (λ m. node_from paths m e) (sym (made-is-at cs p c less is)) in
+          ap (λ l. map (shown_below paths) l ++ rest) (take_more_set now i y within)
+          ∙ (ap (λ l. l ++ rest) (map-append (shown_below paths) (take i now) (y ∷ []))
+          ∙ (append_assoc (map (shown_below paths) (take i now)) (shown_below paths y ∷ []) rest
+          ∙ (ap (λ l. map (shown_below paths) (take i now) ++ l) (ap (λ n. n ∷ rest) one ∙ sym left) ∙ h.written paths))));
+      cells = λ words cells nodes. each-set (λ (n : Stored). length n.row ≡ words) now i y
+          (ap (λ (n : Stored). length n.row) put ∙ (ap (λ (m : Made). length m.row) is ∙ each-get (λ (m : Made). length m.row ≡ words) cs p c cells less)) (h.cells words cells nodes);
+      rooms = map-set_same (λ (n : Stored). n.room) now i y x (ap (λ (n : Stored). n.room) put ∙ ap (λ (n : Stored). n.room) here) ∙ h.rooms;
+    }
+
+pub written-all : (cs : List Made) (kept : List ℕ) (marks : List Bool) (old now : List Stored) (i : ℕ) → AreWritten cs kept marks old now i → i ≡ length kept
+    → (paths : ℕ → List ℕ) → map (shown_below paths) (take (length kept) now) ≡ kept_nodes paths cs kept marks
+written-all cs kept marks old now i h end paths =
+    let none = drop_all i kept (omega arith) in
+    sym (append-nil (map (shown_below paths) (take (length kept) now)))
+    ∙ (ap₂ (λ n l. map (shown_below paths) (take n now) ++ kept_nodes paths cs l (drop i marks)) (sym end) (sym none) ∙ h.written paths)
