@@ -8,3 +8,4 @@ pub mod Joins
 pub mod Exactness
 pub mod Shown
 pub mod Written
+pub mod Expansions

@@ -1,15 +1,13 @@
 -- What is made in memory is the layer of the rules, whatever the paths are.
-use Rattle.std.proofs.Common.{◌≡◌, ◌≢◌, ℕ, zero, suc, ◌+◌, ◌<◌, ◌≤◌, nat_lt, ℤ, pos, ◌+ℤ◌, Bool, true, false, not, cond, ◌&&◌, ◌||◌, List, [], ◌∷◌, ◌++◌, length, map, filter, get_or, slice_get, position, Option, Some, None, option_and_then, option_map, refl, sym, ◌∙◌, ap, ap₂, subst, append_assoc, length-append, arith}
+use Rattle.std.proofs.Common.{◌≡◌, ◌≢◌, ℕ, zero, suc, ◌+◌, ◌<◌, nat_lt, ℤ, pos, Bool, true, false, not, cond, ◌&&◌, ◌||◌, List, [], ◌∷◌, ◌++◌, length, map, slice_get, position, Option, Some, None, option_and_then, refl, sym, ◌∙◌, ap, ap₂, subst, append_assoc, length-append, arith}
 use Rattle.std.proofs.lemmas.List.{map-append, length-map}
-use Rattle.std.proofs.lemmas.Option.{slice_get-map, slice_get-get_or}
-use Rattle.std.specs.List.{flat_map}
-use Rattle.dp_model.specs.Decisions.{below}
+use Rattle.std.proofs.lemmas.Option.{slice_get-get_or}
 use Rattle.dp_model.specs.Dp.{Dp}
-use Rattle.dp_model.specs.Lists.{Each, OneOf}
+use Rattle.dp_model.specs.Lists.{Each}
 use Rattle.dp_model.specs.Reached.{Reached}
 use Rattle.dp_model.specs.Rows.{row_same}
-use Rattle.dp_model.proofs.Members.{Has, one-of-has, Each-append}
-use Rattle.dp_laws.specs.Extensions.{extended, extensions, candidates, all_joined}
+use Rattle.dp_model.proofs.Members.{one-of-has, Each-append}
+use Rattle.dp_laws.specs.Extensions.{extended, candidates, all_joined}
 use Rattle.dp_laws.specs.Pairs.{EachTwo}
 use Rattle.dp_laws.specs.ReductionOrder.{in_order}
 use Rattle.dp_laws.specs.Sorting.{at}
@@ -21,12 +19,12 @@ use Rattle.diagram_laws.specs.Seen.{decisions_at}
 use Rattle.diagram_laws.proofs.Places.{same-Some, Has-at}
 use Rattle.layer_rules.specs.Expanding.{makes, is_exact_row, node_for, new_layer, arc_of, with_arcs}
 use Rattle.layer_rules.specs.Landings.{Landing, landed_at, landed}
-use Rattle.layer_rules.proofs.Expanded.{RowsApart, FoundAt, found-row, one-place, new-apart}
+use Rattle.layer_rules.proofs.Expanded.{RowsApart, found-row, one-place, new-apart}
 use Rattle.layer_build.specs.Stored.{Stored, Made, shown, shown_from, prefix_of, pathless, made_at}
 use Rattle.layer_build.specs.Expanding.{node_from, kept_nodes}
 use Rattle.layer_build.specs.Extending.{made_from, allowed_below, made_by, all_made, arc_to, arcs_to, all_with_arcs_to}
 use Rattle.layer_build.specs.Following.{landing_of, with_landed}
-use Rattle.layer_build.specs.Joining.{row_at, rows_at, landing_at, LandsIn, AllLand, all_exact}
+use Rattle.layer_build.specs.Joining.{row_at, rows_at, landing_at, AllLand, all_exact}
 use Rattle.layer_build.specs.Ordering.{KeepsRank, KeepsBest}
 use Rattle.layer_build.proofs.Exactness.{map-same}
 use Rattle.layer_build.proofs.Ordered.{prefixes, at-row}

@@ -1,8 +1,7 @@
 -- The kept candidates are written, one after another.
-use Rattle.std.proofs.Common.{◌≡◌, ℕ, zero, suc, ◌+◌, ◌<◌, Bool, false, pos, List, [], ◌∷◌, ◌++◌, length, map, take, drop, set, get_or, Option, None, refl, sym, ◌∙◌, ap, ap₂, subst, append_assoc, append-nil, arith}
-use Rattle.std.proofs.lemmas.List.{take_more_set, drop_more, drop_all, take_all, length-set, map-append}
+use Rattle.std.proofs.Common.{◌≡◌, ℕ, ◌+◌, ◌<◌, Bool, List, [], ◌∷◌, ◌++◌, length, map, take, drop, set, get_or, None, refl, sym, ◌∙◌, ap, ap₂, append_assoc, append-nil, arith}
+use Rattle.std.proofs.lemmas.List.{take_more_set, drop_more, drop_all, length-set, map-append}
 use Rattle.std.proofs.Math.Seq.{map-set_same}
-use Rattle.dp_model.specs.Lists.{Each}
 use Rattle.layer_build.specs.Stored.{Stored, Made, made_at, shown_below}
 use Rattle.layer_build.specs.Expanding.{node_from, kept_nodes, AreWritten}
 use Rattle.layer_build.proofs.Extended.{each-set}

@@ -1,7 +1,10 @@
 -- The kept candidates as the nodes of the next layer.
-use Rattle.std.specs.Prelude.{◌≡◌, ℕ, Bool, List, [], ◌∷◌, ◌++◌, length, map, take, drop, None}
+use Rattle.std.specs.Prelude.{◌≡◌, ℕ, Bool, List, [], ◌∷◌, ◌++◌, length, map, take, drop, Option, None}
 use Rattle.dp_model.specs.Lists.{Each}
 use Rattle.diagram_laws.specs.Nodes.{DdNode}
+use Rattle.layer_rules.specs.Landings.{Landing}
+use Rattle.layer_build.specs.Following.{with_landed}
+use Rattle.layer_build.specs.Joining.{AllLand}
 use Rattle.layer_build.specs.Stored.{Stored, Made, path_below, made_at, shown_below}
 
 -- a candidate as a node without arcs, where the layer above has these paths
@@ -26,3 +29,10 @@ pub record AreWritten (cs : List Made) (kept : List ℕ) (marks : List Bool) (ol
   pub written : (paths : ℕ → List ℕ) → map (shown_below paths) (take i now) ++ kept_nodes paths cs (drop i kept) (drop i marks) ≡ kept_nodes paths cs kept marks
   pub cells : (words : ℕ) → Each (λ c. length c.row ≡ words) cs → Each (λ n. length n.row ≡ words) old → Each (λ n. length n.row ≡ words) now
   pub rooms : map (λ n. n.room) now ≡ map (λ n. n.room) old
+
+-- the arcs of a layer have followed its candidates to the kept ones
+pub record HaveFollowed (cs : List Made) (kept : List ℕ) (old new : List Stored) : Type 0 where
+  pub landings : List (Option Landing)
+  pub long : length landings ≡ length cs
+  pub all : AllLand cs kept landings
+  pub arcs : new ≡ map (with_landed landings) old

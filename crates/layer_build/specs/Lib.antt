@@ -4,3 +4,4 @@ pub mod Ordering
 pub mod Following
 pub mod Joining
 pub mod Expanding
+pub mod Bench

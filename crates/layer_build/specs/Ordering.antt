@@ -1,5 +1,5 @@
 -- Rules 2 and 4: how candidates are ordered by their ranks in memory.
-use Rattle.std.specs.Prelude.{◌≡◌, ℕ, ℤ, pos, nat_lt, int_lt, Bool, false, ◌&&◌, ◌||◌, List, [], map, slice_index_or}
+use Rattle.std.specs.Prelude.{◌≡◌, ℕ, ℤ, nat_lt, int_lt, Bool, ◌&&◌, ◌||◌, List, [], map}
 use Rattle.dp_model.specs.Dp.{Dp}
 use Rattle.dp_model.specs.Numbers.{int_same}
 use Rattle.dp_model.specs.Rows.{row_smaller}
@@ -36,3 +36,9 @@ KeepsRank dp k c = c.rank ≡ dp.rank k c.row
 abbrev pub KeepsBest : List Made → List ℕ → Type 0
 KeepsBest cs kept = (dp : Dp) (k : ℕ) (paths : ℕ → List ℕ) → Each (KeepsRank dp k) cs
     → map (at (map (prefix_of paths) cs)) kept ≡ in_order dp k (all_joined [] (map (prefix_of paths) cs))
+
+-- all candidates keep the ranks of one layer of one program
+pub record AreRanked (cs : List Made) : Type 0 where
+  pub dp : Dp
+  pub layer : ℕ
+  pub ranks : Each (KeepsRank dp layer) cs

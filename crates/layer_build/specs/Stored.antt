@@ -56,3 +56,7 @@ made_at cs i = slice_index_or cs i (record { row = []; value = pos 0; rank = pos
 -- a node of the layer below, with its path
 abbrev pub shown_below : (ℕ → List ℕ) → Stored → DdNode
 shown_below paths node = shown (path_below paths node.parent node.decision) node
+
+-- all of a node but its arcs
+abbrev pub without_arcs : Stored → Stored
+without_arcs node = record node { arcs = [] }

@@ -4,6 +4,8 @@
 //! the layer above and its decision in place of a path, so contracts speak of all paths that the layer above may have.
 #![tactic(auto)]
 
+mod arranging;
+mod bench;
 mod candidate;
 mod comparing;
 mod extending;
@@ -14,6 +16,7 @@ mod node;
 mod ordering;
 mod writing;
 
+pub use bench::Bench;
 pub use candidate::Candidate;
 pub use extending::extend_layer;
 pub use node::Node;

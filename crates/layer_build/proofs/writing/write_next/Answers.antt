@@ -1,5 +1,4 @@
-use Rattle.std.proofs.Common.{◌≡◌, ◌<◌, ℕ, Bool, false, length, get_or, sym, ◌∙◌, ap, subst, arith}
-use Rattle.dp_model.specs.Lists.{Each}
+use Rattle.std.proofs.Common.{◌≡◌, ◌<◌, false, length, get_or, sym, ◌∙◌, ap, arith}
 use Rattle.layer_build.specs.Stored.{Stored, Made}
 use Rattle.layer_build.proofs.Ordered.{each-get}
 use Rattle.layer_build.proofs.Written.{from_candidate, written-more}

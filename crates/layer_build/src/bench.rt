@@ -1,0 +1,112 @@
+ghost use Rattle.std.specs.Prelude.{◌≡◌, ℕ, ◌*◌, ◌<◌, ◌≤◌, ◌^◌, List, [], length, map, IfOk, vec_len};
+ghost use Rattle.dp_model.specs.Lists.{Each};
+ghost use Rattle.layer_rules.specs.Compiling.{expand};
+ghost use Rattle.layer_build.specs.Stored.{Made, shown_layer, without_arcs};
+ghost use Rattle.layer_build.specs.Extending.{IsParent};
+ghost use Rattle.layer_build.specs.Bench.{next_of};
+
+use crate::arranging::settle;
+use crate::candidate::Candidate;
+use crate::extending::extend_layer;
+use crate::landing::Landing;
+use crate::node::Node;
+use dp_model::{DpModel, OutOfMemory};
+use std::alloc::Global;
+use std::marker::Model;
+
+/// The candidates of a layer, and what orders and joins them. All of it is made once and used again.
+#[derive(Debug, Drop)]
+pub struct Bench {
+    words: usize,
+    used: usize,
+    pool: Vec<Candidate>,
+    sorted: Vec<usize>,
+    kept: Vec<usize>,
+    landings: Vec<Option<Landing>>,
+    exact: Vec<bool>,
+}
+
+impl Model for Bench {
+    ghost use Rattle.std.specs.Prelude.{take, vec_len, vec_capacity};
+    ghost use Rattle.layer_build.specs.Bench.{BenchView, HasBench};
+
+    ghost Value = { BenchView };
+
+    ghost view = { λ b. record {
+      words = b.words;
+      room = vec_len b.pool;
+      candidates = take b.used b.pool.items;
+      kept = b.kept.items;
+      marks = b.exact.items;
+    } };
+
+    ghost invariant = { λ b. HasBench b.words b.used b.pool.items (vec_capacity b.sorted) (vec_capacity b.kept) b.kept.items (vec_len b.landings) (vec_capacity b.exact) b.exact.items };
+}
+
+/// So many candidates with rows of so many cells.
+fn candidates(alloc: Global, words: usize, count: usize) -> Result<Vec<Candidate>, OutOfMemory>
+    ensures len { IfOk result (λ pool. vec_len pool ≡ count) }
+    ensures cells { IfOk result (λ pool. Each (λ c. length c.row ≡ words) pool.items) }
+{
+    let mut pool = Vec::with_capacity(alloc, count)?;
+    'pool: for _ in 0..count {
+        pool.push_reserved(Candidate::blank(alloc, words)?);
+    }
+    Ok(pool)
+}
+
+/// So many places to land at, none of them known.
+fn landings(alloc: Global, count: usize) -> Result<Vec<Option<Landing>>, OutOfMemory>
+    ensures { IfOk result (λ landings. vec_len landings ≡ count) }
+{
+    let mut landings = Vec::with_capacity(alloc, count)?;
+    'landings: for _ in 0..count {
+        landings.push_reserved(None);
+    }
+    Ok(landings)
+}
+
+impl Bench {
+    /// A bench without candidates, with room for so many, whose rows have so many cells.
+    pub fn prepare(alloc: Global, words: usize, room: usize) -> Result<Bench, OutOfMemory>
+        requires { room ≤ 2 ^ 32 }
+        ensures { IfOk result (λ bench. bench ≡ record { words = words; room = room; candidates = []; kept = []; marks = [] }) }
+    {
+        let pool = candidates(alloc, words, room)?;
+        let landings = landings(alloc, room)?;
+        Ok(Bench {
+            words,
+            used: 0,
+            pool,
+            sorted: Vec::with_capacity(alloc, room)?,
+            kept: Vec::with_capacity(alloc, room)?,
+            landings,
+            exact: Vec::with_capacity(alloc, room)?,
+        })
+    }
+
+    /// Expands the layer at depth `k` by rules 1 to 4: its nodes get their arcs, and the kept candidates are the nodes of the
+    /// next layer, whatever the paths of the nodes above are. Nothing else of them changes, and it takes no memory.
+    pub fn expand<M: DpModel>(&mut self, model: &M, k: usize, above: &mut [Node])
+        requires layer { k < (M.meaning (M.numbers model.now)).vars }
+        requires words { self.old.words ≡ (M.meaning (M.numbers model.now)).words }
+        requires room { length above.old * (M.meaning (M.numbers model.now)).choices k ≤ self.old.room }
+        requires parents { Each (IsParent (M.meaning (M.numbers model.now)) k) above.old }
+        ensures above { (paths : ℕ → List ℕ) → shown_layer paths above.new ≡ (expand (M.meaning (M.numbers model.now)) k (shown_layer paths above.old)).above }
+        ensures next { (paths : ℕ → List ℕ) → next_of paths self.new ≡ (expand (M.meaning (M.numbers model.now)) k (shown_layer paths above.old)).next }
+        ensures rest { map without_arcs above.new ≡ map without_arcs above.old }
+        ensures words { self.new.words ≡ self.old.words }
+        ensures room { self.new.room ≡ self.old.room }
+    {
+        let used = extend_layer(model, k, above, self.pool.as_mut_slice());
+        self.used = used;
+        settle(
+            &self.pool.as_slice()[..used],
+            above,
+            &mut self.sorted,
+            &mut self.kept,
+            self.landings.as_mut_slice(),
+            &mut self.exact,
+        );
+    }
+}
