@@ -3,6 +3,7 @@ use Rattle.std.proofs.Common.{◌≡◌, ◌≢◌, ℕ, ◌+◌, ◌<◌, ◌�
 use Rattle.std.specs.Prelude.{is_some, unwrap_or}
 use Rattle.std.proofs.lemmas.Int.{ints}
 use Rattle.std.proofs.lemmas.Bool.{cases_eq, cases_lt, false≢true, and_parts, and_from, or_left, or_right, cases_Bool, ne_eqb, leb-true, le-leb}
+use Rattle.std.proofs.Math.Bool.{and-or_distrib_right}
 use Rattle.node_sets.specs.Sums.{sum_below, count_below}
 use Rattle.node_sets.specs.Sets.{words_for}
 use Rattle.node_sets.proofs.Below.{sum_below-same, sum_below-removed, sum_below-none}
@@ -122,23 +123,9 @@ moved-covers i a b d c l = record {
 }
   where
     part : (x y z w keep : Bool) → ((z || w) ≡ true → (x || y) ≡ true) → ((z && keep) || (w && keep)) ≡ true → ((x && keep) || (y && keep)) ≡ true
-    part x y true w true h e = both x y (h refl)
-      where
-        both : (x y : Bool) → (x || y) ≡ true → ((x && true) || (y && true)) ≡ true
-        both true y e = refl
-        both false true e = refl
-        both false false e = e
-    part x y false true true h e = both x y (h refl)
-      where
-        both : (x y : Bool) → (x || y) ≡ true → ((x && true) || (y && true)) ≡ true
-        both true y e = refl
-        both false true e = refl
-        both false false e = e
-    part x y false false true h e = absurd (false≢true e)
-    part x y true true false h e = absurd (false≢true e)
-    part x y true false false h e = absurd (false≢true e)
-    part x y false true false h e = absurd (false≢true e)
-    part x y false false false h e = absurd (false≢true e)
+    part x y z w keep h e =
+        let left = and_parts (z || w) keep (and-or_distrib_right z w keep ∙ e) in
+        sym (and-or_distrib_right x y keep) ∙ and_from (x || y) keep (h left.0) left.1
 
 follows-visit : (i : Instance) (k : ℕ) (a b : TourState) (d : ℕ) → Covers i.nodes a b → IsGone i k b d → k + 1 < i.nodes → Follows i k a b d
 follows-visit i k a b d c g l =
