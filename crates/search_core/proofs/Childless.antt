@@ -4,7 +4,8 @@ use Rattle.std.proofs.lemmas.Int.{ints}
 use Rattle.std.specs.Prelude.{IsSome}
 use Rattle.dp_model.specs.Numbers.{AtMost}
 use Rattle.dp_model.specs.Prefixes.{value_of}
-use Rattle.search_core.specs.Board.{Ticketed, BoardState, incumbent_value, slot_at}
+use Rattle.shared_fringe.specs.Tickets.{Ticketed}
+use Rattle.search_core.specs.Board.{BoardState, incumbent_value, slot_at}
 use Rattle.search_core.specs.Finishing.{MayFinish}
 use Rattle.search_core.specs.Ones.{ones, gains}
 

@@ -10,7 +10,8 @@ use Rattle.dp_model.proofs.Members.{Each-map, Each-then}
 use Rattle.dp_laws.specs.Antichains.{NeitherBegins, IsExtension}
 use Rattle.dp_laws.specs.Pairs.{EachTwo}
 use Rattle.dp_laws.proofs.Counting.{sum-map, pots-below, pots-positive}
-use Rattle.search_core.specs.Board.{Ticketed, prefixes}
+use Rattle.shared_fringe.specs.Tickets.{Ticketed}
+use Rattle.search_core.specs.Board.{prefixes}
 use Rattle.search_core.specs.GoodBoard.{AreApart, pot_of, rest_of}
 use Rattle.search_core.proofs.Lists.{two-map}
 

@@ -16,9 +16,10 @@ use Rattle.dp_model.specs.Prefixes.{IsSolution, IsContinuation, value_of, gain_o
 use Rattle.dp_model.specs.Subproblem.{IsOwn}
 use Rattle.dp_laws.specs.Pairs.{EachTwo}
 use Rattle.dp_laws.proofs.Counting.{pots-positive}
-use Rattle.search_core.specs.Board.{Ticketed, value_held, full_slots, prefixes}
-use Rattle.search_core.specs.GoodBoard.{AreApart, IncumbentHolds, IsEarlier, IsGood, pot_of, rest_of}
-use Rattle.search_core.specs.Steps.{root_with, root_of, opened, empty_slots, first_incumbent, first_open, first_board}
+use Rattle.shared_fringe.specs.Tickets.{Ticketed, IsEarlier}
+use Rattle.search_core.specs.Board.{value_held, full_slots, prefixes}
+use Rattle.search_core.specs.GoodBoard.{AreApart, IncumbentHolds, IsGood, pot_of, rest_of}
+use Rattle.search_core.specs.Steps.{root_with, root_of, opened, empty_slots, first_incumbent, first_open, fresh_board, first_board}
 use Rattle.search_core.proofs.Frontier.{HeldBy}
 use Rattle.search_core.proofs.Lists.{two-then}
 
@@ -44,7 +45,7 @@ record Begins (dp : Dp) (best : Option Best) (os : List Ticketed) : Type 0 where
   pub shares : length os + sum_by (rest_of dp) os ≤ tree dp
 
 begin : (dp : Dp) (best : Option Best) (os : List Ticketed) (slots : List (Option Ticketed)) (budget : ℕ) → full_slots slots ≡ [] → Begins dp best os
-    → IsGood dp (record { incumbent = best; open_ones = os; slots = slots; taken = 0; finished = 0; budget = budget; next_ticket = length os; cause = None })
+    → IsGood dp (fresh_board best os slots budget)
 begin dp best os slots budget none s =
     let same : os ≡ full_slots slots ++ os = ap (λ l. l ++ os) (sym none) in
     let empty : length (full_slots slots) ≡ 0 = ap length none in

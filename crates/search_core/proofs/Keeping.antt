@@ -1,5 +1,5 @@
 -- What the fields of a board keep under each step.
-use Rattle.std.proofs.Common.{◌≡◌, ◌≢◌, ℕ, zero, suc, ◌+◌, ◌<◌, ◌≤◌, ℤ, List, [], ◌∷◌, length, set, get_or, Bool, true, false, cond, Option, Some, None, refl, sym, ◌∙◌, ap, subst, IsTrue, length-set, length-append, arith}
+use Rattle.std.proofs.Common.{◌≡◌, ℕ, zero, suc, ◌+◌, ◌<◌, ◌≤◌, ℤ, List, [], ◌∷◌, length, set, get_or, Bool, true, false, cond, Option, Some, None, refl, sym, ◌∙◌, ap, subst, IsTrue, length-set, length-append, arith}
 use Rattle.std.proofs.lemmas.Option.{slice_get_read}
 use Rattle.std.specs.List.{slice_get, remove}
 use Rattle.std.specs.Prelude.{is_some, IsSome, int_lt, ◌^◌}
@@ -9,24 +9,26 @@ use Rattle.dp_model.specs.Numbers.{is_above}
 use Rattle.dp_model.specs.Prefixes.{IsSolution, value_of, state_of}
 use Rattle.dp_model.specs.Subproblem.{Subproblem, Roomy, IsOwn}
 use Rattle.dp_model.proofs.Paths.{state_of-state}
+use Rattle.shared_fringe.specs.Firsts.{first_taken}
+use Rattle.shared_fringe.specs.Tickets.{Ticketed, above_value, by_ticket}
+use Rattle.shared_fringe.proofs.Tickets.{each-at, without-removed}
 use Rattle.search_core.specs.declared.cause.Cause.{Cause}
 use Rattle.search_core.specs.declared.cause.Cause.TheVariants.{Budget}
 use Rattle.search_core.specs.declared.fate.Fate.{Fate}
 use Rattle.search_core.specs.declared.taken.Taken.TheVariants.{Sub, Finished, Halted}
-use Rattle.search_core.specs.Board.{Ticketed, BoardState, incumbent_value, full_slots, slot_of, is_explored}
+use Rattle.search_core.specs.Board.{BoardState, incumbent_value, full_slots, slot_of, is_explored}
 use Rattle.search_core.specs.Fates.{fate_of, ticket_after, fates_on, fates_from, entering}
 use Rattle.search_core.specs.Finishing.{contents, MayFinish}
 use Rattle.search_core.specs.GoodBoard.{IsGood}
 use Rattle.search_core.specs.Kept.{best_of, board_of, HasRoom, IsKept}
-use Rattle.search_core.specs.Steps.{above_value, finished_by, given_back_from, given_back, by_ticket, back_among, first_board, empty_slots, first_incumbent, first_open}
-use Rattle.search_core.specs.Taking.{first_taken, take_gives, take_unless, take_open, is_budget_up, checked_out, after_answer, after_take}
+use Rattle.search_core.specs.Steps.{finished_by, given_back_from, given_back, back_among, fresh_board, first_board, empty_slots, first_incumbent, first_open}
+use Rattle.search_core.specs.Taking.{take_gives, take_unless, take_open, is_budget_up, checked_out, after_answer, after_take}
 use Rattle.search_core.proofs.First.{first-good, full-none, slots-many}
 use Rattle.search_core.proofs.Kids.{kids-few}
 use Rattle.search_core.proofs.Lists.{each-back}
-use Rattle.search_core.proofs.Slots.{slot-full, filled, emptied, removed, without-removed, with-by_ticket, at-ticket}
+use Rattle.search_core.proofs.Slots.{slot-full, filled, emptied, removed, with-by_ticket}
 use Rattle.search_core.proofs.Steps.{take-good, improve-good, finish-good, give-back-good}
 use Rattle.search_core.proofs.With.{length-with}
-use Rattle.search_core.proofs.Lists.{two-back}
 
 -- what is out or open still has room, and so have the incumbent and the states
 room-after : (dp : Dp) (b later : BoardState) (for_best for_best2 for_open for_open2 cells spare_cells : ℕ) → HasRoom dp b for_best for_open cells spare_cells → for_best ≤ for_best2
@@ -77,8 +79,7 @@ taken_out b who i o = record b { open_ones = remove b.open_ones i; slots = set b
 
 out-same : (dp : Dp) (b : BoardState) → IsGood dp b → (who i : ℕ) (o : Ticketed) → slice_get b.open_ones i ≡ Some o → checked_out b who (Some o) ≡ taken_out b who i o
 out-same dp b g who i o at =
-    let two = two-back (λ (a b : Ticketed). a.ticket ≢ b.ticket) (full_slots b.slots) b.open_ones g.tickets.distinct in
-    ap (λ os. record b { open_ones = os; slots = set b.slots who (Some o); taken = b.taken + 1 }) (without-removed b.open_ones i o at two)
+    ap (λ os. record b { open_ones = os; slots = set b.slots who (Some o); taken = b.taken + 1 }) (without-removed b.open_ones i o at g.ordered)
 
 -- that is the step
 pub take-step : (dp : Dp) (b : BoardState) → IsGood dp b → (who i : ℕ) (o : Ticketed) → take_gives b ≡ Sub → slice_get b.open_ones i ≡ Some o → slice_get b.open_ones i ≡ first_taken b.open_ones
@@ -113,7 +114,7 @@ pub record Copies (dp : Dp) (o : Ticketed) : Type 0 where
 
 pub take-copies : (dp : Dp) → IsLawful dp → (b : BoardState) → IsGood dp b → (i : ℕ) (o : Ticketed) → slice_get b.open_ones i ≡ Some o → Copies dp o
 take-copies dp laws b g i o at =
-    let own = at-ticket (λ o. IsOwn dp o.subproblem) b.open_ones i o at (each-back (λ o. IsOwn dp o.subproblem) (full_slots b.slots) b.open_ones g.own) in
+    let own = each-at (λ o. IsOwn dp o.subproblem) b.open_ones i o at (each-back (λ o. IsOwn dp o.subproblem) (full_slots b.slots) b.open_ones g.own) in
     record {
       few = (let short = own.shorter in omega arith);
       cells = ap length own.row ∙ laws.sizes.cells (length o.subproblem.decisions) (state_of dp o.subproblem.decisions) (state_of-state dp laws.states o.subproblem.decisions own.prefix);
@@ -241,10 +242,10 @@ begin-same : (dp : Dp) (decisions : List ℕ) (value : Option ℤ) (os : List Ti
     → board_of decisions value os slots 0 0 budget next None ≡ first_board dp workers budget
 begin-same dp decisions value os slots workers budget next none best opened empty many =
     ap (λ ds. board_of ds value os slots 0 0 budget next None) none
-    ∙ (ap (λ inc. record { incumbent = inc; open_ones = os; slots = slots; taken = 0; finished = 0; budget = budget; next_ticket = next; cause = None }) best
-    ∙ (ap (λ n. record { incumbent = first_incumbent dp; open_ones = os; slots = slots; taken = 0; finished = 0; budget = budget; next_ticket = n; cause = None }) many
-    ∙ (ap (λ (l : List Ticketed). record { incumbent = first_incumbent dp; open_ones = l; slots = slots; taken = 0; finished = 0; budget = budget; next_ticket = length l; cause = None }) opened
-    ∙ ap (λ l. record { incumbent = first_incumbent dp; open_ones = first_open dp; slots = l; taken = 0; finished = 0; budget = budget; next_ticket = length (first_open dp); cause = None }) empty)))
+    ∙ (ap (λ n. board_of [] value os slots 0 0 budget n None) many
+    ∙ (ap (λ inc. fresh_board inc os slots budget) best
+    ∙ (ap (λ l. fresh_board (first_incumbent dp) l slots budget) opened
+    ∙ ap (λ l. fresh_board (first_incumbent dp) (first_open dp) l budget) empty)))
 
 -- the fields that a board begins with
 pub begin-kept : (dp : Dp) → IsLawful dp → (decisions : List ℕ) (value : Option ℤ) (os : List Ticketed) (slots : List (Option Ticketed)) (workers budget next for_best for_open cells spare_cells : ℕ)

@@ -5,10 +5,9 @@ use Rattle.dp_model.specs.Numbers.{is_above}
 use Rattle.dp_model.specs.Subproblem.{Subproblem}
 use Rattle.dp_model.proofs.Members.{Each-then}
 use Rattle.dp_laws.specs.Pairs.{EachTwo}
+use Rattle.shared_fringe.specs.Tickets.{Ticketed, IsEarlier}
 use Rattle.search_core.specs.declared.fate.Fate.TheVariants.{Below, Entered}
-use Rattle.search_core.specs.Board.{Ticketed}
 use Rattle.search_core.specs.Fates.{ticket_after, fates_from, let_in, entering, tickets_after}
-use Rattle.search_core.specs.GoodBoard.{IsEarlier}
 
 -- the children that enter beside an incumbent's value, from a ticket on
 abbrev pub kids : Option ℤ → ℕ → List Subproblem → List Ticketed

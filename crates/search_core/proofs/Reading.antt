@@ -8,8 +8,10 @@ use Rattle.dp_model.specs.Lists.{Each, OneOf}
 use Rattle.dp_model.specs.Numbers.{AtMost, OptionAtMost}
 use Rattle.dp_model.specs.Prefixes.{IsSolution, value_of}
 use Rattle.dp_model.proofs.Members.{Each-then}
-use Rattle.search_core.specs.Board.{Ticketed, BoardState, incumbent_value, value_held, full_slots, frontier}
-use Rattle.search_core.specs.Bound.{raised, raised_by, bound_of, IsGreatest}
+use Rattle.shared_fringe.specs.Bounds.{raised, raised_by}
+use Rattle.shared_fringe.specs.Tickets.{Ticketed}
+use Rattle.search_core.specs.Board.{BoardState, incumbent_value, value_held, full_slots, frontier}
+use Rattle.search_core.specs.Bound.{bound_of, IsGreatest}
 use Rattle.search_core.specs.GoodBoard.{IsGood}
 use Rattle.search_core.specs.Kept.{best_of}
 use Rattle.search_core.proofs.Counting.{pots-many}

@@ -14,17 +14,19 @@ use Rattle.dp_model.specs.Subproblem.{Subproblem, IsOwn, IsChild}
 use Rattle.dp_model.proofs.Members.{Each-then, Each-append}
 use Rattle.dp_laws.specs.Pairs.{EachTwo}
 use Rattle.dp_laws.proofs.Lists.{each-filter, two-filter}
+use Rattle.shared_fringe.specs.Tickets.{Ticketed, IsEarlier, by_ticket, above_value, without}
+use Rattle.shared_fringe.proofs.Tickets.{tickets-by_ticket, without-removed}
 use Rattle.search_core.specs.declared.fate.Fate.{Fate}
-use Rattle.search_core.specs.Board.{Ticketed, BoardState, incumbent_value, full_slots, frontier, prefixes}
+use Rattle.search_core.specs.Board.{BoardState, incumbent_value, full_slots, frontier, prefixes}
 use Rattle.search_core.specs.Finishing.{MayFinish}
-use Rattle.search_core.specs.GoodBoard.{AreApart, IsEarlier, IsGood, pot_of, rest_of}
-use Rattle.search_core.specs.Steps.{finished_by, given_back_from, by_ticket, above_value}
-use Rattle.search_core.specs.Taking.{without, is_budget_up, checked_out}
+use Rattle.search_core.specs.GoodBoard.{AreApart, IsGood, pot_of, rest_of}
+use Rattle.search_core.specs.Steps.{finished_by, given_back_from}
+use Rattle.search_core.specs.Taking.{is_budget_up, checked_out}
 use Rattle.search_core.proofs.Counting.{children-below, pots-split}
 use Rattle.search_core.proofs.Frontier.{not-above, at-most-then, at-most-above, sum-moved, tickets-flip, apart-flip, MatchedBy, HeldBy, covers-by, covers-from, matched-below, FrontierHolds, frontier-holds, frontier-moved, apart-child}
 use Rattle.search_core.proofs.Kids.{kids, next_after, kids-each, kids-two, kids-above, kids-from, next-many, kids-few, kids-given, kids-ordered, kids-one}
 use Rattle.search_core.proofs.Lists.{each-front, each-back, each-passes, one-then, one-map, one-left, one-right, one-cases, one-filter, one-each, one-out, two-then, two-append, two-front, two-back, two-across, sum-filter}
-use Rattle.search_core.proofs.Slots.{slot-full, filled, emptied, full-few, removed, without-removed, with-by_ticket, ordered-with}
+use Rattle.search_core.proofs.Slots.{slot-full, filled, emptied, full-few, removed, with-by_ticket}
 use Rattle.search_core.proofs.With.{IsWith, with-left, with-right, each-out, each-in, one-out_of, two-out, sum-with, length-with}
 
 neither : (x y : Bool) → (x || y) ≡ false → (x ≡ false) × (y ≡ false)
@@ -41,8 +43,8 @@ slots-length slots who slot = length-set slots who slot
 -- Take.
 
 -- the list with the one that is taken in front of what stays, before and after
-taken-from : (b : BoardState) (i : ℕ) (o : Ticketed) → EachTwo (λ a b. a.ticket ≢ b.ticket) b.open_ones → slice_get b.open_ones i ≡ Some o → IsWith o (without o.ticket b.open_ones) b.open_ones
-taken-from b i o two at = subst (λ l. IsWith o l b.open_ones) (sym (without-removed b.open_ones i o at two)) (removed b.open_ones i o at)
+taken-from : (b : BoardState) (i : ℕ) (o : Ticketed) → EachTwo IsEarlier b.open_ones → slice_get b.open_ones i ≡ Some o → IsWith o (without o.ticket b.open_ones) b.open_ones
+taken-from b i o rise at = subst (λ l. IsWith o l b.open_ones) (sym (without-removed b.open_ones i o at rise)) (removed b.open_ones i o at)
 
 budget-left : (b : BoardState) → is_budget_up b ≡ false → (b.taken ≢ b.budget) × (b.next_ticket ≤ 2 ^ 64 - 2 ^ 29)
 budget-left b h =
@@ -57,7 +59,7 @@ take-good dp b who i o g few empty at left =
     let full2 = full_slots (set b.slots who (Some o)) in
     let rest = without o.ticket b.open_ones in
     let base = full ++ rest in
-    let out = taken-from b i o (two-back (λ (a b : Ticketed). a.ticket ≢ b.ticket) full b.open_ones g.tickets.distinct) at in
+    let out = taken-from b i o g.ordered at in
     let fill = filled b.slots who o empty in
     let from = with-left o full rest b.open_ones out in
     let to = with-right o full full2 rest fill in
@@ -300,13 +302,14 @@ back-good dp b who o g at halted true up =
     let from = with-right o full2 (full_slots b.slots) b.open_ones (emptied b.slots who o at) in
     let put = with-by_ticket o b.open_ones in
     let to = with-left o full2 b.open_ones (by_ticket o b.open_ones) put in
-    let differ = (two-out (λ (a o : Ticketed). a.ticket ≢ o.ticket) tickets-flip o base (frontier b) from g.tickets.distinct).0 in
+    let differ = Each-then (λ (x : Ticketed). o.ticket ≢ x.ticket) (λ x. x.ticket ≢ o.ticket) base (λ x h. tickets-flip o x h)
+    (two-out (λ (a o : Ticketed). a.ticket ≢ o.ticket) tickets-flip o base (frontier b) from g.tickets.distinct).0 in
     let ends = sum-moved (pot_of dp) o base (frontier b) after from to in
     let shares = sum-moved (rest_of dp) o base (frontier b) after from to in
     back-with dp b who o (by_ticket o b.open_ones) g at halted
     (frontier-moved dp inc b.next_ticket o base (frontier b) after from to (frontier-holds dp b g))
     (each-in (λ o. IsTrue (is_above inc o.subproblem.bound)) o b.open_ones (by_ticket o b.open_ones) put up g.above)
-    (ordered-with o b.open_ones g.ordered (each-back (λ (x : Ticketed). o.ticket ≢ x.ticket) full2 b.open_ones differ))
+    (tickets-by_ticket o b.open_ones (each-back (λ (x : Ticketed). x.ticket ≢ o.ticket) full2 b.open_ones differ) g.ordered)
     (omega arith) (omega arith)
 back-good dp b who o g at halted false low =
     let inc = incumbent_value b in

@@ -1,13 +1,8 @@
 -- The board as data.
 use Rattle.std.specs.Prelude.{◌≡◌, ℕ, ◌+◌, ℤ, Bool, List, [], ◌∷◌, ◌++◌, map, length, nat_eq, slice_get, Option, Some, None}
 use Rattle.dp_model.specs.Best.{Best}
-use Rattle.dp_model.specs.Subproblem.{Subproblem}
+use Rattle.shared_fringe.specs.Tickets.{Ticketed}
 use Rattle.search_core.specs.declared.cause.Cause.{Cause}
-
--- an open or checked-out subproblem with its ticket
-pub record Ticketed : Type 0 where
-  pub ticket : ℕ
-  pub subproblem : Subproblem
 
 -- the incumbent, the open ones in order of ticket, a slot for each worker, the counts, the budget and the cause of a halt
 pub record BoardState : Type 0 where

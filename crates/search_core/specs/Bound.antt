@@ -1,17 +1,9 @@
 -- The bound of a board.
-use Rattle.std.specs.Prelude.{◌≡◌, ℤ, cond, int_lt, List, [], ◌∷◌, ◌⊎◌, Option, Some, None}
+use Rattle.std.specs.Prelude.{◌≡◌, ℤ, ◌⊎◌, Option, Some}
 use Rattle.dp_model.specs.Lists.{Each, OneOf}
 use Rattle.dp_model.specs.Numbers.{AtMost, OptionAtMost}
-use Rattle.search_core.specs.Board.{Ticketed, BoardState, incumbent_value, frontier}
-
--- the greater of an option and a number, where none is less than every number
-abbrev pub raised : Option ℤ → ℤ → Option ℤ
-raised None z = Some z
-raised (Some y) z = Some (cond (int_lt y z) z y)
-
-abbrev pub raised_by : Option ℤ → List Ticketed → Option ℤ
-raised_by most [] = most
-raised_by most (o ∷ os) = raised_by (raised most o.subproblem.bound) os
+use Rattle.shared_fringe.specs.Bounds.{raised_by}
+use Rattle.search_core.specs.Board.{BoardState, incumbent_value, frontier}
 
 -- the greatest of the incumbent's value and the bounds of all that is out or open
 abbrev pub bound_of : BoardState → Option ℤ

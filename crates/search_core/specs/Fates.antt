@@ -2,9 +2,10 @@
 use Rattle.std.specs.Prelude.{ℕ, ◌+◌, ℤ, cond, List, [], ◌∷◌, Option}
 use Rattle.dp_model.specs.Numbers.{is_above}
 use Rattle.dp_model.specs.Subproblem.{Subproblem}
+use Rattle.shared_fringe.specs.Tickets.{Ticketed}
 use Rattle.search_core.specs.declared.fate.Fate.{Fate}
 use Rattle.search_core.specs.declared.fate.Fate.TheVariants.{Below, Entered}
-use Rattle.search_core.specs.Board.{Ticketed, BoardState, incumbent_value}
+use Rattle.search_core.specs.Board.{BoardState, incumbent_value}
 
 -- the fate of a child beside an incumbent's value, where it would enter with this ticket
 abbrev pub fate_of : Option ℤ → ℕ → Subproblem → Fate

@@ -7,8 +7,9 @@ use Rattle.dp_model.specs.Numbers.{AtMost, IsFar}
 use Rattle.dp_model.specs.Prefixes.{IsCompletion, IsMatched, value_of}
 use Rattle.dp_model.specs.Subproblem.{Subproblem, Roomy, IsChild}
 use Rattle.dp_laws.specs.Pairs.{EachTwo}
+use Rattle.shared_fringe.specs.Tickets.{Ticketed}
 use Rattle.search_core.specs.declared.fate.Fate.{Fate}
-use Rattle.search_core.specs.Board.{Ticketed, BoardState, incumbent_value, slot_at}
+use Rattle.search_core.specs.Board.{BoardState, incumbent_value, slot_at}
 use Rattle.search_core.specs.Fates.{fates_on}
 use Rattle.search_core.specs.GoodBoard.{AreApart}
 

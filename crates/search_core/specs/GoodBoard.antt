@@ -10,8 +10,9 @@ use Rattle.dp_model.specs.Subproblem.{Subproblem, IsOwn}
 use Rattle.dp_model.specs.Worth.{IsWorth}
 use Rattle.dp_laws.specs.Antichains.{NeitherBegins}
 use Rattle.dp_laws.specs.Pairs.{EachTwo}
+use Rattle.shared_fringe.specs.Tickets.{Ticketed, IsEarlier}
 use Rattle.search_core.specs.declared.cause.Cause.TheVariants.{Budget}
-use Rattle.search_core.specs.Board.{Ticketed, BoardState, incumbent_value, full_slots, frontier, prefixes}
+use Rattle.search_core.specs.Board.{BoardState, incumbent_value, full_slots, frontier, prefixes}
 
 -- the incumbent, where there is one, is a feasible solution with its value
 abbrev pub IncumbentHolds : Dp → Option Best → Type 0
@@ -42,10 +43,6 @@ pub record CountsHold (dp : Dp) (b : BoardState) (full : ℕ) (os : List Tickete
 pub record TicketsHold (next : ℕ) (os : List Ticketed) : Type 0 where
   pub distinct : EachTwo (λ a b. a.ticket ≢ b.ticket) os
   pub given : Each (λ o. o.ticket < next) os
-
--- the first has the lesser ticket
-abbrev pub IsEarlier : Ticketed → Ticketed → Type 0
-IsEarlier a o = a.ticket < o.ticket
 
 -- the incumbent is feasible, the frontier covers with it, each of the frontier is a prefix of its own whose bound is held,
 -- what is open is above the incumbent and in order of ticket, no prefix of the frontier begins with another, tickets and counts

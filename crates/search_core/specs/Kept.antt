@@ -2,8 +2,9 @@
 use Rattle.std.specs.Prelude.{◌≡◌, ℕ, ◌+◌, ◌≤◌, ℤ, List, length, Option, Some, None}
 use Rattle.dp_model.specs.Best.{Best}
 use Rattle.dp_model.specs.Dp.{Dp}
+use Rattle.shared_fringe.specs.Tickets.{Ticketed}
 use Rattle.search_core.specs.declared.cause.Cause.{Cause}
-use Rattle.search_core.specs.Board.{Ticketed, BoardState, full_slots}
+use Rattle.search_core.specs.Board.{BoardState, full_slots}
 use Rattle.search_core.specs.GoodBoard.{IsGood}
 
 abbrev pub best_of : List ℕ → Option ℤ → Option Best

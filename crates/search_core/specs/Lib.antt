@@ -19,3 +19,6 @@ pub use Rattle.dp_model.specs.Prefixes
 pub use Rattle.dp_model.specs.Subproblem
 pub use Rattle.dp_laws.specs.Antichains
 pub use Rattle.dp_laws.specs.Pairs
+pub use Rattle.shared_fringe.specs.Bounds
+pub use Rattle.shared_fringe.specs.Firsts
+pub use Rattle.shared_fringe.specs.Tickets

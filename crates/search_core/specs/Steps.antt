@@ -1,17 +1,14 @@
 -- The steps of a board beside Take: Improve, Finish, GiveBack and Halt, and the first board.
-use Rattle.std.specs.Prelude.{ℕ, zero, suc, ◌+◌, ℤ, cond, List, [], ◌∷◌, ◌++◌, filter, length, nat_eq, nat_lt, int_lt, slice_set, Option, Some, None}
+use Rattle.std.specs.Prelude.{ℕ, zero, suc, ◌+◌, ℤ, cond, List, [], ◌∷◌, ◌++◌, length, nat_eq, slice_set, Option, Some, None}
 use Rattle.dp_model.specs.Best.{Best}
 use Rattle.dp_model.specs.Dp.{Dp}
 use Rattle.dp_model.specs.Numbers.{is_above, add_some}
 use Rattle.dp_model.specs.Subproblem.{Subproblem}
+use Rattle.shared_fringe.specs.Tickets.{Ticketed, by_ticket, above_value}
 use Rattle.search_core.specs.declared.cause.Cause.{Cause}
 use Rattle.search_core.specs.declared.cause.Cause.TheVariants.{Budget, Memory, Journal}
-use Rattle.search_core.specs.Board.{Ticketed, BoardState, incumbent_value, slot_at}
+use Rattle.search_core.specs.Board.{BoardState, incumbent_value, slot_at}
 use Rattle.search_core.specs.Fates.{fates_on, entering, tickets_after}
-
--- the open ones whose bound is greater than the value
-abbrev pub above_value : ℤ → List Ticketed → List Ticketed
-above_value value os = filter (λ o. int_lt value o.subproblem.bound) os
 
 -- Improve, with a feasible solution of this value
 abbrev pub improved : BoardState → List ℕ → ℤ → BoardState
@@ -28,11 +25,6 @@ finished_by b who cs = record b {
   finished = b.finished + 1;
   next_ticket = tickets_after b.next_ticket (fates_on b cs);
 }
-
--- the list with one more, at its place by ticket
-abbrev pub by_ticket : Ticketed → List Ticketed → List Ticketed
-by_ticket o [] = o ∷ []
-by_ticket o (other ∷ os) = cond (nat_lt o.ticket other.ticket) (o ∷ other ∷ os) (other ∷ by_ticket o os)
 
 -- it is dropped where its bound is at most the incumbent's value
 abbrev pub back_among : Option ℤ → Ticketed → List Ticketed → List Ticketed
@@ -86,15 +78,19 @@ first_incumbent dp = cond (nat_eq dp.vars 0) (Some (record { decisions = []; val
 abbrev pub first_open : Dp → List Ticketed
 first_open dp = cond (nat_eq dp.vars 0) [] (opened (root_of dp))
 
--- the board at the start of a search
-abbrev pub first_board : Dp → ℕ → ℕ → BoardState
-first_board dp workers budget = record {
-  incumbent = first_incumbent dp;
-  open_ones = first_open dp;
-  slots = empty_slots workers;
+-- a board before the first Take, with these open
+abbrev pub fresh_board : Option Best → List Ticketed → List (Option Ticketed) → ℕ → BoardState
+fresh_board incumbent os slots budget = record {
+  incumbent = incumbent;
+  open_ones = os;
+  slots = slots;
   taken = 0;
   finished = 0;
   budget = budget;
-  next_ticket = length (first_open dp);
+  next_ticket = length os;
   cause = None;
 }
+
+-- the board at the start of a search
+abbrev pub first_board : Dp → ℕ → ℕ → BoardState
+first_board dp workers budget = fresh_board (first_incumbent dp) (first_open dp) (empty_slots workers) budget

@@ -1,28 +1,14 @@
 -- Which open subproblem is taken, and what Take answers.
-use Rattle.std.specs.Prelude.{◌≡◌, ℕ, ◌+◌, ◌-◌, ◌^◌, Bool, false, cond, not, ◌&&◌, ◌||◌, List, [], ◌∷◌, filter, nat_eq, nat_lt, int_lt, int_le, slice_set, Option, Some, None}
+use Rattle.std.specs.Prelude.{◌≡◌, ℕ, ◌+◌, ◌-◌, ◌^◌, Bool, false, cond, ◌||◌, List, [], ◌∷◌, nat_eq, nat_lt, slice_set, Option, Some, None}
 use Rattle.dp_model.specs.Lists.{Each, OneOf}
 use Rattle.dp_model.specs.Subproblem.{Subproblem}
+use Rattle.shared_fringe.specs.Firsts.{is_taken_before, first_taken}
+use Rattle.shared_fringe.specs.Tickets.{without, Ticketed}
 use Rattle.search_core.specs.declared.cause.Cause.{Cause}
 use Rattle.search_core.specs.declared.cause.Cause.TheVariants.{Budget}
 use Rattle.search_core.specs.declared.taken.Taken.{Taken}
 use Rattle.search_core.specs.declared.taken.Taken.TheVariants.{Sub, WaitForOthers, Finished, Halted}
-use Rattle.search_core.specs.Board.{Ticketed, BoardState, is_explored}
-
--- a is taken rather than b: the greater bound, then the greater value, then the lesser ticket
-abbrev pub is_taken_before : Ticketed → Ticketed → Bool
-is_taken_before a b =
-    int_lt b.subproblem.bound a.subproblem.bound || (int_le b.subproblem.bound a.subproblem.bound &&
-    (int_lt b.subproblem.value a.subproblem.value || (int_le b.subproblem.value a.subproblem.value &&
-    nat_lt a.ticket b.ticket)))
-
-abbrev pub first_from : Ticketed → List Ticketed → Ticketed
-first_from first [] = first
-first_from first (o ∷ os) = first_from (cond (is_taken_before o first) o first) os
-
--- the one to take, where there is one
-abbrev pub first_taken : List Ticketed → Option Ticketed
-first_taken [] = None
-first_taken (o ∷ os) = Some (first_from o os)
+use Rattle.search_core.specs.Board.{BoardState, is_explored}
 
 -- it is one of the list, and none of the list is taken before it
 pub record IsFirst (os : List Ticketed) (o : Ticketed) : Type 0 where
@@ -33,10 +19,6 @@ pub record IsFirst (os : List Ticketed) (o : Ticketed) : Type 0 where
 abbrev pub HasFirst : List Ticketed → Option Ticketed → Type 0
 HasFirst os None = ⊥
 HasFirst os (Some o) = IsFirst os o
-
--- the others than the one with the ticket
-abbrev pub without : ℕ → List Ticketed → List Ticketed
-without ticket os = filter (λ o. not (nat_eq o.ticket ticket)) os
 
 -- the budget is taken up, or tickets come near to their end
 abbrev pub is_budget_up : BoardState → Bool

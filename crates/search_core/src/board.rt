@@ -13,18 +13,17 @@ ghost use Rattle.search_core.specs.Solving.{ImproveGives, after_offer};
 ghost use Rattle.search_core.specs.Steps.{first_board, finished_by, given_back, halted};
 ghost use Rattle.search_core.specs.Taking.{take_gives, after_take, handed_out, HasFirst};
 
-use crate::bounding::{is_above, raised_by_listed, raised_by_slots};
 use crate::cause::Cause;
-use crate::entering::{decide_all, enter_all, keep_above, put_back};
+use crate::entering::{decide_all, enter_all, is_above, put_back};
 use crate::fate::Fate;
+use crate::full::{count_full, raised_by_slots};
 use crate::improved::Improved;
-use crate::listed::Listed;
 use crate::settings::Settings;
 use crate::solving::{copy_decisions, solution_value};
 use crate::starting::{empty_slots, first_open, first_value};
 use crate::taken::Taken;
-use crate::taking::{count_full, first_place};
 use dp_model::{DpModel, Found, OutOfMemory, Sub};
+use shared_fringe::{Listed, first_place, keep_above, raised_by};
 use std::alloc::Global;
 use std::marker::Model;
 use std::sync::Arc;
@@ -334,7 +333,7 @@ impl<M: DpModel> Board<M> {
         ensures holds { (x : List ℕ) → IsSolution (M.meaning self.now.numbers) x → AtMost (value_of (M.meaning self.now.numbers) x) result }
     {
         let most = raised_by_slots(self.best_value, self.slots.as_slice());
-        raised_by_listed(most, self.listed.as_slice())
+        raised_by(most, self.listed.as_slice())
     }
 
     /// How many subproblems were taken. Where something is open and no cause is held, there are more prefixes than that.

@@ -4,8 +4,8 @@ ghost use Rattle.std.specs.Prelude.{◌≡◌, ◌≤◌, [], length, IfOk, opti
 ghost use Rattle.search_core.specs.Kept.{best_of};
 ghost use Rattle.search_core.specs.Steps.{empty_slots, root_bound, root_of, first_incumbent, first_open};
 
-use crate::listed::Listed;
 use dp_model::{DpModel, OutOfMemory, Sub};
+use shared_fringe::Listed;
 use std::alloc::Global;
 
 /// Slots for so many workers, all empty.

@@ -2,8 +2,9 @@
 use Rattle.std.proofs.Common.{◌≡◌, ◌≤◌, List, length, Option, Some, None, option_map, refl, sym, ap, subst}
 use Rattle.dp_model.specs.Dp.{Dp}
 use Rattle.dp_model.specs.Subproblem.{Subproblem}
+use Rattle.search_core.specs.Tickets.{Ticketed}
 use Rattle.search_core.specs.declared.fate.Fate.{Fate}
-use Rattle.search_core.specs.Board.{Ticketed, BoardState, full_slots, slot_at}
+use Rattle.search_core.specs.Board.{BoardState, full_slots, slot_at}
 use Rattle.search_core.specs.Fates.{fates_on}
 use Rattle.search_core.specs.Finishing.{MayFinish}
 use Rattle.search_rounds.specs.Branched.{IsBranched}

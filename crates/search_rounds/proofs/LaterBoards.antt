@@ -4,9 +4,10 @@ use Rattle.dp_model.specs.Counts.{tree}
 use Rattle.dp_model.specs.Dp.{Dp}
 use Rattle.dp_model.specs.Numbers.{OptionAtMost}
 use Rattle.dp_model.specs.Subproblem.{Subproblem}
+use Rattle.search_core.specs.Tickets.{Ticketed}
 use Rattle.search_core.specs.declared.cause.Cause.{Cause}
 use Rattle.search_core.specs.declared.cause.Cause.TheVariants.{Memory}
-use Rattle.search_core.specs.Board.{Ticketed, BoardState, incumbent_value, full_slots, slot_of, slot_at, is_explored}
+use Rattle.search_core.specs.Board.{BoardState, incumbent_value, full_slots, slot_of, slot_at, is_explored}
 use Rattle.search_core.specs.GoodBoard.{IsGood}
 use Rattle.search_core.specs.Steps.{finished_by, given_back, given_back_from, cause_after, halted}
 use Rattle.search_core.proofs.Kids.{next-many}

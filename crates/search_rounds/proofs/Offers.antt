@@ -6,11 +6,12 @@ use Rattle.dp_model.specs.Numbers.{AtMost, OptionAtMost, is_above}
 use Rattle.dp_model.specs.Prefixes.{IsSolution, IsCompletion, state_of, value_of}
 use Rattle.dp_model.specs.Subproblem.{Subproblem, Roomy, IsOwn}
 use Rattle.dp_model.proofs.Paths.{IsPrefix-then}
+use Rattle.search_core.specs.Tickets.{above_value}
 use Rattle.search_core.specs.declared.improved.Improved.{Improved}
 use Rattle.search_core.specs.declared.improved.Improved.TheVariants.{Yes, NotBetter, NoSolution}
 use Rattle.search_core.specs.Board.{BoardState, BoardView, incumbent_value}
 use Rattle.search_core.specs.Solving.{after_offer}
-use Rattle.search_core.specs.Steps.{improved, above_value}
+use Rattle.search_core.specs.Steps.{improved}
 use Rattle.search_rounds.specs.Offered.{IsOffered}
 use Rattle.search_rounds.proofs.Children.{last_completion}
 

@@ -4,12 +4,14 @@ use Rattle.dp_model.specs.Dp.{Dp}
 use Rattle.dp_model.specs.Lists.{Each}
 use Rattle.dp_model.specs.Numbers.{OptionAtMost}
 use Rattle.dp_model.specs.Subproblem.{Subproblem, IsOwn}
+use Rattle.search_core.specs.Firsts.{first_from, first_taken}
+use Rattle.search_core.specs.Tickets.{Ticketed}
 use Rattle.search_core.specs.declared.cause.Cause.{Cause}
 use Rattle.search_core.specs.declared.taken.Taken.{Taken}
 use Rattle.search_core.specs.declared.taken.Taken.TheVariants.{Sub, Finished}
-use Rattle.search_core.specs.Board.{Ticketed, BoardState, incumbent_value, full_slots, slot_of, is_explored}
+use Rattle.search_core.specs.Board.{BoardState, incumbent_value, full_slots, slot_of, is_explored}
 use Rattle.search_core.specs.GoodBoard.{IsGood}
-use Rattle.search_core.specs.Taking.{first_from, first_taken, take_open, take_unless, take_gives, checked_out, after_answer, after_take, copy_of, handed_out}
+use Rattle.search_core.specs.Taking.{take_open, take_unless, take_gives, checked_out, after_answer, after_take, copy_of, handed_out}
 use Rattle.search_rounds.specs.UnderWay.{IsUnderWay}
 use Rattle.search_rounds.proofs.Offers.{OptionAtMost-refl}
 

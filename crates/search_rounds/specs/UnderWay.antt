@@ -3,7 +3,8 @@ use Rattle.std.specs.Prelude.{◌≡◌, ◌+◌, slice_set, Some, None}
 use Rattle.dp_model.specs.Dp.{Dp}
 use Rattle.dp_model.specs.Numbers.{OptionAtMost}
 use Rattle.dp_model.specs.Subproblem.{Subproblem, IsOwn}
-use Rattle.search_core.specs.Board.{Ticketed, BoardState, incumbent_value}
+use Rattle.search_core.specs.Tickets.{Ticketed}
+use Rattle.search_core.specs.Board.{BoardState, incumbent_value}
 
 -- since the round began worker 0 has the subproblem out, a prefix with its own state and value, which counts as taken, and no
 -- cause is held

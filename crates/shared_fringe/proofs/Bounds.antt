@@ -1,13 +1,14 @@
--- The greatest number so far, and the rest of the list.
-use Rattle.std.proofs.Common.{◌≡◌, ℤ, List, ◌∷◌, cond, int_lt, Option, Some, None, MatchOption, ap}
+-- The greatest bound of a list.
+use Rattle.std.proofs.Common.{◌≡◌, ℤ, List, [], ◌∷◌, map, cond, int_lt, Some, None, refl}
 use Rattle.dp_model.specs.Numbers.{greatest, greatest_from}
+use Rattle.shared_fringe.specs.Bounds.{raised_by}
+use Rattle.shared_fringe.specs.Tickets.{Ticketed}
 
--- the greatest of the greatest so far and others
-abbrev pub greatest_more : Option ℤ → List ℤ → Option ℤ
-greatest_more None zs = greatest zs
-greatest_more (Some z) zs = Some (greatest_from z zs)
+raised_from : (z : ℤ) (os : List Ticketed) → raised_by (Some z) os ≡ Some (greatest_from z (map (λ o. o.subproblem.bound) os))
+raised_from z [] = refl
+raised_from z (o ∷ os) = raised_from (cond (int_lt z o.subproblem.bound) o.subproblem.bound z) os
 
--- one number more
-pub greatest_step : (most now : Option ℤ) (z : ℤ) (zs : List ℤ) → MatchOption most (now ≡ Some z) (λ m. now ≡ Some (cond (int_lt m z) z m)) → greatest_more now zs ≡ greatest_more most (z ∷ zs)
-greatest_step None now z zs h = ap (λ m. greatest_more m zs) h
-greatest_step (Some m) now z zs h = ap (λ m. greatest_more m zs) h
+-- raised from none it is the greatest
+pub raised_greatest : (os : List Ticketed) → raised_by None os ≡ greatest (map (λ o. o.subproblem.bound) os)
+raised_greatest [] = refl
+raised_greatest (o ∷ os) = raised_from o.subproblem.bound os

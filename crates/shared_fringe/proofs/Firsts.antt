@@ -3,8 +3,8 @@ use Rattle.std.proofs.Common.{◌≡◌, ℕ, ◌+◌, ◌<◌, List, ◌∷◌,
 use Rattle.std.proofs.lemmas.List.{drop_more}
 use Rattle.std.proofs.lemmas.Option.{slice_get_read}
 use Rattle.std.specs.List.{slice_get}
-use Rattle.shared_fringe.specs.Fringe.{Ticketed}
-use Rattle.shared_fringe.specs.Taking.{is_taken_before, first_from, first_taken}
+use Rattle.shared_fringe.specs.Firsts.{is_taken_before, first_from, first_taken}
+use Rattle.shared_fringe.specs.Tickets.{Ticketed}
 
 -- the one to take of the first so far and others
 abbrev pub first_more : Option Ticketed → List Ticketed → Option Ticketed

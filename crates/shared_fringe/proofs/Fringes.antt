@@ -2,9 +2,11 @@
 use Rattle.std.proofs.Common.{◌≡◌, ◌≢◌, ℕ, ◌<◌, List, length, filter, Bool, true, false, not, cond, int_le, nat_eq, Option, Some, None, refl, subst}
 use Rattle.std.specs.List.{slice_get, remove}
 use Rattle.dp_model.specs.Lists.{Each}
-use Rattle.shared_fringe.specs.Fringe.{Ticketed, IsFringe, AreDifferent, same_open, by_ticket, without}
+use Rattle.dp_laws.proofs.Lists.{each-filter, two-filter}
+use Rattle.shared_fringe.proofs.Tickets.{each-by_ticket, tickets-by_ticket, two-by_ticket, without-removed}
+use Rattle.shared_fringe.specs.Tickets.{Ticketed, by_ticket, without}
+use Rattle.shared_fringe.specs.Fringe.{IsFringe, AreDifferent, same_open}
 use Rattle.shared_fringe.specs.Pushing.{pushed_beside, after_push}
-use Rattle.shared_fringe.proofs.Lists.{each-filter, two-filter, each-by_ticket, tickets-by_ticket, two-by_ticket, without-removed}
 use Rattle.shared_fringe.proofs.Rows.{different-turned, same-none, same-others}
 
 pub kept-filter : (words : ℕ) (p : Ticketed → Bool) (os : List Ticketed) → IsFringe words os → IsFringe words (filter p os)

@@ -1,5 +1,5 @@
 pub mod Firsts
-pub mod Lists
+pub mod Tickets
 pub mod Rows
 pub mod Fringes
 pub mod Bounds

@@ -1,10 +1,12 @@
 -- The list after a push and after a pop.
 use Rattle.std.proofs.Common.{◌≡◌, ℕ, int_le, List, false, cond, Some, sym, ◌∙◌, ap}
 use Rattle.std.specs.List.{slice_get, remove}
-use Rattle.shared_fringe.specs.Fringe.{Ticketed, HasTickets, same_open, by_ticket, without}
+use Rattle.shared_fringe.proofs.Tickets.{without-removed}
+use Rattle.shared_fringe.specs.Firsts.{first_taken}
+use Rattle.shared_fringe.specs.Popping.{taken_out, after_pop}
+use Rattle.shared_fringe.specs.Tickets.{Ticketed, HasTickets, by_ticket, without}
+use Rattle.shared_fringe.specs.Fringe.{same_open}
 use Rattle.shared_fringe.specs.Pushing.{pushed_beside, after_push}
-use Rattle.shared_fringe.specs.Taking.{first_taken, taken_out, after_pop}
-use Rattle.shared_fringe.proofs.Lists.{without-removed}
 
 -- the one of the same depth and state is taken out, and the new one put in
 pub push_replaced : (o : Ticketed) (os : List Ticketed) (place : ℕ) (other : Ticketed) → slice_get os place ≡ Some other → slice_get os place ≡ same_open o.subproblem os → HasTickets os

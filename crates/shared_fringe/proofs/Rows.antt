@@ -10,9 +10,12 @@ use Rattle.std.specs.List.{slice_get}
 use Rattle.std.specs.Ordering.{int_eq}
 use Rattle.dp_model.specs.Lists.{Each}
 use Rattle.dp_model.specs.Rows.{row_same}
-use Rattle.dp_model.proofs.RowLemmas.{row_same-is, row_same-self}
-use Rattle.shared_fringe.specs.Fringe.{Ticketed, EachTwo, HasTickets, is_same, same_at, without, AreDifferent}
-use Rattle.shared_fringe.proofs.Lists.{without-later, each-then}
+use Rattle.dp_model.proofs.RowLemmas.{both, row_same-is, row_same-self}
+use Rattle.dp_laws.specs.Pairs.{EachTwo}
+use Rattle.dp_model.proofs.Members.{Each-then}
+use Rattle.shared_fringe.proofs.Tickets.{without-later}
+use Rattle.shared_fringe.specs.Tickets.{Ticketed, HasTickets, without}
+use Rattle.shared_fringe.specs.Fringe.{is_same, same_at, AreDifferent}
 
 same-self : (a b : List ℤ) → a ≡ b → row_same a b ≡ true
 same-self a b h = subst (λ (r : List ℤ). row_same a r ≡ true) h (row_same-self a)
@@ -29,16 +32,12 @@ row_same-compared a b r h =
     let tells = slice_eq-Decides Decides-int_eq a b r h in
     same-tests r (row_same a b) (λ e. same-self a b (tells.0 e)) (λ e. tells.1 (row_same-is a b e))
 
-both-parts : (a b : Bool) → (a && b) ≡ true → (a ≡ true) × (b ≡ true)
-both-parts true b h = (refl, h)
-both-parts false b h = absurd (cc)
-
 -- the depth and the row of one that is the same
 pub same-depth : (depth : ℕ) (row : List ℤ) (o : Ticketed) → is_same depth row o ≡ true → depth ≡ length o.subproblem.decisions
-same-depth depth row o h = sym (eqb-true (length o.subproblem.decisions) depth (both-parts (nat_eq (length o.subproblem.decisions) depth) (row_same o.subproblem.row row) h).0)
+same-depth depth row o h = sym (eqb-true (length o.subproblem.decisions) depth (both (nat_eq (length o.subproblem.decisions) depth) (row_same o.subproblem.row row) h).0)
 
 pub same-row : (depth : ℕ) (row : List ℤ) (o : Ticketed) → is_same depth row o ≡ true → row ≡ o.subproblem.row
-same-row depth row o h = sym (row_same-is o.subproblem.row row (both-parts (nat_eq (length o.subproblem.decisions) depth) (row_same o.subproblem.row row) h).1)
+same-row depth row o h = sym (row_same-is o.subproblem.row row (both (nat_eq (length o.subproblem.decisions) depth) (row_same o.subproblem.row row) h).1)
 
 is-same : (depth : ℕ) (row : List ℤ) (o : Ticketed) → depth ≡ length o.subproblem.decisions → row ≡ o.subproblem.row → is_same depth row o ≡ true
 is-same depth row o d r = ap₂ (λ a b. a && b) (eq-eqb (length o.subproblem.decisions) depth (sym d)) (same-self o.subproblem.row row (sym r))
@@ -72,8 +71,8 @@ here-others : (depth : ℕ) (row : List ℤ) (x : Ticketed) (os : List Ticketed)
 here-others depth row x os other e same rise two =
     let here : nat_eq x.ticket x.ticket ≡ true = eq-eqb x.ticket x.ticket refl in
     let rest : without x.ticket (x ∷ os) ≡ os = ap (λ b. cond (not b) (x ∷ without x.ticket os) (without x.ticket os)) here ∙ without-later x.ticket os rise.0 in
-    let differ : Each (λ o. is_same depth row o ≡ false) os = each-then (AreDifferent x) (λ o. is_same depth row o ≡ false)
-    (λ o k. ap₂ (λ d r. is_same d r o) (same-depth depth row x e) (same-row depth row x e) ∙ k) os two.0 in
+    let differ : Each (λ o. is_same depth row o ≡ false) os = Each-then (AreDifferent x) (λ o. is_same depth row o ≡ false) os
+    (λ o k. ap₂ (λ d r. is_same d r o) (same-depth depth row x e) (same-row depth row x e) ∙ k) two.0 in
     subst (λ (y : Ticketed). Each (λ o. is_same depth row o ≡ false) (without y.ticket (x ∷ os))) same (subst (λ (l : List Ticketed). Each (λ o. is_same depth row o ≡ false) l) (sym rest) differ)
 
 -- it stands later

@@ -1,7 +1,11 @@
+pub mod Tickets
+pub mod Firsts
+pub mod Bounds
 pub mod Fringe
 pub mod Pushing
-pub mod Taking
+pub mod Popping
 pub use Rattle.dp_model.specs.Lists
 pub use Rattle.dp_model.specs.Numbers
 pub use Rattle.dp_model.specs.Rows
 pub use Rattle.dp_model.specs.Subproblem
+pub use Rattle.dp_laws.specs.Pairs

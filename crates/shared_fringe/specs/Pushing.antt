@@ -1,8 +1,9 @@
 -- What a push answers, and the open ones after it.
 use Rattle.std.specs.Prelude.{cond, int_le, List, Option, Some, None}
+use Rattle.shared_fringe.specs.Tickets.{Ticketed, by_ticket, without}
 use Rattle.shared_fringe.specs.declared.fate.FringeFate.{FringeFate}
 use Rattle.shared_fringe.specs.declared.fate.FringeFate.TheVariants.{Kept, Replaced, Entered}
-use Rattle.shared_fringe.specs.Fringe.{Ticketed, same_open, by_ticket, without}
+use Rattle.shared_fringe.specs.Fringe.{same_open}
 
 abbrev pub push_beside : Ticketed → Option Ticketed → FringeFate
 push_beside o None = Entered

@@ -1,30 +1,30 @@
 //! The greatest of bounds, and what stays above one.
 
-ghost use Rattle.std.specs.Prelude.{◌≡◌, ◌≤◌, map, cond, int_lt, Some, vec_len, vec_capacity, MatchOption};
-ghost use Rattle.dp_model.specs.Numbers.{greatest};
-ghost use Rattle.shared_fringe.specs.Fringe.{Ticketed, above_value};
+ghost use Rattle.std.specs.Prelude.{◌≡◌, ◌≤◌, vec_len, vec_capacity};
+ghost use Rattle.shared_fringe.specs.Bounds.{raised, raised_by};
+ghost use Rattle.shared_fringe.specs.Tickets.{above_value};
 
 use crate::listed::Listed;
 
-/// The greatest bound, or `None` where nothing is listed.
-pub fn greatest_bound(listed: &[Listed]) -> Option<i64>
-    ensures { result ≡ greatest (map (λ o. o.subproblem.bound) listed.now) }
-{
-    let mut most: Option<i64> = None;
-    for one in listed {
-        most = greater(most, one.sub.bound);
-    }
-    most
-}
-
 /// The greater of the option and the number, where none is less than every number.
-fn greater(most: Option<i64>, bound: i64) -> Option<i64>
-    ensures { MatchOption most (result ≡ Some bound) (λ m. result ≡ Some (cond (int_lt m bound) bound m)) }
+pub fn raised(most: Option<i64>, bound: i64) -> Option<i64>
+    ensures { result ≡ raised most bound }
 {
     match most {
         Some(most) if most >= bound => Some(most),
         _ => Some(bound),
     }
+}
+
+/// The greatest of the option and the bounds of the listed.
+pub fn raised_by(most: Option<i64>, listed: &[Listed]) -> Option<i64>
+    ensures { result ≡ raised_by most listed.now }
+{
+    let mut most = most;
+    for one in listed {
+        most = raised(most, one.sub.bound);
+    }
+    most
 }
 
 /// Drops those whose bound is at most the value.

@@ -1,11 +1,13 @@
 ghost use Rattle.std.specs.Prelude.{◌≡◌, ◌≢◌, ◌+◌, ◌<◌, ◌≤◌, [], map, length, nat_eq, Some, option_map, IfOk, OnOk, OnErr, OnSome};
 ghost use Rattle.dp_model.specs.Lists.{Each};
 ghost use Rattle.dp_model.specs.Numbers.{greatest};
-ghost use Rattle.shared_fringe.specs.Fringe.{IsFringe, same_at, above_value};
+ghost use Rattle.shared_fringe.specs.Firsts.{first_taken};
+ghost use Rattle.shared_fringe.specs.Fringe.{IsFringe, same_at};
+ghost use Rattle.shared_fringe.specs.Popping.{after_pop};
 ghost use Rattle.shared_fringe.specs.Pushing.{push_gives, after_push};
-ghost use Rattle.shared_fringe.specs.Taking.{first_taken, after_pop};
+ghost use Rattle.shared_fringe.specs.Tickets.{above_value};
 
-use crate::bounding::{greatest_bound, keep_above};
+use crate::bounding::{keep_above, raised_by};
 use crate::fate::FringeFate;
 use crate::listed::Listed;
 use crate::placing::place_of_same;
@@ -119,10 +121,11 @@ impl Fringe {
     }
 
     /// The greatest bound of an open one, or `None` exactly where nothing is open.
+    #[tactic(auto, using(crate::proofs::Bounds::raised_greatest))]
     pub fn best_bound(&self) -> Option<i64>
         ensures { result ≡ greatest (map (λ o. o.subproblem.bound) self.now.open_ones) }
     {
-        greatest_bound(self.listed.as_slice())
+        raised_by(None, self.listed.as_slice())
     }
 
     /// The open ones in order of ticket: no two have one depth and state, and each row has `words` cells.

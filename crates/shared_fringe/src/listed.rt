@@ -1,7 +1,7 @@
 use dp_model::Sub;
 use std::marker::Model;
 
-/// An open subproblem with its ticket.
+/// A subproblem with its ticket: an open one, or one that a worker has out.
 #[derive(Debug, Drop)]
 pub struct Listed {
     pub ticket: u64,
@@ -9,7 +9,7 @@ pub struct Listed {
 }
 
 impl Model for Listed {
-    ghost use Rattle.shared_fringe.specs.Fringe.{Ticketed};
+    ghost use Rattle.shared_fringe.specs.Tickets.{Ticketed};
 
     ghost Value = { Ticketed };
 

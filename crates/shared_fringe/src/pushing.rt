@@ -1,7 +1,7 @@
 //! What a push does to the list.
 
 ghost use Rattle.std.specs.Prelude.{◌≡◌, ◌+◌, ◌-◌, ◌<◌, ◌≤◌, vec_len, vec_capacity};
-ghost use Rattle.shared_fringe.specs.Fringe.{Ticketed, HasTickets};
+ghost use Rattle.shared_fringe.specs.Tickets.{Ticketed, HasTickets};
 ghost use Rattle.shared_fringe.specs.Pushing.{push_gives, after_push};
 
 use crate::fate::FringeFate;

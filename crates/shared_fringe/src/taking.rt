@@ -1,8 +1,8 @@
 //! Which open subproblem is taken first.
 
 ghost use Rattle.std.specs.Prelude.{◌≡◌, ℕ, ◌<◌, List, length, slice_get, Option};
-ghost use Rattle.shared_fringe.specs.Fringe.{Ticketed};
-ghost use Rattle.shared_fringe.specs.Taking.{is_taken_before, first_taken};
+ghost use Rattle.shared_fringe.specs.Firsts.{is_taken_before, first_taken};
+ghost use Rattle.shared_fringe.specs.Tickets.{Ticketed};
 
 use crate::listed::Listed;
 
@@ -17,7 +17,7 @@ fn is_taken_before(one: &Listed, other: &Listed) -> bool
             && (other_value < value || (other_value <= value && one.ticket < other.ticket)))
 }
 
-/// The place of the one to take.
+/// The place of the one to take: the greatest bound, then the greatest value, then the least ticket.
 pub fn first_place(listed: &[Listed]) -> usize
     requires { 0 < length listed.now }
     ensures place { result < length listed.now }

@@ -2,7 +2,7 @@
 
 ghost use Rattle.std.specs.Prelude.{◌≡◌, ◌≢◌, ◌<◌, length, IsTrue};
 ghost use Rattle.dp_model.specs.Lists.{Each};
-ghost use Rattle.shared_fringe.specs.Fringe.{Ticketed};
+ghost use Rattle.shared_fringe.specs.Tickets.{Ticketed};
 
 use crate::{Fringe, FringeFate, Listed, Same};
 use dp_model::Sub;

@@ -8,11 +8,13 @@ use Rattle.dp_model.specs.Prefixes.{IsSolution, value_of}
 use Rattle.dp_model.specs.Worth.{IsWorth}
 use Rattle.dp_model.proofs.Solutions.{best-is_best, IsBest-unique, given_value, given_none}
 use Rattle.problems.specs.Theory.{Agrees}
-use Rattle.search_core.specs.Board.{BoardState, Ticketed, full_slots, value_held, incumbent_value, is_explored}
+use Rattle.search_core.specs.Bounds.{raised, raised_by}
+use Rattle.search_core.specs.Tickets.{Ticketed}
+use Rattle.search_core.specs.Board.{BoardState, full_slots, value_held, incumbent_value, is_explored}
 use Rattle.search_core.specs.declared.cause.Cause.{Cause}
 use Rattle.search_core.specs.declared.cause.Cause.TheVariants as causes
 use Rattle.search_rounds.specs.Later.{IsCauseAfter}
-use Rattle.search_core.specs.Bound.{bound_of, raised, raised_by}
+use Rattle.search_core.specs.Bound.{bound_of}
 use Rattle.search_core.specs.GoodBoard.{IncumbentHolds, IsGood}
 use Rattle.solver_report.specs.declared.answer.Stop.{Stop}
 use Rattle.solver_report.specs.declared.answer.Stop.TheVariants.{Budget}

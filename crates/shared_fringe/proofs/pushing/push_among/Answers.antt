@@ -1,7 +1,8 @@
 use Rattle.std.proofs.Common.{rules, ◌≡◌, ◌<◌, int_le, false, length, refl, ◌∙◌, ap, subst}
 use Rattle.std.proofs.lemmas.Option.{slice_get_read}
 use Rattle.std.specs.List.{slice_get}
-use Rattle.shared_fringe.specs.Fringe.{same_at, by_ticket}
+use Rattle.shared_fringe.specs.Tickets.{by_ticket}
+use Rattle.shared_fringe.specs.Fringe.{same_at}
 use Rattle.shared_fringe.proofs.Pushes.{push_replaced}
 use Rattle.shared_fringe.proofs.pushing.push_among.Goals as goal
 

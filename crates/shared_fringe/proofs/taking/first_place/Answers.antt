@@ -1,6 +1,6 @@
 use Rattle.std.proofs.Common.{arith, ◌≡◌, ◌+◌, drop, sym, subst}
 use Rattle.std.specs.List.{slice_get}
-use Rattle.shared_fringe.specs.Taking.{first_taken}
+use Rattle.shared_fringe.specs.Firsts.{first_taken}
 use Rattle.shared_fringe.proofs.Firsts.{first_more, first-then, first-else}
 use Rattle.shared_fringe.proofs.taking.first_place.Goals as goal
 use Rattle.shared_fringe.proofs.taking.first_place.Goals.{then-is_taken_before, else-is_taken_before}

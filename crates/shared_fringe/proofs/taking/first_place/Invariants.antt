@@ -1,6 +1,6 @@
 use Rattle.std.proofs.Common.{◌≡◌, ◌<◌, length, drop}
 use Rattle.std.specs.List.{slice_get}
-use Rattle.shared_fringe.specs.Taking.{first_taken}
+use Rattle.shared_fringe.specs.Firsts.{first_taken}
 use Rattle.shared_fringe.proofs.Firsts.{first_more}
 use Rattle.shared_fringe.proofs.taking.first_place.Given as goal
 

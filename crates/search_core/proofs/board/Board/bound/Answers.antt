@@ -1,8 +1,9 @@
 use Rattle.std.proofs.Common.{◌++◌, ap, sym, ◌∙◌, subst, List, ℕ}
 use Rattle.dp_model.specs.Numbers.{AtMost}
 use Rattle.dp_model.specs.Prefixes.{IsSolution, value_of}
+use Rattle.shared_fringe.specs.Bounds.{raised_by}
 use Rattle.search_core.specs.Board.{BoardView, full_slots}
-use Rattle.search_core.specs.Bound.{raised_by, bound_of, IsGreatest}
+use Rattle.search_core.specs.Bound.{bound_of, IsGreatest}
 use Rattle.search_core.proofs.Reading.{raised-append, held-value, bound-greatest, bound-holds}
 use Rattle.search_core.proofs.board.Board.bound.Goals as goal
 
@@ -10,7 +11,7 @@ pub returns-clause-bound : goal.returns-clause-bound
 returns-clause-bound g c =
     let full = full_slots c.self.inside.slots.items in
     let os = c.self.inside.listed.items in
-    c.raised_by_listed.ensures
+    c.raised_by.ensures
     ∙ (ap (raised_by c.raised_by_slots-most.result) c.as_slice-2.ensures.value
     ∙ (ap (λ m. raised_by m os) (c.raised_by_slots-most.ensures ∙ ap (λ slots. raised_by c.self.inside.best_value (full_slots slots)) c.as_slice.ensures.value)
     ∙ (raised-append c.self.inside.best_value full os

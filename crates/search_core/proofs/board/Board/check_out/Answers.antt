@@ -4,9 +4,11 @@ use Rattle.std.specs.Arc.{arc_value}
 use Rattle.std.specs.List.{slice_get}
 use Rattle.std.specs.Prelude.{option_map}
 use Rattle.dp_model.specs.Laws.{IsLawful}
+use Rattle.shared_fringe.specs.Firsts.{first_taken}
+use Rattle.shared_fringe.specs.Tickets.{Ticketed}
 use Rattle.search_core.specs.declared.taken.Taken.TheVariants.{Sub}
-use Rattle.search_core.specs.Board.{Ticketed, BoardView}
-use Rattle.search_core.specs.Taking.{take_gives, first_taken, after_take, copy_of, IsFirst, HasFirst}
+use Rattle.search_core.specs.Board.{BoardView}
+use Rattle.search_core.specs.Taking.{take_gives, after_take, copy_of, IsFirst, HasFirst}
 use Rattle.search_core.proofs.Firsts.{first_taken-is}
 use Rattle.search_core.proofs.Keeping.{stood-at, take-kept, take-step, take-many, take-copies, slot-set}
 use Rattle.search_core.proofs.board.Board.check_out.Given as given

@@ -1,8 +1,9 @@
 use Rattle.std.proofs.Common.{◌≡◌, ◌<◌, length, Some, refl, sym, ◌∙◌, ap, subst}
 use Rattle.std.proofs.lemmas.Option.{slice_get_read}
 use Rattle.std.specs.List.{slice_get}
+use Rattle.shared_fringe.specs.Firsts.{first_taken}
+use Rattle.shared_fringe.specs.Popping.{after_pop}
 use Rattle.shared_fringe.specs.Fringe.{FringeView}
-use Rattle.shared_fringe.specs.Taking.{first_taken, after_pop}
 use Rattle.shared_fringe.proofs.Fringes.{kept-removed}
 use Rattle.shared_fringe.proofs.Pushes.{pop_taken}
 use Rattle.shared_fringe.proofs.fringe.Fringe.pop_best.Goals as goal

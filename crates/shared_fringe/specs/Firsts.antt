@@ -1,6 +1,6 @@
--- Which open subproblem is taken first, and what stays.
+-- Which open subproblem is taken first.
 use Rattle.std.specs.Prelude.{Bool, cond, ◌&&◌, ◌||◌, List, [], ◌∷◌, nat_lt, int_lt, int_le, Option, Some, None}
-use Rattle.shared_fringe.specs.Fringe.{Ticketed, without}
+use Rattle.shared_fringe.specs.Tickets.{Ticketed}
 
 -- a is taken rather than b: the greater bound, then the greater value, then the lesser ticket
 abbrev pub is_taken_before : Ticketed → Ticketed → Bool
@@ -17,11 +17,3 @@ first_from first (o ∷ os) = first_from (cond (is_taken_before o first) o first
 abbrev pub first_taken : List Ticketed → Option Ticketed
 first_taken [] = None
 first_taken (o ∷ os) = Some (first_from o os)
-
-abbrev pub taken_out : Option Ticketed → List Ticketed → List Ticketed
-taken_out None os = os
-taken_out (Some o) os = without o.ticket os
-
--- the others, after it was taken out
-abbrev pub after_pop : List Ticketed → List Ticketed
-after_pop os = taken_out (first_taken os) os

@@ -1,6 +1,6 @@
 use Rattle.std.proofs.Common.{◌≡◌, ◌+◌, ◌≤◌, length, drop}
 use Rattle.search_core.specs.Board.{full_slots}
-use Rattle.search_core.proofs.taking.count_full.Given as goal
+use Rattle.search_core.proofs.full.count_full.Given as goal
 
 abbrev pub invariant-loop-slot : goal.invariant-loop-slot
 invariant-loop-slot l = record {
