@@ -22,8 +22,6 @@ mod placed;
 mod printing;
 mod problem;
 mod reading;
-#[cfg(test)]
-mod tests;
 
 pub use item::Item;
 pub use packing::value_of;

@@ -28,6 +28,3 @@ pub use cut::value_of;
 pub use model::MaxCut;
 pub use printing::print;
 pub use reading::read;
-
-#[cfg(test)]
-mod tests;

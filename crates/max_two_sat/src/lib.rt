@@ -32,6 +32,3 @@ pub use printing::print;
 pub use problem::MaxTwoSat;
 pub use reading::read;
 pub use value::value_of;
-
-#[cfg(test)]
-mod tests;

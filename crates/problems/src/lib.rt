@@ -9,6 +9,8 @@ mod cuts;
 mod knapsacks;
 mod problem;
 mod satisfiability;
+#[cfg(test)]
+mod tests;
 mod tours;
 
 pub use knapsack::Knapsack;

@@ -25,6 +25,3 @@ pub use problem::TspWindows;
 pub use reading::read;
 pub use touring::value_of;
 pub use window::Window;
-
-#[cfg(test)]
-mod tests;
