@@ -10,4 +10,5 @@ pub mod Matching
 pub mod Orders
 pub mod Permutations
 pub mod Prefixes
+pub mod RowTests
 pub mod Sorting

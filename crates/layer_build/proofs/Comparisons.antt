@@ -1,32 +1,16 @@
 -- Rows and numbers as the code compares them.
-use Rattle.std.proofs.Common.{◌≡◌, ℤ, int_lt, Bool, true, false, ◌&&◌, ◌||◌, List, refl, sym, ◌∙◌, ap, ap₂, subst, arith, FitsSigned, to_z, of_z, w64}
+use Rattle.std.proofs.Common.{◌≡◌, ℤ, int_lt, Bool, true, false, ◌&&◌, ◌||◌, List, sym, ◌∙◌, ap, ap₂, subst, arith, FitsSigned, to_z, of_z, w64}
 use Rattle.std.proofs.lemmas.Int.{ints, to_z-of_z}
-use Rattle.std.proofs.lemmas.Slice.Eq.{slice_eq-Decides}
-use Rattle.std.proofs.lemmas.Bool.Decides.{Decides-int_eq}
 use Rattle.std.proofs.lemmas.Cmp.{int_cmp_total, lists_total, tied_itself}
-use Rattle.std.specs.Cmp.Lexicographic.{pointwise, slice_cmp}
-use Rattle.std.specs.Ordering.{int_eq, int_cmp, is_lt}
+use Rattle.std.specs.Cmp.Lexicographic.{slice_cmp}
+use Rattle.std.specs.Ordering.{int_cmp, is_lt}
 use Rattle.std.specs.declared.cmp.Ordering.TheVariants.{Less, Equal, Greater}
 use Rattle.dp_model.specs.Numbers.{int_same}
 use Rattle.dp_model.specs.Rows.{row_same, row_smaller}
-use Rattle.dp_model.proofs.RowLemmas.{row_same-is, row_same-self, int_same-self}
+use Rattle.dp_model.proofs.RowLemmas.{row_same-is, int_same-self}
 use Rattle.dp_laws.proofs.Orders.{row_smaller-cmp, rows-Equal}
+use Rattle.dp_laws.proofs.RowTests.{same-self, same-tests}
 use Rattle.layer_build.specs.Ordering.{greater_then}
-
-pub same-self : (a b : List ℤ) → a ≡ b → row_same a b ≡ true
-same-self a b h = subst (λ (r : List ℤ). row_same a r ≡ true) h (row_same-self a)
-
--- what has the same answers is the same test
-pub same-tests : (a b : Bool) → (a ≡ true → b ≡ true) → (b ≡ true → a ≡ true) → a ≡ b
-same-tests true b f g = sym (f refl)
-same-tests false true f g = g refl
-same-tests false false f g = refl
-
--- `==` on rows
-pub row_same-compared : (a b : List ℤ) (r : Bool) → r ≡ pointwise int_eq a b → r ≡ row_same a b
-row_same-compared a b r h =
-    let tells = slice_eq-Decides Decides-int_eq a b r h in
-    same-tests r (row_same a b) (λ e. same-self a b (tells.0 e)) (λ e. tells.1 (row_same-is a b e))
 
 -- a test of the smaller row and then of the rest, for each way that rows compare
 pub rows_less : (a b : List ℤ) (rest : Bool) → slice_cmp int_cmp a b ≡ Less → true ≡ (row_smaller a b || (row_same a b && rest))

@@ -1,36 +1,19 @@
 -- Rows that are the same, and subproblems of one depth and state.
 use Rattle.std.proofs.Common.{◌≡◌, ℕ, ◌+◌, ◌<◌, not, drop, get_or, ℤ, List, [], ◌∷◌, length, Bool, true, false, nat_eq, ◌&&◌, cond, Some, None, refl, sym, ◌∙◌, ap, ap₂, subst, arith}
 use Rattle.std.proofs.lemmas.Bool.{eqb-true, eq-eqb}
-use Rattle.std.proofs.lemmas.Bool.Decides.{nat_tests, Decides-int_eq}
-use Rattle.std.proofs.lemmas.Slice.Eq.{slice_eq-Decides}
-use Rattle.std.specs.Cmp.Lexicographic.{pointwise}
+use Rattle.std.proofs.lemmas.Bool.Decides.{nat_tests}
 use Rattle.std.proofs.lemmas.List.{drop_more}
 use Rattle.std.proofs.lemmas.Option.{slice_get_read}
 use Rattle.std.specs.List.{slice_get}
-use Rattle.std.specs.Ordering.{int_eq}
 use Rattle.dp_model.specs.Lists.{Each}
 use Rattle.dp_model.specs.Rows.{row_same}
-use Rattle.dp_model.proofs.RowLemmas.{both, row_same-is, row_same-self}
+use Rattle.dp_model.proofs.RowLemmas.{both, row_same-is}
 use Rattle.dp_laws.specs.Pairs.{EachTwo}
 use Rattle.dp_model.proofs.Members.{Each-then}
 use Rattle.shared_fringe.proofs.Tickets.{without-later}
+use Rattle.dp_laws.proofs.RowTests.{same-self, same-tests}
 use Rattle.shared_fringe.specs.Tickets.{Ticketed, HasTickets, without}
 use Rattle.shared_fringe.specs.Fringe.{is_same, same_at, AreDifferent}
-
-same-self : (a b : List ℤ) → a ≡ b → row_same a b ≡ true
-same-self a b h = subst (λ (r : List ℤ). row_same a r ≡ true) h (row_same-self a)
-
--- what has the same answers is the same test
-same-tests : (a b : Bool) → (a ≡ true → b ≡ true) → (b ≡ true → a ≡ true) → a ≡ b
-same-tests true b f g = sym (f refl)
-same-tests false true f g = g refl
-same-tests false false f g = refl
-
--- `==` on rows
-pub row_same-compared : (a b : List ℤ) (r : Bool) → r ≡ pointwise int_eq a b → r ≡ row_same a b
-row_same-compared a b r h =
-    let tells = slice_eq-Decides Decides-int_eq a b r h in
-    same-tests r (row_same a b) (λ e. same-self a b (tells.0 e)) (λ e. tells.1 (row_same-is a b e))
 
 -- the depth and the row of one that is the same
 pub same-depth : (depth : ℕ) (row : List ℤ) (o : Ticketed) → is_same depth row o ≡ true → depth ≡ length o.subproblem.decisions

@@ -1,6 +1,6 @@
 use Rattle.std.proofs.Common.{◌∙◌, ap₂}
 use Rattle.dp_model.specs.Rows.{row_same}
-use Rattle.layer_build.proofs.Comparisons.{row_same-compared}
+use Rattle.dp_laws.proofs.RowTests.{row_same-compared}
 use Rattle.layer_build.proofs.comparing.same_state.Goals as goal
 
 pub returns : goal.returns
