@@ -3,7 +3,6 @@ use Rattle.std.proofs.Common.{◌≡◌, ◌≢◌, ℕ, zero, suc, ◌<◌, nat
 use Rattle.std.proofs.lemmas.Int.{ints}
 use Rattle.std.proofs.lemmas.Bool.Decides.{nat_tests}
 use Rattle.std.proofs.lemmas.Cmp.{int_cmp_total, nat_cmp_total, on_total, then_total, back_total, lists_total, tied_itself}
-use Rattle.std.proofs.lemmas.List.MinMax.{ranks_by}
 use Rattle.std.specs.Cmp.{IsTotalOrder, IsStrictWeakOrder}
 use Rattle.std.specs.Cmp.Lexicographic.{slice_cmp}
 use Rattle.std.specs.Ordering.{int_cmp, nat_cmp, on, then_cmp, flip_args, is_lt, ordering_then}
@@ -24,7 +23,7 @@ use Rattle.dp_laws.specs.ReductionOrder.{stands_before, in_order}
 use Rattle.dp_laws.specs.Sorting.{at, comes_before, firsts_after, firsts, places_before, IsBestAt, SortingExpands}
 use Rattle.dp_laws.proofs.Differing.{rows-other}
 use Rattle.dp_laws.proofs.Joining.{expansions-unique}
-use Rattle.dp_laws.proofs.Orders.{is_lt-Less, then-test, row_smaller-cmp, then-Equal, rows-Equal, lesser-total, before-strict, before-total}
+use Rattle.dp_laws.proofs.Orders.{is_lt-Less, then-test, row_smaller-cmp, then-Equal, rows-Equal, lesser-total, strict-by, before-strict, before-total}
 use Rattle.dp_laws.proofs.Permutations.{each-at, two-sorted, two-both, two-map, one-map, Has-permutation, each-permutation, one-permutation, keys-permutation, places-differ}
 
 -- Rows.
@@ -33,12 +32,7 @@ rows-total : IsTotalOrder (slice_cmp int_cmp)
 rows-total = lists_total int_cmp_total
 
 smaller-strict : IsStrictWeakOrder row_smaller
-smaller-strict =
-    let lawful = ranks_by rows-total (λ (r : List ℤ). r) in
-    record {
-      one_way = λ a b h. row_smaller-cmp b a ∙ lawful.one_way a b (sym (row_smaller-cmp a b) ∙ h);
-      chain = λ a b c h g. row_smaller-cmp a c ∙ lawful.chain a b c (sym (row_smaller-cmp a b) ∙ h) (sym (row_smaller-cmp b c) ∙ g);
-    }
+smaller-strict = strict-by row_smaller (slice_cmp int_cmp) rows-total row_smaller-cmp
 
 smaller-none : (a b : List ℤ) → a ≡ b → row_smaller a b ≡ false
 smaller-none a b e = row_smaller-cmp a b ∙ (ap (λ r. is_lt (slice_cmp int_cmp a r)) (sym e) ∙ ap is_lt (tied_itself rows-total a))
@@ -105,12 +99,7 @@ comes_before-cmp cs i j =
     (then-test (at cs j).value (at cs i).value _ _ _ refl (nat_lt-cmp i j))
 
 pub comes-strict : (cs : List Reached) → IsStrictWeakOrder (comes_before cs)
-comes-strict cs =
-    let lawful = ranks_by (state-total cs) (λ (i : ℕ). i) in
-    record {
-      one_way = λ a b h. comes_before-cmp cs b a ∙ lawful.one_way a b (sym (comes_before-cmp cs a b) ∙ h);
-      chain = λ a b c h g. comes_before-cmp cs a c ∙ lawful.chain a b c (sym (comes_before-cmp cs a b) ∙ h) (sym (comes_before-cmp cs b c) ∙ g);
-    }
+comes-strict cs = strict-by (comes_before cs) (state_cmp cs) (state-total cs) (comes_before-cmp cs)
 
 equal-places : (i j : ℕ) → cond (nat_eq i j) Equal Greater ≡ Equal → i ≡ j
 equal-places i j h =

@@ -1,7 +1,6 @@
 -- The two orders by which places are sorted.
 use Rattle.std.proofs.Common.{◌≡◌, ℕ, zero, suc, ◌+◌, ◌<◌, true, false, cond, List, [], ◌∷◌, ◌++◌, length, drop, get_or, refl, sym, ◌∙◌, ap, length-append, append_assoc, arith}
 use Rattle.std.proofs.lemmas.Cmp.{int_cmp_total, on_total, then_total, back_total, lists_total}
-use Rattle.std.proofs.lemmas.List.MinMax.{ranks_by}
 use Rattle.std.proofs.lemmas.List.{drop_more}
 use Rattle.std.specs.Cmp.{IsTotalOrder, IsStrictWeakOrder}
 use Rattle.std.specs.Cmp.Lexicographic.{slice_cmp}
@@ -11,7 +10,7 @@ use Rattle.dp_model.specs.Decisions.{below}
 use Rattle.dp_model.specs.Rows.{row_same}
 use Rattle.dp_model.specs.Reached.{Reached}
 use Rattle.dp_laws.specs.Sorting.{at, firsts_after}
-use Rattle.dp_laws.proofs.Orders.{then-test, int_same-sym, row_smaller-cmp}
+use Rattle.dp_laws.proofs.Orders.{then-test, int_same-sym, row_smaller-cmp, strict-by}
 use Rattle.layer_build.specs.Stored.{Made, pathless}
 use Rattle.layer_build.specs.Ordering.{rank_at, goes_before}
 
@@ -33,12 +32,7 @@ goes_before-cmp cs i j =
     (then-test (rank_at cs j) (rank_at cs i) _ _ _ (int_same-sym (rank_at cs i) (rank_at cs j)) (row_smaller-cmp (at (pathless cs) i).row (at (pathless cs) j).row))
 
 pub goes-strict : (cs : List Made) → IsStrictWeakOrder (goes_before cs)
-goes-strict cs =
-    let lawful = ranks_by (order-total cs) (λ (i : ℕ). i) in
-    record {
-      one_way = λ a b h. goes_before-cmp cs b a ∙ lawful.one_way a b (sym (goes_before-cmp cs a b) ∙ h);
-      chain = λ a b c h g. goes_before-cmp cs a c ∙ lawful.chain a b c (sym (goes_before-cmp cs a b) ∙ h) (sym (goes_before-cmp cs b c) ∙ g);
-    }
+goes-strict cs = strict-by (goes_before cs) (order_cmp cs) (order-total cs) (goes_before-cmp cs)
 
 -- The numbers below.
 
