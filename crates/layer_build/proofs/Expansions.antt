@@ -4,7 +4,8 @@ use Rattle.std.proofs.lemmas.Int.{ints}
 use Rattle.std.proofs.lemmas.List.{take-append-le, take_all}
 use Rattle.dp_model.specs.Dp.{Dp}
 use Rattle.dp_model.specs.Lists.{Each}
-use Rattle.dp_model.specs.Numbers.{IsSmall, IsFar}
+use Rattle.dp_model.specs.Numbers.{IsFar}
+use Rattle.dp_model.specs.NumberLaws.{small_natural}
 use Rattle.dp_laws.proofs.Permutations.{each-at}
 use Rattle.layer_rules.specs.Compiling.{expand}
 use Rattle.layer_rules.specs.Landings.{Landing}
@@ -19,15 +20,12 @@ use Rattle.layer_build.proofs.Shown.{made-ranked, next-is, above-is}
 
 -- Landings are near.
 
-zero-small : IsSmall (pos 0)
-zero-small = record { low = omega (arith, ints); high = omega (arith, ints) }
-
 zero-far : IsFar (pos 0)
 zero-far = record { low = omega (arith, ints); high = omega (arith, ints) }
 
 near-landings : (cs : List Made) (kept : List ℕ) (ls : List (Option Landing)) → AllLand cs kept ls → length ls ≡ length cs → Each IsNear ls
 near-landings cs kept ls all long =
-    each-at IsNear ls (λ j d less. (let h = all j (omega arith) in subst IsNear (sym (get_or-any ls j d None less ∙ h.lands)) zero-small))
+    each-at IsNear ls (λ j d less. (let h = all j (omega arith) in subst IsNear (sym (get_or-any ls j d None less ∙ h.lands)) (small_natural 0 (omega arith))))
 
 pub near-part : (cs : List Made) (kept : List ℕ) (ls rest : List (Option Landing)) → AllLand cs kept ls → length ls ≡ length cs → Each IsNear (take (length cs) (ls ++ rest))
 near-part cs kept ls rest all long = subst (Each IsNear) (sym (take-append-le (length cs) ls rest (omega arith) ∙ take_all (length cs) ls (omega arith))) (near-landings cs kept ls all long)

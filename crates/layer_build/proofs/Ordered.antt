@@ -13,7 +13,7 @@ use Rattle.dp_laws.specs.Sorting.{at, comes_before, firsts_after, firsts, places
 use Rattle.dp_laws.proofs.Permutations.{each-permutation}
 use Rattle.dp_laws.proofs.Sorting.{sorting-expands}
 use Rattle.layer_build.specs.Stored.{Made, prefix_of, pathless}
-use Rattle.layer_build.proofs.Sorted.{length-below}
+use Rattle.diagram_laws.proofs.Places.{length-below}
 use Rattle.layer_build.specs.Ordering.{rank_at, goes_before, KeepsRank}
 
 -- the candidates as prefixes

@@ -34,12 +34,6 @@ goes_before-cmp cs i j =
 pub goes-strict : (cs : List Made) → IsStrictWeakOrder (goes_before cs)
 goes-strict cs = strict-by (goes_before cs) (order_cmp cs) (order-total cs) (goes_before-cmp cs)
 
--- The numbers below.
-
-pub length-below : (n : ℕ) → length (below n) ≡ n
-length-below zero = refl
-length-below (suc n) = let rest = length-below n in let long = length-append (below n) (n ∷ []) in omega arith
-
 -- The firsts so far and those that are still to come.
 
 pub firsts-none : (cs : List Reached) (last i : ℕ) (kept rest all : List ℕ) (d : ℕ) → i < length rest → kept ++ firsts_after cs last (drop i rest) ≡ all

@@ -5,3 +5,4 @@ pub mod Following
 pub mod Joining
 pub mod Expanding
 pub mod Bench
+pub mod Width

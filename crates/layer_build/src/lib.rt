@@ -14,9 +14,13 @@ mod joining;
 mod landing;
 mod node;
 mod ordering;
+#[cfg(test)]
+mod tests;
+mod width;
 mod writing;
 
 pub use bench::Bench;
 pub use candidate::Candidate;
 pub use extending::extend_layer;
 pub use node::Node;
+pub use width::greatest_width;

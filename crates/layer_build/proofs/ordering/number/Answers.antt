@@ -1,5 +1,5 @@
 use Rattle.std.proofs.Common.{rules, ◌≡◌, length, vec_len, ◌∙◌, ap, arith}
-use Rattle.layer_build.proofs.Sorted.{length-below}
+use Rattle.diagram_laws.proofs.Places.{length-below}
 use Rattle.layer_build.proofs.ordering.number.Goals as goal
 
 pub push_reserved-requires : goal.push_reserved-requires

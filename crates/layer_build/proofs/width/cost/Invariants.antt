@@ -1,0 +1,9 @@
+use Rattle.std.proofs.Common.{◌≡◌, ◌≤◌, ◌*◌}
+use Rattle.layer_build.specs.Width.{cost_below}
+use Rattle.layer_build.proofs.width.cost.Given as goal
+
+abbrev pub invariant-layers : goal.invariant-layers
+invariant-layers g l = record {
+  cost_is : l.cost ≡ cost_below (g.M.DpModel.meaning (g.M.DpModel.numbers l.model)) l.k;
+  small : l.cost ≤ l.k * 5120;
+}

@@ -1,0 +1,34 @@
+//! How wide a layer may be, so that one worker's layers stay within their memory.
+
+ghost use Rattle.std.specs.Prelude.{◌≡◌, ◌*◌, ◌≤◌};
+ghost use Rattle.layer_build.specs.Width.{cost_below, IsGreatestWidth};
+
+use dp_model::DpModel;
+
+/// No layer is wider.
+const WIDEST: u64 = 1 << 24;
+
+/// The layers of one width cost no more, in units of 8 bytes.
+const MOST: u64 = 1 << 25;
+
+/// What one node of each layer costs, in units of 8 bytes: four for each arc, and its row.
+fn cost<M: DpModel>(model: &M) -> u64
+    ensures { result ≡ cost_below (M.meaning (M.numbers model.now)) (M.meaning (M.numbers model.now)).vars }
+{
+    let words = model.words() as u64;
+    let mut cost = 0;
+    'layers: for k in 0..model.vars() {
+        cost += 4 * u64::from(model.choices(k)) + words;
+    }
+    cost
+}
+
+/// The greatest width whose layers are within the memory of one worker.
+pub fn greatest_width<M: DpModel>(model: &M) -> u32
+    ensures { IsGreatestWidth (M.meaning (M.numbers model.now)) result }
+{
+    match MOST.checked_div(cost(model)) {
+        Some(width) => width.min(WIDEST) as u32,
+        None => WIDEST as u32,
+    }
+}
