@@ -2,6 +2,9 @@
 //!
 //! It stands on `layer_rules`, whose definitions say what each call does. A node in memory keeps the place of its parent in
 //! the layer above and its decision in place of a path, so contracts speak of all paths that the layer above may have.
+//! Promised so far, each in the contract of its call: `Bench::expand` makes of a layer the same with its arcs, and the nodes
+//! of the next layer, as rules 1 to 4 say, and takes no memory; `greatest_width` is the greatest width within the memory of
+//! one worker.
 #![tactic(auto)]
 
 mod arranging;
@@ -21,6 +24,5 @@ mod writing;
 
 pub use bench::Bench;
 pub use candidate::Candidate;
-pub use extending::extend_layer;
 pub use node::Node;
 pub use width::greatest_width;
