@@ -51,6 +51,11 @@ each-drop P xs zero h = h
 each-drop P [] (suc i) h = tt
 each-drop P (x ∷ xs) (suc i) h = each-drop P xs i h.1
 
+pub each-take : {X : Type 0} (P : X → Type 0) (xs : List X) (i : ℕ) → Each P xs → Each P (take i xs)
+each-take P xs zero h = tt
+each-take P [] (suc i) h = tt
+each-take P (x ∷ xs) (suc i) h = (h.0, each-take P xs i h.1)
+
 -- the element that is next
 pub each-left : {X : Type 0} (P : X → Type 0) (old now : List X) (i : ℕ) (x : X) → Each P old → drop i now ≡ drop i old → length now ≡ length old → i < length old → x ≡ get_or now i x → P x
 each-left P old now i x all left same inside is =

@@ -1,5 +1,5 @@
 -- How wide a layer may be.
-use Rattle.std.specs.Prelude.{◌≡◌, ℕ, zero, suc, ◌+◌, ◌*◌, ◌^◌, ◌≤◌}
+use Rattle.std.specs.Prelude.{ℕ, zero, suc, ◌+◌, ◌*◌, ◌^◌, ◌≤◌}
 use Rattle.dp_model.specs.Dp.{Dp}
 
 -- what one node of each of the first n layers costs, in units of 8 bytes: four for each arc, and its row

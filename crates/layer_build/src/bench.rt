@@ -1,7 +1,7 @@
-ghost use Rattle.std.specs.Prelude.{◌≡◌, ℕ, ◌*◌, ◌<◌, ◌≤◌, ◌^◌, List, [], length, map, IfOk, vec_len};
+ghost use Rattle.std.specs.Prelude.{◌≡◌, ℕ, ◌*◌, ◌<◌, ◌≤◌, ◌^◌, List, [], length, map, take, IfOk, vec_len};
 ghost use Rattle.dp_model.specs.Lists.{Each};
 ghost use Rattle.layer_rules.specs.Compiling.{expand};
-ghost use Rattle.layer_build.specs.Stored.{Made, shown_layer, without_arcs};
+ghost use Rattle.layer_build.specs.Stored.{Stored, Made, shown_layer, shown_below, without_arcs};
 ghost use Rattle.layer_build.specs.Extending.{IsParent};
 ghost use Rattle.layer_build.specs.Bench.{next_of};
 
@@ -10,6 +10,7 @@ use crate::candidate::Candidate;
 use crate::extending::extend_layer;
 use crate::landing::Landing;
 use crate::node::Node;
+use crate::writing::write_next;
 use dp_model::{DpModel, OutOfMemory};
 use std::alloc::Global;
 use std::marker::Model;
@@ -107,6 +108,30 @@ impl Bench {
             &mut self.kept,
             self.landings.as_mut_slice(),
             &mut self.exact,
+        );
+    }
+
+    /// How many nodes the next layer has.
+    pub fn len(&self) -> usize
+        ensures { result ≡ length self.now.kept }
+    {
+        self.kept.len()
+    }
+
+    /// Writes the next layer to the first of the nodes, whose other rows, and all their room, stay.
+    pub fn write_next(&self, next: &mut [Node])
+        requires room { length self.now.kept ≤ length next.old }
+        requires cells { Each (λ n. length n.row ≡ self.now.words) next.old }
+        ensures next { (paths : ℕ → List ℕ) → map (shown_below paths) (take (length self.now.kept) next.new) ≡ next_of paths self.now }
+        ensures size { length next.new ≡ length next.old }
+        ensures cells { Each (λ n. length n.row ≡ self.now.words) next.new }
+        ensures room { map (λ n. n.room) next.new ≡ map (λ n. n.room) next.old }
+    {
+        write_next(
+            &self.pool.as_slice()[..self.used],
+            self.kept.as_slice(),
+            self.exact.as_slice(),
+            next,
         );
     }
 }
