@@ -1,47 +1,27 @@
 -- The canonical text reads as the graph.
 use Rattle.std.proofs.Common.{◌≡◌, ℕ, zero, suc, ◌+◌, ◌-◌, ◌^◌, ◌<◌, ◌≤◌, ℤ, pos, negsuc, ◌+ℤ◌, ◌≤ℤ◌, List, [], ◌∷◌, ◌++◌, length, get_or, set, take, Bool, true, false, cond, eqb, arith, ap, ◌∙◌, sym, refl, subst, zero-add, append_assoc, append-nil}
-use Rattle.std.specs.Prelude.{nat_abs, int_le, nat_lt, Ok}
+use Rattle.std.specs.Prelude.{nat_abs, int_le, Ok}
 use Rattle.std.specs.List.{All}
 use Rattle.std.proofs.lemmas.Int.{ints, clamps}
+use Rattle.std.proofs.lemmas.Bool.{lt-ltb}
 use Rattle.std.proofs.lemmas.Bool.Decides.{nat_tests}
 use Rattle.std.proofs.lemmas.List.{length-append, length-take-le, get_or_at, set_at, take-append-drop}
 use Rattle.std.proofs.Math.Seq.{take-add}
 use Rattle.std.proofs.lemmas.List.Elements.{All-take, All-drop, All-head, All-tail}
 use Rattle.benefit_rows.specs.Benefits.{size_of}
+use Rattle.dp_model.specs.NumberLaws.{int_le-from}
 use Rattle.dd_text.specs.Text.{TextState, text_start, number_at, place_of, after_token}
 use Rattle.dd_text.specs.declared.comment.Comment.{Comment}
 use Rattle.dd_text.specs.declared.place.Place.{Place}
 use Rattle.dd_text.specs.Grammar.{times}
 use Rattle.dd_text.specs.Decimal.{decimal_of}
 use Rattle.dd_text.specs.Printed.{IsBefore}
-use Rattle.dd_text.proofs.Printing.{before_start, before_behind, reads_number, finishes}
+use Rattle.dd_text.proofs.Printing.{before_start, passes_number, passes_natural, finishes}
 use Rattle.max_cut.specs.Graph.{Graph, IsGraph, IsWeight, pairs_of, row_start, row_of, weights_from}
 use Rattle.max_cut.specs.GraphLaws.{row_start-next, row_within, length-row_of, weights_from-split, weights_from-none, pairs_of-most}
 use Rattle.max_cut.specs.Program.{zeros}
 use Rattle.max_cut.specs.Edges.{vertex_from, vertex_at, place_among, with_edge, made_before, edge_at, graph_at}
-use Rattle.max_cut.specs.EdgeLines.{is_none, edges_in, spaced, ended, edge_line, row_lines, lines_from, text_of}
-
--- a number and a space are read
-record ReadsSpaced (n least most : ℕ) (more : List ℕ) (s : TextState) : Type 0 where
-  value : number_at (pos least) (pos most) s ≡ Ok (pos n)
-  before : IsBefore more (after_token s)
-
-reads_spaced : (n least most : ℕ) (more : List ℕ) (s : TextState) → least ≤ n → n ≤ most → n < 2 ^ 64 → IsBefore (spaced n ++ more) s → ReadsSpaced n least most more s
-reads_spaced n least most more s low high fits before =
-    let joined : spaced n ++ more ≡ decimal_of (pos n) ++ 32 ∷ more = append_assoc (decimal_of (pos n)) (32 ∷ []) more in
-    let read = reads_number (pos n) (pos least) (pos most) 32 more s fits (omega (arith, ints)) (omega (arith, ints)) refl (subst (λ bytes. IsBefore bytes s) joined before) in
-    record { value = read.value; before = before_behind 32 more (after_token s) refl read.rest_is }
-
--- a number and the line's end are read
-record ReadsEnded (z least most : ℤ) (more : List ℕ) (s : TextState) : Type 0 where
-  value : number_at least most s ≡ Ok z
-  before : IsBefore more (after_token s)
-
-reads_ended : (z least most : ℤ) (more : List ℕ) (s : TextState) → nat_abs z < 2 ^ 64 → least ≤ℤ z → z ≤ℤ most → IsBefore (ended z ++ more) s → ReadsEnded z least most more s
-reads_ended z least most more s fits low high before =
-    let joined : ended z ++ more ≡ decimal_of z ++ 10 ∷ more = append_assoc (decimal_of z) (10 ∷ []) more in
-    let read = reads_number z least most 10 more s fits low high refl (subst (λ bytes. IsBefore bytes s) joined before) in
-    record { value = read.value; before = before_behind 10 more (after_token s) refl read.rest_is }
+use Rattle.max_cut.specs.EdgeLines.{is_none, edges_in, edge_line, row_lines, lines_from, text_of}
 
 -- a vertex is read
 vertex_read : (n i : ℕ) (s : TextState) → number_at (pos 1) (pos n) s ≡ Ok (pos (i + 1)) → vertex_at n s ≡ Ok (i, after_token s)
@@ -51,14 +31,17 @@ vertex_read n i s e =
     ap (vertex_from (after_token s)) e ∙ ap (λ v. Ok (v, after_token s)) back
 
 -- a weight is a number that a text may have
-record IsWritten (w : ℤ) : Type 0 where
-  fits : nat_abs w < 2 ^ 64
-  low : negsuc 499999999 ≤ℤ w
-  high : w ≤ℤ pos 500000000
+pub record IsWritten (w : ℤ) : Type 0 where
+  pub size : nat_abs w ≤ 500000000
+  pub low : negsuc 499999999 ≤ℤ w
+  pub high : w ≤ℤ pos 500000000
 
-written : (w : ℤ) → IsWeight w → IsWritten w
-written (pos n) h = record { fits = omega (arith, ints, clamps); low = omega (arith, ints, clamps); high = omega (arith, ints, clamps) }
-written (negsuc n) h = record { fits = omega (arith, ints, clamps); low = omega (arith, ints, clamps); high = omega (arith, ints, clamps) }
+pub written : (w : ℤ) → IsWeight w → IsWritten w
+written (pos n) h = record { size = omega (arith, ints, clamps); low = omega (arith, ints, clamps); high = omega (arith, ints, clamps) }
+written (negsuc n) h = record { size = omega (arith, ints, clamps); low = omega (arith, ints, clamps); high = omega (arith, ints, clamps) }
+
+edge_before : (i j : ℕ) (w : ℤ) (more : List ℕ) → edge_line i j w ++ more ≡ decimal_of (pos (i + 1)) ++ 32 ∷ (decimal_of (pos (j + 1)) ++ 32 ∷ (decimal_of w ++ 10 ∷ more))
+edge_before i j w more = simp append_assoc
 
 -- the line of an edge is read as that edge
 record ReadsEdge (n : ℕ) (totals : List ℤ) (i j : ℕ) (w : ℤ) (more : List ℕ) (s : TextState) : Type 0 where
@@ -72,12 +55,11 @@ reads_edge : (n : ℕ) (totals : List ℤ) (i j : ℕ) (w : ℤ) (more : List �
 unfolding edge_at
 reads_edge n totals i j w more s few first second weight before =
     let write = written w weight in
-    let joined : edge_line i j w ++ more ≡ spaced (i + 1) ++ (spaced (j + 1) ++ (ended w ++ more)) = append_assoc (spaced (i + 1)) (spaced (j + 1) ++ ended w) more ∙ ap (λ bytes. spaced (i + 1) ++ bytes) (append_assoc (spaced (j + 1)) (ended w) more) in
-    let one = reads_spaced (i + 1) 1 n (spaced (j + 1) ++ (ended w ++ more)) s (omega arith) (omega arith) (omega arith) (subst (λ bytes. IsBefore bytes s) joined before) in
+    let one = passes_natural (i + 1) 1 n 32 _ s (omega arith) (omega arith) (omega arith) refl (subst (λ bytes. IsBefore bytes s) (edge_before i j w more) before) in
     let t = after_token s in
-    let two = reads_spaced (j + 1) 1 n (ended w ++ more) t (omega arith) (omega arith) (omega arith) one.before in
+    let two = passes_natural (j + 1) 1 n 32 _ t (omega arith) (omega arith) (omega arith) refl one.before in
     let u = after_token t in
-    let three = reads_ended w (negsuc 499999999) (pos 500000000) more u write.fits write.low write.high two.before in
+    let three = passes_number w (negsuc 499999999) (pos 500000000) 10 more u (omega (arith, write.size)) write.low write.high refl two.before in
     let at_i = vertex_read n i s one.value in
     let at_j = vertex_read n j t two.value in
     record {
@@ -90,27 +72,19 @@ reads_edge n totals i j w more s few first second weight before =
 is_none-true : (w : ℤ) → is_none w ≡ true → w ≡ pos 0
 is_none-true w h = grind (arith, ints)
 
-at_most : (a b : ℤ) → a ≤ℤ b → int_le a b ≡ true
-at_most a b h = grind (arith, ints)
-
-differ : (i j : ℕ) → i < j → eqb i j ≡ false
-differ i j h = grind (arith, nat_tests)
-
-before_it : (i j : ℕ) → i < j → nat_lt i j ≡ true
-before_it i j h = grind (arith, nat_tests)
-
 -- the first weight of a pair takes the place of a zero
 first_weight : (n : ℕ) (done : List ℤ) (m i j : ℕ) (w : ℤ) (place : Place) → i < j → length done ≡ row_start n i + (j - (i + 1)) → IsWeight w
     → with_edge n (done ++ pos 0 ∷ zeros m) i j w place ≡ Ok ((done ++ w ∷ []) ++ zeros m)
 unfolding with_edge
 first_weight n done m i j w place below at weight =
-    let here : place_among n i j ≡ length done = rw (before_it i j below) (sym at) in
+    let here : place_among n i j ≡ length done = rw (lt-ltb i j below) (sym at) in
     let old : get_or (done ++ pos 0 ∷ zeros m) (place_among n i j) (pos 0) +ℤ w ≡ w = ap (λ p. get_or (done ++ pos 0 ∷ zeros m) p (pos 0) +ℤ w) here ∙ (ap (λ z. z +ℤ w) (get_or_at done (pos 0) (zeros m) (pos 0) (length done) refl) ∙ omega (arith, ints)) in
-    let small : int_le (size_of (get_or (done ++ pos 0 ∷ zeros m) (place_among n i j) (pos 0) +ℤ w)) (pos 500000000) ≡ true = ap (λ z. int_le (size_of z) (pos 500000000)) old ∙ at_most (size_of w) (pos 500000000) weight in
+    let small : int_le (size_of (get_or (done ++ pos 0 ∷ zeros m) (place_among n i j) (pos 0) +ℤ w)) (pos 500000000) ≡ true = ap (λ z. int_le (size_of z) (pos 500000000)) old ∙ int_le-from (size_of w) (pos 500000000) weight in
     let new : set (done ++ pos 0 ∷ zeros m) (place_among n i j) (get_or (done ++ pos 0 ∷ zeros m) (place_among n i j) (pos 0) +ℤ w) ≡ (done ++ w ∷ []) ++ zeros m =
     ap (λ p. set (done ++ pos 0 ∷ zeros m) p (get_or (done ++ pos 0 ∷ zeros m) (place_among n i j) (pos 0) +ℤ w)) here
     ∙ (ap (set (done ++ pos 0 ∷ zeros m) (length done)) old ∙ (set_at done (pos 0) (zeros m) w (length done) refl ∙ sym (append_assoc done (w ∷ []) (zeros m)))) in
-    rw (differ i j below, small) (ap Ok new)
+    let apart : eqb i j ≡ false = grind (arith, nat_tests) in
+    rw (apart, small) (ap Ok new)
 
 -- what is read from here gives what is read from there
 record Goes (n m : ℕ) (totals : List ℤ) (s : TextState) (left : ℕ) (more_totals : List ℤ) (more : List ℕ) : Type 0 where
@@ -223,6 +197,9 @@ reads_rows g h k (suc m) more s whole before =
           ∙ (first.is ∙ (ap (λ ds. times (edge_at n) (edges_in rest) (ds ++ zeros (length rest)) first.behind) next ∙ later.is)));
     }
 
+text_before : (g : Graph) → text_of g ≡ decimal_of (pos g.vertices) ++ 32 ∷ (decimal_of (pos (edges_in g.weights)) ++ 10 ∷ lines_from g 0 g.vertices)
+text_before g = simp append_assoc
+
 -- the canonical text of a graph reads as the graph
 pub rereads : (g : Graph) → IsGraph g → (comment : Comment) → graph_at (text_start comment (text_of g)) ≡ Ok g
 unfolding graph_at
@@ -233,9 +210,9 @@ rereads g h comment =
     let many : edges ≤ 2 ^ 20 = omega (arith, edges_in-most g.weights, pairs_of-most n h.few, h.whole) in
     let s = text_start comment (text_of g) in
     let lines = lines_from g 0 n in
-    let one = reads_spaced n 0 1024 (ended (pos edges) ++ lines) s (omega arith) (omega arith) (omega arith) (before_start comment (text_of g)) in
+    let one = passes_natural n 0 1024 32 _ s (omega arith) few (omega arith) refl (subst (λ bytes. IsBefore bytes s) (text_before g) (before_start comment (text_of g))) in
     let t = after_token s in
-    let two = reads_ended (pos edges) (pos 0) (pos (2 ^ 20)) lines t (omega arith) (omega (arith, ints)) (omega (arith, ints)) one.before in
+    let two = passes_natural edges 0 (2 ^ 20) 10 lines t (omega arith) many (omega arith) refl one.before in
     let u = after_token t in
     let all = reads_rows g h 0 n [] u (omega arith) (subst (λ bytes. IsBefore bytes u) (sym (append-nil lines)) two.before) in
     let zeros_all : zeros (pairs_of n) ≡ zeros (length g.weights) = ap zeros (sym h.whole) in

@@ -1,27 +1,24 @@
 -- The canonical text is short.
-use Rattle.std.proofs.Common.{◌≡◌, ℕ, zero, suc, ◌+◌, ◌-◌, ◌*◌, ◌^◌, ◌<◌, ◌≤◌, ℤ, pos, negsuc, List, [], ◌∷◌, ◌++◌, length, Bool, true, false, cond, arith, ap, ◌∙◌, sym}
-use Rattle.std.proofs.lemmas.Int.{ints, clamps}
+use Rattle.std.proofs.Common.{◌≡◌, ℕ, zero, suc, ◌+◌, ◌-◌, ◌*◌, ◌^◌, ◌<◌, ◌≤◌, ℤ, pos, List, [], ◌∷◌, ◌++◌, length, Bool, true, false, cond, arith, ap, ◌∙◌, sym}
 use Rattle.std.proofs.lemmas.Fmt.{length-decimal-le}
 use Rattle.std.specs.List.{All}
 use Rattle.std.proofs.lemmas.List.{length-append}
 use Rattle.std.proofs.lemmas.List.Elements.{All-take, All-drop, All-head, All-tail}
 use Rattle.dd_text.specs.Decimal.{decimal_of}
+use Rattle.dd_text.proofs.Lengths.{number_short}
 use Rattle.max_cut.specs.Graph.{Graph, IsGraph, IsWeight, row_start, row_of, weights_from}
 use Rattle.max_cut.specs.GraphLaws.{length-row_of, weights_from-split, pairs_of-most}
 use Rattle.max_cut.specs.EdgeLines.{is_none, edges_in, spaced, ended, edge_line, row_lines, lines_from, text_of}
-use Rattle.max_cut.proofs.Rereading.{edges_in-most}
+use Rattle.max_cut.proofs.Rereading.{edges_in-most, written}
 
 spaced_short : (n : ℕ) → n ≤ 1024 → length (spaced n) ≤ 5
 spaced_short n few =
     omega (arith, length-append (decimal_of (pos n)) (32 ∷ []), length-decimal-le 4 n (omega arith) (omega arith) (omega arith))
 
 weight_short : (w : ℤ) → IsWeight w → length (ended w) ≤ 12
-weight_short (pos n) h =
-    let few : n ≤ 500000000 = omega (arith, ints, clamps) in
-    omega (arith, length-append (decimal_of (pos n)) (10 ∷ []), length-decimal-le 10 n (omega arith) (omega arith) (omega arith))
-weight_short (negsuc n) h =
-    let few : suc n ≤ 500000000 = omega (arith, ints, clamps) in
-    omega (arith, length-append (decimal_of (negsuc n)) (10 ∷ []), length-decimal-le 10 (suc n) (omega arith) (omega arith) (omega arith))
+weight_short w h =
+    let size = (written w h).size in
+    omega (arith, length-append (decimal_of w) (10 ∷ []), number_short 10 w (omega arith) (omega arith) (omega arith))
 
 line_short : (i j : ℕ) (w : ℤ) → i < 1024 → j < 1024 → IsWeight w → length (edge_line i j w) ≤ 32
 line_short i j w first second weight =

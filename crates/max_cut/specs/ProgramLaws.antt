@@ -1,15 +1,17 @@
 -- The program of a graph meets the laws: what a continuation gains is a sum of each vertex's part and each pair's part.
 use Rattle.std.specs.Prelude.{◌≡◌, ℕ, zero, suc, ◌+◌, ◌-◌, ◌^◌, ◌≤◌, ℤ, pos, ◌+ℤ◌, ◌≤ℤ◌, List, [], ◌∷◌, length, drop, slice_index_or, true, ◌==◌, if◌then◌else◌, Some}
-use Rattle.std.proofs.Common.{arith, ap, refl}
-use Rattle.std.proofs.lemmas.Int.{ints, clamps}
+use Rattle.std.proofs.Common.{arith, ap, refl, get_or, ◌<◌}
+use Rattle.std.proofs.lemmas.Int.{ints}
 use Rattle.std.proofs.lemmas.Bool.Decides.{nat_tests}
 use Rattle.std.proofs.lemmas.List.{length-drop, drop_more, drop_all}
-use Rattle.benefit_rows.specs.Benefits.{size_of, gain_of, gains_of, rank_of, gap_of, merged_of}
-use Rattle.benefit_rows.specs.BenefitLaws.{size_of-positive, size_of-bounds, rank_of-positive, rank_of-drop, gain_of-positive, gain_of-most, gains_of-most, gap_of-self, gap_of-positive, gap_of-most, gap_of-chain, gap_of-bounds}
+use Rattle.benefit_rows.specs.Benefits.{gain_of, gains_of, rank_of, gap_of, merged_of}
+use Rattle.benefit_rows.proofs.Steps.{size_of-at}
+use Rattle.benefit_rows.specs.BenefitLaws.{size_of-bounds, rank_of-positive, rank_of-drop, gain_of-positive, gain_of-most, gains_of-most, gap_of-self, gap_of-positive, gap_of-most, gap_of-chain, gap_of-bounds}
 use Rattle.dp_model.specs.Gaps.{IsStateOf}
 use Rattle.dp_model.specs.Laws.{IsLawful, IsChained, StepsAreStates, GapsAreSound, RoughBounds, SizesHold}
 use Rattle.dp_model.specs.Lists.{Each}
 use Rattle.dp_model.specs.Numbers.{IsSmall}
+use Rattle.dp_model.specs.NumberLaws.{each_small, small_between, small_gap, small_positive}
 use Rattle.dp_model.specs.Prefixes.{IsPath, gain_of as path_gain}
 use Rattle.max_cut.specs.Graph.{Graph, IsGraph, row_of, weights_from, negatives_of}
 use Rattle.max_cut.specs.GraphLaws.{negatives_of-bounds, length-row_of, rank_of-split, rank_of-most, weights_from-none}
@@ -52,9 +54,6 @@ pub path_anywhere : (g : Graph) (k : ℕ) (s u : List ℤ) (ds : List ℕ) → I
 path_anywhere g k s u [] h = tt
 path_anywhere g k s u (d ∷ ds) h =
     (record { layer = h.0.layer; choice = h.0.choice; test = refl }, path_anywhere g (k + 1) (stepped g k s d) (stepped g k u d) ds h.1)
-
-small : (z : ℤ) → pos 0 ≤ℤ z → z ≤ℤ pos (2 ^ 50) → IsSmall z
-small z low high = record { low = omega (arith, ints); high = high }
 
 states_hold : (g : Graph) → IsGraph g → StepsAreStates (program_of g)
 states_hold g h = record {
@@ -106,24 +105,11 @@ rough_holds g h = record {
   last = λ s state. ap Some (last_rough g h s state);
 }
 
-each_small : (ss : List ℤ) → rank_of ss ≤ℤ pos (2 ^ 50) → Each IsSmall ss
-each_small [] h = tt
-each_small (s ∷ ss) h =
-    let bounds = size_of-bounds s in
-    let rest = rank_of-positive ss in
-    let first = size_of-positive s in
-    (record { low = omega (arith, ints); high = omega (arith, ints) }, each_small ss (omega (arith, ints)))
-
-size_of-at : (ss : List ℤ) (i : ℕ) → size_of (slice_index_or ss i (pos 0)) ≤ℤ rank_of ss
-size_of-at [] i = omega (arith, ints, clamps)
-size_of-at (s ∷ ss) zero = omega (arith, ints, rank_of-positive ss)
-size_of-at (s ∷ ss) (suc i) = omega (arith, ints, size_of-positive s, size_of-at ss i)
-
 -- a gain is at most all weights together
-pub gain-most : (g : Graph) → IsGraph g → (k : ℕ) (s : List ℤ) (d : ℕ) → is_within s (limits_of g k) ≡ true
+pub gain-most : (g : Graph) → IsGraph g → (k : ℕ) (s : List ℤ) (d : ℕ) → k < length s → is_within s (limits_of g k) ≡ true
     → (pos 0 ≤ℤ (gain_of (slice_index_or s k (pos 0)) d +ℤ settled_of (drop (k + 1) s) (pulls_of d (row_of g k))))
     × ((gain_of (slice_index_or s k (pos 0)) d +ℤ settled_of (drop (k + 1) s) (pulls_of d (row_of g k))) ≤ℤ pos (2 ^ 49))
-gain-most g h k s d t =
+gain-most g h k s d deep t =
     let own = slice_index_or s k (pos 0) in
     let all = rank_of-most g h in
     let state = rank_of-state g k s t in
@@ -132,7 +118,7 @@ gain-most g h k s d t =
     let pulls = rank_of-pulls d (row_of g k) in
     let settles = settled_of-most (drop (k + 1) s) (pulls_of d (row_of g k)) in (
       omega (arith, ints, gain_of-positive own d, settled_of-positive (drop (k + 1) s) (pulls_of d (row_of g k))),
-      omega (arith, ints, gain_of-most own d, size_of-at s k),
+      omega (arith, ints, gain_of-most own d, size_of-at s k (pos 0) deep),
     )
 
 gap_small : (g : Graph) → IsGraph g → (k : ℕ) (a s : List ℤ) (gap : ℤ) → IsStateOf (program_of g) k s → Some (gap_of (drop k a) (drop k s)) ≡ Some gap → (pos 0 ≤ℤ gap) × IsSmall gap
@@ -144,7 +130,7 @@ gap_small g h k a s gap state is =
     let own = rank_of-state g k s state.test in
     let rest = rank_of-positive (weights_from g k) in
     let later = rank_of-drop k s in
-    (omega (arith, ints), small gap (omega (arith, ints)) (omega (arith, ints)))
+    small_gap gap (omega (arith, ints)) (omega (arith, ints))
 
 rough_small : (g : Graph) → IsGraph g → (k : ℕ) (s : List ℤ) (rough : ℤ) → IsStateOf (program_of g) k s → Some (rank_of (drop k s) +ℤ rank_of (weights_from g k)) ≡ Some rough → IsSmall rough
 rough_small g h k s rough state is =
@@ -154,20 +140,25 @@ rough_small g h k s rough state is =
     let rest = rank_of-positive (weights_from g k) in
     let later = rank_of-drop k s in
     let low = rank_of-positive (drop k s) in
-    small rough (omega (arith, ints)) (omega (arith, ints))
+    small_positive rough (omega (arith, ints)) (omega (arith, ints))
 
 state_small : (g : Graph) → IsGraph g → (k : ℕ) (s : List ℤ) → IsStateOf (program_of g) k s → Each IsSmall s
 state_small g h k s state =
     let all = rank_of-most g h in
     let own = rank_of-state g k s state.test in
     let rest = rank_of-positive (weights_from g k) in
-    each_small s (omega (arith, ints))
+    each_small s (λ j below.
+    let bounds = size_of-bounds (get_or s j (pos 0)) in
+    let size = size_of-at s j (pos 0) below in
+    small_between _ _ (omega (arith, ints)) bounds.0 (omega (arith, ints)))
 
-gain_small : (g : Graph) → IsGraph g → (k : ℕ) (s : List ℤ) (d : ℕ) → IsStateOf (program_of g) k s
+gain_small : (g : Graph) → IsGraph g → (k : ℕ) (s : List ℤ) (d : ℕ) → k < g.vertices → IsStateOf (program_of g) k s
     → IsSmall (gain_of (slice_index_or s k (pos 0)) d +ℤ settled_of (drop (k + 1) s) (pulls_of d (row_of g k)))
-gain_small g h k s d state =
-    let most = gain-most g h k s d state.test in
-    small _ most.0 (omega (arith, ints))
+gain_small g h k s d deep state =
+    let long = length-state g h k s state.layer state.test in
+    let words = words_of-some g (omega arith) in
+    let most = gain-most g h k s d (omega arith) state.test in
+    small_positive _ most.0 (omega (arith, ints))
 
 some_words : (g : Graph) → 1 ≤ words_of g
 some_words g = grind (arith, nat_tests)
@@ -197,7 +188,7 @@ sizes_hold g h = record {
   root_value = root_small g h;
   cells = λ k s state. length-state g h k s state.layer state.test;
   state = λ k s state. state_small g h k s state;
-  gain = λ k s d state allowed. gain_small g h k s d state;
+  gain = λ k s d state allowed. gain_small g h k s d allowed.layer state;
   gap = λ k a s gap covering state is. gap_small g h k a s gap state is;
   rough = λ k s rough state is. rough_small g h k s rough state is;
 }

@@ -1,5 +1,5 @@
 -- The states of a layer and their limits.
-use Rattle.std.specs.Prelude.{◌≡◌, ℕ, zero, suc, ◌+◌, ◌-◌, ◌≤◌, ℤ, pos, ◌+ℤ◌, ◌≤ℤ◌, int_le, List, [], ◌∷◌, ◌++◌, length, drop, true}
+use Rattle.std.specs.Prelude.{◌≡◌, ℕ, zero, suc, ◌+◌, ◌-◌, ◌≤◌, ℤ, pos, ◌+ℤ◌, ◌≤ℤ◌, List, [], ◌∷◌, ◌++◌, length, drop, true}
 use Rattle.std.proofs.Common.{arith, sym, ap, ◌∙◌, add-one, refl, subst}
 use Rattle.std.proofs.lemmas.Int.{ints, clamps}
 use Rattle.std.proofs.lemmas.Bool.{and_parts, and_from}
@@ -7,16 +7,11 @@ use Rattle.std.proofs.lemmas.Bool.Decides.{nat_tests}
 use Rattle.std.proofs.lemmas.List.{length-append, length-drop, length-replicate, drop_at}
 use Rattle.benefit_rows.specs.Benefits.{size_of, rank_of, benefit_merged, merged_of}
 use Rattle.benefit_rows.specs.BenefitLaws.{rank_of-positive, rank_of-append, rank_of-drop, size_of-add, benefit_merged-left}
+use Rattle.dp_model.specs.NumberLaws.{int_le-is, int_le-from}
 use Rattle.max_cut.specs.Graph.{Graph, IsGraph, row_of, weights_from}
 use Rattle.max_cut.specs.GraphLaws.{length-row_of, rank_of-split}
 use Rattle.max_cut.specs.PullLaws.{size_of-pull, rank_of-zeros}
 use Rattle.max_cut.specs.Program.{zeros, sums_of, pulls_of, grown_by, is_within, words_of, limits_of, stepped}
-
-int_le-is : (a b : ℤ) → int_le a b ≡ true → a ≤ℤ b
-int_le-is a b h = grind (arith, ints)
-
-int_le-from : (a b : ℤ) → a ≤ℤ b → int_le a b ≡ true
-int_le-from a b h = grind (arith, ints)
 
 pub is_within-length : (ss rs : List ℤ) → is_within ss rs ≡ true → length ss ≡ length rs
 is_within-length [] [] h = refl

@@ -43,7 +43,7 @@ pub(crate) fn read_totals(
 }
 
 /// Reads so many edges, and adds their weights to the totals of their pairs.
-#[tactic(auto, using(dd_text::proofs::Chains::times_more, dd_text::proofs::Chains::times_done))]
+#[tactic(auto, using(dd_text::proofs::Chains::times_steps))]
 fn read_edges(
     tokens: &mut Tokens<'_>,
     vertices: usize,

@@ -12,9 +12,17 @@ use std::alloc::{AllocError, Global};
 /// The canonical text, which reads as the instance: the number of vertices and of edges, then a line for
 /// each pair `i < j` of weight other than 0, by `i`, then `j`.
 pub fn print(alloc: Global, model: &MaxCut) -> Result<Vec<u8>, AllocError>
-    ensures text { IfOk result (λ v. v.items ≡ text_of (instance_in model.now)) }
-    ensures short { IfOk result (λ v. length v.items ≤ 2 ^ 30) }
-    ensures reads_back { IfOk result (λ v. instance_text v.items ≡ Ok (instance_in model.now)) }
+    ensures text { IfOk result (λ text. text.items ≡ text_of (instance_in model.now)) }
+    ensures short { IfOk result (λ text. length text.items ≤ 2 ^ 30) }
+    ensures reads_back { IfOk result (λ text. instance_text text.items ≡ Ok (instance_in model.now)) }
+{
+    let text = printed(alloc, model)?;
+    Ok(text)
+}
+
+/// Makes the canonical text.
+fn printed(alloc: Global, model: &MaxCut) -> Result<Vec<u8>, AllocError>
+    ensures { IfOk result (λ text. text.items ≡ text_of (instance_in model.now)) }
 {
     let mut out = Vec::new(alloc);
     push_spaced(&mut out, model.vertices)?;

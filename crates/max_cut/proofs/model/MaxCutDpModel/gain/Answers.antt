@@ -45,5 +45,5 @@ returns c =
     ∙ (ap (λ z. gain_of z c.args.d +ℤ settled_of c.tail.result.now (pulls_of c.args.d c.row.result.now)) read
     ∙ (ap (λ ss. gain_of (get_or c.args.s.now c.args.k (pos 0)) c.args.d +ℤ settled_of ss (pulls_of c.args.d c.row.result.now)) c.tail.ensures
     ∙ ap (λ ws. gain_of (get_or c.args.s.now c.args.k (pos 0)) c.args.d +ℤ settled_of (drop (c.args.k + 1) c.args.s.now) (pulls_of c.args.d ws)) c.row.ensures)) in
-    let most = gain-most g c.args.self.now.prepared.graph c.args.k c.args.s.now c.args.d c.requires.state in
+    let most = gain-most g c.args.self.now.prepared.graph c.args.k c.args.s.now c.args.d facts.vertex c.requires.state in
     omega (arith, ints)
