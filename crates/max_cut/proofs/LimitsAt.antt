@@ -1,23 +1,12 @@
 -- How large a benefit may be, vertex by vertex.
-use Rattle.std.proofs.Common.{◌≡◌, ℕ, zero, suc, ◌+◌, ◌-◌, ◌^◌, ◌<◌, ◌≤◌, ℤ, pos, ◌+ℤ◌, ◌≤ℤ◌, List, [], ◌∷◌, length, get_or, drop, ◌&&◌, arith, ap, ◌∙◌, refl, add-one}
-use Rattle.std.specs.Prelude.{int_le, neg_ℤ}
-use Rattle.std.proofs.lemmas.Int.{ints, clamps}
-use Rattle.std.proofs.lemmas.List.{drop_more, length-drop, length-replicate, get_or_append_left, get_or-replicate, get_or-append_right, get_or-drop, get_or-take}
+use Rattle.std.proofs.Common.{◌≡◌, ℕ, zero, suc, ◌+◌, ◌-◌, ◌<◌, ℤ, pos, ◌+ℤ◌, List, [], ◌∷◌, length, get_or, drop, ◌&&◌, arith, ap, ◌∙◌, refl, add-one}
+use Rattle.std.specs.Prelude.{int_le}
+use Rattle.std.proofs.lemmas.List.{drop_more, length-drop, length-replicate, get_or-append_right, get_or-drop, get_or-take}
 use Rattle.benefit_rows.specs.Benefits.{size_of}
-use Rattle.benefit_rows.specs.BenefitLaws.{rank_of-positive}
 use Rattle.max_cut.specs.Graph.{Graph, IsGraph, row_start, row_of, weights_from, weight_at}
-use Rattle.max_cut.specs.GraphLaws.{row_within, length-row_of, rank_of-most}
+use Rattle.max_cut.specs.GraphLaws.{length-row_of}
 use Rattle.max_cut.specs.Program.{zeros, grown_by, is_within, limits_of, words_of}
-use Rattle.max_cut.specs.StateLaws.{length-limits_of, rank_of-limits, words_of-some}
-use Rattle.benefit_rows.proofs.Steps.{size_of-at}
-
--- a vertex with a side has no benefit
-pub limit_decided : (g : Graph) (k l : ℕ) → l < k → get_or (limits_of g k) l (pos 0) ≡ pos 0
-limit_decided g zero l h = absurd (omega arith)
-limit_decided g (suc k) l h =
-    let long = length-replicate (suc k) (pos 0) in
-    get_or_append_left (zeros (suc k)) (grown_by (drop (suc k) (limits_of g k)) (row_of g k)) (pos 0) l (omega arith)
-    ∙ get_or-replicate (suc k) l (pos 0) (pos 0) h
+use Rattle.max_cut.specs.StateLaws.{length-limits_of, words_of-some}
 
 grown_at : (rs ws : List ℤ) (i : ℕ) → i < length rs → i < length ws → get_or (grown_by rs ws) i (pos 0) ≡ get_or rs i (pos 0) +ℤ size_of (get_or ws i (pos 0))
 grown_at [] ws i h k = absurd (omega arith)
@@ -42,20 +31,7 @@ limit_more g h j l below few =
     let weight : get_or (row_of g j) i (pos 0) ≡ weight_at g j l = get_or-take (g.vertices - (j + 1)) (weights_from g j) i (pos 0) (omega arith) ∙ (get_or-drop (row_start g.vertices j) g.weights i (pos 0) ∙ ap (λ m. get_or g.weights (row_start g.vertices j + m) (pos 0)) same) in
     ap (λ rs. get_or rs l (pos 0)) next ∙ (right ∙ (grown ∙ (ap (λ z. z +ℤ size_of (get_or (row_of g j) i (pos 0))) before ∙ ap (λ z. get_or (limits_of g j) l (pos 0) +ℤ size_of z) weight)))
 
--- the weight's place is within the weights
-pub place_within : (g : Graph) → IsGraph g → (j l : ℕ) → j < l → l < g.vertices → row_start g.vertices j + (l - (j + 1)) < length g.weights
-place_within g h j l below few = omega (arith, row_within g h j (omega arith))
-
--- limits are of no great size
-pub limit_size : (g : Graph) → IsGraph g → (k l : ℕ) → k ≤ g.vertices → l < words_of g → size_of (get_or (limits_of g k) l (pos 0)) ≤ℤ pos (2 ^ 49)
-limit_size g h k l deep few =
-    let long : length (limits_of g k) ≡ words_of g = length-limits_of g h k deep in
-    omega (arith, ints, size_of-at (limits_of g k) l (pos 0) (omega arith), rank_of-limits g k, rank_of-most g h, rank_of-positive (weights_from g k))
-
 -- one component more decides
 pub is_within-drop_more : (ss rs : List ℤ) (i : ℕ) → i < length ss → i < length rs
     → is_within (drop i ss) (drop i rs) ≡ (int_le (size_of (get_or ss i (pos 0))) (get_or rs i (pos 0)) && is_within (drop (i + 1) ss) (drop (i + 1) rs))
 is_within-drop_more ss rs i h k = rw (drop_more ss i (pos 0) h, drop_more rs i (pos 0) k)
-
-pub at_most_by_bounds : (z limit : ℤ) → neg_ℤ limit ≤ℤ z → z ≤ℤ limit → size_of z ≤ℤ limit
-at_most_by_bounds z limit low high = omega (arith, ints, clamps)

@@ -16,6 +16,13 @@ pub fn value_of(model: &MaxCut, decisions: &[u32]) -> Option<i64>
     ensures own_words { result ≡ cut_value (instance_in model.now) decisions.now }
     ensures solution { SolutionGives (program_of (instance_in model.now)) decisions.now result }
 {
+    cut_weight(model, decisions)
+}
+
+/// The weight across, where the sides are a cut.
+fn cut_weight(model: &MaxCut, decisions: &[u32]) -> Option<i64>
+    ensures { result ≡ cut_value (instance_in model.now) decisions.now }
+{
     if are_sides(model.vertices, decisions) {
         Some(weight_of_cut(model.weights.as_slice(), decisions))
     } else {

@@ -1,13 +1,13 @@
 //! The edges of a text, read one after another.
 
-ghost use Rattle.std.specs.Prelude.{◌≡◌, ◌≢◌, ◌<◌, ◌≤◌, length, OnOk, IfOk};
-ghost use Rattle.std.specs.List.{All};
+ghost use Rattle.std.specs.Prelude.{◌≡◌, ◌≢◌, ◌<◌, ◌≤◌, pos, ◌+ℤ◌, int_le, false, OnOk, IfOk, MatchOption};
+ghost use Rattle.benefit_rows.specs.Benefits.{size_of};
 ghost use Rattle.dd_text.specs.Grammar.{Reads, times};
 ghost use Rattle.max_cut.specs.Graph.{IsGraph, IsWeight, pairs_of};
 ghost use Rattle.max_cut.specs.Program.{zeros};
 ghost use Rattle.max_cut.specs.Edges.{edge_at, place_among, vertex_at, with_edge};
 
-use crate::layers::start_of_row;
+use crate::layers::place_of_pair;
 use benefit_rows::size;
 use dd_text::{InstanceError, InstanceFault, Place, ReadModelError, TextError, Tokens};
 use std::alloc::Global;
@@ -50,11 +50,9 @@ fn read_edges(
     edges: usize,
     totals: &mut [i64],
 ) -> Result<(), ReadModelError>
-    requires few { vertices ≤ 1024 }
-    requires pairs { length totals.old ≡ pairs_of vertices }
-    requires small { All IsWeight totals.old }
+    requires { IsGraph (record { vertices = vertices; weights = totals.old }) }
     ensures read { Reads (λ _. (totals.new, tokens.new)) result (times (edge_at vertices) edges totals.old tokens.old) }
-    ensures small { OnOk result (All IsWeight totals.new) }
+    ensures graph { OnOk result (IsGraph (record { vertices = vertices; weights = totals.new })) }
 {
     for _ in 0..edges {
         read_edge(tokens, vertices, totals)?;
@@ -69,11 +67,9 @@ fn read_edge(
     vertices: usize,
     totals: &mut [i64],
 ) -> Result<(), ReadModelError>
-    requires few { vertices ≤ 1024 }
-    requires pairs { length totals.old ≡ pairs_of vertices }
-    requires small { All IsWeight totals.old }
+    requires { IsGraph (record { vertices = vertices; weights = totals.old }) }
     ensures read { Reads (λ _. (totals.new, tokens.new)) result (edge_at vertices totals.old tokens.old) }
-    ensures small { OnOk result (All IsWeight totals.new) }
+    ensures graph { OnOk result (IsGraph (record { vertices = vertices; weights = totals.new })) }
 {
     let i = read_vertex(tokens, vertices)?;
     let j = read_vertex(tokens, vertices)?;
@@ -109,32 +105,42 @@ fn add_edge(
     weight: i64,
     place: Place,
 ) -> Result<(), ReadModelError>
-    requires few { vertices ≤ 1024 }
+    requires graph { IsGraph (record { vertices = vertices; weights = totals.old }) }
     requires first { i < vertices }
     requires second { j < vertices }
-    requires pairs { length totals.old ≡ pairs_of vertices }
-    requires small { All IsWeight totals.old }
     requires weight { IsWeight weight }
     ensures read { Reads (λ _. totals.new) result (with_edge vertices totals.old i j weight place) }
-    ensures small { OnOk result (All IsWeight totals.new) }
+    ensures graph { OnOk result (IsGraph (record { vertices = vertices; weights = totals.new })) }
 {
     if i == j {
         return Ok(());
     }
-    let at = place_of_pair(vertices, i, j);
-    let total = totals[at] + weight;
-    if size(total) > GREATEST_WEIGHT {
+    let at = place_of_two(vertices, i, j);
+    let Some(total) = total_with(totals[at], weight) else {
         return Err(ReadModelError::Text(InstanceError {
             fault: InstanceFault::Limit,
             place,
         }));
-    }
+    };
     totals[at] = total;
     Ok(())
 }
 
-/// Where the pair of two different vertices stands.
-fn place_of_pair(vertices: usize, i: usize, j: usize) -> usize
+/// The total of a pair with the weight of an edge more, or none where it gets too large.
+fn total_with(total: i64, weight: i64) -> Option<i64>
+    requires total { IsWeight total }
+    requires weight { IsWeight weight }
+    ensures { MatchOption result (int_le (size_of (total +ℤ weight)) (pos 500000000) ≡ false) (λ t. (t ≡ total +ℤ weight) × IsWeight t) }
+{
+    let sum = total + weight;
+    if size(sum) > GREATEST_WEIGHT {
+        return None;
+    }
+    Some(sum)
+}
+
+/// Where the weight of the pair of two different vertices stands.
+fn place_of_two(vertices: usize, i: usize, j: usize) -> usize
     requires few { vertices ≤ 1024 }
     requires first { i < vertices }
     requires second { j < vertices }
@@ -143,8 +149,8 @@ fn place_of_pair(vertices: usize, i: usize, j: usize) -> usize
     ensures within { result < pairs_of vertices }
 {
     if i < j {
-        start_of_row(vertices, i) + (j - (i + 1))
+        place_of_pair(vertices, i, j)
     } else {
-        start_of_row(vertices, j) + (i - (j + 1))
+        place_of_pair(vertices, j, i)
     }
 }

@@ -1,8 +1,8 @@
 //! One pass over a row of benefits and a row of weights.
 
-ghost use Rattle.std.specs.Prelude.{◌≡◌, ◌+◌, ◌*◌, ◌-◌, ◌^◌, ◌<◌, ◌≤◌, ◌++◌, drop, length, pos, ◌+ℤ◌, ◌≤ℤ◌};
+ghost use Rattle.std.specs.Prelude.{◌≡◌, ◌+◌, ◌*◌, ◌-◌, ◌^◌, ◌<◌, ◌≤◌, ◌++◌, drop, length, slice_index_or, pos, ◌+ℤ◌, ◌≤ℤ◌};
 ghost use Rattle.benefit_rows.specs.Benefits.{gain_of, rank_of, size_of};
-ghost use Rattle.max_cut.specs.Graph.{IsGraph, negatives_of, row_of, row_start};
+ghost use Rattle.max_cut.specs.Graph.{IsGraph, negatives_of, pairs_of, row_of, row_start};
 ghost use Rattle.max_cut.specs.Program.{pull_of, pulls_of, settled_of, sums_of, zeros};
 
 use benefit_rows::{above_zero, below_zero, doubled_gap};
@@ -14,6 +14,17 @@ pub(crate) fn start_of_row(vertices: usize, k: usize) -> usize
     ensures { result ≡ row_start vertices k }
 {
     k * vertices - k * (k + 1) / 2
+}
+
+/// Where the weight of a pair stands, by its first vertex, then by its second.
+pub(crate) fn place_of_pair(vertices: usize, first: usize, second: usize) -> usize
+    requires few { vertices ≤ 1024 }
+    requires order { first < second }
+    requires vertex { second < vertices }
+    ensures place { result ≡ row_start vertices first + (second - (first + 1)) }
+    ensures within { result < pairs_of vertices }
+{
+    start_of_row(vertices, first) + (second - (first + 1))
 }
 
 /// The weights of the pairs of `k` and each later vertex.
@@ -70,8 +81,20 @@ fn write_pulled<const D: u32>(out: &mut [i64], benefits: &[i64], weights: &[i64]
     ensures { out.new ≡ sums_of benefits.now (pulls_of D weights.now) }
 {
     for i in 0..out.len() {
-        out[i] = benefits[i] + pull::<D>(weights[i]);
+        out[i] = pulled::<D>(benefits, weights, i);
     }
+}
+
+/// A benefit with what the side `D` of an earlier vertex adds to it.
+fn pulled<const D: u32>(benefits: &[i64], weights: &[i64], i: usize) -> i64
+    requires benefit { i < length benefits.now }
+    requires weight { i < length weights.now }
+    requires benefit_sizes { rank_of benefits.now ≤ℤ pos (2 ^ 50) }
+    requires weight_sizes { rank_of weights.now ≤ℤ pos (2 ^ 50) }
+    ensures sum { result ≡ slice_index_or (sums_of benefits.now (pulls_of D weights.now)) i (pos 0) }
+    ensures size { size_of result ≤ℤ pos (2 ^ 51) }
+{
+    benefits[i] + pull::<D>(weights[i])
 }
 
 /// What the side `D` of a vertex adds to the benefit of a later one, by the weight between them. The side
@@ -108,7 +131,7 @@ fn settled_by<const D: u32>(benefits: &[i64], weights: &[i64]) -> i64
 {
     let mut doubled = 0;
     for i in 0..benefits.len() {
-        doubled += doubled_gap(benefits[i] + pull::<D>(weights[i]), benefits[i]);
+        doubled += doubled_gap(pulled::<D>(benefits, weights, i), benefits[i]);
     }
     doubled / 2
 }

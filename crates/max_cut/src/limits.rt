@@ -2,10 +2,10 @@
 
 ghost use Rattle.std.specs.Prelude.{◌≡◌, ◌^◌, ◌<◌, ◌≤◌, ◌≤ℤ◌, int_le, length, pos, slice_index_or};
 ghost use Rattle.benefit_rows.specs.Benefits.{size_of};
-ghost use Rattle.max_cut.specs.Graph.{IsGraph};
+ghost use Rattle.max_cut.specs.Graph.{IsGraph, weight_at};
 ghost use Rattle.max_cut.specs.Program.{is_within, limits_of, words_of};
 
-use crate::layers::start_of_row;
+use crate::layers::place_of_pair;
 use benefit_rows::size;
 
 /// Whether each benefit is within its limit at layer `k`: 0 for a vertex before `k`, and else the sum of
@@ -27,7 +27,7 @@ pub(crate) fn is_within_limits(vertices: usize, weights: &[i64], k: usize, row: 
 
 /// Whether the benefit is in size at most the limit.
 fn is_at_most(benefit: i64, limit: i64) -> bool
-    requires { size_of limit ≤ℤ pos (2 ^ 62) }
+    requires { pos 0 ≤ℤ limit }
     ensures { result ≡ int_le (size_of benefit) limit }
 {
     -limit <= benefit && benefit <= limit
@@ -39,14 +39,26 @@ fn limit_at(vertices: usize, weights: &[i64], k: usize, l: usize) -> i64
     requires layer { k ≤ vertices }
     requires vertex { l < words_of (record { vertices = vertices; weights = weights.now }) }
     ensures limit { result ≡ slice_index_or (limits_of (record { vertices = vertices; weights = weights.now }) k) l (pos 0) }
-    ensures size { size_of result ≤ℤ pos (2 ^ 62) }
+    ensures positive { pos 0 ≤ℤ result }
 {
     if l < k {
         return 0;
     }
     let mut limit = 0;
     for j in 0..k {
-        limit += size(weights[start_of_row(vertices, j) + (l - (j + 1))]);
+        limit += size_between(vertices, weights, j, l);
     }
     limit
+}
+
+/// The size of the weight between `j` and a later vertex.
+fn size_between(vertices: usize, weights: &[i64], j: usize, l: usize) -> i64
+    requires graph { IsGraph (record { vertices = vertices; weights = weights.now }) }
+    requires order { j < l }
+    requires vertex { l < vertices }
+    ensures size { result ≡ size_of (weight_at (record { vertices = vertices; weights = weights.now }) j l) }
+    ensures positive { pos 0 ≤ℤ result }
+    ensures most { result ≤ℤ pos 500000000 }
+{
+    size(weights[place_of_pair(vertices, j, l)])
 }

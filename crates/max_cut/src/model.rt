@@ -20,8 +20,11 @@ pub struct MaxCut {
 }
 
 impl MaxCut {
-    ghost use Rattle.std.specs.Prelude.{◌≡◌, ◌<◌};
-    ghost use Rattle.max_cut.specs.Graph.{row_of, weight_at};
+    ghost use Rattle.std.specs.Prelude.{◌≡◌, ◌-◌, ◌^◌, ◌<◌, ◌≤◌, drop, length, pos, ◌+ℤ◌, ◌≤ℤ◌};
+    ghost use Rattle.benefit_rows.specs.Benefits.{rank_of};
+    ghost use Rattle.dp_model.specs.Gaps.{IsStateOf};
+    ghost use Rattle.max_cut.specs.Graph.{row_of, weights_from};
+    ghost use Rattle.max_cut.specs.Program.{program_of, words_of};
     ghost use Rattle.max_cut.specs.Shown.{instance_in};
 
     /// The weights of the pairs of `k` and each later vertex.
@@ -30,6 +33,25 @@ impl MaxCut {
         ensures { result.now ≡ row_of (instance_in self.now) k }
     {
         row_of_pairs(self.vertices, self.weights.as_slice(), k)
+    }
+
+    /// The sum of the sizes of the weights of pairs from `k` on.
+    fn size_from(&self, k: usize) -> i64
+        requires { k ≤ self.now.vertices }
+        ensures { result ≡ rank_of (weights_from (instance_in self.now) k) }
+    {
+        self.sizes[k]
+    }
+
+    /// The benefits of the vertices from `k` on.
+    fn later<'s>(&self, k: usize, s: &'s [i64]) -> &'s [i64]
+        requires { IsStateOf (program_of (instance_in self.now)) k s.now }
+        ensures benefits { result.now ≡ drop k s.now }
+        ensures count { length result.now ≡ words_of (instance_in self.now) - k }
+        ensures size { (rank_of result.now +ℤ rank_of (weights_from (instance_in self.now) k)) ≤ℤ pos (2 ^ 49) }
+        ensures small { rank_of result.now ≤ℤ pos (2 ^ 49) }
+    {
+        tail(s, k)
     }
 }
 
@@ -83,11 +105,11 @@ impl DpModel for MaxCut {
     }
 
     fn gap(&self, k: usize, a: &[i64], s: &[i64]) -> Option<i64> {
-        Some(gap(tail(a, k), tail(s, k)))
+        Some(gap(self.later(k, a), self.later(k, s)))
     }
 
     fn rough(&self, k: usize, s: &[i64]) -> Option<i64> {
-        Some(rank(tail(s, k)) + self.sizes[k])
+        Some(rank(self.later(k, s)) + self.size_from(k))
     }
 
     fn rank(&self, _k: usize, s: &[i64]) -> i64 {

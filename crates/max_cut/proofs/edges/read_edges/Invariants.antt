@@ -1,7 +1,6 @@
 use Rattle.std.proofs.Common.{◌≡◌, ◌-◌}
-use Rattle.std.specs.List.{All}
 use Rattle.dd_text.specs.Grammar.{times}
-use Rattle.max_cut.specs.Graph.{IsWeight}
+use Rattle.max_cut.specs.Graph.{IsGraph}
 use Rattle.max_cut.specs.Edges.{edge_at}
 use Rattle.max_cut.proofs.edges.read_edges.Given as goal
 
@@ -9,4 +8,4 @@ use Rattle.max_cut.proofs.edges.read_edges.Given as goal
 abbrev pub invariant-loop : goal.invariant-loop
 invariant-loop l =
     (times (edge_at l.vertices) (l.edges - l.counter) l.totals l.tokens ≡ times (edge_at l.vertices) l.edges l.initial.totals l.initial.tokens)
-    × All IsWeight l.totals
+    × IsGraph (record { vertices = l.vertices; weights = l.totals })

@@ -1,15 +1,7 @@
-use Rattle.std.proofs.Common.{◌≡◌, ◌<◌, ◌+◌, ◌-◌, ◌++◌, ℕ, suc, List, ℤ, length, arith, sym, ap, ◌∙◌, append_assoc, append-nil}
+use Rattle.std.proofs.Common.{◌≡◌, ◌<◌, ◌+◌, ◌-◌, ◌++◌, ℕ, suc, List, ℤ, arith, sym, ap, ◌∙◌, append_assoc}
 use Rattle.max_cut.specs.Graph.{Graph, row_of}
-use Rattle.max_cut.specs.GraphLaws.{length-row_of}
 use Rattle.max_cut.specs.EdgeLines.{row_lines, lines_from}
 use Rattle.max_cut.proofs.lines.push_lines.Goals as goal
-
-pub push_row-requires : goal.push_row-requires
-push_row-requires c =
-    let g : Graph = record { vertices = c.args.vertices; weights = c.args.weights.now } in
-    let row = ap length c.row_of_pairs.ensures in
-    let few = c.requires.few in
-    omega (arith, length-row_of g c.requires c.loop-k.k c.loop-k-test.true)
 
 -- the lines of one vertex more
 lined : (g : Graph) (k : ℕ) (before after whole : List ℕ) (row : List ℤ) → k < g.vertices → row ≡ row_of g k → after ≡ before ++ row_lines k (k + 1) row
@@ -24,9 +16,3 @@ pub loop-k-preserved : goal.loop-k-preserved
 loop-k-preserved c =
     let g : Graph = record { vertices = c.args.vertices; weights = c.args.weights.now } in
     lined g c.loop-k.k c.loop-k.out.items c.push_row.new.out.items _ c.row_of_pairs.result.now c.loop-k-test.true c.row_of_pairs.ensures c.in_ok-push_row.ensures c.loop-k.invariant
-
-pub returns : goal.returns
-returns c =
-    let g : Graph = record { vertices = c.args.vertices; weights = c.args.weights.now } in
-    let none : c.args.vertices - c.loop-k.k ≡ 0 = omega arith in
-    sym (append-nil c.loop-k.out.items) ∙ (ap (λ m. c.loop-k.out.items ++ lines_from g c.loop-k.k m) (sym none) ∙ c.loop-k.invariant)

@@ -44,10 +44,6 @@ row_fits rest sides later k h long e =
 pub split_at-requires : goal.split_at-requires
 split_at-requires c = row_fits c.loop-k.rest.now c.args.sides.now c.tail-later.result.now c.loop-k.k c.loop-k-test.true c.loop-k.invariant.1 c.tail-later.ensures
 
-pub weight_from-total-requires-clause-lengths : goal.weight_from-total-requires-clause-lengths
-weight_from-total-requires-clause-lengths c =
-    (row_is c.loop-k.rest.now c.split_at.result.0.now c.args.sides.now c.tail-later.result.now c.loop-k.k c.loop-k-test.true c.loop-k.invariant.1 c.loop-k.invariant.2 c.tail-later.ensures c.split_at.ensures.front).0
-
 pub weight_from-total-requires-clause-sizes : goal.weight_from-total-requires-clause-sizes
 weight_from-total-requires-clause-sizes c =
     (row_is c.loop-k.rest.now c.split_at.result.0.now c.args.sides.now c.tail-later.result.now c.loop-k.k c.loop-k-test.true c.loop-k.invariant.1 c.loop-k.invariant.2 c.tail-later.ensures c.split_at.ensures.front).1
