@@ -1,5 +1,5 @@
 -- An instance of the bounded knapsack, and the whole numbers that stand for it.
-use Rattle.std.specs.Prelude.{ℕ, ◌^◌, ℤ, pos, Bool, ◌&&◌, nat_le, List, [], ◌∷◌, length}
+use Rattle.std.specs.Prelude.{ℕ, ◌^◌, ℤ, pos, unsigned_abs, Bool, ◌&&◌, nat_le, List, [], ◌∷◌, length}
 use Rattle.std.specs.List.{list_all}
 use Rattle.knapsack.specs.declared.item.Item.{Item}
 
@@ -25,17 +25,12 @@ item_numbers (x ∷ xs) = pos x.profit ∷ (pos x.weight ∷ (pos x.copies ∷ i
 abbrev pub numbers_of : Instance → List ℤ
 numbers_of i = pos i.capacity ∷ item_numbers i.items
 
--- the size of a number, which is the number itself where it is not below 0
-abbrev pub size_of : ℤ → ℕ
-size_of (pos n) = n
-size_of _ = 0
-
 -- the items that a list of numbers spells
-abbrev pub items_of : List ℤ → List Item
-items_of (p ∷ (w ∷ (c ∷ rest))) = record { profit = size_of p; weight = size_of w; copies = size_of c } ∷ items_of rest
+unfoldable pub items_of : List ℤ → List Item
+items_of (p ∷ (w ∷ (c ∷ rest))) = record { profit = unsigned_abs p; weight = unsigned_abs w; copies = unsigned_abs c } ∷ items_of rest
 items_of _ = []
 
 -- the instance that a list of numbers spells
 abbrev pub instance_of : List ℤ → Instance
 instance_of [] = record { capacity = 0; items = [] }
-instance_of (c ∷ rest) = record { capacity = size_of c; items = items_of rest }
+instance_of (c ∷ rest) = record { capacity = unsigned_abs c; items = items_of rest }

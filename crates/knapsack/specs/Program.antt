@@ -1,13 +1,13 @@
 -- The bounded knapsack as a dynamic program: layer k decides the copies of item k, and a state is the capacity that is left.
-use Rattle.std.specs.Prelude.{ℕ, ◌+◌, ◌-◌, ◌*◌, max, ℤ, pos, Bool, false, cond, nat_le, List, [], ◌∷◌, length, drop, Some, None, slice_index_or}
+use Rattle.std.specs.Prelude.{ℕ, ◌+◌, ◌-◌, ◌*◌, max, ℤ, pos, unsigned_abs, Bool, false, cond, nat_le, List, [], ◌∷◌, length, drop, Some, None, slice_index_or}
 use Rattle.dp_model.specs.Dp.{Dp}
 use Rattle.knapsack.specs.declared.item.Item.{Item}
-use Rattle.knapsack.specs.Instance.{Instance, instance_of, size_of}
+use Rattle.knapsack.specs.Instance.{Instance, instance_of}
 use Rattle.knapsack.specs.Order.{in_order, fill}
 
 -- the capacity that a state has left
 abbrev pub left : List ℤ → ℕ
-left (r ∷ _) = size_of r
+left (r ∷ _) = unsigned_abs r
 left [] = 0
 
 -- one number from 0 to the capacity

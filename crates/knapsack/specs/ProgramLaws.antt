@@ -18,6 +18,7 @@ use Rattle.knapsack.specs.Sizes.{sizes_hold}
 
 -- the numbers of items spell them
 pub items_of-item_numbers : (xs : List Item) → items_of (item_numbers xs) ≡ xs
+unfolding items_of
 items_of-item_numbers [] = refl
 items_of-item_numbers (x ∷ xs) = ap (λ (l : List Item). x ∷ l) (items_of-item_numbers xs)
 

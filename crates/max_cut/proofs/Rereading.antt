@@ -20,7 +20,7 @@ use Rattle.dd_text.proofs.Printing.{before_start, passes_number, passes_natural,
 use Rattle.max_cut.specs.Graph.{Graph, IsGraph, IsWeight, pairs_of, row_start, row_of, weights_from}
 use Rattle.max_cut.specs.GraphLaws.{row_start-next, row_within, length-row_of, weights_from-split, weights_from-none, pairs_of-most}
 use Rattle.max_cut.specs.Program.{zeros}
-use Rattle.max_cut.specs.Edges.{vertex_from, vertex_at, place_among, with_edge, made_before, edge_at, graph_at}
+use Rattle.max_cut.specs.Edges.{vertex_from, vertex_at, place_among, with_edge, made_before, edge_at, instance_at}
 use Rattle.max_cut.specs.EdgeLines.{is_none, edges_in, edge_line, row_lines, lines_from, text_of}
 
 -- a vertex is read
@@ -201,9 +201,9 @@ text_before : (g : Graph) → text_of g ≡ decimal_of (pos g.vertices) ++ 32 �
 text_before g = simp append_assoc
 
 -- the canonical text of a graph reads as the graph
-pub rereads : (g : Graph) → IsGraph g → (comment : Comment) → graph_at (text_start comment (text_of g)) ≡ Ok g
-unfolding graph_at
-rereads g h comment =
+pub reads_back : (g : Graph) → IsGraph g → (comment : Comment) → instance_at (text_start comment (text_of g)) ≡ Ok g
+unfolding instance_at
+reads_back g h comment =
     let n = g.vertices in
     let few = h.few in
     let edges = edges_in g.weights in

@@ -9,8 +9,8 @@ use Rattle.dp_model.specs.Gaps.{IsStateOf}
 use Rattle.max_cut.specs.declared.model.MaxCut.{MaxCut}
 use Rattle.max_cut.specs.Graph.{Graph, row_of, weights_from}
 use Rattle.max_cut.specs.GraphLaws.{length-row_of, rank_of-split, rank_of-most, rank_of-weights_from}
-use Rattle.max_cut.specs.Program.{is_within, limits_of, program_of, words_of}
-use Rattle.max_cut.specs.Shown.{instance_in}
+use Rattle.max_cut.specs.Program.{is_within, limits_of, words_of}
+use Rattle.max_cut.specs.Shown.{instance_in, program_in}
 use Rattle.max_cut.specs.StateLaws.{length-state, rank_of-state, words_of-some}
 use Rattle.benefit_rows.proofs.Steps.{size_of-at}
 
@@ -25,7 +25,7 @@ pub record StateFacts (g : Graph) (k : ℕ) (s : List ℤ) : Type 0 where
 words_reach : (g : Graph) (k : ℕ) (s : List ℤ) → k ≤ g.vertices → length s ≡ words_of g → k ≤ length s
 words_reach g k s deep long = grind (arith, nat_tests)
 
-pub state_facts : (m : MaxCut) (k : ℕ) (s : List ℤ) → IsStateOf (program_of (instance_in m)) k s → StateFacts (instance_in m) k s
+pub state_facts : (m : MaxCut) (k : ℕ) (s : List ℤ) → IsStateOf (program_in m) k s → StateFacts (instance_in m) k s
 state_facts m k s state =
     let g = instance_in m in
     let graph = m.prepared.graph in

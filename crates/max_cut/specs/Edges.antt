@@ -59,8 +59,8 @@ edge_at n totals s =
     made_before behind (with_edge n totals i j w (place_of u)))))
 
 -- a graph: 0 to 1,024 vertices, 0 to 2^20 edges, so many edges, and the end of the text
-unfoldable pub graph_at : TextState → Result Graph InstanceError
-graph_at s =
+unfoldable pub instance_at : TextState → Result Graph InstanceError
+instance_at s =
     number_then (pos 0) (pos 1024) s (λ n t.
     number_then (pos 0) (pos (2 ^ 20)) t (λ m u.
     part_then (times (edge_at (nat_abs n)) (nat_abs m) (zeros (pairs_of (nat_abs n))) u) (λ totals v.
@@ -68,4 +68,4 @@ graph_at s =
 
 -- the graph that a text spells, or its first fault
 abbrev pub instance_text : List ℕ → Result Graph InstanceError
-instance_text bytes = graph_at (text_start Never bytes)
+instance_text bytes = instance_at (text_start Never bytes)

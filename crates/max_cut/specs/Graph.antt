@@ -28,9 +28,9 @@ abbrev pub numbers_of : Graph → List ℤ
 numbers_of g = pos g.vertices ∷ g.weights
 
 -- the graph that such numbers spell
-abbrev pub graph_of : List ℤ → Graph
-graph_of [] = record { vertices = 0; weights = [] }
-graph_of (n ∷ ws) = record { vertices = unsigned_abs n; weights = ws }
+abbrev pub instance_of : List ℤ → Graph
+instance_of [] = record { vertices = 0; weights = [] }
+instance_of (n ∷ ws) = record { vertices = unsigned_abs n; weights = ws }
 
 -- of n vertices, how many pairs have their first vertex before k
 abbrev pub row_start : ℕ → ℕ → ℕ

@@ -4,7 +4,7 @@ use Rattle.std.specs.Prelude.{ℕ, zero, suc, ◌+◌, ℤ, pos, neg_ℤ, ◌+�
 use Rattle.std.specs.Int.{int_min}
 use Rattle.benefit_rows.specs.Benefits.{size_of, gain_of, rank_of, gap_of, merged_of}
 use Rattle.dp_model.specs.Dp.{Dp}
-use Rattle.max_cut.specs.Graph.{Graph, graph_of, row_of, weights_from, negatives_of}
+use Rattle.max_cut.specs.Graph.{Graph, instance_of, row_of, weights_from, negatives_of}
 
 -- so many zeros
 abbrev pub zeros : ℕ → List ℤ
@@ -84,5 +84,5 @@ program_of g = record {
 }
 
 -- the program that the numbers of an instance spell
-abbrev pub program_in : List ℤ → Dp
-program_in numbers = program_of (graph_of numbers)
+abbrev pub program : List ℤ → Dp
+program numbers = program_of (instance_of numbers)

@@ -24,8 +24,8 @@ impl MaxCut {
     ghost use Rattle.benefit_rows.specs.Benefits.{rank_of};
     ghost use Rattle.dp_model.specs.Gaps.{IsStateOf};
     ghost use Rattle.max_cut.specs.Graph.{row_of, weights_from};
-    ghost use Rattle.max_cut.specs.Program.{program_of, words_of};
-    ghost use Rattle.max_cut.specs.Shown.{instance_in};
+    ghost use Rattle.max_cut.specs.Program.{words_of};
+    ghost use Rattle.max_cut.specs.Shown.{instance_in, program_in};
 
     /// The weights of the pairs of `k` and each later vertex.
     fn row(&self, k: usize) -> &[i64]
@@ -45,7 +45,7 @@ impl MaxCut {
 
     /// The benefits of the vertices from `k` on.
     fn later<'s>(&self, k: usize, s: &'s [i64]) -> &'s [i64]
-        requires { IsStateOf (program_of (instance_in self.now)) k s.now }
+        requires { IsStateOf (program_in self.now) k s.now }
         ensures benefits { result.now ≡ drop k s.now }
         ensures count { length result.now ≡ words_of (instance_in self.now) - k }
         ensures size { (rank_of result.now +ℤ rank_of (weights_from (instance_in self.now) k)) ≤ℤ pos (2 ^ 49) }
@@ -57,12 +57,12 @@ impl MaxCut {
 
 impl DpModel for MaxCut {
     ghost use Rattle.max_cut.specs.Graph.{numbers_of};
-    ghost use Rattle.max_cut.specs.Program.{program_in};
+    ghost use Rattle.max_cut.specs.Program.{program};
     ghost use Rattle.max_cut.specs.ProgramLaws.{lawful_program, chained_program};
 
     ghost numbers = { λ m. numbers_of (record { vertices = m.vertices; weights = m.weights.items }) };
 
-    ghost meaning = { program_in };
+    ghost meaning = { program };
 
     ghost lawful = { λ m. lawful_program (record { vertices = m.vertices; weights = m.weights.items }) m.prepared.graph };
 

@@ -20,7 +20,7 @@ const MOST_EDGES: i64 = 1_048_576;
 /// Numbers outside their range are `OutOfRange`: 0 to 1,024 vertices, 0 to `2^20` edges, weights of at most
 /// 500,000,000 in size. A number that is no vertex is `Vertex`. `Limit` comes at the weight after which
 /// the total of a pair exceeds 500,000,000 in size. The first fault is answered, with its place.
-#[tactic(auto, unfolding(crate::specs::Edges::graph_at), using(dd_text::proofs::Chains::part_fails))]
+#[tactic(auto, unfolding(crate::specs::Edges::instance_at), using(dd_text::proofs::Chains::part_fails))]
 pub fn read(alloc: Global, bytes: &[u8]) -> Result<MaxCut, ReadModelError>
     requires { length bytes.now < 2 ^ 32 - 1 }
     ensures { Reads instance_in result (instance_text bytes.now) }

@@ -3,18 +3,18 @@ use Rattle.max_cut.specs.CutLaws.{own_words_solve}
 use Rattle.max_cut.specs.Cuts.{cut_value}
 use Rattle.max_cut.specs.EdgeLines.{text_of}
 use Rattle.max_cut.specs.Edges.{instance_text}
-use Rattle.max_cut.specs.Graph.{Graph, IsGraph, graph_of, numbers_of}
-use Rattle.max_cut.specs.Program.{program_in}
+use Rattle.max_cut.specs.Graph.{Graph, IsGraph, instance_of, numbers_of}
+use Rattle.max_cut.specs.Program.{program}
 use Rattle.problems.specs.Theory.{Theory, Agrees, with_numbers}
 
 abbrev pub cut_theory : Theory
 cut_theory = record {
   spelled = λ bytes. with_numbers numbers_of (instance_text bytes);
-  program = program_in;
-  canonical = λ numbers. text_of (graph_of numbers);
-  own_value = λ numbers x. cut_value (graph_of numbers) x;
+  program = program;
+  canonical = λ numbers. text_of (instance_of numbers);
+  own_value = λ numbers x. cut_value (instance_of numbers) x;
 }
 
 -- its own words and its program speak of the same solutions
-pub cut_agrees : (g : Graph) → IsGraph g → Agrees (program_in (numbers_of g)) (cut_theory.own_value (numbers_of g))
+pub cut_agrees : (g : Graph) → IsGraph g → Agrees (program (numbers_of g)) (cut_theory.own_value (numbers_of g))
 cut_agrees g h = λ x. own_words_solve g h x

@@ -2,7 +2,7 @@ use Rattle.std.proofs.Common.{ap, ◌∙◌}
 use Rattle.dd_text.specs.declared.comment.Comment.TheVariants.{Never}
 use Rattle.max_cut.specs.Edges.{instance_text}
 use Rattle.max_cut.specs.Shown.{instance_in}
-use Rattle.max_cut.proofs.Rereading.{rereads}
+use Rattle.max_cut.proofs.Rereading.{reads_back}
 use Rattle.max_cut.proofs.TextLengths.{text_short}
 use Rattle.max_cut.proofs.printing.print.Goals as goal
 
@@ -10,4 +10,4 @@ pub returns-clause-short : goal.returns-clause-short
 returns-clause-short c = rw c.in_ok-text.ensures (text_short (instance_in c.args.model.now) c.args.model.now.prepared.graph)
 
 pub returns-clause-reads_back : goal.returns-clause-reads_back
-returns-clause-reads_back c = ap instance_text c.in_ok-text.ensures ∙ rereads (instance_in c.args.model.now) c.args.model.now.prepared.graph Never
+returns-clause-reads_back c = ap instance_text c.in_ok-text.ensures ∙ reads_back (instance_in c.args.model.now) c.args.model.now.prepared.graph Never
