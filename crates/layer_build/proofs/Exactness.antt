@@ -13,10 +13,6 @@ use Rattle.layer_build.specs.Joining.{row_at, rows_at, LandsBelow, AllLand, all_
 
 -- One candidate more.
 
-and-end : (a b : Bool) → (a && (b && true)) ≡ (a && b)
-and-end a true = refl
-and-end a false = refl
-
 and-assoc : (a b c : Bool) → (a && (b && c)) ≡ ((a && b) && c)
 and-assoc true b c = refl
 and-assoc false b c = refl

@@ -57,16 +57,6 @@ each-set P (y ∷ xs) (suc i) x p h = (h.0, each-set P xs i x p h.1)
 
 -- One decision more.
 
-pub extended_none : (dp : Dp) (k i place : ℕ) (old : Stored) (pool : List Made) → Each (λ c. length c.row ≡ dp.words) pool
-    → HasExtended dp k i place 0 old (record old { arcs = [] }) pool pool place
-extended_none dp k i place old pool cells = record {
-  node = refl;
-  made = sym (append-nil (take place pool));
-  end_is = omega arith;
-  size = refl;
-  cells = cells;
-}
-
 pub extended_refused : (dp : Dp) (k i place n : ℕ) (old new later : Stored) (before after kept : List Made) (end last : ℕ) → HasExtended dp k i place n old new before after end
     → dp.allowed k old.row n ≡ false → later ≡ new → kept ≡ after → last ≡ end → HasExtended dp k i place (n + 1) old later before kept last
 extended_refused dp k i place n old new later before after kept end last h no_more node pool stays =

@@ -51,10 +51,6 @@ kept-more kept ls i d l row_of more within is h =
 same-row-at : (cs : List Made) (i j : ℕ) → row_same (row_at cs i) (row_at cs j) ≡ true → row_at cs i ≡ row_at cs j
 same-row-at cs i j h = row_same-is (row_at cs i) (row_at cs j) h
 
-pub landed-none : (cs : List Made) (rows : List (List ℤ)) (ls : List (Option Landing)) (first : ℕ) (rest : List ℕ) → LandsIn cs rows ls first → Each (LandsIn cs rows ls) (firsts_after (pathless cs) first rest)
-    → HaveLanded cs rows ls first first 0 rest
-landed-none cs rows ls first rest h all = record { first_lands = h; last_lands = h; done = tt; left = all }
-
 pub landed-like : (cs : List Made) (rows : List (List ℤ)) (ls : List (Option Landing)) (first last i : ℕ) (rest : List ℕ) (d : ℕ) → HaveLanded cs rows ls first last i rest → i < length rest
     → get_or rest i d < length ls → row_same (row_at cs last) (row_at cs (get_or rest i d)) ≡ true
     → HaveLanded cs rows (set ls (get_or rest i d) (get_or ls last None)) first last (i + 1) rest

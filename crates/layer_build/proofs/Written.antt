@@ -1,6 +1,6 @@
 -- The kept candidates are written, one after another.
-use Rattle.std.proofs.Common.{◌≡◌, ℕ, ◌+◌, ◌<◌, Bool, List, [], ◌∷◌, ◌++◌, length, map, take, drop, set, get_or, None, refl, sym, ◌∙◌, ap, ap₂, append_assoc, append-nil, arith}
-use Rattle.std.proofs.lemmas.List.{take_more_set, drop_more, drop_all, length-set, map-append}
+use Rattle.std.proofs.Common.{◌≡◌, ℕ, ◌+◌, ◌<◌, Bool, List, [], ◌∷◌, ◌++◌, length, map, take, drop, set, get_or, None, sym, ◌∙◌, ap, ap₂, append_assoc, arith}
+use Rattle.std.proofs.lemmas.List.{take_more_set, drop_more, length-set, map-append}
 use Rattle.std.proofs.Math.Seq.{map-set_same}
 use Rattle.layer_build.specs.Stored.{Stored, Made, made_at, shown_below}
 use Rattle.layer_build.specs.Expanding.{node_from, kept_nodes, AreWritten}
@@ -14,9 +14,6 @@ from_candidate c e node = record node { row = c.row; value = c.value; exact = e;
 
 made-is-at : (cs : List Made) (p : ℕ) (c : Made) → p < length cs → c ≡ get_or cs p c → made_at cs p ≡ c
 made-is-at cs p c less is = get_or-any cs p _ c less ∙ sym is
-
-pub written-none : (cs : List Made) (kept : List ℕ) (marks : List Bool) (old : List Stored) → AreWritten cs kept marks old old 0
-written-none cs kept marks old = record { size = refl; written = λ paths. refl; cells = λ words a b. b; rooms = refl }
 
 pub written-more : (cs : List Made) (kept : List ℕ) (marks : List Bool) (old now : List Stored) (i : ℕ) (c : Made) (x y : Stored) (d : ℕ) (b : Bool) → AreWritten cs kept marks old now i
     → i < length kept → length marks ≡ length kept → i < length old → get_or kept i d < length cs → c ≡ get_or cs (get_or kept i d) c → x ≡ get_or now i x → y ≡ from_candidate c (get_or marks i b) x
@@ -40,10 +37,3 @@ written-more cs kept marks old now i c x y d b h more same inside less is here p
           (ap (λ (n : Stored). length n.row) put ∙ (ap (λ (m : Made). length m.row) is ∙ each-get (λ (m : Made). length m.row ≡ words) cs p c cells less)) (h.cells words cells nodes);
       rooms = map-set_same (λ (n : Stored). n.room) now i y x (ap (λ (n : Stored). n.room) put ∙ ap (λ (n : Stored). n.room) here) ∙ h.rooms;
     }
-
-pub written-all : (cs : List Made) (kept : List ℕ) (marks : List Bool) (old now : List Stored) (i : ℕ) → AreWritten cs kept marks old now i → i ≡ length kept
-    → (paths : ℕ → List ℕ) → map (shown_below paths) (take (length kept) now) ≡ kept_nodes paths cs kept marks
-written-all cs kept marks old now i h end paths =
-    let none = drop_all i kept (omega arith) in
-    sym (append-nil (map (shown_below paths) (take (length kept) now)))
-    ∙ (ap₂ (λ n l. map (shown_below paths) (take n now) ++ kept_nodes paths cs l (drop i marks)) (sym end) (sym none) ∙ h.written paths)
