@@ -27,6 +27,17 @@ fits_by_size z h = omega (arith, ints, clamps)
 pub read_by_size : (z : ℤ) → size_of z ≤ℤ pos (2 ^ 62) → to_z w64 (of_z w64 z) ≡ z
 read_by_size z h = to_z-of_z w64 z (fits_by_size z h)
 
+-- a component of a row is read as it is, and is no larger than the rank
+pub record ReadAt (row : List ℤ) (i : ℕ) : Type 0 where
+  pub is : to_z w64 (of_z w64 (get_or row i (pos 0))) ≡ get_or row i (pos 0)
+  pub size : size_of (to_z w64 (of_z w64 (get_or row i (pos 0)))) ≤ℤ rank_of row
+
+pub read_at : (row : List ℤ) (i : ℕ) → i < length row → rank_of row ≤ℤ pos (2 ^ 62) → ReadAt row i
+read_at row i h small =
+    let size = size_of-at row i (pos 0) h in
+    let is = read_by_size (get_or row i (pos 0)) (omega (arith, ints)) in
+    record { is = is; size = rw is size }
+
 -- the rank of what is left is the size of one component and the rank of the rest, which are at least zero
 pub record RankMore (row : List ℤ) (i : ℕ) (got : ℤ) : Type 0 where
   pub is : got +ℤ rank_of (drop (i + 1) row) ≡ rank_of (drop i row)

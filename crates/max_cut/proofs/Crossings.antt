@@ -1,9 +1,10 @@
 -- The weight across, one component or one vertex more.
-use Rattle.std.proofs.Common.{◌≡◌, ℕ, suc, ◌+◌, ◌-◌, ◌^◌, ◌<◌, ℤ, pos, ◌+ℤ◌, ◌≤ℤ◌, List, [], ◌∷◌, length, get_or, take, drop, Bool, true, false, cond, eqb, arith, ap, ◌∙◌, sym}
+use Rattle.std.proofs.Common.{◌≡◌, ℕ, suc, ◌+◌, ◌-◌, ◌^◌, ◌<◌, ◌≤◌, ℤ, FitsSigned, w64, pos, ◌+ℤ◌, ◌≤ℤ◌, List, [], ◌∷◌, length, get_or, take, drop, Bool, true, false, cond, eqb, arith, ap, ◌∙◌, sym}
 use Rattle.std.proofs.lemmas.Int.{ints, clamps}
-use Rattle.std.proofs.lemmas.List.{drop_more, length-drop, length-take-le, take-append-drop}
+use Rattle.std.proofs.lemmas.List.{drop_more, length-drop, take-append-drop}
 use Rattle.benefit_rows.specs.Benefits.{size_of, rank_of}
-use Rattle.benefit_rows.specs.BenefitLaws.{size_of-positive, size_of-add, rank_of-positive, rank_of-append}
+use Rattle.benefit_rows.specs.BenefitLaws.{size_of-positive, size_of-add, rank_of-positive, rank_of-append, rank_of-drop}
+use Rattle.benefit_rows.proofs.Steps.{fits_by_size}
 use Rattle.max_cut.specs.Graph.{pairs_of}
 use Rattle.max_cut.specs.Cuts.{across_from, weight_across}
 
@@ -30,52 +31,49 @@ pub across_from-drop_more : (d : ℕ) (row : List ℤ) (ds : List ℕ) (i : ℕ)
 across_from-drop_more d row ds i h e =
     let under : i < length ds = omega arith in rw (drop_more row i (pos 0) h, drop_more ds i 0 under)
 
--- the parts of the weights of one vertex more than are left
-pub record Parts (ws : List ℤ) (n : ℕ) : Type 0 where
-  pub row : length (take n ws) ≡ n
-  pub rest : length (drop n ws) ≡ pairs_of n
-  pub row_rank : rank_of (take n ws) ≤ℤ rank_of ws
-  pub rest_rank : rank_of (drop n ws) ≤ℤ rank_of ws
+pub rank_of-take : (n : ℕ) (ws : List ℤ) → rank_of (take n ws) ≤ℤ rank_of ws
+rank_of-take n ws = omega (arith, ints, rank_of-parts n ws, rank_of-positive (drop n ws))
 
-pub parts : (ws : List ℤ) (n : ℕ) → length ws ≡ pairs_of (suc n) → Parts ws n
-parts ws n e = record {
-  row = length-take-le n ws (omega arith);
-  rest = length-drop n ws ∙ omega arith;
-  row_rank = omega (arith, ints, rank_of-parts n ws, rank_of-positive (drop n ws));
-  rest_rank = omega (arith, ints, rank_of-parts n ws, rank_of-positive (take n ws));
-}
+-- what is counted and what is left of the weights and the sides make the weight across
+pub record Crosses (ws rest : List ℤ) (sides : List ℕ) (k : ℕ) (total : ℤ) : Type 0 where
+  pub so_far : total +ℤ weight_across rest (drop k sides) ≡ weight_across ws sides
+  pub long : length rest ≡ pairs_of (length sides - k)
+  pub rank : rank_of rest ≤ℤ pos (2 ^ 50)
 
--- the weight across one vertex more
-pub record Crosses (rest : List ℤ) (sides : List ℕ) (k : ℕ) (total got whole : ℤ) : Type 0 where
-  pub so_far : (total +ℤ got) +ℤ weight_across (drop (length sides - (k + 1)) rest) (drop (k + 1) sides) ≡ whole
-  pub long : length (drop (length sides - (k + 1)) rest) ≡ pairs_of (length sides - (k + 1))
-  pub row : length (take (length sides - (k + 1)) rest) ≡ length sides - (k + 1)
-  pub row_rank : rank_of (take (length sides - (k + 1)) rest) ≤ℤ pos (2 ^ 50)
-  pub rest_rank : rank_of (drop (length sides - (k + 1)) rest) ≤ℤ pos (2 ^ 50)
+-- what is counted is of no great size
+pub crosses-fits : (ws rest : List ℤ) (sides : List ℕ) (k : ℕ) (total : ℤ) → rank_of ws ≤ℤ pos (2 ^ 50) → Crosses ws rest sides k total → FitsSigned w64 total
+crosses-fits ws rest sides k total small crosses =
+    let so_far = crosses.so_far in
+    let short = crosses.rank in
+    let size : size_of total ≤ℤ pos (2 ^ 51) = omega (arith, ints, clamps, weight_across-size ws sides, weight_across-size rest (drop k sides)) in
+    fits_by_size total (omega (arith, ints))
 
-pub crosses : (rest : List ℤ) (sides : List ℕ) (k : ℕ) (total got whole : ℤ) → k < length sides → length rest ≡ pairs_of (length sides - k) → rank_of rest ≤ℤ pos (2 ^ 50)
-    → got ≡ across_from (get_or sides k 0) (take (length sides - (k + 1)) rest) (drop (k + 1) sides)
-    → total +ℤ weight_across rest (drop k sides) ≡ whole → Crosses rest sides k total got whole
-crosses rest sides k total got whole h long small is so_far =
-    let n = length sides - (k + 1) in
-    let one : length sides - k ≡ suc n = omega arith in
-    let split = parts rest n (long ∙ ap pairs_of one) in
-    let later : length (drop (k + 1) sides) ≡ n = length-drop (k + 1) sides in
-    let here : weight_across rest (drop k sides) ≡ weight_across rest (get_or sides k 0 ∷ drop (k + 1) sides) = ap (weight_across rest) (drop_more sides k 0 h) in
-    let row_at : across_from (get_or sides k 0) (take (length (drop (k + 1) sides)) rest) (drop (k + 1) sides) ≡ across_from (get_or sides k 0) (take n rest) (drop (k + 1) sides) = ap (λ m. across_from (get_or sides k 0) (take m rest) (drop (k + 1) sides)) later in
-    let rest_at : weight_across (drop (length (drop (k + 1) sides)) rest) (drop (k + 1) sides) ≡ weight_across (drop n rest) (drop (k + 1) sides) = ap (λ m. weight_across (drop m rest) (drop (k + 1) sides)) later in
-    let row_rank = split.row_rank in
-    let rest_rank = split.rest_rank in
+-- the pairs that are left are those of the next vertex and the others
+pairs_left : (sides later : List ℕ) (k : ℕ) → k < length sides → later ≡ drop (k + 1) sides
+    → pairs_of (length sides - k) ≡ length later + pairs_of (length sides - (k + 1))
+pairs_left sides later k h e =
+    let one : length sides - k ≡ suc (length sides - (k + 1)) = omega arith in
+    ap pairs_of one ∙ ap (λ n. n + pairs_of (length sides - (k + 1))) (sym (ap length e ∙ length-drop (k + 1) sides))
+
+pub row_fits : (rest : List ℤ) (sides later : List ℕ) (k : ℕ) → k < length sides → later ≡ drop (k + 1) sides → length rest ≡ pairs_of (length sides - k)
+    → length later ≤ length rest
+row_fits rest sides later k h e long = let pairs = pairs_left sides later k h e in omega arith
+
+-- the weight between one vertex more and the later ones is counted
+pub crosses-more : (ws rest row below : List ℤ) (sides later : List ℕ) (k : ℕ) (total got : ℤ) → k < length sides → later ≡ drop (k + 1) sides
+    → row ≡ take (length later) rest → below ≡ drop (length later) rest → got ≡ across_from (get_or sides k 0) row later
+    → Crosses ws rest sides k total → Crosses ws below sides (k + 1) (total +ℤ got)
+crosses-more ws rest row below sides later k total got h e at_row at_below is crosses =
+    let d = get_or sides k 0 in
+    let here : weight_across rest (drop k sides) ≡ weight_across rest (d ∷ later) = ap (weight_across rest) (drop_more sides k 0 h ∙ ap (λ ds. d ∷ ds) (sym e)) in
+    let counted : across_from d (take (length later) rest) later ≡ got = ap (λ ws. across_from d ws later) (sym at_row) ∙ sym is in
+    let left : weight_across (drop (length later) rest) later ≡ weight_across below (drop (k + 1) sides) = ap (λ ws. weight_across ws later) (sym at_below) ∙ ap (weight_across below) e in
+    let so_far = crosses.so_far in
+    let long = crosses.long in
+    let short = crosses.rank in
+    let pairs = pairs_left sides later k h e in
     record {
       so_far = omega (arith, ints);
-      long = split.rest;
-      row = split.row;
-      row_rank = omega (arith, ints);
-      rest_rank = omega (arith, ints);
+      long = ap length at_below ∙ omega (arith, length-drop (length later) rest);
+      rank = rw at_below (omega (arith, ints, rank_of-drop (length later) rest));
     }
-
--- a part of the weight is of no great size
-pub crossed_size : (ws rest : List ℤ) (sides open_ones : List ℕ) (total : ℤ) → rank_of ws ≤ℤ pos (2 ^ 50) → rank_of rest ≤ℤ pos (2 ^ 50)
-    → total +ℤ weight_across rest open_ones ≡ weight_across ws sides → size_of total ≤ℤ pos (2 ^ 51)
-crossed_size ws rest sides open_ones total small short e =
-    omega (arith, ints, clamps, weight_across-size ws sides, weight_across-size rest open_ones)

@@ -5,7 +5,7 @@ use Rattle.std.proofs.lemmas.Int.{ints}
 use Rattle.std.proofs.lemmas.List.{drop_more, take_more_set, append_assoc}
 use Rattle.benefit_rows.specs.Benefits.{size_of, rank_of}
 use Rattle.benefit_rows.specs.BenefitLaws.{size_of-add}
-use Rattle.benefit_rows.proofs.Steps.{fits_by_size, size_of-at, read_by_size}
+use Rattle.benefit_rows.proofs.Steps.{fits_by_size, read_at, read_by_size, size_of-at}
 use Rattle.max_cut.specs.Graph.{negatives_of}
 use Rattle.max_cut.specs.PullLaws.{length-pulls, size_of-pull}
 use Rattle.max_cut.specs.Program.{sums_of, pull_of, pulls_of}
@@ -50,16 +50,15 @@ pub record PulledAt (d : ℕ) (ss ws : List ℤ) (i : ℕ) (got : ℤ) : Type 0 
 pub pulled_at : (d : ℕ) (ss ws : List ℤ) (i : ℕ) (got : ℤ) → i < length ss → i < length ws → rank_of ss ≤ℤ pos (2 ^ 50) → rank_of ws ≤ℤ pos (2 ^ 50)
     → got ≡ pull_of d (to_z w64 (of_z w64 (get_or ws i (pos 0)))) → PulledAt d ss ws i got
 pulled_at d ss ws i got h k small short e =
-    let pull = pull_of d (get_or ws i (pos 0)) in
     let benefit = size_of-at ss i (pos 0) h in
     let weight = size_of-at ws i (pos 0) k in
     let same = size_of-pull d (get_or ws i (pos 0)) in
-    let is : got ≡ pull_of d (get_or ws i (pos 0)) = e ∙ ap (pull_of d) (read_by_size (get_or ws i (pos 0)) (omega (arith, ints))) in
+    let is : got ≡ pull_of d (get_or ws i (pos 0)) = e ∙ ap (pull_of d) (read_at ws i k (omega (arith, ints))).is in
     let pulls = pulls_of-at d ws i k in
     let sum : get_or (sums_of ss (pulls_of d ws)) i (pos 0) ≡ get_or ss i (pos 0) +ℤ got = sums_of-at ss (pulls_of d ws) i h (omega (arith, length-pulls d ws)) ∙ ap (λ z. get_or ss i (pos 0) +ℤ z) (pulls ∙ sym is) in
     let total = size_of-add (get_or ss i (pos 0)) got in
     let own : size_of got ≡ size_of (get_or ws i (pos 0)) = ap size_of is ∙ same in
-    let at_benefit = read_by_size (get_or ss i (pos 0)) (omega (arith, ints)) in
+    let at_benefit = (read_at ss i h (omega (arith, ints))).is in
     let at_pull = read_by_size got (omega (arith, ints)) in
     record {
       fits = rw (at_benefit, at_pull) (fits_by_size _ (omega (arith, ints)));

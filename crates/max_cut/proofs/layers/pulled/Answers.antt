@@ -1,14 +1,13 @@
-use Rattle.std.proofs.Common.{pos, get_or, arith}
+use Rattle.std.proofs.Common.{arith}
 use Rattle.std.proofs.lemmas.Int.{ints}
-use Rattle.benefit_rows.proofs.Steps.{size_of-at, read_by_size}
+use Rattle.benefit_rows.proofs.Steps.{read_at}
 use Rattle.max_cut.proofs.Passes.{PulledAt, pulled_at}
 use Rattle.max_cut.proofs.layers.pulled.Given.{Over}
 use Rattle.max_cut.proofs.layers.pulled.Goals as goal
 
 pub pull-requires : goal.pull-requires
 pull-requires g c =
-    let weight = size_of-at c.args.weights.now c.args.i (pos 0) c.requires.weight in
-    rw (read_by_size (get_or c.args.weights.now c.args.i (pos 0)) (omega (arith, ints))) (omega (arith, ints))
+    omega (arith, ints, (read_at c.args.weights.now c.args.i c.requires.weight (omega (arith, ints, c.requires.weight_sizes))).size)
 
 at : (g : Over) (c : goal.After-pull g) → PulledAt g.row.D c.args.benefits.now c.args.weights.now c.args.i c.pull.result
 at g c = pulled_at g.row.D c.args.benefits.now c.args.weights.now c.args.i c.pull.result c.requires.benefit c.requires.weight c.requires.benefit_sizes c.requires.weight_sizes c.pull.ensures

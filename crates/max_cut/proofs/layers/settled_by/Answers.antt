@@ -1,9 +1,9 @@
-use Rattle.std.proofs.Common.{◌≡◌, pos, get_or, drop, arith, ap, ◌∙◌}
+use Rattle.std.proofs.Common.{◌≡◌, pos, drop, arith, ap, ◌∙◌}
 use Rattle.std.proofs.lemmas.Int.{ints}
 use Rattle.std.proofs.lemmas.List.{drop_all}
 use Rattle.benefit_rows.specs.Benefits.{gap_of}
 use Rattle.benefit_rows.specs.BenefitLaws.{gap_of-positive, gap_of-most}
-use Rattle.benefit_rows.proofs.Steps.{GapMore, gap_more, size_of-at, read_by_size}
+use Rattle.benefit_rows.proofs.Steps.{GapMore, gap_more, read_at, read_by_size}
 use Rattle.max_cut.specs.PullLaws.{length-pulls, length-sums_of, settled_of-is_gap}
 use Rattle.max_cut.specs.Program.{sums_of, pulls_of}
 use Rattle.max_cut.proofs.layers.settled_by.Given.{Over}
@@ -11,8 +11,7 @@ use Rattle.max_cut.proofs.layers.settled_by.Goals as goal
 
 pub doubled_gap-doubled-requires-clause-to_size : goal.doubled_gap-doubled-requires-clause-to_size
 doubled_gap-doubled-requires-clause-to_size g c =
-    let small = size_of-at c.args.benefits.now c.loop-i.i (pos 0) c.loop-i-test.true in
-    rw (read_by_size (get_or c.args.benefits.now c.loop-i.i (pos 0)) (omega (arith, ints))) (omega (arith, ints))
+    omega (arith, ints, (read_at c.args.benefits.now c.loop-i.i c.loop-i-test.true (omega (arith, ints, c.requires.benefit_sizes))).size)
 
 -- one component more, from the sums to the benefits
 more : (g : Over) (c : goal.After-doubled_gap-doubled g)
@@ -20,10 +19,9 @@ more : (g : Over) (c : goal.After-doubled_gap-doubled g)
 more g c =
     let pulls = length-pulls g.row.D c.args.weights.now in
     let long = length-sums_of c.args.benefits.now (pulls_of g.row.D c.args.weights.now) (omega arith) in
-    let small = size_of-at c.args.benefits.now c.loop-i.i (pos 0) c.loop-i-test.true in
     let sum = read_by_size c.pulled.result (omega (arith, ints, c.pulled.ensures.size)) ∙ c.pulled.ensures.sum in
-    let benefit = read_by_size (get_or c.args.benefits.now c.loop-i.i (pos 0)) (omega (arith, ints)) in
-    gap_more _ c.args.benefits.now c.loop-i.i _ _ c.doubled_gap-doubled.result (omega arith) long sum benefit c.doubled_gap-doubled.ensures
+    let benefit = read_at c.args.benefits.now c.loop-i.i c.loop-i-test.true (omega (arith, ints, c.requires.benefit_sizes)) in
+    gap_more _ c.args.benefits.now c.loop-i.i _ _ c.doubled_gap-doubled.result (omega arith) long sum benefit.is c.doubled_gap-doubled.ensures
 
 pub overflow_add-doubled : goal.overflow_add-doubled
 overflow_add-doubled g c = let one = more g c in omega (arith, ints)

@@ -4,7 +4,7 @@ use Rattle.std.proofs.lemmas.Int.{ints, clamps}
 use Rattle.benefit_rows.specs.Benefits.{rank_of}
 use Rattle.max_cut.specs.Graph.{negatives_of}
 use Rattle.max_cut.specs.GraphLaws.{negatives_of-bounds}
-use Rattle.benefit_rows.proofs.Steps.{size_of-at, read_by_size}
+use Rattle.benefit_rows.proofs.Steps.{read_at, size_of-at}
 use Rattle.max_cut.proofs.Passes.{negatives_of-drop_more}
 use Rattle.max_cut.proofs.layers.sum_of_negatives.Goals as goal
 
@@ -13,7 +13,7 @@ added : (ws : List ℤ) (i : ℕ) (got : ℤ) → i < length ws → rank_of ws �
     → (got +ℤ negatives_of (drop (i + 1) ws) ≡ negatives_of (drop i ws)) × (got ≤ℤ pos 0) × (negatives_of (drop (i + 1) ws) ≤ℤ pos 0) × (pos 0 ≤ℤ (negatives_of ws +ℤ pos (2 ^ 50)))
 added ws i got h small is =
     let weight = size_of-at ws i (pos 0) h in
-    let read = rw (read_by_size (get_or ws i (pos 0)) (omega (arith, ints))) at is in
+    let read = rw (read_at ws i h (omega (arith, ints))).is at is in
     let more = negatives_of-drop_more ws i (pos 0) h in
     (omega (arith, ints), omega (arith, ints, clamps), (negatives_of-bounds (drop (i + 1) ws)).0, (let all = negatives_of-bounds ws in omega (arith, ints)))
 
