@@ -7,7 +7,8 @@ use Rattle.dp_model.specs.Prefixes.{state_of}
 use Rattle.dp_model.specs.Rows.{row_same}
 use Rattle.dp_model.specs.Subproblem.{Subproblem}
 use Rattle.dp_model.proofs.Members.{Has}
-use Rattle.dp_model.proofs.RowLemmas.{both, begins-is, row_same-self, row_same-is}
+use Rattle.std.proofs.lemmas.Bool.{and_parts}
+use Rattle.dp_model.proofs.RowLemmas.{begins-is, row_same-self, row_same-is}
 use Rattle.diagram_laws.specs.Nodes.{DdNode}
 use Rattle.diagram_laws.specs.Seen.{IsReachedBy, repeats, are_distinct}
 use Rattle.diagram_laws.specs.Sound.{are_apart, is_apart_from_all, are_all_apart}
@@ -86,7 +87,7 @@ apart-from dp p k node c (other ∷ rest) exact r h all new =
 pub all-apart : (dp : Dp) (p : List ℕ) (k : ℕ) (layer : List DdNode) → AreReached dp p k layer → IsTrue (are_distinct layer) → IsTrue (are_all_apart (filter_map (child_of dp k) layer))
 all-apart dp p k [] all distinct = refl
 all-apart dp p k (node ∷ rest) all distinct =
-    let parts = both (not (repeats node rest)) (are_distinct rest) distinct in
+    let parts = and_parts (not (repeats node rest)) (are_distinct rest) distinct in
     let of-node = all node (inl refl) in
     let later : IsTrue (are_all_apart (filter_map (child_of dp k) rest)) = all-apart dp p k rest (λ x has. all x (inr has)) parts.1 in
     let split : (o : Option Subproblem) → child_of dp k node ≡ o → IsTrue (are_all_apart (cons_option o (filter_map (child_of dp k) rest))) = λ o.

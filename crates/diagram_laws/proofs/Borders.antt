@@ -9,7 +9,7 @@ use Rattle.dp_model.specs.Prefixes.{IsContinuation, gain_of}
 use Rattle.dp_model.specs.Rows.{row_same}
 use Rattle.dp_model.specs.Subproblem.{Subproblem}
 use Rattle.dp_model.proofs.Members.{Has, each-has, each-of-all, Each-append, Has-append-cases, Has-filter-from}
-use Rattle.dp_model.proofs.RowLemmas.{both}
+use Rattle.std.proofs.lemmas.Bool.{and_parts}
 use Rattle.diagram_laws.specs.Nodes.{DdNode}
 use Rattle.diagram_laws.specs.Seen.{IsBounded, IsReachedBy, AreLayers, repeats, are_distinct}
 use Rattle.diagram_laws.specs.Cutsets.{child_of, leaves, borders, all_borders}
@@ -35,7 +35,7 @@ in-borders dp laws p w t k layer next rest all e c has =
     let from = Has-filter_map-from (child_of dp k) (filter (λ (node : DdNode). node.exact && leaves next node.arcs) layer) c has in
     let node = from.0 in
     let listed = Has-filter-from (λ (node : DdNode). node.exact && leaves next node.arcs) layer node from.1 in
-    let exact = (both node.exact (leaves next node.arcs) listed.1).0 in
+    let exact = (and_parts node.exact (leaves next node.arcs) listed.1).0 in
     record {
       depth = k;
       node = node;
@@ -91,17 +91,17 @@ after-one dp p k node c next rest exact r h all new =
     each-of-all (StandsBefore c) (borders dp k rest next) (λ d has.
     let from = Has-filter_map-from (child_of dp k) (filter (λ (node : DdNode). node.exact && leaves next node.arcs) rest) d has in
     let listed = Has-filter-from (λ (node : DdNode). node.exact && leaves next node.arcs) rest from.0 from.1 in
-    let exact' = (both from.0.exact (leaves next from.0.arcs) listed.1).0 in
+    let exact' = (and_parts from.0.exact (leaves next from.0.arcs) listed.1).0 in
     side-by-side dp p k node from.0 c d r (all from.0 listed.0 exact') (no-repeat node from.0 rest exact exact' listed.0 new) h (child-from dp k from.0 d from.2))
 
 in-turn-layer : (dp : Dp) (p : List ℕ) (k : ℕ) (layer next : List DdNode) → ((x : DdNode) → Has x layer → IsTrue x.exact → IsReachedBy dp p k x) → IsTrue (are_distinct layer) → InTurn (borders dp k layer next)
 in-turn-layer dp p k [] next all distinct = tt
 in-turn-layer dp p k (node ∷ rest) next all distinct =
-    let parts = both (not (repeats node rest)) (are_distinct rest) distinct in
+    let parts = and_parts (not (repeats node rest)) (are_distinct rest) distinct in
     let later : InTurn (borders dp k rest next) = in-turn-layer dp p k rest next (λ x h. all x (inr h)) parts.1 in
     let Goal : List DdNode → Type 0 = λ ns. InTurn (filter_map (child_of dp k) ns) in
     let keep : IsTrue (node.exact && leaves next node.arcs) → InTurn (cons_option (child_of dp k node) (borders dp k rest next)) = λ t.
-    let exact = (both node.exact (leaves next node.arcs) t).0 in
+    let exact = (and_parts node.exact (leaves next node.arcs) t).0 in
     let r = all node (inl refl) exact in
     elim (child_of dp k node) as (λ o. child_of dp k node ≡ o → InTurn (cons_option o (borders dp k rest next))) [
       | None ↦ λ e. later
@@ -122,7 +122,7 @@ at-depth : (dp : Dp) (p : List ℕ) (w : ℕ) (t : Option ℤ) (k : ℕ) (layer 
 at-depth dp p w t k layer next rest all c has =
     let from = Has-filter_map-from (child_of dp k) (filter (λ (node : DdNode). node.exact && leaves next node.arcs) layer) c has in
     let listed = Has-filter-from (λ (node : DdNode). node.exact && leaves next node.arcs) layer from.0 from.1 in
-    let exact = (both from.0.exact (leaves next from.0.arcs) listed.1).0 in
+    let exact = (and_parts from.0.exact (leaves next from.0.arcs) listed.1).0 in
     child-depth dp p k from.0 c (each-has (λ (n : DdNode). IsTrue n.exact → IsReachedBy dp p k n) layer from.0 all.0.exact listed.0 exact) (child-from dp k from.0 c from.2)
 
 pub in-turn : (dp : Dp) → IsLawful dp → (p : List ℕ) (w : ℕ) (t : Option ℤ) (k : ℕ) (layer : List DdNode) (more : List (List DdNode)) → AreLayers dp p w t k (layer ∷ more) → k + length more ≡ dp.vars → InTurn (all_borders dp k (layer ∷ more))

@@ -9,7 +9,7 @@ use Rattle.dp_model.specs.Lists.{Each}
 use Rattle.dp_model.specs.Reached.{Reached, reached}
 use Rattle.dp_model.specs.Subproblem.{Subproblem, IsChild}
 use Rattle.dp_model.proofs.Members.{Has, each-has, each-of-all, Has-append-cases, Has-filter-from}
-use Rattle.dp_model.proofs.RowLemmas.{both}
+use Rattle.std.proofs.lemmas.Bool.{and_parts}
 use Rattle.dp_laws.specs.Beam.{layer_below}
 use Rattle.dp_laws.specs.Beams.{layers, beam, first_of_all}
 use Rattle.diagram_laws.specs.declared.arc.DdArc.{DdArc}
@@ -96,7 +96,7 @@ border-deep : (dp : Dp) (p : List ℕ) (k depth : ℕ) (layer next : List DdNode
 border-deep dp p k depth layer next rest above reached c has =
     let from = Has-filter_map-from (child_of dp k) (filter (λ (node : DdNode). node.exact && leaves next node.arcs) layer) c has in
     let listed = Has-filter-from (λ (node : DdNode). node.exact && leaves next node.arcs) layer from.0 from.1 in
-    let test = both from.0.exact (leaves next from.0.arcs) listed.1 in
+    let test = and_parts from.0.exact (leaves next from.0.arcs) listed.1 in
     let is = ap (λ (x : Subproblem). length x.decisions) (child-from dp k from.0 c from.2).child_is in
     let long = (reached from.0 listed.0 test.0).depth in
     let split : (k + 1 < depth) ⊎ (depth ≤ k + 1) = grind arith in

@@ -1,10 +1,11 @@
 -- A small instance for tests: a state is what is left of ten, and the more is left, the better.
 use Rattle.std.specs.Prelude.{◌≡◌, ℕ, ◌+◌, ℤ, pos, ◌≤ℤ◌, int_le, Bool, true, false, cond, ◌&&◌, List, [], ◌∷◌, length, Some, None, refl}
-use Rattle.std.proofs.Common.{sym, ap, arith}
+use Rattle.std.proofs.Common.{ap, arith, subst}
 use Rattle.std.proofs.lemmas.Int.{ints}
 use Rattle.dp_model.specs.Dp.{Dp}
 use Rattle.dp_model.specs.Laws.{IsLawful, IsChained}
 use Rattle.dp_model.specs.Lists.{Each}
+use Rattle.dp_model.specs.NumberLaws.{int_le-from, int_le-is, small_gap, small_natural, small_positive}
 use Rattle.dp_model.specs.Numbers.{IsSmall}
 use Rattle.dp_model.specs.Prefixes.{IsPath, gain_of}
 
@@ -63,20 +64,11 @@ within-ten (x ∷ y ∷ s) h = absurd (cc)
 
 small-cell : (s : List ℤ) → is_left s ≡ true → Each IsSmall s
 small-cell [] h = absurd (cc)
-small-cell (x ∷ []) h = let most = within-ten (x ∷ []) h in (record { low = omega (arith, ints); high = omega (arith, ints) }, tt)
+small-cell (x ∷ []) h = let most = within-ten (x ∷ []) h in (small_positive x most.0 (omega (arith, ints)), tt)
 small-cell (x ∷ y ∷ s) h = absurd (cc)
 
-zero-small : (z : ℤ) → z ≡ pos 0 → IsSmall z
-zero-small z h = record { low = omega (arith, ints); high = omega (arith, ints) }
-
-int_le-is : (a b : ℤ) → a ≤ℤ b → int_le a b ≡ true
-int_le-is a b h = grind (arith, ints)
-
-int_le-then : (a b : ℤ) → int_le a b ≡ true → a ≤ℤ b
-int_le-then a b h = grind (arith, ints)
-
 covered : (a s : List ℤ) → left s ≤ℤ left a → cond (int_le (left s) (left a)) (Some (pos 0)) None ≡ Some (pos 0)
-covered a s h = ap (λ b. cond b (Some (pos 0)) None) (int_le-is (left s) (left a) h)
+covered a s h = ap (λ b. cond b (Some (pos 0)) None) (int_le-from (left s) (left a) h)
 
 pub boxes-lawful : IsLawful boxes
 boxes-lawful = record {
@@ -101,12 +93,12 @@ boxes-lawful = record {
     words = omega arith;
     some_choices = λ k h. omega arith;
     choices = λ k h. omega arith;
-    root_value = zero-small (pos 0) refl;
+    root_value = small_natural 0 (omega arith);
     cells = λ k s state. one-cell s state.test;
     state = λ k s state. small-cell s state.test;
-    gain = λ k s d state allowed. zero-small (pos 0) refl;
-    gap = λ k a s g x y is. (let zero = (zero-gap (int_le (left s) (left a)) g is).0 in (omega (arith, ints), zero-small g zero));
-    rough = λ k s r state is. (let same : pos 0 ≡ r = cc in zero-small r (sym same));
+    gain = λ k s d state allowed. small_natural 0 (omega arith);
+    gap = λ k a s g x y is. (let zero = (zero-gap (int_le (left s) (left a)) g is).0 in small_gap g (omega (arith, ints)) (omega (arith, ints)));
+    rough = λ k s r state is. (let same : pos 0 ≡ r = cc in subst IsSmall same (small_natural 0 (omega arith)));
   };
 }
 
@@ -114,6 +106,6 @@ pub boxes-chained : IsChained boxes
 boxes-chained k a b c g h x y z first second =
     let one = zero-gap (int_le (left b) (left a)) g first in
     let two = zero-gap (int_le (left c) (left b)) h second in
-    let above = int_le-then (left b) (left a) one.1 in
-    let below = int_le-then (left c) (left b) two.1 in
+    let above = int_le-is (left b) (left a) one.1 in
+    let below = int_le-is (left c) (left b) two.1 in
     record { gap = pos 0; is = covered a c (omega (arith, ints)); within = omega (arith, ints) }

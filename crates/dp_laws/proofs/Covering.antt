@@ -13,7 +13,8 @@ use Rattle.dp_model.specs.Prefixes.{IsPrefix, IsContinuation, IsMatched, gain_of
 use Rattle.dp_model.specs.Reached.{Reached, reached}
 use Rattle.dp_model.proofs.Members.{Has, each-has, one-of-has, Has-map, Has-filter, Has-flat_map, Has-below, Each-then}
 use Rattle.dp_model.proofs.Paths.{IsPrefix-back, IsPrefix-length, state_of-state, continued, value_of-split}
-use Rattle.dp_model.proofs.RowLemmas.{both, int_same-is}
+use Rattle.std.proofs.lemmas.Bool.{and_parts}
+use Rattle.dp_model.proofs.RowLemmas.{int_same-is}
 use Rattle.dp_laws.specs.Beam.{is_cut, cut, expanded, pruned, whole_layer, layer_below, is_too_wide}
 use Rattle.dp_laws.specs.Beams.{beam, wide, first_of_all}
 use Rattle.dp_laws.specs.BestOfState.{IsBestOfState}
@@ -331,7 +332,7 @@ first-falls a b rest h =
     let go : (c : Bool) → int_lt b a ≡ c → (c || (int_same a b && rest)) ≡ true → b ≤ℤ a =
     λ c. elim c as (λ c. int_lt b a ≡ c → (c || (int_same a b && rest)) ≡ true → b ≤ℤ a) [
       | true ↦ λ e h. grind (arith, ints)
-      | false ↦ λ e h. (let same = int_same-is a b (both (int_same a b) rest h).0 in omega (arith, ints))
+      | false ↦ λ e h. (let same = int_same-is a b (and_parts (int_same a b) rest h).0 in omega (arith, ints))
     ] in
     go (int_lt b a) refl h
 

@@ -15,7 +15,8 @@ use Rattle.dp_model.specs.Numbers.{int_same}
 use Rattle.dp_model.specs.Reached.{Reached}
 use Rattle.dp_model.specs.Rows.{row_same, row_smaller}
 use Rattle.dp_model.proofs.Members.{Has, each-has, each-of-all, Each-then, Each-map, Has-below, Has-below-from}
-use Rattle.dp_model.proofs.RowLemmas.{row_same-self, row_same-is, int_same-is, both}
+use Rattle.std.proofs.lemmas.Bool.{and_parts}
+use Rattle.dp_model.proofs.RowLemmas.{row_same-self, row_same-is, int_same-is}
 use Rattle.dp_laws.specs.BestOfState.{IsBestOfState}
 use Rattle.dp_laws.specs.Extensions.{all_joined}
 use Rattle.dp_laws.specs.Pairs.{EachTwo}
@@ -135,7 +136,7 @@ values-of v w i j h =
     λ b. elim b as (λ b. int_lt w v ≡ b → (b || (int_same w v && nat_lt i j)) ≡ true → (w <ℤ v) ⊎ ((w ≤ℤ v) × (i < j))) [
       | true ↦ λ e h. inl (grind (arith, ints))
       | false ↦ λ e h. (
-          let parts = both (int_same w v) (nat_lt i j) h in
+          let parts = and_parts (int_same w v) (nat_lt i j) h in
           let same = int_same-is w v parts.0 in let less : nat_lt i j ≡ true = parts.1 in
           inr (omega (arith, ints), grind (arith, nat_tests)))
     ] in

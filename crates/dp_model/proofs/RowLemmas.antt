@@ -1,23 +1,19 @@
 -- What the tests on rows and on lists of decisions mean.
 use Rattle.std.proofs.Common.{◌≡◌, ℕ, ℤ, ◌≤ℤ◌, int_le, Bool, true, false, ◌&&◌, nat_eq, List, [], ◌∷◌, ◌++◌, IsTrue, refl, sym, subst, arith}
+use Rattle.std.proofs.lemmas.Bool.{and_parts}
 use Rattle.std.proofs.lemmas.Int.{ints}
 use Rattle.dp_model.specs.Decisions.{begins}
+use Rattle.dp_model.specs.NumberLaws.{int_le-is}
 use Rattle.dp_model.specs.Numbers.{int_same}
 use Rattle.dp_model.specs.Rows.{row_same}
-
--- both parts of a test hold
-pub both : (a b : Bool) → IsTrue (a && b) → IsTrue a × IsTrue b
-both a b h = elim a as (λ v. IsTrue (v && b) → IsTrue v × IsTrue b) [ true ↦ λ k. (refl, k) | false ↦ λ k. absurd (grind arith) ] h
 
 pub int_same-self : (a : ℤ) → IsTrue (int_same a a)
 int_same-self a = grind (arith, ints)
 
 pub int_same-is : (a b : ℤ) → IsTrue (int_same a b) → a ≡ b
 int_same-is a b h =
-    let parts = both (int_le a b) (int_le b a) h in
-    let up : a ≤ℤ b = (let e : int_le a b ≡ true = parts.0 in grind (arith, ints)) in
-    let down : b ≤ℤ a = (let e : int_le b a ≡ true = parts.1 in grind (arith, ints)) in
-    omega (arith, ints)
+    let parts = and_parts (int_le a b) (int_le b a) h in
+    omega (arith, ints, int_le-is a b parts.0, int_le-is b a parts.1)
 
 pub row_same-self : (a : List ℤ) → IsTrue (row_same a a)
 row_same-self [] = refl
@@ -29,7 +25,7 @@ row_same-is [] [] h = refl
 row_same-is [] (y ∷ b) h = absurd (grind arith)
 row_same-is (x ∷ a) [] h = absurd (grind arith)
 row_same-is (x ∷ a) (y ∷ b) h =
-    let parts = both (int_same x y) (row_same a b) h in
+    let parts = and_parts (int_same x y) (row_same a b) h in
     let one = int_same-is x y parts.0 in
     let rest = row_same-is a b parts.1 in
     cc
@@ -45,7 +41,7 @@ pub begins-is : (p x : List ℕ) → IsTrue (begins p x) → (rest : List ℕ) �
 begins-is [] x h = (x, refl)
 begins-is (d ∷ p) [] h = absurd (grind arith)
 begins-is (d ∷ p) (e ∷ x) h =
-    let parts = both (nat_eq d e) (begins p x) h in
+    let parts = and_parts (nat_eq d e) (begins p x) h in
     let one = nat_eq-is d e parts.0 in
     let rest = begins-is p x parts.1 in
     (rest.0, (let same = rest.1 in cc))

@@ -7,7 +7,7 @@ use Rattle.dp_model.specs.Gaps.{is_struck_by, IsStateOf}
 use Rattle.dp_model.specs.Laws.{IsLawful, IsChained}
 use Rattle.dp_model.specs.Lists.{Each}
 use Rattle.dp_model.proofs.Members.{Has, Has-map-from, Has-append-cases}
-use Rattle.dp_model.proofs.RowLemmas.{both}
+use Rattle.std.proofs.lemmas.Bool.{and_parts}
 use Rattle.dp_laws.specs.Beam.{is_cut}
 use Rattle.dp_laws.specs.Pairs.{EachTwo}
 use Rattle.dp_laws.proofs.Lists.{two-take}
@@ -160,7 +160,7 @@ reduced-built : (dp : Dp) → IsLawful dp → IsChained dp → (t : Option ℤ) 
 reduced-built dp laws chained t p first w k two b low some =
     elim (is_wide dp first w (k + 1) two.next) as (λ v. is_wide dp first w (k + 1) two.next ≡ v → AreBuilt dp p t k (cond v (merge_rest dp (k + 1) w two) two)) [
       | true ↦ λ e. (
-          let test : nat_lt w (length two.next) ≡ true = (both (is_cut dp first (k + 1)) (nat_lt w (length two.next)) e).1 in
+          let test : nat_lt w (length two.next) ≡ true = (and_parts (is_cut dp first (k + 1)) (nat_lt w (length two.next)) e).1 in
           let same : w - 1 + 1 ≡ w = omega arith in
           let wide : w - 1 + 1 < length two.next = grind arith in
           subst (λ n. AreBuilt dp p t k (merge_rest dp (k + 1) n two)) same (merged-built dp laws chained t p k (w - 1) two b low wide))

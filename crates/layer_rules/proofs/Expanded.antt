@@ -12,7 +12,8 @@ use Rattle.dp_model.specs.Prefixes.{state_of, value_of}
 use Rattle.dp_model.specs.Reached.{Reached}
 use Rattle.dp_model.specs.Rows.{row_same}
 use Rattle.dp_model.proofs.Members.{Has, each-has, each-of-all, Has-map, Has-map-from, Has-filter-from, Has-below-from, Has-flat_map, Has-flat_map-from}
-use Rattle.dp_model.proofs.RowLemmas.{both, row_same-is, row_same-self}
+use Rattle.std.proofs.lemmas.Bool.{and_parts}
+use Rattle.dp_model.proofs.RowLemmas.{row_same-is, row_same-self}
 use Rattle.dp_model.proofs.Paths.{IsPrefix-then, state_of-then, value_of-then}
 use Rattle.dp_laws.specs.Beam.{expanded}
 use Rattle.dp_laws.specs.BestOfState.{IsBestOfState, HasBest}
@@ -274,12 +275,12 @@ or-not false h = absurd (let clash : false ≡ true = h in cc)
 exact-maker : (dp : Dp) (k : ℕ) (above : List DdNode) (row : List ℤ) → IsTrue (is_exact_row dp k above row) → (node : DdNode) → Has node above → IsTrue (makes dp k node.row (decisions_at dp k node.row) row) → IsTrue node.exact
 exact-maker dp k [] row h node has made = absurd has
 exact-maker dp k (one ∷ above) row h node (inl same) made =
-    let first = (both (one.exact || not (makes dp k one.row (decisions_at dp k one.row) row)) (is_exact_row dp k above row) h).0 in
+    let first = (and_parts (one.exact || not (makes dp k one.row (decisions_at dp k one.row) row)) (is_exact_row dp k above row) h).0 in
     let makes-it : makes dp k one.row (decisions_at dp k one.row) row ≡ true = ap (λ (x : DdNode). makes dp k x.row (decisions_at dp k x.row) row) same ∙ made in
     let plain : IsTrue (one.exact || not true) = subst (λ b. IsTrue (one.exact || not b)) makes-it first in
     subst (λ (x : DdNode). IsTrue x.exact) same (or-not one.exact plain)
 exact-maker dp k (one ∷ above) row h node (inr later) made =
-    exact-maker dp k above row (both (one.exact || not (makes dp k one.row (decisions_at dp k one.row) row)) (is_exact_row dp k above row) h).1 node later made
+    exact-maker dp k above row (and_parts (one.exact || not (makes dp k one.row (decisions_at dp k one.row) row)) (is_exact_row dp k above row) h).1 node later made
 
 -- a decision that makes the row is found
 makes-by : (dp : Dp) (k : ℕ) (s : List ℤ) (ds : List ℕ) (d : ℕ) (row : List ℤ) → Has d ds → dp.step k s d ≡ row → IsTrue (makes dp k s ds row)

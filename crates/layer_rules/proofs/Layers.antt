@@ -5,7 +5,8 @@ use Rattle.dp_model.specs.Gaps.{IsStateOf}
 use Rattle.dp_model.specs.Lists.{Each}
 use Rattle.dp_model.specs.Rows.{row_same}
 use Rattle.dp_model.proofs.Members.{Has, Has-map-from}
-use Rattle.dp_model.proofs.RowLemmas.{both, row_same-is}
+use Rattle.std.proofs.lemmas.Bool.{and_parts}
+use Rattle.dp_model.proofs.RowLemmas.{row_same-is}
 use Rattle.dp_laws.specs.Pairs.{EachTwo}
 use Rattle.diagram_laws.specs.Nodes.{DdNode}
 use Rattle.diagram_laws.specs.Seen.{IsReachedBy, repeats, are_distinct}
@@ -33,8 +34,8 @@ no-repeats : (node : DdNode) (rest : List DdNode) → Each (Differ node) rest �
 no-repeats node [] h = refl
 no-repeats node (other ∷ rest) h =
     let here : (node.exact && (other.exact && row_same node.row other.row)) ≡ false = not-true (node.exact && (other.exact && row_same node.row other.row)) (λ t.
-    let one = both node.exact (other.exact && row_same node.row other.row) t in
-    let two = both other.exact (row_same node.row other.row) one.1 in
+    let one = and_parts node.exact (other.exact && row_same node.row other.row) t in
+    let two = and_parts other.exact (row_same node.row other.row) one.1 in
     h.0 one.0 two.0 (row_same-is node.row other.row two.1)) in
     or-of (node.exact && (other.exact && row_same node.row other.row)) (repeats node rest) here (no-repeats node rest h.1)
 

@@ -8,7 +8,8 @@ use Rattle.dp_model.specs.Lists.{Each}
 use Rattle.dp_model.specs.Numbers.{int_same}
 use Rattle.dp_model.specs.Rows.{row_smaller}
 use Rattle.dp_model.specs.Reached.{Reached, reached}
-use Rattle.dp_model.proofs.RowLemmas.{both, int_same-is}
+use Rattle.std.proofs.lemmas.Bool.{and_parts}
+use Rattle.dp_model.proofs.RowLemmas.{int_same-is}
 use Rattle.dp_laws.specs.Beam.{expanded, whole_layer, is_cut, cut, layer_below, is_too_wide}
 use Rattle.dp_laws.specs.Extensions.{candidates}
 use Rattle.dp_laws.specs.Ordered.{IsInOrder}
@@ -223,7 +224,7 @@ before-falls : (dp : Dp) (k : ℕ) (a b : Reached) → IsTrue (stands_before dp 
 before-falls dp k a b h =
     elim (int_lt b.value a.value) as (λ v. int_lt b.value a.value ≡ v → IsTrue (v || (int_same a.value b.value && (int_lt (dp.rank k b.row) (dp.rank k a.row) || (int_same (dp.rank k a.row) (dp.rank k b.row) && row_smaller a.row b.row)))) → b.value ≤ℤ a.value) [
       | true ↦ λ e x. (let low : int_lt b.value a.value ≡ true = e in grind (arith, ints))
-      | false ↦ λ e x. (let same = int_same-is a.value b.value (both (int_same a.value b.value) (int_lt (dp.rank k b.row) (dp.rank k a.row) || (int_same (dp.rank k a.row) (dp.rank k b.row) && row_smaller a.row b.row)) x).0 in omega (arith, ints))
+      | false ↦ λ e x. (let same = int_same-is a.value b.value (and_parts (int_same a.value b.value) (int_lt (dp.rank k b.row) (dp.rank k a.row) || (int_same (dp.rank k a.row) (dp.rank k b.row) && row_smaller a.row b.row)) x).0 in omega (arith, ints))
     ] refl h
 
 falls-for : (dp : Dp) (k d : ℕ) (layer : List DdNode) (r : Reached) (rs : List Reached) → Each (λ (b : Reached). IsTrue (stands_before dp d r b)) rs → Each (λ (b : DdNode). b.value ≤ℤ (node_for dp k layer r).value) (map (node_for dp k layer) rs)

@@ -10,7 +10,7 @@ use Rattle.dp_model.specs.Lists.{Each, OneOf}
 use Rattle.dp_model.specs.Numbers.{AtMost, is_above}
 use Rattle.dp_model.specs.Prefixes.{IsSolution, IsMatched, value_of}
 use Rattle.dp_model.specs.Subproblem.{Subproblem, IsOwn}
-use Rattle.dp_model.proofs.RowLemmas.{both}
+use Rattle.std.proofs.lemmas.Bool.{and_parts}
 use Rattle.dp_laws.specs.Pairs.{EachTwo}
 use Rattle.shared_fringe.specs.Tickets.{Ticketed}
 use Rattle.search_core.specs.Board.{BoardState, incumbent_value, frontier, prefixes}
@@ -131,8 +131,8 @@ begins-then [] b c h k = refl
 begins-then (d ∷ a) [] c h k = absurd (cc)
 begins-then (d ∷ a) (e ∷ b) [] h k = absurd (cc)
 begins-then (d ∷ a) (e ∷ b) (f ∷ c) h k =
-    let first = both (nat_eq d e) (begins a b) h in
-    let second = both (nat_eq e f) (begins b c) k in
+    let first = and_parts (nat_eq d e) (begins a b) h in
+    let second = and_parts (nat_eq e f) (begins b c) k in
     and-true (nat_eq d f) (begins a c) (same-then d e f first.0 second.0) (begins-then a b c first.1 second.1)
 
 -- of two that a list begins with, one begins with the other
@@ -141,8 +141,8 @@ begins-either [] b c h k = inl refl
 begins-either (d ∷ a) [] c h k = inr refl
 begins-either (d ∷ a) (e ∷ b) [] h k = absurd (cc)
 begins-either (d ∷ a) (e ∷ b) (f ∷ c) h k =
-    let first = both (nat_eq d f) (begins a c) h in
-    let second = both (nat_eq e f) (begins b c) k in
+    let first = and_parts (nat_eq d f) (begins a c) h in
+    let second = and_parts (nat_eq e f) (begins b c) k in
     elim (begins-either a b c first.1 second.1) as (λ _. (begins (d ∷ a) (e ∷ b) ≡ true) ⊎ (begins (e ∷ b) (d ∷ a) ≡ true)) [
       | inl x ↦ inl (and-true (nat_eq d e) (begins a b) (same-from d e f first.0 second.0) x)
       | inr x ↦ inr (and-true (nat_eq e d) (begins b a) (same-from e d f second.0 first.0) x)

@@ -1,13 +1,13 @@
 -- Rows that are the same, and subproblems of one depth and state.
 use Rattle.std.proofs.Common.{◌≡◌, ℕ, ◌+◌, ◌<◌, not, drop, get_or, ℤ, List, [], ◌∷◌, length, Bool, true, false, nat_eq, ◌&&◌, cond, Some, None, refl, sym, ◌∙◌, ap, ap₂, subst, arith}
-use Rattle.std.proofs.lemmas.Bool.{eqb-true, eq-eqb}
+use Rattle.std.proofs.lemmas.Bool.{and_parts, eqb-true, eq-eqb}
 use Rattle.std.proofs.lemmas.Bool.Decides.{nat_tests}
 use Rattle.std.proofs.lemmas.List.{drop_more}
 use Rattle.std.proofs.lemmas.Option.{slice_get_read}
 use Rattle.std.specs.List.{slice_get}
 use Rattle.dp_model.specs.Lists.{Each}
 use Rattle.dp_model.specs.Rows.{row_same}
-use Rattle.dp_model.proofs.RowLemmas.{both, row_same-is}
+use Rattle.dp_model.proofs.RowLemmas.{row_same-is}
 use Rattle.dp_laws.specs.Pairs.{EachTwo}
 use Rattle.dp_model.proofs.Members.{Each-then}
 use Rattle.shared_fringe.proofs.Tickets.{without-later}
@@ -17,10 +17,10 @@ use Rattle.shared_fringe.specs.Fringe.{is_same, same_at, AreDifferent}
 
 -- the depth and the row of one that is the same
 pub same-depth : (depth : ℕ) (row : List ℤ) (o : Ticketed) → is_same depth row o ≡ true → depth ≡ length o.subproblem.decisions
-same-depth depth row o h = sym (eqb-true (length o.subproblem.decisions) depth (both (nat_eq (length o.subproblem.decisions) depth) (row_same o.subproblem.row row) h).0)
+same-depth depth row o h = sym (eqb-true (length o.subproblem.decisions) depth (and_parts (nat_eq (length o.subproblem.decisions) depth) (row_same o.subproblem.row row) h).0)
 
 pub same-row : (depth : ℕ) (row : List ℤ) (o : Ticketed) → is_same depth row o ≡ true → row ≡ o.subproblem.row
-same-row depth row o h = sym (row_same-is o.subproblem.row row (both (nat_eq (length o.subproblem.decisions) depth) (row_same o.subproblem.row row) h).1)
+same-row depth row o h = sym (row_same-is o.subproblem.row row (and_parts (nat_eq (length o.subproblem.decisions) depth) (row_same o.subproblem.row row) h).1)
 
 is-same : (depth : ℕ) (row : List ℤ) (o : Ticketed) → depth ≡ length o.subproblem.decisions → row ≡ o.subproblem.row → is_same depth row o ≡ true
 is-same depth row o d r = ap₂ (λ a b. a && b) (eq-eqb (length o.subproblem.decisions) depth (sym d)) (same-self o.subproblem.row row (sym r))
