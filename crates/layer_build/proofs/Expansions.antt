@@ -47,7 +47,7 @@ bare-arcs : (dp : Dp) (k place : ℕ) (nodes : List Stored) → map without_arcs
 bare-arcs dp k place [] = refl
 bare-arcs dp k place (node ∷ nodes) = ap (λ l. without_arcs node ∷ l) (bare-arcs dp k (place + length (allowed_below dp k node.row (dp.choices k))) nodes)
 
-bare-landed : (ls : List (Option Landing)) (nodes : List Stored) → map without_arcs (map (with_landed ls) nodes) ≡ map without_arcs nodes
+pub bare-landed : (ls : List (Option Landing)) (nodes : List Stored) → map without_arcs (map (with_landed ls) nodes) ≡ map without_arcs nodes
 bare-landed ls [] = refl
 bare-landed ls (node ∷ nodes) = ap (λ l. without_arcs node ∷ l) (bare-landed ls nodes)
 

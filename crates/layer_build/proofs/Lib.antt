@@ -9,3 +9,6 @@ pub mod Exactness
 pub mod Shown
 pub mod Written
 pub mod Expansions
+pub mod Leaders
+pub mod Pruned
+pub mod Firsts

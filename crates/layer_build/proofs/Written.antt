@@ -12,7 +12,7 @@ use Rattle.layer_build.proofs.Ordered.{each-get}
 abbrev pub from_candidate : Made → Bool → Stored → Stored
 from_candidate c e node = record node { row = c.row; value = c.value; exact = e; parent = c.parent; decision = c.decision; arcs = []; suffix = None }
 
-made-is-at : (cs : List Made) (p : ℕ) (c : Made) → p < length cs → c ≡ get_or cs p c → made_at cs p ≡ c
+pub made-is-at : (cs : List Made) (p : ℕ) (c : Made) → p < length cs → c ≡ get_or cs p c → made_at cs p ≡ c
 made-is-at cs p c less is = get_or-any cs p _ c less ∙ sym is
 
 pub written-more : (cs : List Made) (kept : List ℕ) (marks : List Bool) (old now : List Stored) (i : ℕ) (c : Made) (x y : Stored) (d : ℕ) (b : Bool) → AreWritten cs kept marks old now i

@@ -18,7 +18,7 @@ abbrev pub next_of : (ℕ → List ℕ) → BenchView → List DdNode
 next_of paths b = kept_nodes paths b.candidates b.kept b.marks
 
 -- there is memory for all that so many candidates need
-pub record HasBench (words used : ℕ) (pool : List Made) (sorted_room kept_room : ℕ) (kept : List ℕ) (landings exact_room : ℕ) (marks : List Bool) : Type 0 where
+pub record HasBench (words used : ℕ) (pool : List Made) (sorted_room kept_room : ℕ) (kept : List ℕ) (landings exact_room : ℕ) (marks : List Bool) (leaders_room : ℕ) : Type 0 where
   pub small : length pool ≤ 2 ^ 32
   pub within : used ≤ length pool
   pub cells : Each (λ c. length c.row ≡ words) pool
@@ -28,3 +28,5 @@ pub record HasBench (words used : ℕ) (pool : List Made) (sorted_room kept_room
   pub exact_holds : length pool ≤ exact_room
   pub kept_within : Each (λ p. p < length (take used pool)) kept
   pub marks_match : length marks ≡ length kept
+  pub kept_few : length kept ≤ length pool
+  pub leaders_hold : 16 ≤ leaders_room

@@ -6,3 +6,5 @@ pub mod Joining
 pub mod Expanding
 pub mod Bench
 pub mod Width
+pub mod Striking
+pub mod Keeping

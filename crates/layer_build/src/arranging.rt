@@ -32,6 +32,7 @@ pub fn arrange(
     requires exact_room { length candidates.now ≤ vec_capacity exact.old }
     ensures kept { KeepsBest candidates.now kept.new.items }
     ensures within { Each (λ p. p < length candidates.now) kept.new.items }
+    ensures few { length kept.new.items ≤ length candidates.now }
     ensures lands { AllLand candidates.now kept.new.items landings.new }
     ensures exact { exact.new.items ≡ map (all_exact candidates.now) (rows_at candidates.now kept.new.items) }
     ensures size { length landings.new ≡ length landings.old }
@@ -62,6 +63,7 @@ pub fn settle(
     requires exact_room { length candidates.now ≤ vec_capacity exact.old }
     ensures kept { KeepsBest candidates.now kept.new.items }
     ensures within { Each (λ p. p < length candidates.now) kept.new.items }
+    ensures few { length kept.new.items ≤ length candidates.now }
     ensures landed { HaveFollowed candidates.now kept.new.items above.old above.new }
     ensures exact { exact.new.items ≡ map (all_exact candidates.now) (rows_at candidates.now kept.new.items) }
     ensures size { length landings.new ≡ length landings.old }

@@ -1,15 +1,23 @@
-ghost use Rattle.std.specs.Prelude.{◌≡◌, ℕ, ◌*◌, ◌<◌, ◌≤◌, ◌^◌, List, [], length, map, take, IfOk, vec_len};
+ghost use Rattle.std.specs.Prelude.{◌≡◌, ℕ, ◌*◌, ◌<◌, ◌≤◌, ◌^◌, ℤ, List, [], length, map, take, IfOk, vec_len};
 ghost use Rattle.dp_model.specs.Lists.{Each};
 ghost use Rattle.layer_rules.specs.Compiling.{expand};
+ghost use Rattle.layer_rules.specs.Landings.{following};
+ghost use Rattle.layer_rules.specs.Pruning.{pruned_nodes, prune_landings};
+ghost use Rattle.layer_rules.specs.Reducing.{keep_landings};
 ghost use Rattle.layer_build.specs.Stored.{Stored, Made, shown_layer, shown_below, without_arcs};
 ghost use Rattle.layer_build.specs.Extending.{IsParent};
+ghost use Rattle.layer_build.specs.Following.{HasArcsToLand};
+ghost use Rattle.layer_build.specs.Striking.{MayBePruned};
 ghost use Rattle.layer_build.specs.Bench.{next_of};
 
 use crate::arranging::settle;
 use crate::candidate::Candidate;
 use crate::extending::extend_layer;
+use crate::keeping::keep_first;
 use crate::landing::Landing;
+use crate::leader::{LeaderAt, MOST_LEADERS};
 use crate::node::Node;
+use crate::striking::strike;
 use crate::writing::write_next;
 use dp_model::{DpModel, OutOfMemory};
 use std::alloc::Global;
@@ -25,6 +33,7 @@ pub struct Bench {
     kept: Vec<usize>,
     landings: Vec<Option<Landing>>,
     exact: Vec<bool>,
+    leaders: Vec<LeaderAt>,
 }
 
 impl Model for Bench {
@@ -41,7 +50,7 @@ impl Model for Bench {
       marks = b.exact.items;
     } };
 
-    ghost invariant = { λ b. HasBench b.words b.used b.pool.items (vec_capacity b.sorted) (vec_capacity b.kept) b.kept.items (vec_len b.landings) (vec_capacity b.exact) b.exact.items };
+    ghost invariant = { λ b. HasBench b.words b.used b.pool.items (vec_capacity b.sorted) (vec_capacity b.kept) b.kept.items (vec_len b.landings) (vec_capacity b.exact) b.exact.items (vec_capacity b.leaders) };
 }
 
 /// So many candidates with rows of so many cells.
@@ -83,6 +92,7 @@ impl Bench {
             kept: Vec::with_capacity(alloc, room)?,
             landings,
             exact: Vec::with_capacity(alloc, room)?,
+            leaders: Vec::with_capacity(alloc, MOST_LEADERS)?,
         })
     }
 
@@ -111,9 +121,62 @@ impl Bench {
         );
     }
 
+    /// Takes out the nodes of the next layer, at depth `k`, that are struck or dominated, by rules 5 and 6; the arcs of the
+    /// nodes above follow, whatever the paths of those are. Nothing else of them changes, and it takes no memory.
+    pub fn strike<M: DpModel>(
+        &mut self,
+        model: &M,
+        k: usize,
+        threshold: Option<i64>,
+        above: &mut [Node],
+    )
+        requires comparable { Each (MayBePruned (M.meaning (M.numbers model.now)) k) (next_of (λ _. []) self.old) }
+        requires longer { Each HasArcsToLand above.old }
+        ensures next { (paths : ℕ → List ℕ) → next_of paths self.new ≡ pruned_nodes (M.meaning (M.numbers model.now)) k threshold [] 0 (next_of paths self.old) }
+        ensures above { (paths below : ℕ → List ℕ) → shown_layer paths above.new ≡ following (prune_landings (M.meaning (M.numbers model.now)) k threshold [] 0 (next_of below self.old)) (shown_layer paths above.old) }
+        ensures rest { map without_arcs above.new ≡ map without_arcs above.old }
+        ensures fewer { length self.new.kept ≤ length self.old.kept }
+        ensures words { self.new.words ≡ self.old.words }
+        ensures room { self.new.room ≡ self.old.room }
+    {
+        strike(
+            model,
+            k,
+            threshold,
+            &self.pool.as_slice()[..self.used],
+            above,
+            &mut self.kept,
+            &mut self.exact,
+            &mut self.leaders,
+            self.landings.as_mut_slice(),
+        );
+    }
+
+    /// Keeps the first nodes of the next layer, as many as the width, by rule 7 of a restricted layer; the arcs of the nodes
+    /// above follow, whatever the paths of those are. Nothing else of them changes, and it takes no memory.
+    pub fn keep_first(&mut self, width: usize, above: &mut [Node])
+        requires fewer { width ≤ length self.old.kept }
+        requires longer { Each HasArcsToLand above.old }
+        ensures next { (paths : ℕ → List ℕ) → next_of paths self.new ≡ take width (next_of paths self.old) }
+        ensures above { (paths below : ℕ → List ℕ) → shown_layer paths above.new ≡ following (keep_landings width (next_of below self.old)) (shown_layer paths above.old) }
+        ensures rest { map without_arcs above.new ≡ map without_arcs above.old }
+        ensures kept { length self.new.kept ≡ width }
+        ensures words { self.new.words ≡ self.old.words }
+        ensures room { self.new.room ≡ self.old.room }
+    {
+        keep_first(
+            width,
+            above,
+            &mut self.kept,
+            &mut self.exact,
+            self.landings.as_mut_slice(),
+        );
+    }
+
     /// How many nodes the next layer has.
     pub fn len(&self) -> usize
-        ensures { result ≡ length self.now.kept }
+        ensures kept { result ≡ length self.now.kept }
+        ensures next { (paths : ℕ → List ℕ) → result ≡ length (next_of paths self.now) }
     {
         self.kept.len()
     }

@@ -14,9 +14,12 @@ mod comparing;
 mod extending;
 mod following;
 mod joining;
+mod keeping;
 mod landing;
+mod leader;
 mod node;
 mod ordering;
+mod striking;
 #[cfg(test)]
 mod tests;
 mod width;

@@ -26,3 +26,9 @@ returns-clause-within c =
     let cs = c.args.candidates.now in
     let made = c.order_candidates in
     kept-within (pathless cs) (length cs) made.new.sorted.items made.new.kept.items made.ensures.all made.ensures.firsts
+
+pub returns-clause-few : goal.returns-clause-few
+returns-clause-few c =
+    let cs = c.args.candidates.now in
+    let made = c.order_candidates in
+    kept-few (pathless cs) (length cs) made.new.sorted.items made.new.kept.items made.ensures.all made.ensures.firsts

@@ -1,0 +1,7 @@
+-- Rule 7 of a restricted layer in memory: the first nodes stay.
+use Rattle.std.specs.Prelude.{ℕ, nat_lt, pos, cond, Option, Some, None}
+use Rattle.layer_rules.specs.Landings.{Landing}
+
+-- where the node at the place lands when so many stay
+abbrev pub landing_among : ℕ → ℕ → Option Landing
+landing_among width place = cond (nat_lt place width) (Some (record { place = place; longer = pos 0 })) None
