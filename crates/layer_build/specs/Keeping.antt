@@ -1,4 +1,4 @@
--- Rule 7 of a restricted layer in memory: the first nodes stay.
+-- A restricted layer is reduced in memory: the first nodes stay.
 use Rattle.std.specs.Prelude.{ℕ, nat_lt, pos, cond, Option, Some, None}
 use Rattle.layer_rules.specs.Landings.{Landing}
 

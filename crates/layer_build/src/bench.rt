@@ -152,7 +152,7 @@ impl Bench {
         );
     }
 
-    /// Keeps the first nodes of the next layer, as many as the width, by rule 7 of a restricted layer; the arcs of the nodes
+    /// Keeps the first nodes of the next layer, as many as the width, as a restricted layer is reduced; the arcs of the nodes
     /// above follow, whatever the paths of those are. Nothing else of them changes, and it takes no memory.
     pub fn keep_first(&mut self, width: usize, above: &mut [Node])
         requires fewer { width ≤ length self.old.kept }

@@ -1,4 +1,4 @@
-//! Rule 7 of a restricted layer: the first nodes stay.
+//! A restricted layer is reduced: the first nodes stay.
 
 ghost use Rattle.std.specs.Prelude.{◌≡◌, ℕ, ◌<◌, ◌≤◌, ◌^◌, List, length, map, take, vec_len, vec_capacity};
 ghost use Rattle.dp_model.specs.Decisions.{below};
