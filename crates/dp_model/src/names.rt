@@ -41,15 +41,23 @@ impl ModelName {
     }
 
     /// The problem whose word this is, and none exactly where it is the word of no problem.
+    #[tactic(auto, using(crate::proofs::Naming::names_exactly))]
     pub fn named(word: &str) -> Option<ModelName>
         ensures answer { result ≡ model_named word.now }
         ensures exactly { Names word.now result }
     {
-        ModelName::ALL
-            .iter()
-            .copied()
-            .find(|name| word == name.text())
+        found_by(word)
     }
+}
+
+/// The first problem whose word this is.
+fn found_by(word: &str) -> Option<ModelName>
+    ensures { result ≡ model_named word.now }
+{
+    ModelName::ALL
+        .iter()
+        .copied()
+        .find(|name| word == name.text())
 }
 
 #[cfg(test)]
