@@ -1,4 +1,4 @@
--- Rule 1: the candidates that a layer makes, and the arcs to them.
+-- Each node is extended by each allowed decision: the candidates that a layer makes, and the arcs to them.
 use Rattle.std.specs.Prelude.{◌≡◌, ℕ, ◌+◌, ◌*◌, ◌≤◌, ℤ, pos, ◌+ℤ◌, List, [], ◌∷◌, ◌++◌, length, map, filter, take, drop, Some, IsTrue}
 use Rattle.dp_model.specs.Decisions.{below}
 use Rattle.dp_model.specs.Dp.{Dp}

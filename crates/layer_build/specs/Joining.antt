@@ -1,4 +1,4 @@
--- Rules 2 and 3: where candidates land, and which of the kept ones are exact.
+-- Candidates of one state become one node: where they land, and which of the kept ones are exact.
 use Rattle.std.specs.Prelude.{◌≡◌, ℕ, ◌<◌, ℤ, pos, Bool, true, not, ◌&&◌, ◌||◌, List, [], ◌∷◌, length, map, take, drop, slice_get, slice_index_or, Option, Some, None}
 use Rattle.dp_model.specs.Lists.{Each}
 use Rattle.dp_model.specs.Rows.{row_same}

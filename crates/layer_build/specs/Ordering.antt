@@ -1,4 +1,4 @@
--- Rules 2 and 4: how candidates are ordered by their ranks in memory.
+-- How candidates are ordered, by the ranks that they keep in memory.
 use Rattle.std.specs.Prelude.{◌≡◌, ℕ, ℤ, nat_lt, int_lt, Bool, ◌&&◌, ◌||◌, List, [], map}
 use Rattle.dp_model.specs.Dp.{Dp}
 use Rattle.dp_model.specs.Numbers.{int_same}

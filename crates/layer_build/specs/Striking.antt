@@ -1,4 +1,4 @@
--- Rules 5 and 6 in memory: kept candidates that are struck or dominated are taken out, and the others close up.
+-- Kept candidates that are struck or dominated are taken out in memory, and the others close up.
 use Rattle.std.specs.Prelude.{◌≡◌, ℕ, ◌<◌, ◌≤◌, nat_le, ℤ, Bool, false, not, cond, ◌&&◌, List, [], ◌∷◌, ◌++◌, length, map, take, drop, Option, Some, None}
 use Rattle.dp_model.specs.Dp.{Dp}
 use Rattle.dp_model.specs.Gaps.{IsStateOf}

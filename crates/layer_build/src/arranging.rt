@@ -1,4 +1,4 @@
-//! Rules 2 to 4 on the candidates of a layer: which are kept and in which order, where each lands, and which are exact.
+//! The candidates of a layer arranged: which are kept and in which order, where each lands, and which are exact.
 
 ghost use Rattle.std.specs.Prelude.{◌≡◌, ◌<◌, ◌≤◌, ◌^◌, length, map, vec_capacity};
 ghost use Rattle.dp_model.specs.Lists.{Each};

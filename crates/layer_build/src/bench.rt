@@ -96,8 +96,9 @@ impl Bench {
         })
     }
 
-    /// Expands the layer at depth `k` by rules 1 to 4: its nodes get their arcs, and the kept candidates are the nodes of the
-    /// next layer, whatever the paths of the nodes above are. Nothing else of them changes, and it takes no memory.
+    /// Expands the layer at depth `k`: its nodes get an arc for each allowed decision, and of each state the best candidate, in
+    /// the reduction order, is a node of the next layer, exact where all arcs to its state come from exact nodes; whatever the
+    /// paths of the nodes above are. Nothing else of them changes, and it takes no memory.
     pub fn expand<M: DpModel>(&mut self, model: &M, k: usize, above: &mut [Node])
         requires layer { k < (M.meaning (M.numbers model.now)).vars }
         requires words { self.old.words ≡ (M.meaning (M.numbers model.now)).words }
@@ -121,8 +122,9 @@ impl Bench {
         );
     }
 
-    /// Takes out the nodes of the next layer, at depth `k`, that are struck or dominated, by rules 5 and 6; the arcs of the
-    /// nodes above follow, whatever the paths of those are. Nothing else of them changes, and it takes no memory.
+    /// Takes out the nodes of the next layer, at depth `k`, that are struck by their rough bound, or that one of the first 16
+    /// exact ones that stay dominates; the arcs of the nodes above follow, whatever the paths of those are. Nothing else of
+    /// them changes, and it takes no memory.
     pub fn strike<M: DpModel>(
         &mut self,
         model: &M,

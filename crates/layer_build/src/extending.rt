@@ -1,4 +1,4 @@
-//! Rule 1: each node of a layer is extended by each allowed decision.
+//! Each node of a layer is extended by each allowed decision.
 
 ghost use Rattle.std.specs.Prelude.{◌≡◌, ℕ, ◌+◌, ◌*◌, ◌<◌, ◌≤◌, ◌^◌, [], ◌∷◌, ◌++◌, length, take, map, set, IsTrue};
 ghost use Rattle.dp_model.specs.Dp.{IsAllowed};

@@ -1,4 +1,4 @@
-//! Rules 2 and 3: the arc of a candidate leads to the kept one of its state, which is exact where every arc to its state comes
+//! The arc of a candidate leads to the kept one of its state, which is exact where every arc to its state comes
 //! from an exact node.
 
 ghost use Rattle.std.specs.Prelude.{◌≡◌, ◌≢◌, ℕ, ◌<◌, ◌≤◌, ◌^◌, ℤ, List, [], length, map, replicate, slice_index_or, true, Some, None, vec_capacity, IsPermutation};

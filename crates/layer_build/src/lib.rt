@@ -2,10 +2,10 @@
 //!
 //! It stands on `layer_rules`, whose definitions say what each call does. A node in memory keeps the place of its parent in
 //! the layer above and its decision in place of a path, so contracts speak of all paths that the layer above may have.
-//! Promised so far, each in the contract of its call: `Bench::expand` makes of a layer the same with its arcs, and the nodes
-//! of the next layer, as rules 1 to 4 say; `Bench::strike` takes out the nodes that are struck or dominated, as rules 5 and 6
-//! say, and `Bench::keep_first` all but the first, as a restricted layer is reduced; the arcs follow. None of them takes
-//! memory. `greatest_width` is the greatest width within the memory of one worker.
+//! Promised so far, each in the contract of its call: `Bench::expand` gives a layer its arcs and makes the nodes of the next
+//! layer, of each state the best in the reduction order; `Bench::strike` takes out the nodes that are struck by their rough
+//! bound or dominated by a leader, and `Bench::keep_first` all but the first, as a restricted layer is reduced; the arcs
+//! follow. None of them takes memory. `greatest_width` is the greatest width within the memory of one worker.
 #![tactic(auto)]
 
 mod arranging;

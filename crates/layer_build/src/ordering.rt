@@ -1,4 +1,4 @@
-//! Rules 2 and 4: of each state the first candidate of greatest value is kept, and those stand in the reduction order.
+//! Of each state the first candidate of greatest value is kept, and those stand in the reduction order.
 
 ghost use Rattle.std.specs.Prelude.{◌≡◌, ℕ, ◌<◌, ◌≤◌, List, length, vec_len, vec_capacity, IsPermutation, IsSortedBy};
 ghost use Rattle.dp_model.specs.Decisions.{below};

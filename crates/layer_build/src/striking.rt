@@ -1,4 +1,4 @@
-//! Rules 5 and 6: kept candidates that are struck, or that a leader dominates, are taken out.
+//! Kept candidates that are struck, or that a leader dominates, are taken out.
 
 ghost use Rattle.std.specs.Prelude.{◌≡◌, ℕ, ◌<◌, ◌≤◌, ◌^◌, ℤ, false, [], List, IfSome, length, map, take, set, slice_index_or, vec_len, vec_capacity};
 ghost use Rattle.dp_model.specs.Gaps.{is_struck_by};
