@@ -1,6 +1,5 @@
 pub mod Examples
 pub mod Members
-pub mod Naming
 pub mod Paths
 pub mod RowLemmas
 pub mod Sizes

@@ -15,4 +15,3 @@ pub mod Subproblem
 pub mod Decided
 pub mod Walked
 pub mod Worth
-pub mod ModelNames

@@ -6,16 +6,16 @@
 //! `DpModel` is the interface of a problem, `walk` follows decisions from the root, and `Sub` is a subproblem in memory.
 #![tactic(auto)]
 
+mod cut_kind;
 mod found;
 mod model;
-mod names;
 mod sub;
 mod theory;
 mod walking;
 
+pub use cut_kind::CutKind;
 pub use found::Found;
 pub use model::DpModel;
-pub use names::{CutKind, ModelName};
 pub use std::alloc::AllocError as OutOfMemory;
 pub use sub::Sub;
 pub use theory::{best_is_best, best_is_unique};

@@ -1,6 +1,6 @@
 -- The theories of the problems that the program knows: a new problem has a line of its own here.
-use Rattle.dp_model.specs.declared.names.ModelName.{ModelName}
-use Rattle.dp_model.specs.declared.names.ModelName.TheVariants.{Knapsack, MaxCut, MaxTwoSat, TspWindows}
+use Rattle.problem_names.specs.declared.ModelName.{ModelName}
+use Rattle.problem_names.specs.declared.ModelName.TheVariants.{Knapsack, MaxCut, MaxTwoSat, TspWindows}
 use Rattle.problems.specs.Cuts.{cut_theory}
 use Rattle.problems.specs.Knapsacks.{knapsack_theory}
 use Rattle.problems.specs.Satisfiability.{sat_theory}

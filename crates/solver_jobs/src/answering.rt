@@ -4,7 +4,7 @@ ghost use Rattle.solver_jobs.specs.Answers.{Replies, IsReply};
 use crate::digesting::digest;
 use crate::solving::solve;
 use dd_text::ReadModelError;
-use dp_model::ModelName;
+use problem_names::ModelName;
 use problems::{Knapsack, MaxCut, MaxTwoSat, Problem, TspWindows};
 use solver_report::Answer;
 use solver_words::Job;

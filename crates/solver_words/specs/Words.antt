@@ -1,8 +1,8 @@
 -- The words of a command.
 use Rattle.std.specs.Prelude.{ℕ, ◌-◌, ◌^◌, nat_le, cond, codes, List, [], ◌∷◌, length, Option, Some, None, option_map, option_and_then}
 use Rattle.dd_text.specs.Text.{natural_of}
-use Rattle.dp_model.specs.declared.names.ModelName.{ModelName}
-use Rattle.dp_model.specs.ModelNames.{word_same, model_named}
+use Rattle.problem_names.specs.declared.ModelName.{ModelName}
+use Rattle.problem_names.specs.ModelNames.{word_same, model_named}
 use Rattle.solver_words.specs.declared.job.Job.{Job}
 use Rattle.solver_words.specs.declared.job.Job.TheVariants.{Solve, Digest}
 

@@ -1,4 +1,4 @@
-use dp_model::ModelName;
+use problem_names::ModelName;
 
 /// What the words ask for.
 #[derive(Clone, Copy, Debug, PartialEq, Eq)]

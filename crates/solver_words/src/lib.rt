@@ -1,6 +1,6 @@
 //! The words of a command, and the job that they ask for.
 //!
-//! It stands on `dp_model` for the names of the problems and on `dd_text` for what digits write. `read_words` answers
+//! It stands on `problem_names` for the names of the problems and on `dd_text` for what digits write. `read_words` answers
 //! exactly the job that the grammar of words gives, and nothing where the words are outside it. It takes no memory.
 #![tactic(auto)]
 

@@ -2,7 +2,7 @@ ghost use Rattle.std.specs.Prelude.{◌≡◌, map, string_bytes};
 ghost use Rattle.solver_words.specs.Words.{job_of, solve_job_of, digest_job_of, options_of, budget_of};
 
 use crate::job::Job;
-use dp_model::ModelName;
+use problem_names::ModelName;
 
 /// The job that the words ask for, without the program's name: `solve MODEL`, with `--budget NUMBER` or not, or `digest
 /// MODEL`. `None` exactly where they are outside this grammar.

@@ -1,5 +1,12 @@
+//! The problems that the program knows, by the words that name them in commands and texts.
+//!
+//! It stands on std alone, and no theory stands on it: a further problem changes this list and what offers all problems behind
+//! one interface. `ModelName::text` is the word of a problem, and `ModelName::named` the problem of a word, none exactly
+//! where it is the word of no problem.
+#![tactic(auto)]
+
 ghost use Rattle.std.specs.Prelude.{◌≡◌};
-ghost use Rattle.dp_model.specs.ModelNames.{text_of, model_named, Names};
+ghost use Rattle.problem_names.specs.ModelNames.{text_of, model_named, Names};
 
 /// The problems that the program knows.
 #[derive(Clone, Copy, Debug, PartialEq, Eq, Hash)]
@@ -8,15 +15,6 @@ pub enum ModelName {
     MaxCut,
     MaxTwoSat,
     TspWindows,
-}
-
-/// Which exact nodes of a relaxed diagram become children.
-#[derive(Clone, Copy, Debug, PartialEq, Eq, Hash)]
-pub enum CutKind {
-    /// The layer just above the first reduced one.
-    LastExactLayer,
-    /// The exact nodes with an arc into an inexact one.
-    Frontier,
 }
 
 impl ModelName {

@@ -1,9 +1,9 @@
 -- The names of the problems.
 use Rattle.std.specs.Prelude.{◌≡◌, ◌↔◌, ℕ, nat_eq, Bool, List, codes, find, Option, Some}
 use Rattle.std.specs.Cmp.Lexicographic.{pointwise}
-use Rattle.dp_model.specs.declared.names.TheConstants.ModelName.{ALL}
-use Rattle.dp_model.specs.declared.names.ModelName.{ModelName}
-use Rattle.dp_model.specs.declared.names.ModelName.TheVariants.{Knapsack, MaxCut, MaxTwoSat, TspWindows}
+use Rattle.problem_names.specs.declared.TheConstants.ModelName.{ALL}
+use Rattle.problem_names.specs.declared.ModelName.{ModelName}
+use Rattle.problem_names.specs.declared.ModelName.TheVariants.{Knapsack, MaxCut, MaxTwoSat, TspWindows}
 
 -- the word that names the problem
 abbrev pub text_of : ModelName → List ℕ

@@ -2,9 +2,9 @@
 use Rattle.std.proofs.Common.{◌≡◌, ℕ, Bool, true, false, cond, List, [], ◌∷◌, Option, Some, refl, sym, subst, ◌∙◌}
 use Rattle.std.specs.Prelude.{find}
 use Rattle.std.proofs.lemmas.Slice.Eq.{bytes_eq-Decides}
-use Rattle.dp_model.specs.declared.names.TheConstants.ModelName.{ALL}
-use Rattle.dp_model.specs.declared.names.ModelName.{ModelName}
-use Rattle.dp_model.specs.ModelNames.{text_of, word_same, model_named, Names}
+use Rattle.problem_names.specs.declared.TheConstants.ModelName.{ALL}
+use Rattle.problem_names.specs.declared.ModelName.{ModelName}
+use Rattle.problem_names.specs.ModelNames.{text_of, word_same, model_named, Names}
 
 -- what is found passes the test
 found_passes : {X : Type 0} (p : X → Bool) (xs : List X) (x : X) → find p xs ≡ Some x → p x ≡ true
