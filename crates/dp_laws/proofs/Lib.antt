@@ -1,14 +1,8 @@
 pub mod Counting
-pub mod Covering
-pub mod Differing
-pub mod Examples
-pub mod Found
-pub mod Joining
-pub mod Keeping
 pub mod Lists
 pub mod Matching
-pub mod Orders
-pub mod Permutations
 pub mod Prefixes
 pub mod RowTests
-pub mod Sorting
+pub mod Restricted
+pub mod Diagrams
+pub mod Rules

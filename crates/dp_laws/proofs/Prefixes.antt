@@ -8,10 +8,10 @@ use Rattle.dp_model.specs.Reached.{Reached, reached}
 use Rattle.dp_model.proofs.Members.{Has-below-from, Has-filter-from, Has-map-from, each-of-all, Each-append}
 use Rattle.dp_model.proofs.Paths.{IsPrefix-then, state_of-then, value_of-then}
 use Rattle.dp_model.proofs.RowLemmas.{begins-is, begins-append}
-use Rattle.dp_laws.specs.Extensions.{extended, extensions, candidates, all_joined}
-use Rattle.dp_laws.specs.Beam.{expanded, whole_layer, layer_below}
-use Rattle.dp_laws.specs.Members.{IsMember, LayersHavePrefixes}
-use Rattle.dp_laws.proofs.Keeping.{each-all_joined, each-in_order, each-pruned, each-cut}
+use Rattle.dp_laws.specs.Restricted.Extensions.{extended, extensions, candidates, all_joined}
+use Rattle.dp_laws.specs.Restricted.Beam.{expanded, whole_layer, layer_below}
+use Rattle.dp_laws.specs.Restricted.Members.{IsMember, LayersHavePrefixes}
+use Rattle.dp_laws.proofs.Restricted.Keeping.{each-all_joined, each-in_order, each-pruned, each-cut}
 
 begins-then : (p q : List ℕ) (d : ℕ) → IsTrue (begins p q) → IsTrue (begins p (q ++ d ∷ []))
 begins-then p q d h =

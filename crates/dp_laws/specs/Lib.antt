@@ -1,15 +1,11 @@
-pub mod Extensions
-pub mod ReductionOrder
-pub mod Leaders
-pub mod Beam
-pub mod Beams
+-- lists of prefixes, and gaps
 pub mod Pairs
-pub mod Ordered
-pub mod BestOfState
-pub mod BeamGives
-pub mod Covering
+pub mod Antichains
 pub mod GapChains
 pub mod Dominance
-pub mod Members
-pub mod Antichains
-pub mod Sorting
+-- restricted layers as plain lists of prefixes
+pub mod Restricted
+-- diagrams as seen, and their children
+pub mod Diagrams
+-- the rules by which the layers of a diagram are built
+pub mod Rules

@@ -2,7 +2,7 @@
 
 ghost use Rattle.dp_model.specs.Dp.{Dp};
 ghost use Rattle.dp_model.specs.Laws.{IsLawful};
-ghost use Rattle.dp_laws.specs.Covering.{WholeLayersCover, LastExactCovers, WholeBeamsAreBest};
+ghost use Rattle.dp_laws.specs.Restricted.Covering.{WholeLayersCover, LastExactCovers, WholeBeamsAreBest};
 
 /// Where the width takes nothing from a layer and those above it, each completion of the prefix is at most the threshold or
 /// matched by a member of the layer.

@@ -2,9 +2,9 @@
 
 ghost use Rattle.std.specs.Prelude.{ℕ};
 ghost use Rattle.dp_model.specs.Dp.{Dp};
-ghost use Rattle.dp_laws.specs.BestOfState.{ExpansionsAreUnique};
-ghost use Rattle.dp_laws.specs.Ordered.{IsReductionOrder, OrderIsUnique};
-ghost use Rattle.dp_laws.specs.Sorting.{SortingExpands};
+ghost use Rattle.dp_laws.specs.Restricted.BestOfState.{ExpansionsAreUnique};
+ghost use Rattle.dp_laws.specs.Restricted.Ordered.{IsReductionOrder, OrderIsUnique};
+ghost use Rattle.dp_laws.specs.Restricted.Sorting.{SortingExpands};
 
 /// The reduction order is strict, and of two prefixes with different states one stands before the other.
 pub fn reduction_order_is_total()

@@ -1,9 +1,9 @@
 //! What the layers of a restricted diagram hold.
 
 ghost use Rattle.dp_model.specs.Dp.{Dp};
-ghost use Rattle.dp_laws.specs.BeamGives.{BeamsAreFeasible};
-ghost use Rattle.dp_laws.specs.Members.{LayersHavePrefixes};
-ghost use Rattle.dp_laws.specs.Ordered.{LayersDiffer};
+ghost use Rattle.dp_laws.specs.Restricted.BeamGives.{BeamsAreFeasible};
+ghost use Rattle.dp_laws.specs.Restricted.Members.{LayersHavePrefixes};
+ghost use Rattle.dp_laws.specs.Restricted.Ordered.{LayersDiffer};
 
 /// Each member of a layer is a prefix of its depth that begins with the given one, with its own row and value.
 pub fn layers_have_prefixes()

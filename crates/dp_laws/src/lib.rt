@@ -1,14 +1,28 @@
-//! What follows from the laws of a dynamic program, and the layers of restricted diagrams as plain lists of prefixes.
+//! What follows from the laws of a dynamic program, on plain data: gaps and restricted layers, the rules by which the layers
+//! of a diagram are built, and relaxed diagrams with the children that they leave.
 //!
-//! Each function here is a law: its body is empty, and its contract is what is proved.
+//! It stands on `dp_model`. Each function here is a law: its body is empty, and its contract is what is proved. A restricted
+//! diagram that is built by the rules has the layers that are defined on plain lists of prefixes, and a relaxed one is a
+//! diagram as its readers show it. That bounds every completion of its prefix, so its children lose none that counts.
 #![tactic(auto)]
 
+mod arc;
+mod children;
+mod compiling;
 mod counts;
 mod covers;
 mod expansions;
 mod gaps;
 mod layers;
 
+pub use arc::DdArc;
+pub use children::{
+    children_stand_deep, frontier_children_are_sound, last_exact_children_are_sound,
+    suffixes_bound, without_reduction_the_beam_is_found,
+};
+pub use compiling::{
+    relaxed_children_are_sound, relaxed_diagrams_are_as_seen, restricted_layers_are_beams,
+};
 pub use counts::{pots_are_below, pots_are_positive};
 pub use covers::{last_exact_layers_cover, whole_beams_are_best, whole_layers_cover};
 pub use expansions::{

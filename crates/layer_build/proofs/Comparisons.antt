@@ -8,7 +8,7 @@ use Rattle.std.specs.declared.cmp.Ordering.TheVariants.{Less, Equal, Greater}
 use Rattle.dp_model.specs.Numbers.{int_same}
 use Rattle.dp_model.specs.Rows.{row_same, row_smaller}
 use Rattle.dp_model.proofs.RowLemmas.{row_same-is, int_same-self}
-use Rattle.dp_laws.proofs.Orders.{row_smaller-cmp, rows-Equal}
+use Rattle.dp_laws.proofs.Restricted.Orders.{row_smaller-cmp, rows-Equal}
 use Rattle.dp_laws.proofs.RowTests.{same-self, same-tests}
 use Rattle.layer_build.specs.Ordering.{greater_then}
 

@@ -6,7 +6,7 @@ use Rattle.dp_model.specs.Lists.{Each}
 use Rattle.dp_model.specs.Rows.{row_same}
 use Rattle.dp_model.proofs.RowLemmas.{row_same-is}
 use Rattle.dp_laws.specs.Pairs.{EachTwo}
-use Rattle.layer_rules.specs.Landings.{Landing}
+use Rattle.dp_laws.specs.Rules.Landings.{Landing}
 use Rattle.dp_laws.proofs.RowTests.{same-self, same-tests}
 use Rattle.layer_build.specs.Stored.{Made}
 use Rattle.layer_build.specs.Joining.{row_at, rows_at, LandsBelow, AllLand, all_exact}

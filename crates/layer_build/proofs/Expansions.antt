@@ -6,9 +6,9 @@ use Rattle.dp_model.specs.Dp.{Dp}
 use Rattle.dp_model.specs.Lists.{Each}
 use Rattle.dp_model.specs.Numbers.{IsFar}
 use Rattle.dp_model.specs.NumberLaws.{small_natural}
-use Rattle.dp_laws.proofs.Permutations.{each-at}
-use Rattle.layer_rules.specs.Compiling.{expand}
-use Rattle.layer_rules.specs.Landings.{Landing}
+use Rattle.dp_laws.proofs.Restricted.Permutations.{each-at}
+use Rattle.dp_laws.specs.Rules.Compiling.{expand}
+use Rattle.dp_laws.specs.Rules.Landings.{Landing}
 use Rattle.layer_build.specs.Stored.{Stored, Made, shown_layer, without_arcs}
 use Rattle.layer_build.specs.Extending.{allowed_below, arcs_to, all_made, all_with_arcs_to}
 use Rattle.layer_build.specs.Following.{IsNear, HasArcsToLand, with_landed}

@@ -5,8 +5,8 @@ use Rattle.dp_model.specs.Decisions.{below}
 use Rattle.dp_model.specs.Lists.{Each}
 use Rattle.dp_model.specs.NumberLaws.{small_natural}
 use Rattle.dp_model.proofs.Members.{Each-append}
-use Rattle.diagram_laws.specs.Nodes.{DdNode}
-use Rattle.layer_rules.specs.Reducing.{staying, keep_landings}
+use Rattle.dp_laws.specs.Diagrams.Nodes.{DdNode}
+use Rattle.dp_laws.specs.Rules.Reducing.{staying, keep_landings}
 use Rattle.layer_build.specs.Expanding.{node_from, kept_nodes}
 use Rattle.layer_build.specs.Following.{IsNear}
 use Rattle.layer_build.specs.Joining.{landing_at}

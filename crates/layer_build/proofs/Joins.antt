@@ -8,9 +8,9 @@ use Rattle.dp_model.specs.Lists.{Each}
 use Rattle.dp_model.specs.Rows.{row_same}
 use Rattle.dp_model.proofs.Members.{Each-append, Each-then, each-has, Has-below}
 use Rattle.dp_model.proofs.RowLemmas.{row_same-is, nat_eq-is, nat_eq-self}
-use Rattle.dp_laws.specs.Sorting.{firsts_after, firsts}
-use Rattle.dp_laws.proofs.Permutations.{each-permutation, Has-permutation}
-use Rattle.layer_rules.specs.Landings.{Landing}
+use Rattle.dp_laws.specs.Restricted.Sorting.{firsts_after, firsts}
+use Rattle.dp_laws.proofs.Restricted.Permutations.{each-permutation, Has-permutation}
+use Rattle.dp_laws.specs.Rules.Landings.{Landing}
 use Rattle.layer_build.specs.Stored.{Made, pathless}
 use Rattle.layer_build.specs.Joining.{row_at, rows_at, landing_at, LandsAt, LandsIn, AllLand, HaveLanded}
 

@@ -3,8 +3,8 @@ use Rattle.std.proofs.Common.{◌≡◌, ℕ, zero, suc, ◌+◌, ◌<◌, ℤ, 
 use Rattle.std.proofs.lemmas.List.{take_all, take-append-le}
 use Rattle.dp_model.specs.Lists.{Each}
 use Rattle.dp_model.specs.Numbers.{IsSmall}
-use Rattle.diagram_laws.specs.declared.arc.DdArc.{DdArc}
-use Rattle.layer_rules.specs.Landings.{Landing, landed_at, landed, following}
+use Rattle.dp_laws.specs.declared.arc.DdArc.{DdArc}
+use Rattle.dp_laws.specs.Rules.Landings.{Landing, landed_at, landed, following}
 use Rattle.layer_build.specs.Following.{landing_of, IsNear, with_landed}
 use Rattle.layer_build.specs.Stored.{Stored, shown, shown_from}
 use Rattle.layer_build.proofs.Extended.{left_after}

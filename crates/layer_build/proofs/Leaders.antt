@@ -5,7 +5,7 @@ use Rattle.dp_model.specs.Dp.{Dp}
 use Rattle.dp_model.specs.Gaps.{IsStateOf}
 use Rattle.dp_model.specs.Laws.{IsLawful}
 use Rattle.dp_model.specs.Numbers.{IsSmall}
-use Rattle.layer_rules.specs.Pruning.{Leader, landing_within, first_landing, at_leader, led}
+use Rattle.dp_laws.specs.Rules.Pruning.{Leader, landing_within, first_landing, at_leader, led}
 use Rattle.layer_build.specs.declared.leader.LeaderAt.{LeaderAt}
 use Rattle.layer_build.specs.Expanding.{node_from}
 use Rattle.layer_build.specs.Stored.{Made, made_at}

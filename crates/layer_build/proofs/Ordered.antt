@@ -7,13 +7,13 @@ use Rattle.dp_model.specs.Lists.{Each}
 use Rattle.dp_model.specs.Reached.{Reached}
 use Rattle.dp_model.specs.Rows.{row_same}
 use Rattle.dp_model.proofs.Members.{each-of-all, Has-below-from}
-use Rattle.dp_laws.specs.Extensions.{all_joined}
-use Rattle.dp_laws.specs.ReductionOrder.{in_order}
-use Rattle.dp_laws.specs.Sorting.{at, comes_before, firsts_after, firsts, places_before}
-use Rattle.dp_laws.proofs.Permutations.{each-permutation}
-use Rattle.dp_laws.proofs.Sorting.{sorting-expands}
+use Rattle.dp_laws.specs.Restricted.Extensions.{all_joined}
+use Rattle.dp_laws.specs.Restricted.ReductionOrder.{in_order}
+use Rattle.dp_laws.specs.Restricted.Sorting.{at, comes_before, firsts_after, firsts, places_before}
+use Rattle.dp_laws.proofs.Restricted.Permutations.{each-permutation}
+use Rattle.dp_laws.proofs.Restricted.Sorting.{sorting-expands}
 use Rattle.layer_build.specs.Stored.{Made, prefix_of, pathless}
-use Rattle.diagram_laws.proofs.Places.{length-below}
+use Rattle.dp_laws.proofs.Diagrams.Places.{length-below}
 use Rattle.layer_build.specs.Ordering.{rank_at, goes_before, KeepsRank}
 
 -- the candidates as prefixes

@@ -5,10 +5,10 @@ use Rattle.dp_model.specs.Dp.{Dp}
 use Rattle.dp_model.specs.Lists.{Each}
 use Rattle.dp_model.specs.NumberLaws.{small_natural}
 use Rattle.dp_model.proofs.Members.{Each-append}
-use Rattle.diagram_laws.specs.Nodes.{DdNode}
-use Rattle.diagram_laws.proofs.Places.{same-Some}
-use Rattle.layer_rules.specs.Landings.{Landing}
-use Rattle.layer_rules.specs.Pruning.{Leader, at_leader, is_struck, led, pruned_nodes, prune_landings}
+use Rattle.dp_laws.specs.Diagrams.Nodes.{DdNode}
+use Rattle.dp_laws.proofs.Diagrams.Places.{same-Some}
+use Rattle.dp_laws.specs.Rules.Landings.{Landing}
+use Rattle.dp_laws.specs.Rules.Pruning.{Leader, at_leader, is_struck, led, pruned_nodes, prune_landings}
 use Rattle.layer_build.specs.declared.leader.LeaderAt.{LeaderAt}
 use Rattle.layer_build.specs.Expanding.{node_from, kept_nodes}
 use Rattle.layer_build.specs.Following.{IsNear}

@@ -7,19 +7,19 @@ use Rattle.dp_model.specs.Lists.{Each}
 use Rattle.dp_model.specs.Reached.{Reached}
 use Rattle.dp_model.specs.Rows.{row_same}
 use Rattle.dp_model.proofs.Members.{one-of-has, Each-append}
-use Rattle.dp_laws.specs.Extensions.{extended, candidates, all_joined}
+use Rattle.dp_laws.specs.Restricted.Extensions.{extended, candidates, all_joined}
 use Rattle.dp_laws.specs.Pairs.{EachTwo}
-use Rattle.dp_laws.specs.ReductionOrder.{in_order}
-use Rattle.dp_laws.specs.Sorting.{at}
-use Rattle.dp_laws.proofs.Differing.{differ-all_joined, differ-in_order}
-use Rattle.dp_laws.proofs.Permutations.{two-map}
-use Rattle.diagram_laws.specs.declared.arc.DdArc.{DdArc}
-use Rattle.diagram_laws.specs.Nodes.{DdNode, prefix_at}
-use Rattle.diagram_laws.specs.Seen.{decisions_at}
-use Rattle.diagram_laws.proofs.Places.{same-Some, Has-at}
-use Rattle.layer_rules.specs.Expanding.{makes, is_exact_row, node_for, new_layer, arc_of, with_arcs}
-use Rattle.layer_rules.specs.Landings.{Landing, landed_at, landed}
-use Rattle.layer_rules.proofs.Expanded.{RowsApart, found-row, one-place, new-apart}
+use Rattle.dp_laws.specs.Restricted.ReductionOrder.{in_order}
+use Rattle.dp_laws.specs.Restricted.Sorting.{at}
+use Rattle.dp_laws.proofs.Restricted.Differing.{differ-all_joined, differ-in_order}
+use Rattle.dp_laws.proofs.Restricted.Permutations.{two-map}
+use Rattle.dp_laws.specs.declared.arc.DdArc.{DdArc}
+use Rattle.dp_laws.specs.Diagrams.Nodes.{DdNode, prefix_at}
+use Rattle.dp_laws.specs.Diagrams.Seen.{decisions_at}
+use Rattle.dp_laws.proofs.Diagrams.Places.{same-Some, Has-at}
+use Rattle.dp_laws.specs.Rules.Expanding.{makes, is_exact_row, node_for, new_layer, arc_of, with_arcs}
+use Rattle.dp_laws.specs.Rules.Landings.{Landing, landed_at, landed}
+use Rattle.dp_laws.proofs.Rules.Expanded.{RowsApart, found-row, one-place, new-apart}
 use Rattle.layer_build.specs.Stored.{Stored, Made, shown, shown_from, prefix_of, pathless, made_at}
 use Rattle.layer_build.specs.Expanding.{node_from, kept_nodes}
 use Rattle.layer_build.specs.Extending.{made_from, allowed_below, made_by, all_made, arc_to, arcs_to, all_with_arcs_to}

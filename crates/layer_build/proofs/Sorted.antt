@@ -5,8 +5,8 @@ use Rattle.std.specs.Cmp.{IsTotalOrder, IsStrictWeakOrder}
 use Rattle.std.specs.Cmp.Lexicographic.{slice_cmp}
 use Rattle.std.specs.Ordering.{int_cmp, on, then_cmp, flip_args, is_lt}
 use Rattle.std.specs.declared.cmp.Ordering.{Ordering}
-use Rattle.dp_laws.specs.Sorting.{at}
-use Rattle.dp_laws.proofs.Orders.{then-test, int_same-sym, row_smaller-cmp, strict-by}
+use Rattle.dp_laws.specs.Restricted.Sorting.{at}
+use Rattle.dp_laws.proofs.Restricted.Orders.{then-test, int_same-sym, row_smaller-cmp, strict-by}
 use Rattle.layer_build.specs.Stored.{Made, pathless}
 use Rattle.layer_build.specs.Ordering.{rank_at, goes_before}
 

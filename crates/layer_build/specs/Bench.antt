@@ -1,7 +1,7 @@
 -- What is kept beside the layers: candidates, and which of them are the next layer.
 use Rattle.std.specs.Prelude.{◌≡◌, ℕ, ◌<◌, ◌≤◌, ◌^◌, Bool, List, length, take}
 use Rattle.dp_model.specs.Lists.{Each}
-use Rattle.diagram_laws.specs.Nodes.{DdNode}
+use Rattle.dp_laws.specs.Diagrams.Nodes.{DdNode}
 use Rattle.layer_build.specs.Stored.{Made}
 use Rattle.layer_build.specs.Expanding.{kept_nodes}
 

@@ -1,8 +1,8 @@
 -- The kept candidates as the nodes of the next layer.
 use Rattle.std.specs.Prelude.{◌≡◌, ℕ, Bool, List, [], ◌∷◌, ◌++◌, length, map, take, drop, Option, None}
 use Rattle.dp_model.specs.Lists.{Each}
-use Rattle.diagram_laws.specs.Nodes.{DdNode}
-use Rattle.layer_rules.specs.Landings.{Landing}
+use Rattle.dp_laws.specs.Diagrams.Nodes.{DdNode}
+use Rattle.dp_laws.specs.Rules.Landings.{Landing}
 use Rattle.layer_build.specs.Following.{with_landed}
 use Rattle.layer_build.specs.Joining.{AllLand}
 use Rattle.layer_build.specs.Stored.{Stored, Made, path_below, made_at, shown_below}

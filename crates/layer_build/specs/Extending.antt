@@ -4,7 +4,7 @@ use Rattle.dp_model.specs.Decisions.{below}
 use Rattle.dp_model.specs.Dp.{Dp}
 use Rattle.dp_model.specs.Lists.{Each}
 use Rattle.dp_model.specs.Numbers.{IsFar}
-use Rattle.diagram_laws.specs.declared.arc.DdArc.{DdArc}
+use Rattle.dp_laws.specs.declared.arc.DdArc.{DdArc}
 use Rattle.layer_build.specs.Stored.{Stored, Made}
 
 -- the candidate that a decision makes from the node at the place i

@@ -2,7 +2,7 @@
 use Rattle.std.specs.Prelude.{ℕ, List, map, slice_get, Option, IfSome, option_and_then}
 use Rattle.dp_model.specs.Lists.{Each}
 use Rattle.dp_model.specs.Numbers.{IsSmall, IsFar}
-use Rattle.layer_rules.specs.Landings.{Landing, landed}
+use Rattle.dp_laws.specs.Rules.Landings.{Landing, landed}
 use Rattle.layer_build.specs.Stored.{Stored}
 
 -- where the target landed, or none where it was struck

@@ -2,8 +2,8 @@
 use Rattle.std.specs.Prelude.{◌≡◌, ℕ, ◌<◌, ℤ, pos, Bool, true, not, ◌&&◌, ◌||◌, List, [], ◌∷◌, length, map, take, drop, slice_get, slice_index_or, Option, Some, None}
 use Rattle.dp_model.specs.Lists.{Each}
 use Rattle.dp_model.specs.Rows.{row_same}
-use Rattle.dp_laws.specs.Sorting.{at, firsts_after}
-use Rattle.layer_rules.specs.Landings.{Landing}
+use Rattle.dp_laws.specs.Restricted.Sorting.{at, firsts_after}
+use Rattle.dp_laws.specs.Rules.Landings.{Landing}
 use Rattle.layer_build.specs.Stored.{Made, pathless}
 
 -- the row of the candidate at the place

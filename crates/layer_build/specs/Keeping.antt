@@ -1,6 +1,6 @@
 -- A restricted layer is reduced in memory: the first nodes stay.
 use Rattle.std.specs.Prelude.{ℕ, nat_lt, pos, cond, Option, Some, None}
-use Rattle.layer_rules.specs.Landings.{Landing}
+use Rattle.dp_laws.specs.Rules.Landings.{Landing}
 
 -- where the node at the place lands when so many stay
 abbrev pub landing_among : ℕ → ℕ → Option Landing

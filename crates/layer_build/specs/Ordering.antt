@@ -4,9 +4,9 @@ use Rattle.dp_model.specs.Dp.{Dp}
 use Rattle.dp_model.specs.Numbers.{int_same}
 use Rattle.dp_model.specs.Rows.{row_smaller}
 use Rattle.dp_model.specs.Lists.{Each}
-use Rattle.dp_laws.specs.Extensions.{all_joined}
-use Rattle.dp_laws.specs.ReductionOrder.{in_order}
-use Rattle.dp_laws.specs.Sorting.{at}
+use Rattle.dp_laws.specs.Restricted.Extensions.{all_joined}
+use Rattle.dp_laws.specs.Restricted.ReductionOrder.{in_order}
+use Rattle.dp_laws.specs.Restricted.Sorting.{at}
 use Rattle.layer_build.specs.Stored.{Made, prefix_of, pathless, made_at}
 
 -- the rank that the candidate at the place keeps

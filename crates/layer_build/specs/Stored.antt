@@ -1,8 +1,8 @@
 -- Nodes and candidates in memory, and the nodes and prefixes that they stand for.
 use Rattle.std.specs.Prelude.{ℕ, ◌+◌, ℤ, pos, Bool, false, List, [], ◌∷◌, ◌++◌, map, slice_index_or, Option}
 use Rattle.dp_model.specs.Reached.{Reached}
-use Rattle.diagram_laws.specs.declared.arc.DdArc.{DdArc}
-use Rattle.diagram_laws.specs.Nodes.{DdNode}
+use Rattle.dp_laws.specs.declared.arc.DdArc.{DdArc}
+use Rattle.dp_laws.specs.Diagrams.Nodes.{DdNode}
 
 -- a node in memory: the place of its parent in the layer above and its decision stand for its path; it has room for so many arcs
 pub record Stored : Type 0 where

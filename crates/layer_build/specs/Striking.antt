@@ -4,9 +4,9 @@ use Rattle.dp_model.specs.Dp.{Dp}
 use Rattle.dp_model.specs.Gaps.{IsStateOf}
 use Rattle.dp_model.specs.Lists.{Each}
 use Rattle.dp_model.specs.Numbers.{IsFar}
-use Rattle.diagram_laws.specs.Nodes.{DdNode}
-use Rattle.layer_rules.specs.Landings.{Landing}
-use Rattle.layer_rules.specs.Pruning.{Leader, at_leader, is_struck, pruned_nodes, prune_landings}
+use Rattle.dp_laws.specs.Diagrams.Nodes.{DdNode}
+use Rattle.dp_laws.specs.Rules.Landings.{Landing}
+use Rattle.dp_laws.specs.Rules.Pruning.{Leader, at_leader, is_struck, pruned_nodes, prune_landings}
 use Rattle.layer_build.specs.declared.leader.LeaderAt.{LeaderAt}
 use Rattle.layer_build.specs.Expanding.{node_from, kept_nodes}
 use Rattle.layer_build.specs.Following.{IsNear}

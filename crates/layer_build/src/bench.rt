@@ -1,9 +1,9 @@
 ghost use Rattle.std.specs.Prelude.{◌≡◌, ℕ, ◌*◌, ◌<◌, ◌≤◌, ◌^◌, ℤ, List, [], length, map, take, IfOk, vec_len};
 ghost use Rattle.dp_model.specs.Lists.{Each};
-ghost use Rattle.layer_rules.specs.Compiling.{expand};
-ghost use Rattle.layer_rules.specs.Landings.{following};
-ghost use Rattle.layer_rules.specs.Pruning.{pruned_nodes, prune_landings};
-ghost use Rattle.layer_rules.specs.Reducing.{keep_landings};
+ghost use Rattle.dp_laws.specs.Rules.Compiling.{expand};
+ghost use Rattle.dp_laws.specs.Rules.Landings.{following};
+ghost use Rattle.dp_laws.specs.Rules.Pruning.{pruned_nodes, prune_landings};
+ghost use Rattle.dp_laws.specs.Rules.Reducing.{keep_landings};
 ghost use Rattle.layer_build.specs.Stored.{Stored, Made, shown_layer, shown_below, without_arcs};
 ghost use Rattle.layer_build.specs.Extending.{IsParent};
 ghost use Rattle.layer_build.specs.Following.{HasArcsToLand};

@@ -2,7 +2,7 @@
 
 ghost use Rattle.std.specs.Prelude.{◌≡◌, List};
 ghost use Rattle.dp_model.specs.Rows.{row_same};
-ghost use Rattle.dp_laws.specs.Sorting.{at, comes_before};
+ghost use Rattle.dp_laws.specs.Restricted.Sorting.{at, comes_before};
 ghost use Rattle.layer_build.specs.Stored.{Made, pathless};
 ghost use Rattle.layer_build.specs.Ordering.{rank_at, leads, greater_then, goes_before};
 

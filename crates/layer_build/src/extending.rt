@@ -9,7 +9,7 @@ ghost use Rattle.layer_build.specs.Extending.{made_from, all_made, arc_to, all_w
 
 use crate::candidate::Candidate;
 use crate::node::Node;
-use diagram_laws::DdArc;
+use dp_laws::DdArc;
 use dp_model::DpModel;
 
 /// Whether the decision may be taken in the node's state.

@@ -3,13 +3,13 @@
 ghost use Rattle.std.specs.Prelude.{◌≡◌, List, map};
 ghost use Rattle.dp_model.specs.Lists.{Each};
 ghost use Rattle.dp_model.specs.Numbers.{IsFar};
-ghost use Rattle.layer_rules.specs.Landings.{Landing, landed};
+ghost use Rattle.dp_laws.specs.Rules.Landings.{Landing, landed};
 ghost use Rattle.layer_build.specs.Stored.{Stored};
 ghost use Rattle.layer_build.specs.Following.{landing_of, IsNear, HasArcsToLand, with_landed};
 
 use crate::landing::Landing;
 use crate::node::Node;
-use diagram_laws::DdArc;
+use dp_laws::DdArc;
 
 /// Where the target landed, or none where it was struck.
 fn landing_of(target: Option<u32>, landings: &[Option<Landing>]) -> Option<Landing>

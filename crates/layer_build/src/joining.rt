@@ -5,8 +5,8 @@ ghost use Rattle.std.specs.Prelude.{◌≡◌, ◌≢◌, ℕ, ◌<◌, ◌≤�
 ghost use Rattle.dp_model.specs.Decisions.{below};
 ghost use Rattle.dp_model.specs.Lists.{Each};
 ghost use Rattle.dp_laws.specs.Pairs.{EachTwo};
-ghost use Rattle.dp_laws.specs.Sorting.{firsts, firsts_after};
-ghost use Rattle.layer_rules.specs.Landings.{Landing};
+ghost use Rattle.dp_laws.specs.Restricted.Sorting.{firsts, firsts_after};
+ghost use Rattle.dp_laws.specs.Rules.Landings.{Landing};
 ghost use Rattle.layer_build.specs.Stored.{Made, pathless};
 ghost use Rattle.layer_build.specs.Joining.{rows_at, landing_at, LandsAt, LandsBelow, LandsIn, AllLand, all_exact};
 

@@ -3,9 +3,9 @@
 ghost use Rattle.std.specs.Prelude.{◌≡◌, ℕ, ◌<◌, ◌≤◌, ◌^◌, List, length, map, take, vec_len, vec_capacity};
 ghost use Rattle.dp_model.specs.Decisions.{below};
 ghost use Rattle.dp_model.specs.Lists.{Each};
-ghost use Rattle.diagram_laws.specs.Nodes.{DdNode};
-ghost use Rattle.layer_rules.specs.Landings.{following};
-ghost use Rattle.layer_rules.specs.Reducing.{keep_landings};
+ghost use Rattle.dp_laws.specs.Diagrams.Nodes.{DdNode};
+ghost use Rattle.dp_laws.specs.Rules.Landings.{following};
+ghost use Rattle.dp_laws.specs.Rules.Reducing.{keep_landings};
 ghost use Rattle.layer_build.specs.Following.{HasArcsToLand};
 ghost use Rattle.layer_build.specs.Keeping.{landing_among};
 ghost use Rattle.layer_build.specs.Stored.{shown_layer, without_arcs};

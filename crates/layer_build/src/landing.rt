@@ -11,7 +11,7 @@ pub struct Landing {
 }
 
 impl Model for Landing {
-    ghost use Rattle.layer_rules.specs.Landings.{Landing};
+    ghost use Rattle.dp_laws.specs.Rules.Landings.{Landing};
 
     ghost Value = { Landing };
 

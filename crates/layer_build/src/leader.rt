@@ -3,7 +3,7 @@
 ghost use Rattle.std.specs.Prelude.{◌≡◌, ℕ, ◌<◌, ◌≤◌, ℤ, pos, ◌≤ℤ◌, List, IfSome, length, vec_capacity};
 ghost use Rattle.dp_model.specs.Lists.{Each};
 ghost use Rattle.dp_model.specs.Numbers.{IsSmall, IsFar};
-ghost use Rattle.layer_rules.specs.Pruning.{landing_within, at_leader};
+ghost use Rattle.dp_laws.specs.Rules.Pruning.{landing_within, at_leader};
 ghost use Rattle.layer_build.specs.Following.{IsNear};
 ghost use Rattle.layer_build.specs.Stored.{Made};
 ghost use Rattle.layer_build.specs.Striking.{MayBeKept, IsLeading, leaders_of, led_at, bare};

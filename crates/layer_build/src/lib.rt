@@ -1,6 +1,6 @@
 //! The layers of a diagram in memory: nodes and candidates whose rows are made once and written in place.
 //!
-//! It stands on `layer_rules`, whose definitions say what each call does. A node in memory keeps the place of its parent in
+//! It stands on `dp_laws`, whose rules of building say what each call does. A node in memory keeps the place of its parent in
 //! the layer above and its decision in place of a path, so contracts speak of all paths that the layer above may have.
 //! Promised so far, each in the contract of its call: `Bench::expand` gives a layer its arcs and makes the nodes of the next
 //! layer, of each state the best in the reduction order; `Bench::strike` takes out the nodes that are struck by their rough

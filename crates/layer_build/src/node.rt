@@ -1,6 +1,6 @@
 ghost use Rattle.std.specs.Prelude.{◌≡◌, [], IfOk, length};
 
-use diagram_laws::DdArc;
+use dp_laws::DdArc;
 use dp_model::OutOfMemory;
 use std::alloc::Global;
 use std::marker::Model;

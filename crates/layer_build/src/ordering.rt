@@ -3,7 +3,7 @@
 ghost use Rattle.std.specs.Prelude.{◌≡◌, ℕ, ◌<◌, ◌≤◌, List, length, vec_len, vec_capacity, IsPermutation, IsSortedBy};
 ghost use Rattle.dp_model.specs.Decisions.{below};
 ghost use Rattle.dp_model.specs.Lists.{Each};
-ghost use Rattle.dp_laws.specs.Sorting.{comes_before, firsts};
+ghost use Rattle.dp_laws.specs.Restricted.Sorting.{comes_before, firsts};
 ghost use Rattle.layer_build.specs.Stored.{Made, pathless};
 ghost use Rattle.std.specs.Ordering.{is_lt};
 ghost use Rattle.layer_build.specs.Ordering.{goes_before, KeepsBest};

@@ -4,8 +4,8 @@ ghost use Rattle.std.specs.Prelude.{◌≡◌, ℕ, ◌<◌, ◌≤◌, ◌^◌,
 ghost use Rattle.dp_model.specs.Gaps.{is_struck_by};
 ghost use Rattle.dp_model.specs.Lists.{Each};
 ghost use Rattle.dp_model.specs.Numbers.{IsSmall, IsFar};
-ghost use Rattle.layer_rules.specs.Landings.{following};
-ghost use Rattle.layer_rules.specs.Pruning.{is_struck, pruned_nodes, prune_landings};
+ghost use Rattle.dp_laws.specs.Rules.Landings.{following};
+ghost use Rattle.dp_laws.specs.Rules.Pruning.{is_struck, pruned_nodes, prune_landings};
 ghost use Rattle.layer_build.specs.Expanding.{kept_nodes};
 ghost use Rattle.layer_build.specs.Following.{IsNear, HasArcsToLand};
 ghost use Rattle.layer_build.specs.Joining.{landing_at};

@@ -1,4 +1,4 @@
-use Rattle.dp_laws.proofs.Covering.{layers-cover}
+use Rattle.dp_laws.proofs.Restricted.Covering.{layers-cover}
 use Rattle.dp_laws.proofs.covers.whole_layers_cover.Goals as goal
 
 pub returns : goal.returns

@@ -1,4 +1,4 @@
-use Rattle.dp_laws.proofs.Orders.{order-unique}
+use Rattle.dp_laws.proofs.Restricted.Orders.{order-unique}
 use Rattle.dp_laws.proofs.expansions.order_is_unique.Goals as goal
 
 pub returns : goal.returns

@@ -1,4 +1,4 @@
-use Rattle.dp_laws.proofs.Sorting.{sorting-expands}
+use Rattle.dp_laws.proofs.Restricted.Sorting.{sorting-expands}
 use Rattle.dp_laws.proofs.expansions.sorting_expands.Goals as goal
 
 pub returns : goal.returns

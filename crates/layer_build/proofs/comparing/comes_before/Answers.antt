@@ -2,7 +2,7 @@ use Rattle.std.proofs.Common.{rules, sym, ◌∙◌, ap₂, FitsSigned, w64}
 use Rattle.std.proofs.lemmas.Int.{to_z-of_z}
 use Rattle.std.specs.Cmp.Lexicographic.{slice_cmp}
 use Rattle.std.specs.Ordering.{int_cmp}
-use Rattle.dp_laws.specs.Sorting.{at}
+use Rattle.dp_laws.specs.Restricted.Sorting.{at}
 use Rattle.layer_build.specs.Ordering.{leads}
 use Rattle.layer_build.specs.Stored.{pathless}
 use Rattle.layer_build.proofs.Comparisons.{rows_less, rows_equal, rows_greater}

@@ -2,8 +2,8 @@ use Rattle.std.proofs.Common.{rules, ◌≡◌, ap₂, ap, sym, ◌∙◌, FitsS
 use Rattle.std.proofs.lemmas.Int.{to_z-of_z}
 use Rattle.std.specs.Ordering.{is_lt}
 use Rattle.dp_model.specs.Rows.{row_smaller}
-use Rattle.dp_laws.specs.Sorting.{at}
-use Rattle.dp_laws.proofs.Orders.{row_smaller-cmp}
+use Rattle.dp_laws.specs.Restricted.Sorting.{at}
+use Rattle.dp_laws.proofs.Restricted.Orders.{row_smaller-cmp}
 use Rattle.layer_build.specs.Stored.{pathless}
 use Rattle.layer_build.specs.Ordering.{greater_then, rank_at}
 use Rattle.layer_build.proofs.Comparisons.{equal_then, bits_same}

@@ -1,6 +1,6 @@
 use Rattle.std.proofs.Common.{rules, sym, ◌∙◌, ap, FitsSigned, to_z, of_z, ◌+ℤ◌, w64}
 use Rattle.std.proofs.lemmas.Int.{to_z-of_z}
-use Rattle.layer_rules.specs.Landings.{Landing}
+use Rattle.dp_laws.specs.Rules.Landings.{Landing}
 use Rattle.layer_build.proofs.Candidates.{sum_is}
 use Rattle.layer_build.proofs.Landed.{near-landing, landed-some}
 use Rattle.layer_build.proofs.following.land.Goals as goal

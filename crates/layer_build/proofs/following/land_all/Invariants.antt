@@ -1,4 +1,4 @@
-use Rattle.layer_rules.specs.Landings.{landed}
+use Rattle.dp_laws.specs.Rules.Landings.{landed}
 use Rattle.layer_build.proofs.Landed.{IsMapped}
 use Rattle.layer_build.proofs.following.land_all.Given as goal
 

@@ -1,6 +1,6 @@
 use Rattle.std.proofs.Common.{rules, ◌≡◌, ◌<◌, [], ◌∷◌, length, subst, sym, ◌∙◌, arith}
 use Rattle.dp_model.specs.Lists.{Each}
-use Rattle.dp_laws.specs.Sorting.{firsts}
+use Rattle.dp_laws.specs.Restricted.Sorting.{firsts}
 use Rattle.layer_build.specs.Stored.{pathless}
 use Rattle.layer_build.specs.Joining.{rows_at, LandsIn}
 use Rattle.layer_build.proofs.Ordered.{kept-within, kept-few, sorted-within}

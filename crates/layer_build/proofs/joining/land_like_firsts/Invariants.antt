@@ -1,6 +1,6 @@
 use Rattle.std.proofs.Common.{◌≡◌, ℤ, List, length, ◌<◌}
 use Rattle.dp_model.specs.Lists.{Each}
-use Rattle.dp_laws.specs.Sorting.{firsts_after}
+use Rattle.dp_laws.specs.Restricted.Sorting.{firsts_after}
 use Rattle.layer_build.specs.Stored.{pathless}
 use Rattle.layer_build.specs.Joining.{LandsIn, HaveLanded}
 use Rattle.layer_build.proofs.joining.land_like_firsts.Given as goal

@@ -2,7 +2,7 @@ use Rattle.std.proofs.Common.{rules, ◌≡◌, length, map, take, sym, ◌∙�
 use Rattle.std.proofs.lemmas.List.{length-take-le}
 use Rattle.dp_model.specs.Decisions.{below}
 use Rattle.dp_model.specs.Lists.{Each}
-use Rattle.layer_rules.specs.Landings.{following}
+use Rattle.dp_laws.specs.Rules.Landings.{following}
 use Rattle.layer_build.specs.Following.{IsNear}
 use Rattle.layer_build.specs.Keeping.{landing_among}
 use Rattle.layer_build.specs.Stored.{shown_layer, without_arcs}

@@ -1,5 +1,5 @@
 use Rattle.std.proofs.Common.{◌≡◌, drop}
-use Rattle.layer_rules.specs.Pruning.{at_leader}
+use Rattle.dp_laws.specs.Rules.Pruning.{at_leader}
 use Rattle.layer_build.specs.Striking.{leaders_of, bare}
 use Rattle.layer_build.proofs.leader.at_leader.Given as goal
 

@@ -1,5 +1,5 @@
 use Rattle.std.proofs.Common.{◌≡◌, ◌+◌, ◌≤◌, ◌++◌, drop, vec_len, vec_capacity}
-use Rattle.dp_laws.specs.Sorting.{firsts_after, firsts}
+use Rattle.dp_laws.specs.Restricted.Sorting.{firsts_after, firsts}
 use Rattle.layer_build.specs.Stored.{pathless}
 use Rattle.layer_build.proofs.ordering.keep_firsts.Given as goal
 

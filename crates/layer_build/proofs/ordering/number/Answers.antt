@@ -1,5 +1,5 @@
 use Rattle.std.proofs.Common.{rules, ◌≡◌, length, vec_len, ◌∙◌, ap, arith}
-use Rattle.diagram_laws.proofs.Places.{length-below}
+use Rattle.dp_laws.proofs.Diagrams.Places.{length-below}
 use Rattle.layer_build.proofs.ordering.number.Goals as goal
 
 pub push_reserved-requires : goal.push_reserved-requires

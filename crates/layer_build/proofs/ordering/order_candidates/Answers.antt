@@ -1,9 +1,9 @@
 use Rattle.std.proofs.Common.{◌≡◌, length, subst, ap, ◌∙◌, IsPermutation, arith}
 use Rattle.std.proofs.lemmas.List.Sorted.{length_permutation}
 use Rattle.dp_model.specs.Decisions.{below}
-use Rattle.dp_laws.specs.Sorting.{firsts}
+use Rattle.dp_laws.specs.Restricted.Sorting.{firsts}
 use Rattle.layer_build.specs.Stored.{pathless}
-use Rattle.diagram_laws.proofs.Places.{length-below}
+use Rattle.dp_laws.proofs.Diagrams.Places.{length-below}
 use Rattle.layer_build.proofs.Ordered.{kept-expands}
 use Rattle.layer_build.proofs.ordering.order_candidates.Goals as goal
 

@@ -1,7 +1,7 @@
 use Rattle.std.proofs.Common.{rules}
 use Rattle.std.proofs.lemmas.Fn.{always_returns_same}
-use Rattle.dp_laws.specs.Sorting.{comes_before}
-use Rattle.dp_laws.proofs.Sorting.{comes-strict}
+use Rattle.dp_laws.specs.Restricted.Sorting.{comes_before}
+use Rattle.dp_laws.proofs.Restricted.Sorting.{comes-strict}
 use Rattle.layer_build.specs.Stored.{pathless}
 use Rattle.layer_build.proofs.ordering.sort_by_state.Goals as goal
 

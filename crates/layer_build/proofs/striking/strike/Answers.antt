@@ -1,8 +1,8 @@
 use Rattle.std.proofs.Common.{rules, ◌≡◌, ◌<◌, [], length, map, take, sym, ◌∙◌, ap, ap₂, subst}
 use Rattle.std.proofs.lemmas.List.{with_items_is}
 use Rattle.dp_model.specs.Lists.{Each}
-use Rattle.layer_rules.specs.Landings.{following}
-use Rattle.layer_rules.specs.Pruning.{prune_landings}
+use Rattle.dp_laws.specs.Rules.Landings.{following}
+use Rattle.dp_laws.specs.Rules.Pruning.{prune_landings}
 use Rattle.layer_build.specs.Expanding.{kept_nodes}
 use Rattle.layer_build.specs.Stored.{shown_layer, without_arcs}
 use Rattle.layer_build.proofs.Expansions.{bare-landed}

@@ -1,4 +1,0 @@
-pub mod Nodes
-pub mod Seen
-pub mod Sound
-pub mod Cutsets

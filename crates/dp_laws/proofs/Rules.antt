@@ -1,0 +1,13 @@
+-- Proofs on the rules.
+pub mod Examples
+pub mod Linked
+pub mod Landing
+pub mod Layers
+pub mod Expanded
+pub mod Pruned
+pub mod Merged
+pub mod Built
+pub mod Compiled
+pub mod Unreduced
+pub mod Relaxed
+pub mod Diagrams

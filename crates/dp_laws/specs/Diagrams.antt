@@ -1,0 +1,5 @@
+-- Relaxed diagrams as their readers show them, and the children that they leave.
+pub mod Nodes
+pub mod Seen
+pub mod Sound
+pub mod Cutsets

@@ -1,0 +1,6 @@
+-- The rules by which the layers of a diagram are built, on plain lists of nodes.
+pub mod Landings
+pub mod Expanding
+pub mod Pruning
+pub mod Reducing
+pub mod Compiling

@@ -1,0 +1,34 @@
+//! What diagrams that are compiled by the rules are, as functions whose contracts state it.
+
+ghost use Rattle.std.specs.Prelude.{◌≡◌, ℕ, ◌+◌, ◌<◌, ◌≤◌, ℤ, List, length, map, Option, Some};
+ghost use Rattle.dp_model.specs.Dp.{Dp};
+ghost use Rattle.dp_model.specs.Laws.{IsLawful, IsChained};
+ghost use Rattle.dp_model.specs.Prefixes.{IsPrefix};
+ghost use Rattle.dp_model.specs.Reached.{reached};
+ghost use Rattle.dp_laws.specs.Restricted.Beam.{layer_below};
+ghost use Rattle.dp_laws.specs.Diagrams.Nodes.{as_member};
+ghost use Rattle.dp_laws.specs.Diagrams.Seen.{IsDiagram};
+ghost use Rattle.dp_laws.specs.Diagrams.Sound.{AreSound};
+ghost use Rattle.dp_laws.specs.Diagrams.Cutsets.{last_exact_children, frontier_children, found_in};
+ghost use Rattle.dp_laws.specs.Rules.Compiling.{start_layer, relaxed, restricted_below};
+
+/// Each layer of a restricted diagram that is built by the rules has exact nodes alone, and they stand, in order, for the
+/// prefixes of the layer as it is defined on plain lists.
+pub fn restricted_layers_are_beams()
+    ensures { (dp : Dp) (p : List ℕ) (w : ℕ) (t : Option ℤ) (m : ℕ)
+        → map as_member (restricted_below dp (length p) w t (length p) m (start_layer (reached dp p))) ≡ map (λ r. Some r) (layer_below dp (reached dp p) w t m) }
+{}
+
+/// A relaxed diagram that is compiled by the rules is one as its readers show it.
+pub fn relaxed_diagrams_are_as_seen()
+    ensures { (dp : Dp) (p : List ℕ) (w : ℕ) (t : Option ℤ) → IsLawful dp → IsChained dp → IsPrefix dp p → length p < dp.vars → 1 ≤ w
+        → IsDiagram dp p w t (relaxed dp (reached dp p) w t) }
+{}
+
+/// So the children that it leaves are sound, of either kind.
+pub fn relaxed_children_are_sound()
+    ensures last_exact { (dp : Dp) (p : List ℕ) (w : ℕ) (t : Option ℤ) → IsLawful dp → IsChained dp → IsPrefix dp p → length p < dp.vars → 1 ≤ w
+        → AreSound dp p t (found_in dp (length p) (relaxed dp (reached dp p) w t)) (last_exact_children dp (length p) (relaxed dp (reached dp p) w t) (relaxed dp (reached dp p) w t).first_reduced) }
+    ensures frontier { (dp : Dp) (p : List ℕ) (w : ℕ) (t : Option ℤ) → IsLawful dp → IsChained dp → IsPrefix dp p → length p < dp.vars → 1 ≤ w
+        → AreSound dp p t (found_in dp (length p) (relaxed dp (reached dp p) w t)) (frontier_children dp (length p) (relaxed dp (reached dp p) w t)) }
+{}

@@ -1,5 +1,0 @@
-use Rattle.layer_rules.proofs.Diagrams.{compiled-is-diagram}
-use Rattle.layer_rules.proofs.compiling.relaxed_diagrams_are_as_seen.Goals as goal
-
-pub returns : goal.returns
-returns c = λ dp p w t laws chained h short some. compiled-is-diagram dp laws chained p w t h short some
