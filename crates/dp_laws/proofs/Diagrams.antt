@@ -3,6 +3,7 @@ pub mod Places
 pub mod Following
 pub mod Suffixes
 pub mod Walks
+pub mod Children
 pub mod ChildFacts
 pub mod Apart
 pub mod Starts
@@ -12,3 +13,4 @@ pub mod Outermost
 pub mod Borders
 pub mod Frontier
 pub mod Deep
+pub mod Kinds

@@ -2,6 +2,7 @@ pub mod Counting
 pub mod Lists
 pub mod Matching
 pub mod Prefixes
+pub mod Reaches
 pub mod RowTests
 pub mod Restricted
 pub mod Diagrams

@@ -1,5 +1,4 @@
 -- Relaxed diagrams as their readers show them, and the children that they leave.
 pub mod Nodes
 pub mod Seen
-pub mod Sound
 pub mod Cutsets

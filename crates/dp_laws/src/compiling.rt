@@ -5,11 +5,12 @@ ghost use Rattle.dp_model.specs.Dp.{Dp};
 ghost use Rattle.dp_model.specs.Laws.{IsLawful, IsChained};
 ghost use Rattle.dp_model.specs.Prefixes.{IsPrefix};
 ghost use Rattle.dp_model.specs.Reached.{reached};
+ghost use Rattle.dp_model.specs.declared.cut_kind.CutKind.{CutKind};
 ghost use Rattle.dp_laws.specs.Restricted.Beam.{layer_below};
 ghost use Rattle.dp_laws.specs.Diagrams.Nodes.{as_member};
 ghost use Rattle.dp_laws.specs.Diagrams.Seen.{IsDiagram};
-ghost use Rattle.dp_laws.specs.Diagrams.Sound.{AreSound};
-ghost use Rattle.dp_laws.specs.Diagrams.Cutsets.{last_exact_children, frontier_children, found_in};
+ghost use Rattle.dp_laws.specs.Children.{AreSound};
+ghost use Rattle.dp_laws.specs.Diagrams.Cutsets.{children_of, found_in};
 ghost use Rattle.dp_laws.specs.Rules.Compiling.{start_layer, relaxed, restricted_below};
 
 /// Each layer of a restricted diagram that is built by the rules has exact nodes alone, and they stand, in order, for the
@@ -27,8 +28,6 @@ pub fn relaxed_diagrams_are_as_seen()
 
 /// So the children that it leaves are sound, of either kind.
 pub fn relaxed_children_are_sound()
-    ensures last_exact { (dp : Dp) (p : List ℕ) (w : ℕ) (t : Option ℤ) → IsLawful dp → IsChained dp → IsPrefix dp p → length p < dp.vars → 1 ≤ w
-        → AreSound dp p t (found_in dp (length p) (relaxed dp (reached dp p) w t)) (last_exact_children dp (length p) (relaxed dp (reached dp p) w t) (relaxed dp (reached dp p) w t).first_reduced) }
-    ensures frontier { (dp : Dp) (p : List ℕ) (w : ℕ) (t : Option ℤ) → IsLawful dp → IsChained dp → IsPrefix dp p → length p < dp.vars → 1 ≤ w
-        → AreSound dp p t (found_in dp (length p) (relaxed dp (reached dp p) w t)) (frontier_children dp (length p) (relaxed dp (reached dp p) w t)) }
+    ensures { (dp : Dp) (p : List ℕ) (w : ℕ) (t : Option ℤ) (kind : CutKind) → IsLawful dp → IsChained dp → IsPrefix dp p → length p < dp.vars → 1 ≤ w
+        → AreSound dp p t (found_in dp (relaxed dp (reached dp p) w t)) (children_of dp (relaxed dp (reached dp p) w t) kind) }
 {}

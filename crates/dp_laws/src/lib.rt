@@ -12,13 +12,14 @@ mod compiling;
 mod counts;
 mod covers;
 mod expansions;
+mod floors;
 mod gaps;
 mod layers;
 
 pub use arc::DdArc;
 pub use children::{
-    children_stand_deep, frontier_children_are_sound, last_exact_children_are_sound,
-    suffixes_bound, without_reduction_the_beam_is_found,
+    children_are_sound, children_stand_deep, sound_children_follow, suffixes_bound,
+    without_reduction_the_beam_is_found,
 };
 pub use compiling::{
     relaxed_children_are_sound, relaxed_diagrams_are_as_seen, restricted_layers_are_beams,
@@ -28,5 +29,6 @@ pub use covers::{last_exact_layers_cover, whole_beams_are_best, whole_layers_cov
 pub use expansions::{
     expansions_are_unique, order_is_unique, reduction_order_is_total, sorting_expands,
 };
+pub use floors::floors_match;
 pub use gaps::{chains_match, completions_are_matched, continuations_are_matched, gaps_add_up};
 pub use layers::{beams_are_feasible, layers_differ, layers_have_prefixes};

@@ -5,6 +5,5 @@ pub mod Following
 pub mod Joining
 pub mod Expanding
 pub mod Bench
-pub mod Width
 pub mod Striking
 pub mod Keeping

@@ -1,7 +1,7 @@
 //! How wide a layer may be, so that one worker's layers stay within their memory.
 
 ghost use Rattle.std.specs.Prelude.{◌≡◌, ◌*◌, ◌≤◌};
-ghost use Rattle.layer_build.specs.Width.{cost_below, IsGreatestWidth};
+ghost use Rattle.dp_laws.specs.Width.{cost_below, IsGreatestWidth};
 
 use dp_model::DpModel;
 

@@ -12,7 +12,8 @@ use Rattle.dp_laws.specs.Pairs.{EachTwo}
 use Rattle.dp_laws.proofs.Counting.{sum-map, pots-below, pots-positive}
 use Rattle.shared_fringe.specs.Tickets.{Ticketed}
 use Rattle.search_core.specs.Board.{prefixes}
-use Rattle.search_core.specs.GoodBoard.{AreApart, pot_of, rest_of}
+use Rattle.dp_laws.specs.Children.{AreApart}
+use Rattle.search_core.specs.GoodBoard.{pot_of, rest_of}
 use Rattle.search_core.proofs.Lists.{two-map}
 
 -- together fewer prefixes begin with children that are apart than with their parent

@@ -18,7 +18,8 @@ use Rattle.dp_laws.specs.Pairs.{EachTwo}
 use Rattle.dp_laws.proofs.Counting.{pots-positive}
 use Rattle.shared_fringe.specs.Tickets.{Ticketed, IsEarlier}
 use Rattle.search_core.specs.Board.{value_held, full_slots, prefixes}
-use Rattle.search_core.specs.GoodBoard.{AreApart, IncumbentHolds, IsGood, pot_of, rest_of}
+use Rattle.dp_laws.specs.Children.{AreApart}
+use Rattle.search_core.specs.GoodBoard.{IncumbentHolds, IsGood, pot_of, rest_of}
 use Rattle.search_core.specs.Steps.{root_with, root_of, opened, empty_slots, first_incumbent, first_open, fresh_board, first_board}
 use Rattle.search_core.proofs.Frontier.{HeldBy}
 use Rattle.search_core.proofs.Lists.{two-then}

@@ -14,7 +14,8 @@ use Rattle.std.proofs.lemmas.Bool.{and_parts}
 use Rattle.dp_laws.specs.Pairs.{EachTwo}
 use Rattle.shared_fringe.specs.Tickets.{Ticketed}
 use Rattle.search_core.specs.Board.{BoardState, incumbent_value, frontier, prefixes}
-use Rattle.search_core.specs.GoodBoard.{AreApart, TicketsHold, IsGood}
+use Rattle.dp_laws.specs.Children.{AreApart}
+use Rattle.search_core.specs.GoodBoard.{TicketsHold, IsGood}
 use Rattle.search_core.proofs.Lists.{one-map, one-mapped}
 use Rattle.search_core.proofs.With.{IsWith, each-out, each-in, one-out_of, one-in, two-out, two-in, sum-with}
 

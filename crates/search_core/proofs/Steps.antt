@@ -19,7 +19,8 @@ use Rattle.shared_fringe.proofs.Tickets.{tickets-by_ticket, without-removed}
 use Rattle.search_core.specs.declared.fate.Fate.{Fate}
 use Rattle.search_core.specs.Board.{BoardState, incumbent_value, full_slots, frontier, prefixes}
 use Rattle.search_core.specs.Finishing.{MayFinish}
-use Rattle.search_core.specs.GoodBoard.{AreApart, IsGood, pot_of, rest_of}
+use Rattle.dp_laws.specs.Children.{AreApart}
+use Rattle.search_core.specs.GoodBoard.{IsGood, pot_of, rest_of}
 use Rattle.search_core.specs.Steps.{finished_by, given_back_from}
 use Rattle.search_core.specs.Taking.{is_budget_up, checked_out}
 use Rattle.search_core.proofs.Counting.{children-below, pots-split}

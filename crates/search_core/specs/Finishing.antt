@@ -11,7 +11,7 @@ use Rattle.shared_fringe.specs.Tickets.{Ticketed}
 use Rattle.search_core.specs.declared.fate.Fate.{Fate}
 use Rattle.search_core.specs.Board.{BoardState, incumbent_value, slot_at}
 use Rattle.search_core.specs.Fates.{fates_on}
-use Rattle.search_core.specs.GoodBoard.{AreApart}
+use Rattle.dp_laws.specs.Children.{AreApart}
 
 -- subproblems in memory as data
 abbrev pub contents : List Roomy → List Subproblem

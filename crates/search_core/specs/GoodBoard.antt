@@ -6,9 +6,9 @@ use Rattle.dp_model.specs.Cover.{Covers, IsHeld}
 use Rattle.dp_model.specs.Dp.{Dp}
 use Rattle.dp_model.specs.Lists.{Each}
 use Rattle.dp_model.specs.Numbers.{is_above}
-use Rattle.dp_model.specs.Subproblem.{Subproblem, IsOwn}
+use Rattle.dp_model.specs.Subproblem.{IsOwn}
 use Rattle.dp_model.specs.Worth.{IsWorth}
-use Rattle.dp_laws.specs.Antichains.{NeitherBegins}
+use Rattle.dp_laws.specs.Children.{AreApart}
 use Rattle.dp_laws.specs.Pairs.{EachTwo}
 use Rattle.shared_fringe.specs.Tickets.{Ticketed, IsEarlier}
 use Rattle.search_core.specs.declared.cause.Cause.TheVariants.{Budget}
@@ -18,10 +18,6 @@ use Rattle.search_core.specs.Board.{BoardState, incumbent_value, full_slots, fro
 abbrev pub IncumbentHolds : Dp → Option Best → Type 0
 IncumbentHolds dp None = Unit {0}
 IncumbentHolds dp (Some best) = IsWorth dp best.decisions best.value
-
--- neither prefix begins with the other
-abbrev pub AreApart : Subproblem → Subproblem → Type 0
-AreApart a b = NeitherBegins a.decisions b.decisions
 
 -- how many prefixes begin with that of a subproblem, and how many more than itself
 abbrev pub pot_of : Dp → Ticketed → ℕ

@@ -3,7 +3,7 @@ use Rattle.std.proofs.Common.{◌≡◌, ℕ, List, [], ◌∷◌, ◌++◌, tru
 use Rattle.dp_model.specs.Decisions.{begins}
 use Rattle.dp_model.specs.Subproblem.{Subproblem}
 use Rattle.dp_model.proofs.RowLemmas.{nat_eq-self}
-use Rattle.search_core.specs.GoodBoard.{AreApart}
+use Rattle.dp_laws.specs.Children.{AreApart}
 
 begins-parted : (p : List ℕ) (d e : ℕ) → nat_eq d e ≡ false → begins (p ++ d ∷ []) (p ++ e ∷ []) ≡ false
 begins-parted [] d e parted = subst (λ v. (v && true) ≡ false) (sym parted) refl

@@ -18,7 +18,7 @@ use Rattle.dp_model.proofs.RowLemmas.{begins-append}
 use Rattle.dp_model.proofs.Sizes.{value_of-size}
 use Rattle.search_core.specs.Pairs.{EachTwo}
 use Rattle.search_core.specs.Board.{BoardState, incumbent_value}
-use Rattle.search_core.specs.GoodBoard.{AreApart}
+use Rattle.dp_laws.specs.Children.{AreApart}
 use Rattle.search_core.proofs.Lists.{two-append}
 use Rattle.search_rounds.specs.Branched.{IsBranched}
 use Rattle.search_rounds.specs.Branching.{bounded_by, bounded, extended_by, children_of}

@@ -8,7 +8,7 @@ use Rattle.dp_model.specs.Prefixes.{IsCompletion, IsMatched, value_of}
 use Rattle.dp_model.specs.Subproblem.{Subproblem, IsChild}
 use Rattle.search_core.specs.Pairs.{EachTwo}
 use Rattle.search_core.specs.Board.{BoardState, incumbent_value}
-use Rattle.search_core.specs.GoodBoard.{AreApart}
+use Rattle.dp_laws.specs.Children.{AreApart}
 
 -- the children of a prefix beside a board: there are not too many, each is a prefix of its own that properly extends it, none
 -- begins with another, bounds are of a bounded size and held, and each completion of the prefix is at most the incumbent or

@@ -1,8 +1,8 @@
 -- The open subproblems of a search, in order of ticket.
-use Rattle.std.specs.Prelude.{◌≡◌, ℕ, ℤ, Bool, false, ◌&&◌, List, find, length, nat_eq, Option}
+use Rattle.std.specs.Prelude.{◌≡◌, ℕ, ℤ, Bool, List, find, length, Option}
 use Rattle.dp_model.specs.Lists.{Each}
-use Rattle.dp_model.specs.Rows.{row_same}
 use Rattle.dp_model.specs.Subproblem.{Subproblem}
+use Rattle.dp_laws.specs.Children.{is_at, DifferInPlace}
 use Rattle.dp_laws.specs.Pairs.{EachTwo}
 use Rattle.shared_fringe.specs.Tickets.{Ticketed, HasTickets}
 
@@ -14,7 +14,7 @@ pub record FringeView : Type 0 where
 
 -- whether it is one of the depth and state
 abbrev pub is_same : ℕ → List ℤ → Ticketed → Bool
-is_same depth row o = nat_eq (length o.subproblem.decisions) depth && row_same o.subproblem.row row
+is_same depth row o = is_at depth row o.subproblem
 
 -- the open one of the depth and state
 abbrev pub same_at : ℕ → List ℤ → List Ticketed → Option Ticketed
@@ -26,7 +26,7 @@ same_open c os = same_at (length c.decisions) c.row os
 
 -- two differ in depth or state
 abbrev pub AreDifferent : Ticketed → Ticketed → Type 0
-AreDifferent a b = is_same (length a.subproblem.decisions) a.subproblem.row b ≡ false
+AreDifferent a b = DifferInPlace a.subproblem b.subproblem
 
 -- a fringe: tickets rise, each two differ in depth or state, and each row has so many cells
 pub record IsFringe (words : ℕ) (os : List Ticketed) : Type 0 where

@@ -12,11 +12,12 @@ use Rattle.dp_model.proofs.Members.{Has, each-has, each-of-all, Each-append, Has
 use Rattle.std.proofs.lemmas.Bool.{and_parts}
 use Rattle.dp_laws.specs.Diagrams.Nodes.{DdNode}
 use Rattle.dp_laws.specs.Diagrams.Seen.{IsBounded, IsReachedBy, AreLayers, repeats, are_distinct}
-use Rattle.dp_laws.specs.Diagrams.Cutsets.{child_of, leaves, borders, all_borders}
+use Rattle.dp_laws.specs.Diagrams.Cutsets.{leaves}
+use Rattle.dp_laws.proofs.Diagrams.Children.{child_of, borders, all_borders}
 use Rattle.dp_laws.proofs.Diagrams.Places.{Has-filter_map-from}
 use Rattle.dp_laws.proofs.Diagrams.Suffixes.{bounded}
 use Rattle.dp_laws.proofs.Diagrams.ChildFacts.{IsChildOf, child-from}
-use Rattle.dp_laws.proofs.Diagrams.Apart.{and-false, neither, rows-differ}
+use Rattle.dp_laws.proofs.Diagrams.Apart.{row_same-turned, and-false, neither, rows-differ}
 use Rattle.dp_laws.proofs.Diagrams.Outermost.{StandsBefore, InTurn}
 
 -- the node of a child, with its depth
@@ -71,8 +72,8 @@ child-depth dp p k node c r h = ap (λ (x : Subproblem). length x.decisions) h.c
 side-by-side : (dp : Dp) (p : List ℕ) (k : ℕ) (a b : DdNode) (c d : Subproblem) → IsReachedBy dp p k a → IsReachedBy dp p k b → row_same a.row b.row ≡ false → IsChildOf dp k a c → IsChildOf dp k b d → StandsBefore c d
 side-by-side dp p k a b c d ra rb differ hc hd =
     let lc = child-depth dp p k a c ra hc in let ld = child-depth dp p k b d rb hd in
-    let rows : row_same c.row d.row ≡ false = rw (hc.child_is, hd.child_is) differ in
-    record { shallower = omega arith; other = rw rows (and-false (nat_eq (length c.decisions) (length d.decisions))) }
+    let rows : row_same d.row c.row ≡ false = rw (hc.child_is, hd.child_is) (row_same-turned a.row b.row differ) in
+    record { shallower = omega arith; other = rw rows (and-false (nat_eq (length d.decisions) (length c.decisions))) }
 
 -- a row that is not repeated differs from that of each later exact node
 no-repeat : (node other : DdNode) (rest : List DdNode) → IsTrue node.exact → IsTrue other.exact → Has other rest → IsTrue (not (repeats node rest)) → row_same node.row other.row ≡ false
@@ -115,7 +116,7 @@ in-turn-layer dp p k (node ∷ rest) next all distinct =
 across : (dp : Dp) (p : List ℕ) (t : Option ℤ) (k : ℕ) (c d : Subproblem) → length c.decisions ≡ k → BorderOf dp p t (k + 1) d → StandsBefore c d
 across dp p t k c d e b =
     let deep = b.below_first in let ld = child-depth dp p b.depth b.node d b.reached b.child in
-    let differ : nat_eq (length c.decisions) (length d.decisions) ≡ false = grind arith in
+    let differ : nat_eq (length d.decisions) (length c.decisions) ≡ false = grind arith in
     record { shallower = omega arith; other = rw differ refl }
 
 at-depth : (dp : Dp) (p : List ℕ) (w : ℕ) (t : Option ℤ) (k : ℕ) (layer next : List DdNode) (rest : List (List DdNode)) → AreLayers dp p w t k (layer ∷ next ∷ rest) → (c : Subproblem) → Has c (borders dp k layer next) → length c.decisions ≡ k

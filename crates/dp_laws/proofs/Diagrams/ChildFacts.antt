@@ -14,7 +14,8 @@ use Rattle.dp_model.proofs.Paths.{continued, value_of-split, completed, value_of
 use Rattle.dp_model.proofs.RowLemmas.{begins-append}
 use Rattle.dp_laws.specs.Diagrams.Nodes.{DdNode}
 use Rattle.dp_laws.specs.Diagrams.Seen.{IsBounded, IsReachedBy}
-use Rattle.dp_laws.specs.Diagrams.Cutsets.{lesser_of, child_of}
+use Rattle.dp_laws.specs.Diagrams.Cutsets.{lesser_of}
+use Rattle.dp_laws.proofs.Diagrams.Children.{child_of}
 use Rattle.dp_laws.proofs.Diagrams.Places.{same-Some}
 use Rattle.dp_laws.proofs.Diagrams.Suffixes.{at_most-below}
 
@@ -27,11 +28,11 @@ pub record IsChildOf (dp : Dp) (k : ℕ) (node : DdNode) (c : Subproblem) : Type
   pub rough_is : dp.rough k node.row ≡ Some rough
   pub child_is : c ≡ record { decisions = node.path; row = node.row; value = node.value; bound = node.value +ℤ cond (int_le suffix rough) suffix rough }
 
-child_from : (dp : Dp) (k : ℕ) (node : DdNode) (c : Subproblem) (s r : Option ℤ) → node.suffix ≡ s → dp.rough k node.row ≡ r
+from-options : (dp : Dp) (k : ℕ) (node : DdNode) (c : Subproblem) (s r : Option ℤ) → node.suffix ≡ s → dp.rough k node.row ≡ r
     → option_map (λ more. record { decisions = node.path; row = node.row; value = node.value; bound = node.value +ℤ more }) (lesser_of s r) ≡ Some c → IsChildOf dp k node c
-child_from dp k node c None r se re e = absurd (let none : None ≡ Some c = e in cc)
-child_from dp k node c (Some s) None se re e = absurd (let none : None ≡ Some c = e in cc)
-child_from dp k node c (Some s) (Some r) se re e = record {
+from-options dp k node c None r se re e = absurd (let none : None ≡ Some c = e in cc)
+from-options dp k node c (Some s) None se re e = absurd (let none : None ≡ Some c = e in cc)
+from-options dp k node c (Some s) (Some r) se re e = record {
   suffix = s;
   rough = r;
   suffix_is = se;
@@ -40,7 +41,7 @@ child_from dp k node c (Some s) (Some r) se re e = record {
 }
 
 pub child-from : (dp : Dp) (k : ℕ) (node : DdNode) (c : Subproblem) → child_of dp k node ≡ Some c → IsChildOf dp k node c
-child-from dp k node c e = child_from dp k node c node.suffix (dp.rough k node.row) refl refl e
+child-from dp k node c e = from-options dp k node c node.suffix (dp.rough k node.row) refl refl e
 
 -- a node with a suffix and a rough bound has a child
 pub child-for : (dp : Dp) (k : ℕ) (node : DdNode) (s r : ℤ) → node.suffix ≡ Some s → dp.rough k node.row ≡ Some r

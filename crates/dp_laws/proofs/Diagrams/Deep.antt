@@ -8,14 +8,16 @@ use Rattle.dp_model.specs.Laws.{IsLawful}
 use Rattle.dp_model.specs.Lists.{Each}
 use Rattle.dp_model.specs.Reached.{Reached, reached}
 use Rattle.dp_model.specs.Subproblem.{Subproblem, IsChild}
-use Rattle.dp_model.proofs.Members.{Has, each-has, each-of-all, Has-append-cases, Has-filter-from}
+use Rattle.dp_model.proofs.Members.{Has, Each-then, each-has, each-of-all, Has-append-cases, Has-filter-from}
 use Rattle.std.proofs.lemmas.Bool.{and_parts}
+use Rattle.dp_laws.specs.Children.{StandAt, StandDeep}
 use Rattle.dp_laws.specs.Restricted.Beam.{layer_below}
 use Rattle.dp_laws.specs.Restricted.Beams.{layers, beam, first_of_all}
 use Rattle.dp_laws.specs.declared.arc.DdArc.{DdArc}
 use Rattle.dp_laws.specs.Diagrams.Nodes.{DdNode, DdLayers, prefix_at, as_member}
 use Rattle.dp_laws.specs.Diagrams.Seen.{IsReachedBy, AreLayers, IsDiagram, exact_layers}
-use Rattle.dp_laws.specs.Diagrams.Cutsets.{child_of, is_inexact, leads_out, leaves, borders, all_borders, last_exact_children, frontier_children, found_in, first_exact, StandDeep}
+use Rattle.dp_laws.specs.Diagrams.Cutsets.{is_inexact, leads_out, leaves, first_exact}
+use Rattle.dp_laws.proofs.Diagrams.Children.{child_of, borders, all_borders, last_exact_from, frontier_from, found_from}
 use Rattle.dp_laws.proofs.Diagrams.Places.{same-Some, Has-at, Has-filter_map-from}
 use Rattle.dp_laws.proofs.Diagrams.Walks.{layer-above}
 use Rattle.dp_laws.proofs.Diagrams.ChildFacts.{child-from}
@@ -43,7 +45,7 @@ first-member (node ∷ layer) (r ∷ rs) e =
       | false ↦ λ h. absurd (let none : None ≡ Some r = h in cc)
     ] first
 
-pub beam-found : (dp : Dp) (p : List ℕ) (w : ℕ) (t : Option ℤ) (d : DdLayers) → IsDiagram dp p w t d → length p < dp.vars → d.first_reduced ≡ None → found_in dp (length p) d ≡ option_map as_best (beam dp p w t)
+pub beam-found : (dp : Dp) (p : List ℕ) (w : ℕ) (t : Option ℤ) (d : DdLayers) → IsDiagram dp p w t d → length p < dp.vars → d.first_reduced ≡ None → found_from dp (length p) d.layers ≡ option_map as_best (beam dp p w t)
 beam-found dp p w t d h short e =
     let l = last-of dp p w t d h short in
     let m = dp.vars - length p in
@@ -54,9 +56,9 @@ beam-found dp p w t d h short e =
 
 -- Children of the last exact layer stand just above the first reduced one.
 
-pub last-exact-deep : (dp : Dp) → IsLawful dp → (p : List ℕ) (w : ℕ) (t : Option ℤ) (d : DdLayers) → IsDiagram dp p w t d → length p < dp.vars → (o : Option ℕ) → d.first_reduced ≡ o → StandDeep o (last_exact_children dp (length p) d o)
-last-exact-deep dp laws p w t d h short None e = refl
-last-exact-deep dp laws p w t d h short (Some depth) e =
+pub last-exact-stands : (dp : Dp) → IsLawful dp → (p : List ℕ) (w : ℕ) (t : Option ℤ) (d : DdLayers) → IsDiagram dp p w t d → length p < dp.vars → (o : Option ℕ) → d.first_reduced ≡ o → StandAt o (last_exact_from dp (length p) d.layers o)
+last-exact-stands dp laws p w t d h short None e = refl
+last-exact-stands dp laws p w t d h short (Some depth) e =
     let r = reducible dp p w t depth (sym h.first_reduced ∙ e) in
     let low = r.below_first in let high = r.above_last in let long = h.depth in
     let m = depth - 1 - length p in
@@ -65,13 +67,18 @@ last-exact-deep dp laws p w t d h short (Some depth) e =
     let exact = all-exact dp p w t d h (depth - length p) m (ap (exact_layers dp.vars (length p)) (sym e)) (omega arith) layer at in
     let place : depth - 1 ≡ length p + m = omega arith in
     let cut = cut-of dp laws p w t d h short (depth - 1) m place (omega arith) layer at exact in
-    let all : Each (λ (c : Subproblem). depth ≤ length c.decisions + 1) (filter_map (child_of dp (depth - 1)) layer) =
-    each-of-all (λ (c : Subproblem). depth ≤ length c.decisions + 1) (filter_map (child_of dp (depth - 1)) layer) (λ c has.
+    let all : Each (λ (c : Subproblem). length c.decisions + 1 ≡ depth) (filter_map (child_of dp (depth - 1)) layer) =
+    each-of-all (λ (c : Subproblem). length c.decisions + 1 ≡ depth) (filter_map (child_of dp (depth - 1)) layer) (λ c has.
     let from = Has-filter_map-from (child_of dp (depth - 1)) layer c has in
     let is = ap (λ (x : Subproblem). length x.decisions) (child-from dp (depth - 1) from.0 c from.2).child_is in
     let long = (cut.reached from.0 from.1).1.depth in
     omega arith) in
-    subst (λ (o : Option (List DdNode)). Each (λ (c : Subproblem). depth ≤ length c.decisions + 1) (filter_map (child_of dp (depth - 1)) (unwrap_or o []))) (sym at) all
+    subst (λ (o : Option (List DdNode)). Each (λ (c : Subproblem). length c.decisions + 1 ≡ depth) (filter_map (child_of dp (depth - 1)) (unwrap_or o []))) (sym at) all
+
+-- what stands just above a depth stands there or deeper
+pub at-deep : (o : Option ℕ) (cs : List Subproblem) → StandAt o cs → StandDeep o cs
+at-deep None cs h = h
+at-deep (Some depth) cs h = Each-then (λ (c : Subproblem). length c.decisions + 1 ≡ depth) (λ (c : Subproblem). depth ≤ length c.decisions + 1) cs (λ c e. omega arith) h
 
 -- Children of the frontier have an arc to an inexact node, so they stand no higher.
 
@@ -130,7 +137,7 @@ empty-of : (cs : List Subproblem) → ((c : Subproblem) → Has c cs → ⊥) �
 empty-of [] none = refl
 empty-of (c ∷ cs) none = absurd (none c (inl refl))
 
-frontier-deep-at : (dp : Dp) (p : List ℕ) (w : ℕ) (t : Option ℤ) (d : DdLayers) → IsDiagram dp p w t d → length p < dp.vars → (depth : ℕ) → ExactAbove (length p) depth d.layers → (c : Subproblem) → Has c (frontier_children dp (length p) d) → depth ≤ length c.decisions + 1
+frontier-deep-at : (dp : Dp) (p : List ℕ) (w : ℕ) (t : Option ℤ) (d : DdLayers) → IsDiagram dp p w t d → length p < dp.vars → (depth : ℕ) → ExactAbove (length p) depth d.layers → (c : Subproblem) → Has c (frontier_from dp (length p) d.layers) → depth ≤ length c.decisions + 1
 frontier-deep-at dp p w t d h short depth above c has =
     let start = starts dp p w t d h short in
     let all : AreLayers dp p w t (length p) ((start.root ∷ []) ∷ start.more) = subst (λ ds. AreLayers dp p w t (length p) ds) start.are h.layer in
@@ -140,19 +147,19 @@ frontier-deep-at dp p w t d h short depth above c has =
     let listed' : Has c (all_borders dp (length p + 1) start.more) = subst (λ ms. Has c (all_borders dp (length p + 1) ms)) below_all listed in
     below-root dp p w t depth start.root start.more all above' c listed'
 
-pub frontier-deep : (dp : Dp) (p : List ℕ) (w : ℕ) (t : Option ℤ) (d : DdLayers) → IsDiagram dp p w t d → length p < dp.vars → (o : Option ℕ) → d.first_reduced ≡ o → ((c : Subproblem) → Has c (frontier_children dp (length p) d) → length c.decisions < dp.vars)
-    → StandDeep o (frontier_children dp (length p) d)
+pub frontier-deep : (dp : Dp) (p : List ℕ) (w : ℕ) (t : Option ℤ) (d : DdLayers) → IsDiagram dp p w t d → length p < dp.vars → (o : Option ℕ) → d.first_reduced ≡ o → ((c : Subproblem) → Has c (frontier_from dp (length p) d.layers) → length c.decisions < dp.vars)
+    → StandDeep o (frontier_from dp (length p) d.layers)
 frontier-deep dp p w t d h short None e shorter =
     let inside : (m : ℕ) → m < length d.layers → length p + m < dp.vars + 2 → m < exact_layers dp.vars (length p) d.first_reduced = λ m few less. (let long = h.depth in rw e (omega arith)) in
     let above = above-of dp p w t d h short (dp.vars + 2) inside in
-    empty-of (frontier_children dp (length p) d) (λ c has. (let deep = frontier-deep-at dp p w t d h short (dp.vars + 2) above c has in let low = shorter c has in omega arith))
+    empty-of (frontier_from dp (length p) d.layers) (λ c has. (let deep = frontier-deep-at dp p w t d h short (dp.vars + 2) above c has in let low = shorter c has in omega arith))
 frontier-deep dp p w t d h short (Some depth) e shorter =
     let inside : (m : ℕ) → m < length d.layers → length p + m < depth → m < exact_layers dp.vars (length p) d.first_reduced = λ m few less. rw e (omega arith) in
     let above = above-of dp p w t d h short depth inside in
-    each-of-all (λ (c : Subproblem). depth ≤ length c.decisions + 1) (frontier_children dp (length p) d) (λ c has. frontier-deep-at dp p w t d h short depth above c has)
+    each-of-all (λ (c : Subproblem). depth ≤ length c.decisions + 1) (frontier_from dp (length p) d.layers) (λ c has. frontier-deep-at dp p w t d h short depth above c has)
 
-pub frontier-shorter : (dp : Dp) → IsLawful dp → (p : List ℕ) (w : ℕ) (t : Option ℤ) (d : DdLayers) → IsDiagram dp p w t d → length p < dp.vars → (c : Subproblem) → Has c (frontier_children dp (length p) d) → length c.decisions < dp.vars
+pub frontier-shorter : (dp : Dp) → IsLawful dp → (p : List ℕ) (w : ℕ) (t : Option ℤ) (d : DdLayers) → IsDiagram dp p w t d → length p < dp.vars → (c : Subproblem) → Has c (frontier_from dp (length p) d.layers) → length c.decisions < dp.vars
 frontier-shorter dp laws p w t d h short c has =
     let sound = frontier-is-sound dp laws p w t d h short in
-    let child = each-has (IsChild dp p) (frontier_children dp (length p) d) c sound.own has in
+    let child = each-has (IsChild dp p) (frontier_from dp (length p) d.layers) c sound.own has in
     child.own.shorter

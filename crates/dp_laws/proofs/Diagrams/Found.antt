@@ -9,8 +9,9 @@ use Rattle.dp_model.specs.Numbers.{AtMost}
 use Rattle.dp_model.proofs.Members.{Has, each-has}
 use Rattle.dp_laws.specs.Diagrams.Nodes.{DdNode, DdLayers}
 use Rattle.dp_laws.specs.Diagrams.Seen.{IsReachedBy, IsDiagram, FallFrom}
-use Rattle.dp_laws.specs.Diagrams.Sound.{IsFound, FoundHolds}
-use Rattle.dp_laws.specs.Diagrams.Cutsets.{first_exact, found_in}
+use Rattle.dp_laws.specs.Children.{IsFound, FoundHolds}
+use Rattle.dp_laws.specs.Diagrams.Cutsets.{first_exact}
+use Rattle.dp_laws.proofs.Diagrams.Children.{found_from}
 use Rattle.dp_laws.proofs.Diagrams.Places.{same-Some}
 use Rattle.dp_laws.proofs.Diagrams.Walks.{KeepsAt, keeps-at}
 
@@ -47,7 +48,7 @@ pub record HasLast (dp : Dp) (p : List ℕ) (w : ℕ) (t : Option ℤ) (d : DdLa
   pub at : slice_get d.layers (dp.vars - length p) ≡ Some layer
   pub keeps : KeepsAt dp p w t dp.vars layer
   pub falls : FallFrom layer
-  pub found : found_in dp (length p) d ≡ first_exact layer
+  pub found : found_from dp (length p) d.layers ≡ first_exact layer
 
 pub last-of : (dp : Dp) (p : List ℕ) (w : ℕ) (t : Option ℤ) (d : DdLayers) → IsDiagram dp p w t d → length p < dp.vars → HasLast dp p w t d
 last-of dp p w t d h short =
@@ -63,7 +64,7 @@ last-of dp p w t d h short =
     }
 
 -- an exact node of the last layer completes the prefix
-completes : (dp : Dp) (p : List ℕ) (node : DdNode) → IsReachedBy dp p dp.vars node → IsFound dp p (record { decisions = node.path; value = node.value })
+completes : (dp : Dp) (p : List ℕ) (node : DdNode) → IsReachedBy dp p dp.vars node → IsFound dp p node.path node.value
 completes dp p node r = record {
   completion = record {
     solution = record { prefix = r.prefix; whole = r.depth };
@@ -78,9 +79,9 @@ found-holds dp p w t layer k None e = tt
 found-holds dp p w t layer k (Some b) e =
     let at = found-at layer b e in
     let reached = each-has (λ (n : DdNode). IsTrue n.exact → IsReachedBy dp p dp.vars n) layer at.node k.keeps.exact at.has at.exact in
-    subst (λ x. IsFound dp p x) (sym at.is) (completes dp p at.node reached)
+    subst (λ (x : Best). IsFound dp p x.decisions x.value) (sym at.is) (completes dp p at.node reached)
 
-pub found-is-sound : (dp : Dp) (p : List ℕ) (w : ℕ) (t : Option ℤ) (d : DdLayers) → IsDiagram dp p w t d → length p < dp.vars → FoundHolds dp p (found_in dp (length p) d)
+pub found-is-sound : (dp : Dp) (p : List ℕ) (w : ℕ) (t : Option ℤ) (d : DdLayers) → IsDiagram dp p w t d → length p < dp.vars → FoundHolds dp p (found_from dp (length p) d.layers)
 found-is-sound dp p w t d h short =
     let last = last-of dp p w t d h short in
     rw last.found (found-holds dp p w t last.layer last.keeps (first_exact last.layer) refl)

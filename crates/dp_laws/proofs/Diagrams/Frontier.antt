@@ -15,12 +15,14 @@ use Rattle.dp_model.proofs.Paths.{continued, value_of-split}
 use Rattle.dp_laws.specs.declared.arc.DdArc.{DdArc}
 use Rattle.dp_laws.specs.Diagrams.Nodes.{DdNode, DdLayers}
 use Rattle.dp_laws.specs.Diagrams.Seen.{IsReachedBy, AreLayers, IsDiagram, exact_layers}
-use Rattle.dp_laws.specs.Diagrams.Sound.{AreSound}
-use Rattle.dp_laws.specs.Diagrams.Cutsets.{child_of, is_inexact, leads_out, leaves, borders, all_borders, outermost, frontier_children, found_in}
+use Rattle.dp_laws.specs.Children.{AreSound}
+use Rattle.dp_laws.specs.Diagrams.Cutsets.{is_inexact, leads_out, leaves, outermost}
+use Rattle.dp_laws.proofs.Diagrams.Children.{child_of, borders, all_borders, path_of, frontier_from, found_from}
 use Rattle.dp_laws.proofs.Diagrams.Places.{same-Some, Has-at, Has-filter_map}
 use Rattle.dp_laws.proofs.Diagrams.Following.{goes-on, states-of}
 use Rattle.dp_laws.proofs.Diagrams.Suffixes.{bounded, at_most-below}
 use Rattle.dp_laws.proofs.Diagrams.ChildFacts.{MatchedBy, is-child, is-held, matched}
+use Rattle.dp_laws.proofs.Diagrams.Apart.{all-apart, all-differ}
 use Rattle.dp_laws.proofs.Diagrams.Starts.{reducible, starts}
 use Rattle.dp_laws.proofs.Diagrams.Found.{last-of, first-greatest, found-is-sound}
 use Rattle.dp_laws.proofs.Diagrams.LastExact.{all-exact}
@@ -127,14 +129,14 @@ comes-from dp laws p w t found k root next rest last all e ends best exact c pat
           (comes-to dp laws p w t found (k + 1) next rest last all.1 (omega arith) ends best g.target has (exact g.target has) g.by g.continuation))
     ]
 
-with-outermost : (dp : Dp) (t found : Option ℤ) (cs : List Subproblem) (v : ℤ) → ComesTo dp t found cs v → ComesTo dp t found (outermost [] cs) v
+with-outermost : (dp : Dp) (t found : Option ℤ) (cs : List Subproblem) (v : ℤ) → ComesTo dp t found cs v → ComesTo dp t found (outermost path_of [] cs) v
 with-outermost dp t found cs v (inl a) = inl a
 with-outermost dp t found cs v (inr (inl a)) = inr (inl a)
-with-outermost dp t found cs v (inr (inr a)) = elim (outermost-matches dp v [] cs a) as (λ _. ComesTo dp t found (outermost [] cs) v) [ inl none ↦ absurd none | inr left ↦ inr (inr left) ]
+with-outermost dp t found cs v (inr (inr a)) = elim (outermost-matches dp v [] cs a) as (λ _. ComesTo dp t found (outermost path_of [] cs) v) [ inl none ↦ absurd none | inr left ↦ inr (inr left) ]
 
 -- with the layers written out
 written-out : (dp : Dp) → IsLawful dp → (p : List ℕ) (w : ℕ) (t : Option ℤ) (d : DdLayers) → IsDiagram dp p w t d → length p < dp.vars → (root : DdNode) (more : List (List DdNode)) → d.layers ≡ (root ∷ []) ∷ more → root.row ≡ state_of dp p → root.value ≡ value_of dp p
-    → AreSound dp p t (found_in dp (length p) d) (outermost [] (all_borders dp (length p + 1) more))
+    → AreSound dp p t (found_from dp (length p) d.layers) (outermost path_of [] (all_borders dp (length p + 1) more))
 written-out dp laws p w t d h short root [] are row value = absurd (let long = h.depth in let count = ap length are in omega arith)
 written-out dp laws p w t d h short root (next ∷ rest) are row value =
     let k = length p in
@@ -145,29 +147,31 @@ written-out dp laws p w t d h short root (next ∷ rest) are row value =
     let e' : k + 1 + length rest ≡ dp.vars = omega arith in
     let l = last-of dp p w t d h short in
     let ends : IsLast ((root ∷ []) ∷ next ∷ rest) l.layer = is-last ((root ∷ []) ∷ next ∷ rest) (dp.vars - k) l.layer (sym count ∙ long) (subst (λ ds. slice_get ds (dp.vars - k) ≡ Some l.layer) are l.at) in
-    let best : (x : DdNode) → Has x l.layer → IsTrue x.exact → AtMost x.value (option_map (λ (b : Best). b.value) (found_in dp k d)) = λ x has t. rw l.found (first-greatest l.layer l.falls x has t) in
+    let best : (x : DdNode) → Has x l.layer → IsTrue x.exact → AtMost x.value (option_map (λ (b : Best). b.value) (found_from dp k d.layers)) = λ x has t. rw l.found (first-greatest l.layer l.falls x has t) in
     let at : slice_get d.layers 1 ≡ Some next = ap (λ ds. slice_get ds 1) are in
     let exact : (x : DdNode) → Has x next → IsTrue x.exact = λ x has. all-exact dp p w t d h (exact_layers dp.vars k d.first_reduced) 1 refl (some-below dp p w t d h short d.first_reduced refl) next at x has in
     let cs = all_borders dp (k + 1) (next ∷ rest) in
     let from : (c : Subproblem) → Has c cs → BorderOf dp p t (k + 1) c = border-of dp laws p w t (k + 1) next rest all.1 e' in
     let child : (c : Subproblem) → Has c cs → IsChild dp p c = λ c has. (let b = from c has in let low = b.below_first in is-child dp p b.depth b.node c b.reached b.child (omega arith) b.above_last) in
+    let two = outermost-apart dp [] cs (λ c has. (child c has).own) (in-turn dp laws p w t (k + 1) next rest all.1 e') in
     record {
-      own = each-of-all (IsChild dp p) (outermost [] cs) (λ c has. child c (outermost-from [] cs c has));
-      apart = outermost-apart dp [] cs (λ c has. (child c has).own) (in-turn dp laws p w t (k + 1) next rest all.1 e');
-      held = each-of-all (λ (c : Subproblem). IsHeld dp t c.decisions c.bound) (outermost [] cs) (λ c has. (let b = from c (outermost-from [] cs c has) in is-held dp laws p t b.depth b.node c b.reached b.state b.child b.bounds));
+      own = each-of-all (IsChild dp p) (outermost path_of [] cs) (λ c has. child c (outermost-from [] cs c has));
+      apart = all-apart (outermost path_of [] cs) two;
+      differ = all-differ (outermost path_of [] cs) two;
+      held = each-of-all (λ (c : Subproblem). IsHeld dp t c.decisions c.bound) (outermost path_of [] cs) (λ c has. (let b = from c (outermost-from [] cs c has) in is-held dp laws p t b.depth b.node c b.reached b.state b.child b.bounds));
       solution = found-is-sound dp p w t d h short;
       matched = λ x completion. (
           let path : IsContinuation dp k root.row completion.rest = subst (λ s. IsContinuation dp k s completion.rest) (sym row) (continued dp p x completion) in
           let sum : root.value +ℤ gain_of dp k root.row completion.rest ≡ value_of dp x =
           ap (λ z. z +ℤ gain_of dp k root.row completion.rest) value ∙ (ap (λ s. value_of dp p +ℤ gain_of dp k s completion.rest) row ∙ sym (value_of-split dp p x completion)) in
-          let found = option_map (λ (b : Best). b.value) (found_in dp k d) in
+          let found = option_map (λ (b : Best). b.value) (found_from dp k d.layers) in
           with-outermost dp t found cs (value_of dp x) (subst (λ z. ComesTo dp t found cs z) sum (comes-from dp laws p w t found k root next rest l.layer all e ends best exact completion.rest path)));
     }
 
 -- the children of the frontier are sound
-pub frontier-is-sound : (dp : Dp) → IsLawful dp → (p : List ℕ) (w : ℕ) (t : Option ℤ) (d : DdLayers) → IsDiagram dp p w t d → length p < dp.vars → AreSound dp p t (found_in dp (length p) d) (frontier_children dp (length p) d)
+pub frontier-is-sound : (dp : Dp) → IsLawful dp → (p : List ℕ) (w : ℕ) (t : Option ℤ) (d : DdLayers) → IsDiagram dp p w t d → length p < dp.vars → AreSound dp p t (found_from dp (length p) d.layers) (frontier_from dp (length p) d.layers)
 frontier-is-sound dp laws p w t d h short =
     let start = starts dp p w t d h short in
     let below : drop 1 d.layers ≡ start.more = ap (λ ds. drop 1 ds) start.are in
-    subst (λ ms. AreSound dp p t (found_in dp (length p) d) (outermost [] (all_borders dp (length p + 1) ms))) (sym below)
+    subst (λ ms. AreSound dp p t (found_from dp (length p) d.layers) (outermost path_of [] (all_borders dp (length p + 1) ms))) (sym below)
     (written-out dp laws p w t d h short start.root start.more start.are start.row start.value)

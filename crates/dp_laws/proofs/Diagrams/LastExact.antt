@@ -17,13 +17,14 @@ use Rattle.dp_model.proofs.Paths.{continued, value_of-split}
 use Rattle.dp_laws.specs.Restricted.Beams.{layers}
 use Rattle.dp_laws.specs.Diagrams.Nodes.{DdNode, DdLayers, as_member}
 use Rattle.dp_laws.specs.Diagrams.Seen.{IsBounded, IsReachedBy, are_distinct, AreLayers, IsDiagram, exact_layers}
-use Rattle.dp_laws.specs.Diagrams.Sound.{AreSound}
-use Rattle.dp_laws.specs.Diagrams.Cutsets.{child_of, last_exact_children, found_in, first_exact}
+use Rattle.dp_laws.specs.Children.{AreSound}
+use Rattle.dp_laws.specs.Diagrams.Cutsets.{first_exact}
+use Rattle.dp_laws.proofs.Diagrams.Children.{child_of, last_exact_from, found_from}
 use Rattle.dp_laws.proofs.Diagrams.Places.{Has-filter_map, Has-filter_map-from, same-Some}
 use Rattle.dp_laws.proofs.Diagrams.Suffixes.{bounded, at_most-below}
 use Rattle.dp_laws.proofs.Diagrams.Walks.{Stands, WalksTo, walks-to, keeps-at, from-at, layer-above, exact-layer}
 use Rattle.dp_laws.proofs.Diagrams.ChildFacts.{child-from, is-child, is-held, matched}
-use Rattle.dp_laws.proofs.Diagrams.Apart.{AreReached, all-apart}
+use Rattle.dp_laws.proofs.Diagrams.Apart.{AreReached, all-apart, all-differ, all-two}
 use Rattle.dp_laws.proofs.Diagrams.Starts.{reducible, starts}
 use Rattle.dp_laws.proofs.Diagrams.Found.{HasLast, last-of, first-greatest, found-is-sound}
 
@@ -52,7 +53,7 @@ no-gain dp k s (d ∷ c) e = absurd (omega arith)
 
 -- a completion that stands at the last layer is no better than what is found
 pub at-last : (dp : Dp) (p : List ℕ) (w : ℕ) (t : Option ℤ) (d : DdLayers) → IsDiagram dp p w t d → length p < dp.vars → (l : HasLast dp p w t d) → ((node : DdNode) → Has node l.layer → IsTrue node.exact)
-    → (v : ℤ) → Stands dp (length p) (dp.vars - length p) d.layers v → AtMost v (option_map (λ (b : Best). b.value) (found_in dp (length p) d))
+    → (v : ℤ) → Stands dp (length p) (dp.vars - length p) d.layers v → AtMost v (option_map (λ (b : Best). b.value) (found_from dp (length p) d.layers))
 at-last dp p w t d h short l exact v s =
     let same : s.layer ≡ l.layer = same-Some s.layer l.layer (sym s.at ∙ l.at) in
     let has : Has s.node l.layer = subst (λ ns. Has s.node ns) same s.has in
@@ -68,17 +69,18 @@ all-exact dp p w t d h count m e less layer at node has =
     let beam = layer-above count m d.layers (layers dp p w t) above less layer at in
     exact-layer layer beam.0 beam.2 node has
 
-unreduced : (dp : Dp) → IsLawful dp → (p : List ℕ) (w : ℕ) (t : Option ℤ) (d : DdLayers) → IsDiagram dp p w t d → length p < dp.vars → d.first_reduced ≡ None → AreSound dp p t (found_in dp (length p) d) []
+unreduced : (dp : Dp) → IsLawful dp → (p : List ℕ) (w : ℕ) (t : Option ℤ) (d : DdLayers) → IsDiagram dp p w t d → length p < dp.vars → d.first_reduced ≡ None → AreSound dp p t (found_from dp (length p) d.layers) []
 unreduced dp laws p w t d h short e =
     let l = last-of dp p w t d h short in
     let exact : (node : DdNode) → Has node l.layer → IsTrue node.exact =
     all-exact dp p w t d h (dp.vars - length p + 1) (dp.vars - length p) (ap (exact_layers dp.vars (length p)) (sym e)) (omega arith) l.layer l.at in
     record {
       own = tt;
-      apart = refl;
+      apart = tt;
+      differ = tt;
       held = tt;
       solution = found-is-sound dp p w t d h short;
-      matched = λ x completion. elim (walked dp laws p w t d h short (dp.vars - length p) (omega arith) x completion) as (λ _. AtMost (value_of dp x) t ⊎ (AtMost (value_of dp x) (option_map (λ (b : Best). b.value) (found_in dp (length p) d)) ⊎ OneOf (Reaches dp (value_of dp x)) [])) [
+      matched = λ x completion. elim (walked dp laws p w t d h short (dp.vars - length p) (omega arith) x completion) as (λ _. AtMost (value_of dp x) t ⊎ (AtMost (value_of dp x) (option_map (λ (b : Best). b.value) (found_from dp (length p) d.layers)) ⊎ OneOf (Reaches dp (value_of dp x)) [])) [
         | inl low ↦ inl low
         | inr s ↦ inr (inl (at-last dp p w t d h short l exact (value_of dp x) s))
       ];
@@ -108,21 +110,21 @@ cut-of dp laws p w t d h short k m e low layer at exact =
     subst (λ n. IsCut dp p t n layer) (sym e) cut
 
 by-child : (dp : Dp) → IsLawful dp → (p : List ℕ) (t : Option ℤ) (d : DdLayers) (k m : ℕ) (layer : List DdNode) → slice_get d.layers m ≡ Some layer → k ≡ length p + m → IsCut dp p t k layer → (v : ℤ) → Stands dp (length p) m d.layers v
-    → AtMost v t ⊎ (AtMost v (option_map (λ (b : Best). b.value) (found_in dp (length p) d)) ⊎ OneOf (Reaches dp v) (map (λ (c : Subproblem). c.decisions) (filter_map (child_of dp k) layer)))
+    → AtMost v t ⊎ (AtMost v (option_map (λ (b : Best). b.value) (found_from dp (length p) d.layers)) ⊎ OneOf (Reaches dp v) (map (λ (c : Subproblem). c.decisions) (filter_map (child_of dp k) layer)))
 by-child dp laws p t d k m layer at place cut v s =
     let same : s.layer ≡ layer = same-Some s.layer layer (sym s.at ∙ at) in
     let has : Has s.node layer = subst (λ ns. Has s.node ns) same s.has in
     let path : IsContinuation dp k s.node.row s.by = subst (λ n. IsContinuation dp n s.node.row s.by) (sym place) s.continuation in
     let enough : v ≤ℤ (s.node.value +ℤ gain_of dp k s.node.row s.by) = subst (λ n. v ≤ℤ (s.node.value +ℤ gain_of dp n s.node.row s.by)) (sym place) s.enough in
     elim (matched dp laws p t k s.node s.by v (cut.reached s.node has).1 (cut.states s.node has) path enough (cut.bounds s.node has s.by path)) as
-    (λ _. AtMost v t ⊎ (AtMost v (option_map (λ (b : Best). b.value) (found_in dp (length p) d)) ⊎ OneOf (Reaches dp v) (map (λ (c : Subproblem). c.decisions) (filter_map (child_of dp k) layer)))) [
+    (λ _. AtMost v t ⊎ (AtMost v (option_map (λ (b : Best). b.value) (found_from dp (length p) d.layers)) ⊎ OneOf (Reaches dp v) (map (λ (c : Subproblem). c.decisions) (filter_map (child_of dp k) layer)))) [
       | inl low ↦ inl low
       | inr c ↦ inr (inr (one-of-has (Reaches dp v) (map (λ (c : Subproblem). c.decisions) (filter_map (child_of dp k) layer)) c.child.decisions c.reaches
           (Has-map (λ (c : Subproblem). c.decisions) (filter_map (child_of dp k) layer) c.child (Has-filter_map (child_of dp k) layer s.node c.child has c.is))))
     ]
 
 reduced : (dp : Dp) → IsLawful dp → (p : List ℕ) (w : ℕ) (t : Option ℤ) (d : DdLayers) → IsDiagram dp p w t d → length p < dp.vars → (depth : ℕ) → d.first_reduced ≡ Some depth → (layer : List DdNode) → slice_get d.layers (depth - 1 - length p) ≡ Some layer
-    → AreSound dp p t (found_in dp (length p) d) (filter_map (child_of dp (depth - 1)) layer)
+    → AreSound dp p t (found_from dp (length p) d.layers) (filter_map (child_of dp (depth - 1)) layer)
 reduced dp laws p w t d h short depth e layer at =
     let r = reducible dp p w t depth (sym h.first_reduced ∙ e) in
     let low = r.below_first in let high = r.above_last in
@@ -137,23 +139,24 @@ reduced dp laws p w t d h short depth e layer at =
       own = each-of-all (IsChild dp p) (filter_map (child_of dp k) layer) (λ c has.
           let from = Has-filter_map-from (child_of dp k) layer c has in
           is-child dp p k from.0 c (cut.reached from.0 from.1).1 (child-from dp k from.0 c from.2) (omega arith) (omega arith));
-      apart = all-apart dp p k layer cut.reached cut.distinct;
+      apart = all-apart (filter_map (child_of dp k) layer) (all-two dp p k layer cut.reached cut.distinct);
+      differ = all-differ (filter_map (child_of dp k) layer) (all-two dp p k layer cut.reached cut.distinct);
       held = each-of-all (λ (c : Subproblem). IsHeld dp t c.decisions c.bound) (filter_map (child_of dp k) layer) (λ c has.
           let from = Has-filter_map-from (child_of dp k) layer c has in
           is-held dp laws p t k from.0 c (cut.reached from.0 from.1).1 (cut.states from.0 from.1) (child-from dp k from.0 c from.2) (cut.bounds from.0 from.1));
       solution = found-is-sound dp p w t d h short;
-      matched = λ x completion. elim (walked dp laws p w t d h short m (omega arith) x completion) as (λ _. AtMost (value_of dp x) t ⊎ (AtMost (value_of dp x) (option_map (λ (b : Best). b.value) (found_in dp (length p) d)) ⊎ OneOf (Reaches dp (value_of dp x)) (map (λ (c : Subproblem). c.decisions) (filter_map (child_of dp k) layer)))) [
+      matched = λ x completion. elim (walked dp laws p w t d h short m (omega arith) x completion) as (λ _. AtMost (value_of dp x) t ⊎ (AtMost (value_of dp x) (option_map (λ (b : Best). b.value) (found_from dp (length p) d.layers)) ⊎ OneOf (Reaches dp (value_of dp x)) (map (λ (c : Subproblem). c.decisions) (filter_map (child_of dp k) layer)))) [
         | inl low ↦ inl low
         | inr s ↦ by-child dp laws p t d k m layer at place cut (value_of dp x) s
       ];
     }
 
 -- the children of the last exact layer are sound
-pub last-exact-is-sound : (dp : Dp) → IsLawful dp → (p : List ℕ) (w : ℕ) (t : Option ℤ) (d : DdLayers) → IsDiagram dp p w t d → length p < dp.vars → (o : Option ℕ) → d.first_reduced ≡ o → AreSound dp p t (found_in dp (length p) d) (last_exact_children dp (length p) d o)
+pub last-exact-is-sound : (dp : Dp) → IsLawful dp → (p : List ℕ) (w : ℕ) (t : Option ℤ) (d : DdLayers) → IsDiagram dp p w t d → length p < dp.vars → (o : Option ℕ) → d.first_reduced ≡ o → AreSound dp p t (found_from dp (length p) d.layers) (last_exact_from dp (length p) d.layers o)
 last-exact-is-sound dp laws p w t d h short None e = unreduced dp laws p w t d h short e
 last-exact-is-sound dp laws p w t d h short (Some depth) e =
     let r = reducible dp p w t depth (sym h.first_reduced ∙ e) in
     let low = r.below_first in let high = r.above_last in let long = h.depth in
     let at : slice_get d.layers (depth - 1 - length p) ≡ Some (get_or d.layers (depth - 1 - length p) []) = slice_get-get_or d.layers (depth - 1 - length p) [] (omega arith) in
     let done = reduced dp laws p w t d h short depth e (get_or d.layers (depth - 1 - length p) []) at in
-    subst (λ (o : Option (List DdNode)). AreSound dp p t (found_in dp (length p) d) (filter_map (child_of dp (depth - 1)) (unwrap_or o []))) (sym at) done
+    subst (λ (o : Option (List DdNode)). AreSound dp p t (found_from dp (length p) d.layers) (filter_map (child_of dp (depth - 1)) (unwrap_or o []))) (sym at) done

@@ -8,16 +8,18 @@ use Rattle.dp_model.specs.Rows.{row_same}
 use Rattle.dp_model.specs.Subproblem.{Subproblem, IsOwn}
 use Rattle.dp_model.proofs.Members.{Has, each-has}
 use Rattle.dp_model.proofs.RowLemmas.{begins-is, row_same-self, nat_eq-self}
-use Rattle.dp_laws.specs.Diagrams.Sound.{same_place, are_apart, is_apart_from_all, are_all_apart}
+use Rattle.dp_laws.specs.Children.{is_at, DifferInPlace}
+use Rattle.dp_laws.specs.Pairs.{EachTwo}
 use Rattle.dp_laws.specs.Diagrams.Cutsets.{passes, outermost}
-use Rattle.dp_laws.proofs.Diagrams.Apart.{not-true, none-of-three, same-length}
+use Rattle.dp_laws.proofs.Diagrams.Children.{path_of}
+use Rattle.dp_laws.proofs.Diagrams.Apart.{not-true, same-length, AreTwo}
 
 -- What is left comes from the list, and passes through none of those that were kept before.
 
-pub outermost-from : (kept cs : List Subproblem) (d : Subproblem) → Has d (outermost kept cs) → Has d cs
+pub outermost-from : (kept cs : List Subproblem) (d : Subproblem) → Has d (outermost path_of kept cs) → Has d cs
 outermost-from kept [] d h = absurd h
 outermost-from kept (c ∷ cs) d h =
-    elim (passes kept c.decisions) as (λ b. Has d (cond b (outermost kept cs) (c ∷ outermost (c ∷ kept) cs)) → Has d (c ∷ cs)) [
+    elim (passes path_of kept c.decisions) as (λ b. Has d (cond b (outermost path_of kept cs) (c ∷ outermost path_of (c ∷ kept) cs)) → Has d (c ∷ cs)) [
       | true ↦ λ k. inr (outermost-from kept cs d k)
       | false ↦ λ k. elim k as (λ _. Has d (c ∷ cs)) [ inl same ↦ inl same | inr later ↦ inr (outermost-from (c ∷ kept) cs d later) ]
     ] h
@@ -26,14 +28,14 @@ or-false : (a b : Bool) → (a || b) ≡ false → (a ≡ false) × (b ≡ false
 or-false true b e = absurd (let clash : true ≡ false = e in cc)
 or-false false b e = (refl, e)
 
-pub outermost-new : (kept cs : List Subproblem) (d : Subproblem) → Has d (outermost kept cs) → passes kept d.decisions ≡ false
+pub outermost-new : (kept cs : List Subproblem) (d : Subproblem) → Has d (outermost path_of kept cs) → passes path_of kept d.decisions ≡ false
 outermost-new kept [] d h = absurd h
 outermost-new kept (c ∷ cs) d h =
-    elim (passes kept c.decisions) as (λ b. passes kept c.decisions ≡ b → Has d (cond b (outermost kept cs) (c ∷ outermost (c ∷ kept) cs)) → passes kept d.decisions ≡ false) [
+    elim (passes path_of kept c.decisions) as (λ b. passes path_of kept c.decisions ≡ b → Has d (cond b (outermost path_of kept cs) (c ∷ outermost path_of (c ∷ kept) cs)) → passes path_of kept d.decisions ≡ false) [
       | true ↦ λ e k. outermost-new kept cs d k
-      | false ↦ λ e k. elim k as (λ _. passes kept d.decisions ≡ false) [
-        | inl same ↦ subst (λ (x : Subproblem). passes kept x.decisions ≡ false) same e
-        | inr later ↦ (or-false (begins c.decisions d.decisions) (passes kept d.decisions) (outermost-new (c ∷ kept) cs d later)).1
+      | false ↦ λ e k. elim k as (λ _. passes path_of kept d.decisions ≡ false) [
+        | inl same ↦ subst (λ (x : Subproblem). passes path_of kept x.decisions ≡ false) same e
+        | inr later ↦ (or-false (begins c.decisions d.decisions) (passes path_of kept d.decisions) (outermost-new (c ∷ kept) cs d later)).1
       ]
     ] refl h
 
@@ -52,24 +54,24 @@ reaches-front dp v a b h r =
 abbrev prefixes : List Subproblem → List (List ℕ)
 prefixes cs = map (λ (c : Subproblem). c.decisions) cs
 
-by-kept : (dp : Dp) (v : ℤ) (kept : List Subproblem) (q : List ℕ) → passes kept q ≡ true → Reaches dp v q → OneOf (Reaches dp v) (prefixes kept)
+by-kept : (dp : Dp) (v : ℤ) (kept : List Subproblem) (q : List ℕ) → passes path_of kept q ≡ true → Reaches dp v q → OneOf (Reaches dp v) (prefixes kept)
 by-kept dp v [] q e r = absurd (let clash : false ≡ true = e in cc)
 by-kept dp v (a ∷ kept) q e r =
-    elim (begins a.decisions q) as (λ b. begins a.decisions q ≡ b → (b || passes kept q) ≡ true → OneOf (Reaches dp v) (prefixes (a ∷ kept))) [
+    elim (begins a.decisions q) as (λ b. begins a.decisions q ≡ b → (b || passes path_of kept q) ≡ true → OneOf (Reaches dp v) (prefixes (a ∷ kept))) [
       | true ↦ λ t h. inl (reaches-front dp v a.decisions q t r)
       | false ↦ λ t h. inr (by-kept dp v kept q h r)
     ] refl e
 
-pub outermost-matches : (dp : Dp) (v : ℤ) (kept cs : List Subproblem) → OneOf (Reaches dp v) (prefixes cs) → OneOf (Reaches dp v) (prefixes kept) ⊎ OneOf (Reaches dp v) (prefixes (outermost kept cs))
+pub outermost-matches : (dp : Dp) (v : ℤ) (kept cs : List Subproblem) → OneOf (Reaches dp v) (prefixes cs) → OneOf (Reaches dp v) (prefixes kept) ⊎ OneOf (Reaches dp v) (prefixes (outermost path_of kept cs))
 outermost-matches dp v kept [] h = absurd h
 outermost-matches dp v kept (c ∷ cs) h =
     let Goal : List Subproblem → Type 0 = λ left. OneOf (Reaches dp v) (prefixes kept) ⊎ OneOf (Reaches dp v) (prefixes left) in
-    elim (passes kept c.decisions) as (λ b. passes kept c.decisions ≡ b → Goal (cond b (outermost kept cs) (c ∷ outermost (c ∷ kept) cs))) [
-      | true ↦ λ e. elim h as (λ _. Goal (outermost kept cs)) [ inl here ↦ inl (by-kept dp v kept c.decisions e here) | inr later ↦ outermost-matches dp v kept cs later ]
-      | false ↦ λ e. elim h as (λ _. Goal (c ∷ outermost (c ∷ kept) cs)) [
+    elim (passes path_of kept c.decisions) as (λ b. passes path_of kept c.decisions ≡ b → Goal (cond b (outermost path_of kept cs) (c ∷ outermost path_of (c ∷ kept) cs))) [
+      | true ↦ λ e. elim h as (λ _. Goal (outermost path_of kept cs)) [ inl here ↦ inl (by-kept dp v kept c.decisions e here) | inr later ↦ outermost-matches dp v kept cs later ]
+      | false ↦ λ e. elim h as (λ _. Goal (c ∷ outermost path_of (c ∷ kept) cs)) [
         | inl here ↦ inr (inl here)
-        | inr later ↦ elim (outermost-matches dp v (c ∷ kept) cs later) as (λ _. Goal (c ∷ outermost (c ∷ kept) cs)) [
-          | inl before ↦ elim before as (λ _. Goal (c ∷ outermost (c ∷ kept) cs)) [ inl here ↦ inr (inl here) | inr old ↦ inl old ]
+        | inr later ↦ elim (outermost-matches dp v (c ∷ kept) cs later) as (λ _. Goal (c ∷ outermost path_of (c ∷ kept) cs)) [
+          | inl before ↦ elim before as (λ _. Goal (c ∷ outermost path_of (c ∷ kept) cs)) [ inl here ↦ inr (inl here) | inr old ↦ inl old ]
           | inr left ↦ inr (inr left)
         ]
       ]
@@ -80,7 +82,7 @@ outermost-matches dp v kept (c ∷ cs) h =
 -- one stands before the other: it is no deeper, and they differ in depth or state
 pub record StandsBefore (c d : Subproblem) : Type 0 where
   pub shallower : length c.decisions ≤ length d.decisions
-  pub other : same_place c d ≡ false
+  pub other : DifferInPlace c d
 
 -- each stands before all later ones
 abbrev pub InTurn : List Subproblem → Type 0
@@ -96,31 +98,31 @@ turned dp c d oc od before = not-true (begins d.decisions c.decisions) (λ h.
     let long : length d.decisions ≡ length c.decisions = omega arith in
     let same : d.decisions ≡ c.decisions = same-length d.decisions c.decisions long h in
     let rows : d.row ≡ c.row = od.row ∙ (ap (state_of dp) same ∙ sym oc.row) in
-    let depth : nat_eq (length c.decisions) (length d.decisions) ≡ true = subst (λ n. nat_eq (length c.decisions) n ≡ true) (sym long) (nat_eq-self (length c.decisions)) in
-    let row : row_same c.row d.row ≡ true = subst (λ r. row_same c.row r ≡ true) (sym rows) (row_same-self c.row) in
-    let place : same_place c d ≡ true = rw (depth, row) refl in
+    let depth : nat_eq (length d.decisions) (length c.decisions) ≡ true = subst (λ n. nat_eq n (length c.decisions) ≡ true) (sym long) (nat_eq-self (length c.decisions)) in
+    let row : row_same d.row c.row ≡ true = subst (λ r. row_same r c.row ≡ true) (sym rows) (row_same-self c.row) in
+    let place : is_at (length c.decisions) c.row d ≡ true = rw (depth, row) refl in
     let clash : true ≡ false = sym place ∙ before.other in cc)
 
-pub apart-of : (dp : Dp) (c d : Subproblem) → IsOwn dp c → IsOwn dp d → StandsBefore c d → begins c.decisions d.decisions ≡ false → IsTrue (are_apart c d)
-apart-of dp c d oc od before new = none-of-three (begins c.decisions d.decisions) (begins d.decisions c.decisions) (same_place c d) new (turned dp c d oc od before) before.other
+pub apart-of : (dp : Dp) (c d : Subproblem) → IsOwn dp c → IsOwn dp d → StandsBefore c d → begins c.decisions d.decisions ≡ false → AreTwo c d
+apart-of dp c d oc od before new = record { apart = record { first = new; second = turned dp c d oc od before }; differ = before.other }
 
-apart-all : (dp : Dp) (c : Subproblem) (ds : List Subproblem) → IsOwn dp c → ((d : Subproblem) → Has d ds → IsOwn dp d × StandsBefore c d × (begins c.decisions d.decisions ≡ false)) → IsTrue (is_apart_from_all c ds)
-apart-all dp c [] oc all = refl
+apart-all : (dp : Dp) (c : Subproblem) (ds : List Subproblem) → IsOwn dp c → ((d : Subproblem) → Has d ds → IsOwn dp d × StandsBefore c d × (begins c.decisions d.decisions ≡ false)) → Each (AreTwo c) ds
+apart-all dp c [] oc all = tt
 apart-all dp c (d ∷ ds) oc all =
     let here = all d (inl refl) in
     let one = apart-of dp c d oc here.0 here.1 here.2 in
-    let rest : IsTrue (is_apart_from_all c ds) = apart-all dp c ds oc (λ x h. all x (inr h)) in
-    rw one rest
+    let rest : Each (AreTwo c) ds = apart-all dp c ds oc (λ x h. all x (inr h)) in
+    (one, rest)
 
-pub outermost-apart : (dp : Dp) (kept cs : List Subproblem) → ((c : Subproblem) → Has c cs → IsOwn dp c) → InTurn cs → IsTrue (are_all_apart (outermost kept cs))
-outermost-apart dp kept [] own turn = refl
+pub outermost-apart : (dp : Dp) (kept cs : List Subproblem) → ((c : Subproblem) → Has c cs → IsOwn dp c) → InTurn cs → EachTwo AreTwo (outermost path_of kept cs)
+outermost-apart dp kept [] own turn = tt
 outermost-apart dp kept (c ∷ cs) own turn =
-    elim (passes kept c.decisions) as (λ b. IsTrue (are_all_apart (cond b (outermost kept cs) (c ∷ outermost (c ∷ kept) cs)))) [
+    elim (passes path_of kept c.decisions) as (λ b. EachTwo AreTwo (cond b (outermost path_of kept cs) (c ∷ outermost path_of (c ∷ kept) cs))) [
       | true ↦ outermost-apart dp kept cs (λ d h. own d (inr h)) turn.1
       | false ↦ (
-          let one : IsTrue (is_apart_from_all c (outermost (c ∷ kept) cs)) = apart-all dp c (outermost (c ∷ kept) cs) (own c (inl refl)) (λ d h.
+          let one : Each (AreTwo c) (outermost path_of (c ∷ kept) cs) = apart-all dp c (outermost path_of (c ∷ kept) cs) (own c (inl refl)) (λ d h.
           let has = outermost-from (c ∷ kept) cs d h in
-          (own d (inr has), each-has (StandsBefore c) cs d turn.0 has, (or-false (begins c.decisions d.decisions) (passes kept d.decisions) (outermost-new (c ∷ kept) cs d h)).0)) in
-          let rest : IsTrue (are_all_apart (outermost (c ∷ kept) cs)) = outermost-apart dp (c ∷ kept) cs (λ d h. own d (inr h)) turn.1 in
-          rw one rest)
+          (own d (inr has), each-has (StandsBefore c) cs d turn.0 has, (or-false (begins c.decisions d.decisions) (passes path_of kept d.decisions) (outermost-new (c ∷ kept) cs d h)).0)) in
+          let rest : EachTwo AreTwo (outermost path_of (c ∷ kept) cs) = outermost-apart dp (c ∷ kept) cs (λ d h. own d (inr h)) turn.1 in
+          (one, rest))
     ]

@@ -131,4 +131,4 @@ module _ (dp : Dp) (laws : IsLawful dp) (chained : IsChained dp) (p : List ℕ) 
       subst (λ (o : Option (List DdNode)). FallFrom (unwrap_or o [])) (sym l.at) l.falls
 
   pub compiled-is-diagram : IsDiagram dp p w t (relaxed dp (reached dp p) w t)
-  compiled-is-diagram = record { depth = depth; layer = layer; first_reduced = first-reduced; above = above; order = order }
+  compiled-is-diagram = record { first = refl; depth = depth; layer = layer; first_reduced = first-reduced; above = above; order = order }

@@ -1,13 +1,14 @@
 -- The children that a diagram leaves, and the solution that it finds.
-use Rattle.std.specs.Prelude.{◌≡◌, ℕ, ◌≤◌, ◌+◌, ◌-◌, ℤ, ◌+ℤ◌, int_le, Bool, false, not, cond, ◌&&◌, ◌||◌, List, [], ◌∷◌, ◌++◌, length, filter, drop, slice_get, Option, Some, None, option_map, unwrap_or}
-use Rattle.std.specs.List.{filter_map}
-use Rattle.dp_model.specs.Dp.{Dp}
+use Rattle.std.specs.Prelude.{ℕ, ◌+◌, ◌-◌, ℤ, pos, ◌+ℤ◌, int_le, Bool, true, false, not, cond, ◌&&◌, ◌||◌, List, [], ◌∷◌, ◌++◌, drop, map, slice_get, Option, Some, None, option_map, unwrap_or}
+use Rattle.std.specs.List.{cons_option}
 use Rattle.dp_model.specs.Best.{Best}
 use Rattle.dp_model.specs.Decisions.{begins}
-use Rattle.dp_model.specs.Lists.{Each}
+use Rattle.dp_model.specs.Dp.{Dp}
 use Rattle.dp_model.specs.Subproblem.{Subproblem}
+use Rattle.dp_model.specs.declared.cut_kind.CutKind.{CutKind}
+use Rattle.dp_model.specs.declared.cut_kind.CutKind.TheVariants.{LastExactLayer, Frontier}
 use Rattle.dp_laws.specs.declared.arc.DdArc.{DdArc}
-use Rattle.dp_laws.specs.Diagrams.Nodes.{DdNode, DdLayers}
+use Rattle.dp_laws.specs.Diagrams.Nodes.{DdNode, DdLayers, node_at}
 
 -- the lesser of two numbers, or none where one of them is none
 abbrev pub lesser_of : Option ℤ → Option ℤ → Option ℤ
@@ -15,16 +16,26 @@ lesser_of None b = None
 lesser_of (Some a) None = None
 lesser_of (Some a) (Some b) = Some (cond (int_le a b) a b)
 
--- the node as a child, whose bound is its value and the lesser of suffix and rough bound; without a suffix it is none
-abbrev pub child_of : Dp → ℕ → DdNode → Option Subproblem
-child_of dp k node =
-    option_map (λ more. record { decisions = node.path; row = node.row; value = node.value; bound = node.value +ℤ more })
-    (lesser_of node.suffix (dp.rough k node.row))
+-- the bound of a node as a child: its value and the lesser of suffix and rough bound; none without either
+abbrev pub bound_of : Dp → ℕ → DdNode → Option ℤ
+bound_of dp k node = option_map (λ more. node.value +ℤ more) (lesser_of node.suffix (dp.rough k node.row))
 
--- the children of the last exact layer: the nodes just above the first reduced one
-abbrev pub last_exact_children : Dp → ℕ → DdLayers → Option ℕ → List Subproblem
-last_exact_children dp first d None = []
-last_exact_children dp first d (Some depth) = filter_map (child_of dp (depth - 1)) (unwrap_or (slice_get d.layers (depth - 1 - first)) [])
+-- a child: the depth of its node, the node's place in the layer, and its bound
+pub record ChildAt : Type 0 where
+  pub depth : ℕ
+  pub place : ℕ
+  pub bound : ℤ
+
+-- of a layer at depth k, from its place i on, the nodes that pass the test and have a bound
+abbrev pub places_where : (DdNode → Bool) → Dp → ℕ → ℕ → List DdNode → List ChildAt
+places_where test dp k i [] = []
+places_where test dp k i (node ∷ nodes) =
+    cons_option (cond (test node) (option_map (λ bound. record { depth = k; place = i; bound = bound }) (bound_of dp k node)) None) (places_where test dp k (i + 1) nodes)
+
+-- the last exact layer: the nodes just above the first reduced one; where nothing is reduced there is none
+abbrev pub last_exact_at : Dp → DdLayers → Option ℕ → List ChildAt
+last_exact_at dp d None = []
+last_exact_at dp d (Some depth) = places_where (λ node. true) dp (depth - 1) 0 (unwrap_or (slice_get d.layers (depth - 1 - d.first)) [])
 
 abbrev pub is_inexact : Option DdNode → Bool
 is_inexact None = false
@@ -39,39 +50,55 @@ abbrev pub leaves : List DdNode → List DdArc → Bool
 leaves next [] = false
 leaves next (arc ∷ arcs) = leads_out next arc.target || leaves next arcs
 
--- the exact nodes of a layer with an arc to an inexact one
-abbrev pub borders : Dp → ℕ → List DdNode → List DdNode → List Subproblem
-borders dp k layer next = filter_map (child_of dp k) (filter (λ node. node.exact && leaves next node.arcs) layer)
+-- an exact node with an arc to an inexact one
+abbrev pub is_border : List DdNode → DdNode → Bool
+is_border next node = node.exact && leaves next node.arcs
 
-abbrev pub all_borders : Dp → ℕ → List (List DdNode) → List Subproblem
-all_borders dp k [] = []
-all_borders dp k (layer ∷ []) = []
-all_borders dp k (layer ∷ next ∷ rest) = borders dp k layer next ++ all_borders dp (k + 1) (next ∷ rest)
+-- the borders of the layers from depth k on, by depth
+abbrev pub all_borders_at : Dp → ℕ → List (List DdNode) → List ChildAt
+all_borders_at dp k [] = []
+all_borders_at dp k (layer ∷ []) = []
+all_borders_at dp k (layer ∷ next ∷ rest) = places_where (is_border next) dp k 0 layer ++ all_borders_at dp (k + 1) (next ∷ rest)
 
--- whether the decisions pass through one of the subproblems
-abbrev pub passes : List Subproblem → List ℕ → Bool
-passes [] p = false
-passes (c ∷ cs) p = begins c.decisions p || passes cs p
+-- whether the decisions pass through one of those on the list, whose decisions the function tells
+abbrev pub passes : {X : Type 0} → (X → List ℕ) → List X → List ℕ → Bool
+passes path [] p = false
+passes path (c ∷ cs) p = begins (path c) p || passes path cs p
 
 -- those that are kept so far leave out what passes through one of them
-abbrev pub outermost : List Subproblem → List Subproblem → List Subproblem
-outermost kept [] = []
-outermost kept (c ∷ cs) = cond (passes kept c.decisions) (outermost kept cs) (c ∷ outermost (c ∷ kept) cs)
+abbrev pub outermost : {X : Type 0} → (X → List ℕ) → List X → List X → List X
+outermost path kept [] = []
+outermost path kept (c ∷ cs) = cond (passes path kept (path c)) (outermost path kept cs) (c ∷ outermost path (c ∷ kept) cs)
 
--- the children of the frontier: below p, the exact nodes with an arc to an inexact one, none through another
-abbrev pub frontier_children : Dp → ℕ → DdLayers → List Subproblem
-frontier_children dp first d = outermost [] (all_borders dp (first + 1) (drop 1 d.layers))
+abbrev pub with_bound : Option DdNode → ℤ → Subproblem
+with_bound None bound = record { decisions = []; row = []; value = pos 0; bound = bound }
+with_bound (Some node) bound = record { decisions = node.path; row = node.row; value = node.value; bound = bound }
 
--- the first exact node of the last layer
+-- the subproblem of a child: row, value and path of its node, and its bound
+abbrev pub child_from : DdLayers → ChildAt → Subproblem
+child_from d c = with_bound (node_at d c.depth c.place) c.bound
+
+abbrev pub path_at : DdLayers → ChildAt → List ℕ
+path_at d c = (child_from d c).decisions
+
+-- the frontier: below the first layer the exact nodes with an arc to an inexact one, none whose path passes through another
+abbrev pub frontier_at : Dp → DdLayers → List ChildAt
+frontier_at dp d = outermost (path_at d) [] (all_borders_at dp (d.first + 1) (drop 1 d.layers))
+
+-- the children of a diagram, by their places
+abbrev pub children_at : Dp → DdLayers → CutKind → List ChildAt
+children_at dp d LastExactLayer = last_exact_at dp d d.first_reduced
+children_at dp d Frontier = frontier_at dp d
+
+-- and as subproblems
+abbrev pub children_of : Dp → DdLayers → CutKind → List Subproblem
+children_of dp d kind = map (child_from d) (children_at dp d kind)
+
+-- the first exact node of a layer, as a solution
 abbrev pub first_exact : List DdNode → Option Best
 first_exact [] = None
 first_exact (node ∷ nodes) = cond node.exact (Some (record { decisions = node.path; value = node.value })) (first_exact nodes)
 
 -- the found solution: the first exact node of the last layer
-abbrev pub found_in : Dp → ℕ → DdLayers → Option Best
-found_in dp first d = first_exact (unwrap_or (slice_get d.layers (dp.vars - first)) [])
-
--- each child stands at the depth above the first reduced one or deeper; where nothing is reduced there is none
-abbrev pub StandDeep : Option ℕ → List Subproblem → Type 0
-StandDeep None children = children ≡ []
-StandDeep (Some depth) children = Each (λ (c : Subproblem). depth ≤ length c.decisions + 1) children
+abbrev pub found_in : Dp → DdLayers → Option Best
+found_in dp d = first_exact (unwrap_or (slice_get d.layers (dp.vars - d.first)) [])

@@ -112,6 +112,7 @@ FallFrom (node ∷ rest) = Each (λ (other : DdNode). other.value ≤ℤ node.va
 -- a diagram as seen: the layers below p for the width w and the threshold t; above the first reduced one they are those of
 -- the restricted diagram, and the last one falls in value
 pub record IsDiagram (dp : Dp) (p : List ℕ) (w : ℕ) (t : Option ℤ) (d : DdLayers) : Type 0 where
+  pub first : d.first ≡ length p
   pub depth : length d.layers ≡ dp.vars - length p + 1
   pub layer : AreLayers dp p w t (length p) d.layers
   pub first_reduced : d.first_reduced ≡ wide dp p w t

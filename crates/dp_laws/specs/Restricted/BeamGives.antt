@@ -1,15 +1,11 @@
 -- What a beam gives.
 use Rattle.std.specs.Prelude.{◌≡◌, ℕ, ℤ, List, Option, Some}
 use Rattle.dp_model.specs.Dp.{Dp}
-use Rattle.dp_model.specs.Prefixes.{IsPrefix, IsCompletion, value_of}
+use Rattle.dp_model.specs.Prefixes.{IsPrefix}
 use Rattle.dp_model.specs.Reached.{Reached}
+use Rattle.dp_laws.specs.Children.{IsFound}
 use Rattle.dp_laws.specs.Restricted.Beams.{beam}
-
--- a completion of p with its value
-pub record IsFound (dp : Dp) (p : List ℕ) (r : Reached) : Type 0 where
-  pub completion : IsCompletion dp p r.decisions
-  pub value : r.value ≡ value_of dp r.decisions
 
 -- a beam is a feasible solution that begins with p, with its value
 abbrev pub BeamsAreFeasible : Dp → Type 0
-BeamsAreFeasible dp = (p : List ℕ) (w : ℕ) (t : Option ℤ) (r : Reached) → IsPrefix dp p → beam dp p w t ≡ Some r → IsFound dp p r
+BeamsAreFeasible dp = (p : List ℕ) (w : ℕ) (t : Option ℤ) (r : Reached) → IsPrefix dp p → beam dp p w t ≡ Some r → IsFound dp p r.decisions r.value

@@ -70,6 +70,7 @@ start_layer r = record { row = r.row; value = r.value; exact = true; arcs = []; 
 -- the relaxed diagram of a prefix
 abbrev pub relaxed : Dp → Reached → ℕ → Option ℤ → DdLayers
 relaxed dp r w t = record {
+  first = length r.decisions;
   layers = with_suffixes dp (length r.decisions) (compiled dp (length r.decisions) w t (length r.decisions) (dp.vars - length r.decisions) (start_layer r));
   first_reduced = first_reduced_below dp (length r.decisions) w t (length r.decisions) (dp.vars - length r.decisions) (start_layer r);
 }

@@ -1,5 +1,5 @@
 use Rattle.std.proofs.Common.{◌≡◌, ◌≤◌, ◌*◌}
-use Rattle.layer_build.specs.Width.{cost_below}
+use Rattle.dp_laws.specs.Width.{cost_below}
 use Rattle.layer_build.proofs.width.cost.Given as goal
 
 abbrev pub invariant-layers : goal.invariant-layers
