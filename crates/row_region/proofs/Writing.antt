@@ -1,0 +1,87 @@
+-- A live row is written.
+use Rattle.std.proofs.Common.{◌≡◌, ℕ, ◌+◌, ◌-◌, ◌*◌, ◌≤◌, ℤ, pos, List, ◌++◌, length, get_or, set, take, drop, Some, None, slice_get, sym, ap, ◌∙◌, arith}
+use Rattle.std.proofs.lemmas.List.{length-append, length-take-le, length-drop, get_or_append_left, get_or-append_right, get_or-take, get_or-drop, drop_at, take_at}
+use Rattle.std.proofs.lemmas.Option.{get_or_from_slice_get}
+use Rattle.row_region.specs.Region.{refilled, row_or}
+use Rattle.row_region.specs.Parts.{written}
+use Rattle.row_region.specs.Layout.{row_at, slots, SameBut, IsSound}
+use Rattle.row_region.proofs.Rows.{length-row}
+use Rattle.row_region.proofs.Chains.{write_chained, write_slots}
+use Rattle.row_region.proofs.Live.{live_room, live_row, live_apart, live_within}
+
+length-refilled : (words : ℕ) (old new : List ℤ) → length old ≡ words → length (refilled words old new) ≡ words
+length-refilled words old new long = length-take-le words (new ++ drop (length new) old) (omega (arith, length-append new (drop (length new) old), length-drop (length new) old))
+
+module _ (cells : List ℤ) (words p : ℕ) (w : List ℤ) (room : p * words + words ≤ length cells) where
+  abbrev at : ℕ
+  at = p * words
+
+  abbrev part : List ℤ
+  part = refilled words (row_at cells words p) w
+
+  abbrev behind : List ℤ
+  behind = drop words (drop at cells)
+
+  long : length part ≡ words
+  long = length-refilled words (row_at cells words p) w (length-row cells words p room)
+
+  front : length (take at cells) ≡ at
+  front = length-take-le at cells (omega arith)
+
+  pub length-written : length (written at words cells w) ≡ length cells
+  length-written =
+      let a = length-append (take at cells) (part ++ behind) in
+      let b = length-append part behind in
+      let c = length-drop words (drop at cells) in
+      let d = length-drop at cells in
+      let e = long in let f = front in
+      omega arith
+
+  written_after : (k : ℕ) → at + words ≤ k → get_or (written at words cells w) k (pos 0) ≡ get_or cells k (pos 0)
+  written_after k h =
+      let n : at + (words + (k - at - words)) ≡ k = omega arith in
+      get_or-append_right (take at cells) (part ++ behind) at k (pos 0) front (omega arith)
+      ∙ get_or-append_right part behind words (k - at) (pos 0) long (omega arith)
+      ∙ get_or-drop words (drop at cells) (k - at - words) (pos 0)
+      ∙ get_or-drop at cells (words + (k - at - words)) (pos 0)
+      ∙ ap (λ (j : ℕ). get_or cells j (pos 0)) n
+
+  pub written_but : SameBut cells (written at words cells w) words p
+  written_but = record {
+    size = length-written;
+    before = λ k h. get_or_append_left (take at cells) (part ++ behind) (pos 0) k (let f = front in omega arith) ∙ get_or-take at cells k (pos 0) h;
+    after = written_after;
+  }
+
+  pub written_row : row_at (written at words cells w) words p ≡ part
+  written_row = ap (take words) (drop_at (take at cells) (part ++ behind) at front) ∙ take_at part behind words long
+
+  -- the vector has what was written
+  pub written_whole : (len : ℕ) → len ≡ length cells → take len (written at words cells w ++ drop (length (written at words cells w)) cells) ≡ written at words cells w
+  written_whole len e = take_at (written at words cells w) (drop (length (written at words cells w)) cells) len (length-written ∙ sym e)
+
+module _ (cells : List ℤ) (words count free spare p len : ℕ) (row w : List ℤ) (sound : IsSound cells words count free spare) (live : slice_get (slots cells words count free spare) p ≡ Some (Some row)) (same : len ≡ length cells) where
+  abbrev now : List ℤ
+  now = take len (written (p * words) words cells w ++ drop (length (written (p * words) words cells w)) cells)
+
+  is_written : now ≡ written (p * words) words cells w
+  is_written = written_whole cells words p w (live_room cells words count free spare p row sound live) len same
+
+  pub lent_sound : IsSound now words count free spare
+  lent_sound =
+      let room = live_room cells words count free spare p row sound live in
+      let but = written_but cells words p w room in
+      rw is_written (record {
+        chained = write_chained cells (written (p * words) words cells w) words count free spare p sound.chained but (live_apart cells words count free spare p row sound live);
+        size = but.size ∙ sound.size;
+      })
+
+  pub lent_slots : slots now words count free spare ≡ set (slots cells words count free spare) p (Some (refilled words (row_or (get_or (slots cells words count free spare) p None)) w))
+  lent_slots =
+      let room = live_room cells words count free spare p row sound live in
+      let but = written_but cells words p w room in
+      let old : row_or (get_or (slots cells words count free spare) p None) ≡ row_at cells words p =
+      ap row_or (get_or_from_slice_get (slots cells words count free spare) p (Some row) None live) ∙ sym (live_row cells words count free spare p row sound live) in
+      ap (λ (l : List ℤ). slots l words count free spare) is_written
+      ∙ write_slots cells (written (p * words) words cells w) words count free spare p sound.chained but (live_apart cells words count free spare p row sound live) (live_within cells words count free spare p row sound live)
+      ∙ ap (λ (l : List ℤ). set (slots cells words count free spare) p (Some l)) (written_row cells words p w room ∙ ap (λ (l : List ℤ). refilled words l w) (sym old))

@@ -1,0 +1,4 @@
+pub mod Region
+pub mod Layout
+pub mod Lending
+pub mod Parts

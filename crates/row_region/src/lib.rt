@@ -1,0 +1,17 @@
+//! Rows of one length in one block of cells, taken and given back in a few instructions.
+//!
+//! A row is named by a small copied `RowId`. A row that is free keeps the name of the next free one in its first cell, so the
+//! free rows need no room of their own. The crate stands on std alone. A region is seen as the row of each place, or none
+//! where the place is free, and the number `spare` of free places. Promised, each in the contract of its call: `take` gives a
+//! row of zeros that was free, and none exactly where `spare` is 0; `give` frees one live row; `row` reads it, `row_mut` lends
+//! it to be written, and what is left in it is the row from then on; no call changes another row. Only `new` and `grow` take
+//! memory; a `grow` that fails changes nothing.
+#![tactic(auto)]
+
+mod parting;
+mod region;
+#[cfg(test)]
+mod tests;
+mod threading;
+
+pub use region::{Region, RowId};

@@ -1,0 +1,155 @@
+ghost use Rattle.std.specs.Prelude.{◌≡◌, ℕ, ℤ, List, ◌+◌, ◌-◌, ◌*◌, ◌<◌, ◌≤◌, ◌↔◌, ◌++◌, length, replicate, count_by, is_none, slice_get, slice_set, pos, Some, None, IsNone, IfSome, IfNone, IfOk, OnErr, OnOk};
+ghost use Rattle.std.specs.Borrow.{sem};
+ghost use Rattle.row_region.specs.Region.{IsLive, IsRow, HasTaken};
+ghost use Rattle.row_region.specs.Lending.{LendsRow};
+
+use crate::parting::part_of;
+use crate::threading::{thread, zero};
+use std::alloc::{AllocError, Global};
+use std::marker::Model;
+
+/// The most rows of a region: a name has 32 bits.
+const MOST_ROWS: usize = 0x1_0000_0000;
+
+/// The name of a row of its region.
+#[derive(Clone, Copy, Debug, PartialEq, Eq, Hash)]
+pub struct RowId {
+    place: u32,
+}
+
+/// Rows of one length in one block of cells. Each is live or free.
+#[derive(Debug, Drop)]
+pub struct Region {
+    // the rows, one behind the other; the first cell of a free one is the place of the next free one
+    cells: Vec<i64>,
+    words: usize,
+    count: usize,
+    // the place of the first free row, where there is one
+    free: usize,
+    spare: usize,
+}
+
+impl Model for Region {
+    ghost use Rattle.row_region.specs.Region.{RegionView};
+
+    ghost Value = { RegionView };
+
+    ghost use Rattle.row_region.specs.Layout.{IsSound, slots};
+
+    ghost view = { λ r. record { words = r.words; rows = slots r.cells.items r.words r.count r.free r.spare; spare = r.spare } };
+
+    ghost invariant = { λ r. IsSound r.cells.items r.words r.count r.free r.spare };
+}
+
+impl Region {
+    /// So many rows of so many cells, all free. It fails only for want of memory.
+    ///
+    /// A row has at least one cell.
+    pub fn new(alloc: Global, words: usize, rows: usize) -> Result<Region, AllocError>
+        requires { 0 < words }
+        ensures { IfOk result (λ r. r ≡ record { words = words; rows = replicate rows None; spare = rows }) }
+    {
+        let mut region = Region {
+            cells: Vec::new(alloc),
+            words,
+            count: 0,
+            free: 0,
+            spare: 0,
+        };
+        region.grow(rows)?;
+        Ok(region)
+    }
+
+    /// Takes a free row and writes zeros to it; `None` exactly where no row is free.
+    pub fn take(&mut self) -> Option<RowId>
+        ensures none { IsNone result ↔ (self.old.spare ≡ 0) }
+        ensures same { IfNone result (self.new ≡ self.old) }
+        ensures taken { IfSome result (λ id. HasTaken self.old id.place self.new) }
+    {
+        if self.spare == 0 {
+            return None;
+        }
+        let place = self.free;
+        let at = place * self.words;
+        self.free = self.cells[at] as usize;
+        zero(&mut self.cells, at, at + self.words);
+        self.spare -= 1;
+        Some(RowId {
+            place: place as u32,
+        })
+    }
+
+    /// Gives a live row back: it is free from then on.
+    pub fn give(&mut self, id: RowId)
+        requires { IsLive self.old id.place }
+        ensures { self.new ≡ record self.old { rows = slice_set self.old.rows id.place None; spare = self.old.spare + 1 } }
+    {
+        let place = id.place as usize;
+        self.cells[place * self.words] = self.free as i64;
+        self.free = place;
+        self.spare += 1;
+    }
+
+    /// The cells of a live row.
+    pub fn row(&self, id: RowId) -> &[i64]
+        requires { IsLive self.now id.place }
+        ensures { IsRow self.now id.place result.now }
+    {
+        let at = id.place as usize * self.words;
+        &self.cells[at..at + self.words]
+    }
+
+    /// The cells of a live row, to be written. What is left in them is the row from then on.
+    pub fn row_mut(&mut self, id: RowId) -> &mut [i64]
+        requires { IsLive self.old id.place }
+        ensures* writes_back { sem 𝓛 (LendsRow self.entry id.place result) }
+        ensures row { IsRow self.old id.place result.now }
+    {
+        let at = id.place as usize * self.words;
+        let words = self.words;
+        part_of(&mut self.cells, at, words)
+    }
+
+    /// How many rows are free.
+    pub fn spare(&self) -> usize
+        ensures spare { result ≡ self.now.spare }
+        ensures counts { self.now.spare ≡ count_by is_none self.now.rows }
+    {
+        self.spare
+    }
+
+    /// How many cells a row has.
+    pub fn words(&self) -> usize
+        ensures words { result ≡ self.now.words }
+        ensures positive { 0 < self.now.words }
+    {
+        self.words
+    }
+
+    /// Gives all rows back.
+    pub fn clear(&mut self)
+        ensures { self.new ≡ record self.old { rows = replicate (length self.old.rows) None; spare = length self.old.rows } }
+    {
+        self.free = thread(&mut self.cells, self.words, 0, self.count, 0);
+        self.spare = self.count;
+    }
+
+    /// Adds so many free rows. It fails only for want of memory, and then changes nothing.
+    pub fn grow(&mut self, rows: usize) -> Result<(), AllocError>
+        ensures ok { OnOk result (self.new ≡ record self.old { rows = self.old.rows ++ replicate rows None; spare = self.old.spare + rows }) }
+        ensures err { OnErr result (self.new ≡ self.old) }
+    {
+        if rows > MOST_ROWS - self.count {
+            return Err(AllocError);
+        }
+        let count = self.count + rows;
+        let Some(size) = count.checked_mul(self.words) else {
+            return Err(AllocError);
+        };
+        self.cells.resize(size, 0)?;
+        self.free = thread(&mut self.cells, self.words, self.count, count, self.free);
+        self.count = count;
+        self.spare += rows;
+        Ok(())
+    }
+}
