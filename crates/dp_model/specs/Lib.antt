@@ -9,6 +9,7 @@ pub mod Counts
 pub mod Gaps
 pub mod Laws
 pub mod Rows
+pub mod Folds
 pub mod Decisions
 pub mod Reached
 pub mod Subproblem
