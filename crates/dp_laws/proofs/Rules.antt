@@ -1,7 +1,7 @@
 -- Proofs on the rules.
 pub mod Examples
 pub mod Linked
-pub mod Landing
+pub mod Redirecting
 pub mod Layers
 pub mod Expanded
 pub mod Pruned

@@ -1,5 +1,5 @@
 -- The rules by which the layers of a diagram are built, on plain lists of nodes.
-pub mod Landings
+pub mod Redirects
 pub mod Expanding
 pub mod Pruning
 pub mod Reducing

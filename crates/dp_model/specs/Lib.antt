@@ -15,4 +15,4 @@ pub mod Reached
 pub mod Subproblem
 pub mod Decided
 pub mod Walked
-pub mod Worth
+pub mod Solution
