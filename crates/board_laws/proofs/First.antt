@@ -4,7 +4,7 @@ use Rattle.std.proofs.lemmas.Bool.Decides.{nat_tests}
 use Rattle.std.proofs.lemmas.Int.{ints}
 use Rattle.std.proofs.lemmas.List.Sums.{sum_by-cons}
 use Rattle.std.specs.List.{sum_by}
-use Rattle.dp_model.specs.Best.{Best}
+use Rattle.dp_model.specs.Solution.{Solution}
 use Rattle.dp_model.specs.Counts.{tree}
 use Rattle.dp_model.specs.Cover.{Covers, IsHeld}
 use Rattle.dp_model.specs.Dp.{Dp}
@@ -35,7 +35,7 @@ slots-many zero = refl
 slots-many (suc n) = let rest = slots-many n in omega arith
 
 -- what holds of an incumbent and the open subproblems where no slot is full and nothing was taken
-record Begins (dp : Dp) (within : ℤ) (best : Option Best) (os : List Ticketed) : Type 0 where
+record Begins (dp : Dp) (within : ℤ) (best : Option Solution) (os : List Ticketed) : Type 0 where
   pub incumbent : IncumbentHolds dp best
   pub covers : Covers dp (reach_of within (value_held best)) (prefixes os)
   pub own : Each (λ o. IsOwn dp o.subproblem) os
@@ -49,7 +49,7 @@ record Begins (dp : Dp) (within : ℤ) (best : Option Best) (os : List Ticketed)
   pub ends : sum_by (pot_of dp) os ≤ tree dp
   pub shares : length os + sum_by (rest_of dp) os ≤ tree dp
 
-abbrev fresh_board : Option Best → List Ticketed → Settings → BoardState
+abbrev fresh_board : Option Solution → List Ticketed → Settings → BoardState
 fresh_board incumbent os settings = record {
   incumbent = incumbent;
   open_ones = os;
@@ -66,7 +66,7 @@ fresh_board incumbent os settings = record {
 whole : (os : List Ticketed) (settings : Settings) → os ≡ full_slots (empty_slots settings.workers) ++ os
 whole os settings = ap (λ l. l ++ os) (sym (full-none settings.workers))
 
-begin-board : (dp : Dp) (best : Option Best) (os : List Ticketed) (settings : Settings) → AreSettings settings → Begins dp settings.within best os → IsBoard dp (fresh_board best os settings)
+begin-board : (dp : Dp) (best : Option Solution) (os : List Ticketed) (settings : Settings) → AreSettings settings → Begins dp settings.within best os → IsBoard dp (fresh_board best os settings)
 begin-board dp best os settings are s =
     let same = whole os settings in
     let empty : length (full_slots (empty_slots settings.workers)) ≡ 0 = ap length (full-none settings.workers) in
@@ -91,7 +91,7 @@ begin-board dp best os settings are s =
       cause = λ e. absurd (cc);
     }
 
-begin-good : (dp : Dp) (best : Option Best) (os : List Ticketed) (settings : Settings) → Begins dp settings.within best os → IsGood dp (fresh_board best os settings)
+begin-good : (dp : Dp) (best : Option Solution) (os : List Ticketed) (settings : Settings) → Begins dp settings.within best os → IsGood dp (fresh_board best os settings)
 begin-good dp best os settings s =
     let same = whole os settings in
     let far = reach_of settings.within (value_held best) in
@@ -124,7 +124,7 @@ pub root-state : (dp : Dp) → IsLawful dp → IsStateOf dp 0 dp.root
 root-state dp laws = record { layer = omega arith; test = laws.states.root }
 
 -- where nothing is open, the incumbent alone covers
-begins-none : (dp : Dp) (within : ℤ) (best : Option Best) → IncumbentHolds dp best → Covers dp (reach_of within (value_held best)) [] → Begins dp within best []
+begins-none : (dp : Dp) (within : ℤ) (best : Option Solution) → IncumbentHolds dp best → Covers dp (reach_of within (value_held best)) [] → Begins dp within best []
 begins-none dp within best incumbent covers = record {
   incumbent = incumbent;
   covers = covers;

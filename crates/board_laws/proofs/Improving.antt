@@ -1,6 +1,6 @@
 -- Improve keeps a board, and a good one.
 use Rattle.std.proofs.Common.{◌≡◌, ◌≢◌, ◌<◌, ℤ, ◌≤ℤ◌, Bool, true, false, List, ◌++◌, filter, Option, Some, ◌⊎◌, inl, inr, arith}
-use Rattle.dp_model.specs.Best.{Best}
+use Rattle.dp_model.specs.Solution.{Solution}
 use Rattle.dp_model.specs.Cover.{IsHeld}
 use Rattle.dp_model.specs.Dp.{Dp}
 use Rattle.dp_model.specs.Lists.{Each, OneOf}
@@ -41,7 +41,7 @@ drop-carries dp reach full os held k v one =
       ]
     ]
 
-pub improve-board : (dp : Dp) (b : BoardState) (best : Best) → IncumbentHolds dp (Some best) → IsBoard dp b → IsBoard dp (improved b best)
+pub improve-board : (dp : Dp) (b : BoardState) (best : Solution) → IncumbentHolds dp (Some best) → IsBoard dp b → IsBoard dp (improved b best)
 improve-board dp b best holds g =
     let more = reach_of b.settings.within (Some best.value) in
     let full = full_slots b.slots in
@@ -68,7 +68,7 @@ improve-board dp b best holds g =
       settings = g.settings;
     }
 
-pub improve-good : (dp : Dp) (b : BoardState) (best : Best) → is_above (incumbent_value b) best.value ≡ true → IsGood dp b → IsGood dp (improved b best)
+pub improve-good : (dp : Dp) (b : BoardState) (best : Solution) → is_above (incumbent_value b) best.value ≡ true → IsGood dp b → IsGood dp (improved b best)
 improve-good dp b best up h =
     let more = reach_of b.settings.within (Some best.value) in
     let le = reach-rises b.settings.within (incumbent_value b) best.value up in

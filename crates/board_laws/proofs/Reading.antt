@@ -18,7 +18,8 @@ use Rattle.board_laws.specs.Laws.{NoneExceedsTheBound, ExploredIsWithinReach, Ex
 use Rattle.shared_fringe.specs.Tickets.{Ticketed}
 use Rattle.std.proofs.Common.{pos, ◌+◌, ◌+ℤ◌, sym, ap, subst, IsTrue}
 use Rattle.std.proofs.lemmas.Bool.Decides.{nat_tests}
-use Rattle.dp_model.specs.Best.{Best, IsBest}
+use Rattle.dp_model.specs.Solution.{Solution}
+use Rattle.dp_model.specs.Best.{IsBest}
 
 -- The bound.
 
@@ -138,7 +139,7 @@ reach-zero within None zero = refl
 reach-zero within (Some value) zero = ap Some (let same : value +ℤ within ≡ value = omega (arith, ints) in same)
 
 -- a feasible solution that none exceeds is best, and there is none where none is at most none
-best-held : (dp : Dp) (held : Option Best) → IncumbentHolds dp held → ((x : List ℕ) → IsSolution dp x → AtMost (value_of dp x) (value_held held)) → IsBest dp (value_held held)
+best-held : (dp : Dp) (held : Option Solution) → IncumbentHolds dp held → ((x : List ℕ) → IsSolution dp x → AtMost (value_of dp x) (value_held held)) → IsBest dp (value_held held)
 best-held dp None h most = most
 best-held dp (Some best) h most = record { by = best.decisions; solution = h.solution; value = sym h.value; most = most }
 

@@ -2,7 +2,7 @@
 use Rattle.std.proofs.Common.{◌≡◌, ◌≢◌, ℕ, zero, suc, ◌≤◌, ℤ, List, [], ◌∷◌, set, Bool, true, false, cond, Option, Some, None, refl, ◌∙◌, ap, subst, arith}
 use Rattle.std.proofs.lemmas.Int.{ints}
 use Rattle.std.specs.List.{slice_get}
-use Rattle.dp_model.specs.Best.{Best}
+use Rattle.dp_model.specs.Solution.{Solution}
 use Rattle.dp_model.specs.Dp.{Dp}
 use Rattle.dp_model.specs.Laws.{IsLawful}
 use Rattle.dp_model.specs.Numbers.{OptionAtMost, is_above}
@@ -59,7 +59,7 @@ above-less : (inc : Option ℤ) (value : ℤ) → is_above inc value ≡ true �
 above-less None value h = tt
 above-less (Some old) value h = grind (arith, ints)
 
-pub improved-follows : (b : BoardState) (best : Best) → is_above (incumbent_value b) best.value ≡ true → Follows b (improved b best)
+pub improved-follows : (b : BoardState) (best : Solution) → is_above (incumbent_value b) best.value ≡ true → Follows b (improved b best)
 improved-follows b best up = record { settings = refl; better = above-less (incumbent_value b) best.value up; taken = omega arith; finished = omega arith; next_ticket = omega arith }
 
 fate-later : (ticket : ℕ) (f : Fate) → ticket ≤ ticket_after ticket f

@@ -1,6 +1,6 @@
 -- The board as data.
 use Rattle.std.specs.Prelude.{ℕ, ◌+◌, ◌^◌, ◌≤◌, ℤ, pos, ◌+ℤ◌, ◌≤ℤ◌, Bool, List, [], ◌∷◌, ◌++◌, map, length, nat_eq, slice_get, Option, Some, None}
-use Rattle.dp_model.specs.Best.{Best}
+use Rattle.dp_model.specs.Solution.{Solution}
 use Rattle.shared_fringe.specs.Tickets.{Ticketed}
 use Rattle.dominance_table.specs.Entries.{TableEntry}
 use Rattle.board_laws.specs.declared.cause.Cause.{Cause}
@@ -17,7 +17,7 @@ pub record AreSettings (s : Settings) : Type 0 where
 -- the incumbent, the open subproblems in order of ticket, a slot for each worker, the entries of the dominance table in order of
 -- ticket, the settings, the counts and the cause of a halt
 pub record BoardState : Type 0 where
-  pub incumbent : Option Best
+  pub incumbent : Option Solution
   pub open_ones : List Ticketed
   pub slots : List (Option Ticketed)
   pub entries : List TableEntry
@@ -27,7 +27,7 @@ pub record BoardState : Type 0 where
   pub next_ticket : ℕ
   pub cause : Option Cause
 
-abbrev pub value_held : Option Best → Option ℤ
+abbrev pub value_held : Option Solution → Option ℤ
 value_held None = None
 value_held (Some best) = Some best.value
 

@@ -1,6 +1,6 @@
 -- What every board keeps, and what a good one keeps beside.
 use Rattle.std.specs.Prelude.{◌≡◌, ◌≢◌, ℕ, ◌+◌, ◌-◌, ◌*◌, ◌^◌, ◌<◌, ◌≤◌, ℤ, List, length, sum_by, Option, Some, None, IsTrue}
-use Rattle.dp_model.specs.Best.{Best}
+use Rattle.dp_model.specs.Solution.{Solution, IsSolutionWith}
 use Rattle.dp_model.specs.Counts.{pot, tree}
 use Rattle.dp_model.specs.Cover.{Covers, IsHeld}
 use Rattle.dp_model.specs.Dp.{Dp}
@@ -8,7 +8,6 @@ use Rattle.dp_model.specs.Gaps.{IsStateOf}
 use Rattle.dp_model.specs.Lists.{Each}
 use Rattle.dp_model.specs.Numbers.{IsFar, is_above}
 use Rattle.dp_model.specs.Subproblem.{IsOwn}
-use Rattle.dp_model.specs.Worth.{IsWorth}
 use Rattle.dp_laws.specs.Pairs.{EachTwo}
 use Rattle.shared_fringe.specs.Fringe.{AreDifferent}
 use Rattle.shared_fringe.specs.Tickets.{Ticketed, IsEarlier}
@@ -19,9 +18,9 @@ use Rattle.board_laws.specs.Children.{AreApart}
 use Rattle.board_laws.specs.Floors.{IsFloor}
 
 -- the incumbent, where there is one, is a feasible solution with its value
-abbrev pub IncumbentHolds : Dp → Option Best → Type 0
+abbrev pub IncumbentHolds : Dp → Option Solution → Type 0
 IncumbentHolds dp None = Unit {0}
-IncumbentHolds dp (Some best) = IsWorth dp best.decisions best.value
+IncumbentHolds dp (Some best) = IsSolutionWith dp best.decisions best.value
 
 -- no two of the list have one ticket, and each has one that was given out
 pub record TicketsHold (next : ℕ) (os : List Ticketed) : Type 0 where

@@ -1,6 +1,7 @@
 -- What the steps and the runs keep, and what a good board says.
 use Rattle.std.specs.Prelude.{◌≡◌, ◌≢◌, ℕ, pos, ℤ, List, true, slice_get, Option, Some, None, IsTrue, IsSome}
-use Rattle.dp_model.specs.Best.{Best, IsBest}
+use Rattle.dp_model.specs.Solution.{Solution}
+use Rattle.dp_model.specs.Best.{IsBest}
 use Rattle.dp_model.specs.Dp.{Dp}
 use Rattle.dp_model.specs.Numbers.{AtMost, is_above}
 use Rattle.dp_model.specs.Prefixes.{IsSolution, value_of}
@@ -25,7 +26,7 @@ abbrev pub TakeKeeps : Dp → Type 0
 TakeKeeps dp = (b : BoardState) (who : ℕ) → slice_get b.slots who ≡ Some None → Keeps dp b (after_take b who)
 
 abbrev pub ImproveKeeps : Dp → Type 0
-ImproveKeeps dp = (b : BoardState) (best : Best) → IncumbentHolds dp (Some best) → is_above (incumbent_value b) best.value ≡ true → Keeps dp b (improved b best)
+ImproveKeeps dp = (b : BoardState) (best : Solution) → IncumbentHolds dp (Some best) → is_above (incumbent_value b) best.value ≡ true → Keeps dp b (improved b best)
 
 abbrev pub FinishKeeps : Dp → Type 0
 FinishKeeps dp = (b : BoardState) (who : ℕ) (threshold : Option ℤ) (cs : List Subproblem) (fs : List Fate) → MayFinish dp b who threshold cs fs → Keeps dp b (finished_by dp b who cs)

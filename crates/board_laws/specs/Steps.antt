@@ -1,6 +1,6 @@
 -- The steps of a board beside Take: Improve, Finish, GiveBack and Halt, and the first board.
 use Rattle.std.specs.Prelude.{ℕ, zero, suc, ◌+◌, ℤ, cond, List, [], ◌∷◌, ◌++◌, length, map, filter, nat_eq, slice_set, Option, Some, None}
-use Rattle.dp_model.specs.Best.{Best}
+use Rattle.dp_model.specs.Solution.{Solution}
 use Rattle.dp_model.specs.Dp.{Dp}
 use Rattle.dp_model.specs.Numbers.{is_above, add_some}
 use Rattle.dp_model.specs.Subproblem.{Subproblem}
@@ -15,7 +15,7 @@ use Rattle.board_laws.specs.Entering.{entering, replaced, staying, entry_of, put
 use Rattle.board_laws.specs.Fates.{fates_on, tickets_after}
 
 -- Improve, by a better solution: it is the incumbent, and what is open is dropped where its bound is at most the new reach
-abbrev pub improved : BoardState → Best → BoardState
+abbrev pub improved : BoardState → Solution → BoardState
 improved b best = record b { incumbent = Some best; open_ones = filter (λ o. is_above (reach_of b.settings.within (Some best.value)) o.subproblem.bound) b.open_ones }
 
 -- Finish by these fates: the slot becomes empty, and the children enter in order
@@ -77,7 +77,7 @@ empty_slots zero = []
 empty_slots (suc n) = None ∷ empty_slots n
 
 -- the empty solution of an instance without variables
-abbrev pub first_incumbent : Dp → Option Best
+abbrev pub first_incumbent : Dp → Option Solution
 first_incumbent dp = cond (nat_eq dp.vars 0) (Some (record { decisions = []; value = dp.root_value })) None
 
 -- what is open at first: the root, where there are variables
