@@ -1,11 +1,20 @@
 -- What a search that is over may answer.
 use Rattle.std.proofs.Common.{◌≡◌, ◌≢◌, ℕ, ◌+◌, ◌^◌, ◌≤◌, ℤ, List, [], ◌∷◌, ◌++◌, length, false, nat_eq, Option, Some, None, refl, sym, ◌∙◌, ap, subst, arith}
+<<<<<<< HEAD
 use Rattle.dp_model.specs.Solution.{Solution, IsSolutionWith}
 use Rattle.dp_model.specs.Best.{best, IsBest}
+=======
+use Rattle.std.proofs.lemmas.Int.{ints}
+use Rattle.dp_model.specs.Best.{Best, best, IsBest}
+>>>>>>> 84d73c92b4289977e77d5f8b232798631be0eb36
 use Rattle.dp_model.specs.Counts.{tree}
 use Rattle.dp_model.specs.Dp.{Dp}
 use Rattle.dp_model.specs.Numbers.{AtMost}
 use Rattle.dp_model.specs.Prefixes.{IsSolution, value_of}
+<<<<<<< HEAD
+=======
+use Rattle.dp_model.specs.Worth.{IsWorth, SolutionGives}
+>>>>>>> 84d73c92b4289977e77d5f8b232798631be0eb36
 use Rattle.dp_model.proofs.Solutions.{best-is_best, IsBest-unique, given_value, given_none}
 use Rattle.problems.specs.Theory.{Agrees}
 use Rattle.search_core.specs.Bounds.{raised, raised_by}
@@ -18,7 +27,7 @@ use Rattle.search_core.specs.Bound.{bound_of}
 use Rattle.search_core.specs.GoodBoard.{IncumbentHolds, IsGood}
 use Rattle.solver_report.specs.declared.answer.Stop.{Stop}
 use Rattle.solver_report.specs.declared.answer.Stop.TheVariants.{Budget}
-use Rattle.solver_jobs.specs.Answers.{IsFound, FoundHolds, IsProved, IsInfeasible, StopHolds, IsStopped}
+use Rattle.solver_jobs.specs.Answers.{IsFound, FoundHolds, NoneIsWorthMore, IsProved, IsInfeasible, StopHolds, IsStopped}
 use Rattle.solver_jobs.specs.Over.{IsOver}
 
 -- an incumbent is a solution in the problem's own words too
@@ -33,11 +42,20 @@ pub found_holds : (dp : Dp) (own : List ℕ → Option ℤ) → Agrees dp own �
 found_holds dp own agrees None h = tt
 found_holds dp own agrees (Some found) h = found_one dp own agrees found h
 
+-- where no feasible solution exceeds a number, no list is worth more in the problem's own words
+none_worth_more : (dp : Dp) (own : List ℕ → Option ℤ) → Agrees dp own → (value : ℤ) → ((x : List ℕ) → IsSolution dp x → AtMost (value_of dp x) (Some value)) → NoneIsWorthMore own value
+none_worth_more dp own agrees value most x worth is =
+    let found : IsWorth dp x worth = subst (SolutionGives dp x) is (agrees x) in
+    let up = most x found.solution in
+    let same = found.value in
+    omega (arith, ints)
+
 -- the incumbent of an explored board is best
 pub proved : (dp : Dp) (own : List ℕ → Option ℤ) → Agrees dp own → (held : Option Solution) (found : Solution) → Some found ≡ held → IncumbentHolds dp held → IsBest dp (value_held held) → IsProved dp own found
 proved dp own agrees held found same h is = record {
   found_one = found_one dp own agrees found (subst (IncumbentHolds dp) (sym same) h);
   is_best = sym (IsBest-unique dp (Some found.value) (best dp) (subst (λ b. IsBest dp (value_held b)) (sym same) is) (best-is_best dp));
+  own_best = (let greatest : IsBest dp (Some found.value) = subst (λ b. IsBest dp (value_held b)) (sym same) is in none_worth_more dp own agrees found.value greatest.most);
 }
 
 -- an explored board without an incumbent says that there is no feasible solution
@@ -96,6 +114,7 @@ is_stopped dp own agrees budget b stop found bound good over left same bound_is 
   bound_is = bound_is;
   found_one = found_holds dp own agrees found (subst (IncumbentHolds dp) (sym same) good.incumbent);
   most = most;
+  own_most = none_worth_more dp own agrees bound most;
   incomplete = incomplete;
 }
 

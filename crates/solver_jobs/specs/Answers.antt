@@ -1,5 +1,5 @@
 -- When what a job answers for an instance is right.
-use Rattle.std.specs.Prelude.{◌≡◌, ◌≢◌, ℕ, ◌^◌, ◌≤◌, ℤ, List, [], Option, Some, None, MatchResult, IsTrue}
+use Rattle.std.specs.Prelude.{◌≡◌, ◌≢◌, ℕ, ◌^◌, ◌≤◌, ℤ, ◌≤ℤ◌, List, [], Option, Some, None, MatchResult, IsTrue}
 use Rattle.dd_text.specs.declared.instance_error.InstanceError.{InstanceError}
 use Rattle.dp_model.specs.Solution.{Solution}
 use Rattle.dp_model.specs.Best.{best}
@@ -33,10 +33,20 @@ abbrev pub FoundHolds : Dp → (List ℕ → Option ℤ) → Option Solution →
 FoundHolds dp own None = Unit {0}
 FoundHolds dp own (Some found) = IsFound dp own found
 
+<<<<<<< HEAD
 -- a feasible solution of the greatest value
 pub record IsProved (dp : Dp) (own : List ℕ → Option ℤ) (found : Solution) : Type 0 where
+=======
+-- no list that is a solution in the problem's own words is worth more than this
+abbrev pub NoneIsWorthMore : (List ℕ → Option ℤ) → ℤ → Type 0
+NoneIsWorthMore own value = (x : List ℕ) (worth : ℤ) → own x ≡ Some worth → worth ≤ℤ value
+
+-- a feasible solution of the greatest value, in both senses
+pub record IsProved (dp : Dp) (own : List ℕ → Option ℤ) (found : Best) : Type 0 where
+>>>>>>> 84d73c92b4289977e77d5f8b232798631be0eb36
   pub found_one : IsFound dp own found
   pub is_best : best dp ≡ Some found.value
+  pub own_best : NoneIsWorthMore own found.value
 
 -- there is no feasible solution, and no list is one in the problem's own words
 pub record IsInfeasible (dp : Dp) (own : List ℕ → Option ℤ) : Type 0 where
@@ -62,6 +72,7 @@ pub record IsStopped (dp : Dp) (own : List ℕ → Option ℤ) (budget : ℕ) (s
   pub bound_is : bound_of board ≡ Some bound
   pub found_one : FoundHolds dp own incumbent
   pub most : (x : List ℕ) → IsSolution dp x → AtMost (value_of dp x) (Some bound)
+  pub own_most : NoneIsWorthMore own bound
   pub incomplete : stop ≡ Budget → tree dp ≤ budget → tree dp ≤ 2 ^ 63 → ⊥
 
 -- what a search of an instance may answer
