@@ -2,7 +2,8 @@
 use Rattle.std.proofs.Common.{◌≡◌, ◌≢◌, ℕ, ◌<◌, ◌≤◌, ℤ, ◌≤ℤ◌, List, [], ◌∷◌, ◌++◌, length, Bool, true, false, cond, Option, Some, None, ◌⊎◌, inl, inr, refl, sym, ◌∙◌, subst, ◌+◌, length-append, arith}
 use Rattle.std.proofs.lemmas.Int.{ints}
 use Rattle.std.specs.Prelude.{int_lt}
-use Rattle.dp_model.specs.Best.{Best, IsBest}
+use Rattle.dp_model.specs.Solution.{Solution}
+use Rattle.dp_model.specs.Best.{IsBest}
 use Rattle.dp_model.specs.Counts.{tree}
 use Rattle.dp_model.specs.Cover.{Covers}
 use Rattle.dp_model.specs.Dp.{Dp}
@@ -100,7 +101,7 @@ none-there [] (y ∷ ys) e = absurd (omega arith)
 none-there (x ∷ xs) ys e = absurd (omega arith)
 
 -- where nothing is left to match a solution, the incumbent is best, or there is no feasible solution
-best-alone : (dp : Dp) (found : Option Best) → IncumbentHolds dp found → Covers dp (value_held found) [] → IsBest dp (value_held found)
+best-alone : (dp : Dp) (found : Option Solution) → IncumbentHolds dp found → Covers dp (value_held found) [] → IsBest dp (value_held found)
 best-alone dp None h covers = λ x s. elim (covers x s) as (λ _. ⊥) [ inl a ↦ a | inr n ↦ n ]
 best-alone dp (Some found) h covers = record {
   by = found.decisions;

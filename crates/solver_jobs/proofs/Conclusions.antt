@@ -1,20 +1,12 @@
 -- What a search that is over may answer.
 use Rattle.std.proofs.Common.{◌≡◌, ◌≢◌, ℕ, ◌+◌, ◌^◌, ◌≤◌, ℤ, List, [], ◌∷◌, ◌++◌, length, false, nat_eq, Option, Some, None, refl, sym, ◌∙◌, ap, subst, arith}
-<<<<<<< HEAD
-use Rattle.dp_model.specs.Solution.{Solution, IsSolutionWith}
-use Rattle.dp_model.specs.Best.{best, IsBest}
-=======
 use Rattle.std.proofs.lemmas.Int.{ints}
-use Rattle.dp_model.specs.Best.{Best, best, IsBest}
->>>>>>> 84d73c92b4289977e77d5f8b232798631be0eb36
+use Rattle.dp_model.specs.Solution.{Solution, IsSolutionWith, SolutionGives}
+use Rattle.dp_model.specs.Best.{best, IsBest}
 use Rattle.dp_model.specs.Counts.{tree}
 use Rattle.dp_model.specs.Dp.{Dp}
 use Rattle.dp_model.specs.Numbers.{AtMost}
 use Rattle.dp_model.specs.Prefixes.{IsSolution, value_of}
-<<<<<<< HEAD
-=======
-use Rattle.dp_model.specs.Worth.{IsWorth, SolutionGives}
->>>>>>> 84d73c92b4289977e77d5f8b232798631be0eb36
 use Rattle.dp_model.proofs.Solutions.{best-is_best, IsBest-unique, given_value, given_none}
 use Rattle.problems.specs.Theory.{Agrees}
 use Rattle.search_core.specs.Bounds.{raised, raised_by}
@@ -45,7 +37,7 @@ found_holds dp own agrees (Some found) h = found_one dp own agrees found h
 -- where no feasible solution exceeds a number, no list is worth more in the problem's own words
 none_worth_more : (dp : Dp) (own : List ℕ → Option ℤ) → Agrees dp own → (value : ℤ) → ((x : List ℕ) → IsSolution dp x → AtMost (value_of dp x) (Some value)) → NoneIsWorthMore own value
 none_worth_more dp own agrees value most x worth is =
-    let found : IsWorth dp x worth = subst (SolutionGives dp x) is (agrees x) in
+    let found : IsSolutionWith dp x worth = subst (SolutionGives dp x) is (agrees x) in
     let up = most x found.solution in
     let same = found.value in
     omega (arith, ints)

@@ -33,17 +33,12 @@ abbrev pub FoundHolds : Dp → (List ℕ → Option ℤ) → Option Solution →
 FoundHolds dp own None = Unit {0}
 FoundHolds dp own (Some found) = IsFound dp own found
 
-<<<<<<< HEAD
--- a feasible solution of the greatest value
-pub record IsProved (dp : Dp) (own : List ℕ → Option ℤ) (found : Solution) : Type 0 where
-=======
 -- no list that is a solution in the problem's own words is worth more than this
 abbrev pub NoneIsWorthMore : (List ℕ → Option ℤ) → ℤ → Type 0
 NoneIsWorthMore own value = (x : List ℕ) (worth : ℤ) → own x ≡ Some worth → worth ≤ℤ value
 
 -- a feasible solution of the greatest value, in both senses
-pub record IsProved (dp : Dp) (own : List ℕ → Option ℤ) (found : Best) : Type 0 where
->>>>>>> 84d73c92b4289977e77d5f8b232798631be0eb36
+pub record IsProved (dp : Dp) (own : List ℕ → Option ℤ) (found : Solution) : Type 0 where
   pub found_one : IsFound dp own found
   pub is_best : best dp ≡ Some found.value
   pub own_best : NoneIsWorthMore own found.value
