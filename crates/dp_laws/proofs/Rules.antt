@@ -11,3 +11,4 @@ pub mod Compiled
 pub mod Unreduced
 pub mod Relaxed
 pub mod Diagrams
+pub mod Within

@@ -4,3 +4,4 @@ pub mod Expanding
 pub mod Pruning
 pub mod Reducing
 pub mod Compiling
+pub mod Within

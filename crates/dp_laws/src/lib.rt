@@ -15,6 +15,7 @@ mod expansions;
 mod floors;
 mod gaps;
 mod layers;
+mod numbers;
 
 pub use arc::DdArc;
 pub use children::{
@@ -32,3 +33,4 @@ pub use expansions::{
 pub use floors::floors_match;
 pub use gaps::{chains_match, completions_are_matched, continuations_are_matched, gaps_add_up};
 pub use layers::{beams_are_feasible, layers_differ, layers_have_prefixes};
+pub use numbers::{numbers_stay_small, suffixes_stay_small};
