@@ -12,3 +12,4 @@ pub mod Unreduced
 pub mod Relaxed
 pub mod Diagrams
 pub mod Within
+pub mod Fitting

@@ -33,7 +33,7 @@ as_best r = record { decisions = r.decisions; value = r.value }
 
 -- Where nothing is reduced the beam is found.
 
-first-member : (layer : List DdNode) (rs : List Reached) → map as_member layer ≡ map (λ r. Some r) rs → first_exact layer ≡ option_map as_best (first_of_all rs)
+pub first-member : (layer : List DdNode) (rs : List Reached) → map as_member layer ≡ map (λ r. Some r) rs → first_exact layer ≡ option_map as_best (first_of_all rs)
 first-member [] [] e = refl
 first-member [] (r ∷ rs) e = absurd (let long = ap length e in omega arith)
 first-member (node ∷ layer) [] e = absurd (let long = ap length e in omega arith)

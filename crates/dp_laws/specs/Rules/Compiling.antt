@@ -1,5 +1,5 @@
 -- A relaxed diagram, compiled layer by layer.
-use Rattle.std.specs.Prelude.{ℕ, zero, suc, ◌+◌, ◌-◌, nat_lt, ℤ, Bool, true, cond, ◌&&◌, List, [], ◌∷◌, length, map, take, Option, Some, None}
+use Rattle.std.specs.Prelude.{ℕ, zero, suc, ◌+◌, ◌-◌, ◌*◌, ◌≤◌, nat_lt, ℤ, Bool, true, cond, ◌&&◌, List, [], ◌∷◌, length, map, take, Option, Some, None}
 use Rattle.dp_model.specs.Dp.{Dp}
 use Rattle.dp_model.specs.Reached.{Reached}
 use Rattle.dp_laws.specs.Restricted.Beam.{is_reduced}
@@ -90,3 +90,7 @@ kept_next dp first w t k layer =
 abbrev pub restricted_below : Dp → ℕ → ℕ → Option ℤ → ℕ → ℕ → List DdNode → List DdNode
 restricted_below dp first w t k zero layer = layer
 restricted_below dp first w t k (suc m) layer = kept_next dp first w t (k + m) (restricted_below dp first w t k m layer)
+
+-- a layer that is expanded has no more nodes than it has decisions for its nodes
+abbrev pub LayersFit : Dp → Type 0
+LayersFit dp = (k : ℕ) (layer : List DdNode) → length (expand dp k layer).next ≤ length layer * dp.choices k
