@@ -12,6 +12,7 @@ ghost use Rattle.dp_laws.specs.Restricted.Beams.{beam};
 ghost use Rattle.dp_laws.specs.Diagrams.Nodes.{DdNode, DdLayers};
 ghost use Rattle.dp_laws.specs.Diagrams.Seen.{AreLayers, IsBounded, IsDiagram};
 ghost use Rattle.dp_laws.specs.Diagrams.Cutsets.{children_of, found_in};
+ghost use Rattle.dp_laws.specs.Diagrams.Placed.{ChildrenArePlaced};
 
 /// A continuation from a node gains no more than the node's suffix, or leads to no more than the threshold.
 pub fn suffixes_bound()
@@ -44,4 +45,9 @@ pub fn without_reduction_the_beam_is_found()
 /// Sound children may take the place of their prefix on a board, where threshold and found solution are at most its reach.
 pub fn sound_children_follow()
     ensures { (dp : Dp) → SoundChildrenFollow dp }
+{}
+
+/// Each child of a diagram is an exact node at its place, with its bound.
+pub fn children_have_places()
+    ensures { (dp : Dp) → ChildrenArePlaced dp }
 {}

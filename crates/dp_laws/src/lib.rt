@@ -19,7 +19,7 @@ mod numbers;
 
 pub use arc::DdArc;
 pub use children::{
-    children_are_sound, children_stand_deep, sound_children_follow, suffixes_bound,
+    children_are_sound, children_have_places, children_stand_deep, sound_children_follow, suffixes_bound,
     without_reduction_the_beam_is_found,
 };
 pub use compiling::{
