@@ -15,3 +15,4 @@ pub mod Frontier
 pub mod Deep
 pub mod Kinds
 pub mod Placed
+pub mod Fits

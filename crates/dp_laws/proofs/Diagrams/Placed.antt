@@ -1,10 +1,8 @@
 -- The nodes of a diagram's children.
-use Rattle.std.proofs.Common.{◌≡◌, ℕ, zero, suc, ◌+◌, ◌-◌, ◌<◌, ◌≤◌, ℤ, Bool, true, false, cond, ◌&&◌, ◌||◌, List, [], ◌∷◌, ◌++◌, length, drop, slice_get, Option, Some, None, option_map, option_and_then, unwrap_or, ◌⊎◌, inl, inr, IsTrue, refl, sym, ◌∙◌, ap, subst, arith, add-zero}
+use Rattle.std.proofs.Common.{◌≡◌, ℕ, suc, ◌+◌, ◌-◌, ◌<◌, ◌≤◌, ℤ, Bool, true, false, cond, List, [], ◌∷◌, length, drop, slice_get, Option, Some, None, option_map, option_and_then, unwrap_or, inl, inr, IsTrue, refl, sym, ◌∙◌, ap, arith, add-zero}
 use Rattle.std.proofs.lemmas.Bool.{and_parts}
-use Rattle.std.proofs.lemmas.Option.{slice_get_within}
 use Rattle.std.specs.List.{cons_option}
 use Rattle.dp_model.specs.Dp.{Dp}
-use Rattle.dp_model.specs.Lists.{Each}
 use Rattle.dp_model.specs.declared.cut_kind.CutKind.{CutKind}
 use Rattle.dp_model.specs.declared.cut_kind.CutKind.TheVariants.{LastExactLayer, Frontier}
 use Rattle.dp_model.proofs.Members.{Has, each-of-all, Has-append-cases}
@@ -12,7 +10,7 @@ use Rattle.dp_laws.specs.Diagrams.Nodes.{DdNode, DdLayers, node_at}
 use Rattle.dp_laws.specs.Diagrams.Seen.{IsDiagram, exact_layers}
 use Rattle.dp_laws.specs.Diagrams.Cutsets.{bound_of, ChildAt, places_where, last_exact_at, is_border, leaves, all_borders_at, passes, outermost, path_at, frontier_at, children_at}
 use Rattle.dp_laws.specs.Diagrams.Placed.{IsPlaced, ChildrenArePlaced}
-use Rattle.dp_laws.proofs.Diagrams.Places.{same-Some, Has-at}
+use Rattle.dp_laws.proofs.Diagrams.Places.{Has-at}
 use Rattle.dp_laws.proofs.Diagrams.Starts.{reducible}
 use Rattle.dp_laws.proofs.Diagrams.LastExact.{all-exact}
 
@@ -31,8 +29,8 @@ in-places test dp k i [] c h = absurd h
 in-places test dp k i (node ∷ nodes) c h =
     let rest = places_where test dp k (i + 1) nodes in
     let later : Has c rest → AtPlace test dp k i (node ∷ nodes) c = λ has. (
-        let a = in-places test dp k (i + 1) nodes c has in
-        record { behind = suc a.behind; node = a.node; at = a.at; depth = a.depth; place = (let e = a.place in omega arith); tested = a.tested; bound = a.bound }) in
+    let a = in-places test dp k (i + 1) nodes c has in
+    record { behind = suc a.behind; node = a.node; at = a.at; depth = a.depth; place = (let e = a.place in omega arith); tested = a.tested; bound = a.bound }) in
     elim (test node) as (λ b. test node ≡ b → Has c (cons_option (cond b (option_map (λ bound. record { depth = k; place = i; bound = bound }) (bound_of dp k node)) None) rest) → AtPlace test dp k i (node ∷ nodes) c) [
       | true ↦ λ e. elim (bound_of dp k node) as (λ o. bound_of dp k node ≡ o → Has c (cons_option (option_map (λ bound. record { depth = k; place = i; bound = bound }) o) rest) → AtPlace test dp k i (node ∷ nodes) c) [
         | None ↦ λ f has. later has
@@ -110,11 +108,11 @@ in-borders-at dp k (layer ∷ next ∷ rest) c h =
           })
     ]
 
-in-drop : {X : Type 0} (xs : List X) (i : ℕ) (x : X) → slice_get (drop 1 xs) i ≡ Some x → slice_get xs (i + 1) ≡ Some x
+pub in-drop : {X : Type 0} (xs : List X) (i : ℕ) (x : X) → slice_get (drop 1 xs) i ≡ Some x → slice_get xs (i + 1) ≡ Some x
 in-drop [] i x e = absurd (let none : None ≡ Some x = e in cc)
 in-drop (y ∷ xs) i x e = (let same : i + 1 ≡ suc i = omega arith in ap (slice_get (y ∷ xs)) same) ∙ e
 
-length-tail : {X : Type 0} (xs : List X) → 1 ≤ length xs → length (drop 1 xs) + 1 ≡ length xs
+pub length-tail : {X : Type 0} (xs : List X) → 1 ≤ length xs → length (drop 1 xs) + 1 ≡ length xs
 length-tail [] h = absurd (omega arith)
 length-tail (x ∷ xs) h = omega arith
 
