@@ -19,8 +19,8 @@ mod numbers;
 
 pub use arc::DdArc;
 pub use children::{
-    children_are_sound, children_stand_deep, sound_children_follow, suffixes_bound,
-    without_reduction_the_beam_is_found,
+    children_are_sound, children_fit, children_have_places, children_stand_deep,
+    sound_children_follow, suffixes_bound, without_reduction_the_beam_is_found,
 };
 pub use compiling::{
     layers_fit, relaxed_children_are_sound, relaxed_diagrams_are_as_seen,

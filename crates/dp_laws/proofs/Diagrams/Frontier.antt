@@ -111,7 +111,7 @@ is-last (one ∷ []) (suc m) layer long at = absurd (omega arith)
 is-last (one ∷ next ∷ rest) zero layer long at = absurd (let none : length (next ∷ rest) ≡ 0 = omega arith in omega arith)
 is-last (one ∷ next ∷ rest) (suc m) layer long at = is-last (next ∷ rest) m layer (omega arith) at
 
-some-below : (dp : Dp) (p : List ℕ) (w : ℕ) (t : Option ℤ) (d : DdLayers) → IsDiagram dp p w t d → length p < dp.vars → (o : Option ℕ) → d.first_reduced ≡ o → 1 < exact_layers dp.vars (length p) o
+pub some-below : (dp : Dp) (p : List ℕ) (w : ℕ) (t : Option ℤ) (d : DdLayers) → IsDiagram dp p w t d → length p < dp.vars → (o : Option ℕ) → d.first_reduced ≡ o → 1 < exact_layers dp.vars (length p) o
 some-below dp p w t d h short None e = omega arith
 some-below dp p w t d h short (Some depth) e = let r = reducible dp p w t depth (sym h.first_reduced ∙ e) in let low = r.below_first in omega arith
 

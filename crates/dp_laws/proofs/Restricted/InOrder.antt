@@ -1,5 +1,5 @@
 -- Layers stand in the reduction order, and none of their members is struck.
-use Rattle.std.proofs.Common.{◌≡◌, ℕ, zero, suc, ◌+◌, ◌-◌, ◌*◌, ◌≤◌, ◌≤ℤ◌, Bool, true, false, not, cond, List, [], ◌∷◌, length, filter, option_map, IsTrue, refl, subst, arith, length-append}
+use Rattle.std.proofs.Common.{◌≡◌, ℕ, zero, suc, ◌+◌, ◌-◌, ◌*◌, ◌≤◌, ◌≤ℤ◌, Bool, true, false, not, cond, List, [], ◌∷◌, length, filter, option_map, IsTrue, refl, subst, arith, length-append, Option, take, ◌++◌, ℤ}
 use Rattle.std.proofs.lemmas.Int.{ints}
 use Rattle.std.proofs.Math.Nat.{suc-mul}
 use Rattle.std.proofs.lemmas.List.{length-map}
@@ -12,11 +12,11 @@ use Rattle.dp_model.specs.Numbers.{AtMost}
 use Rattle.dp_model.specs.Reached.{Reached, reached}
 use Rattle.dp_model.specs.Rows.{row_same}
 use Rattle.dp_model.proofs.Members.{Each-then}
-use Rattle.dp_laws.specs.Restricted.Beam.{expanded, whole_layer, layer_below}
+use Rattle.dp_laws.specs.Restricted.Beam.{expanded, pruned, whole_layer, is_reduced, reduced_to, layer_below}
 use Rattle.dp_laws.specs.Restricted.BeamGives.{BeamsAreGreatest, MembersAreUnstruck}
 use Rattle.dp_laws.specs.Restricted.Beams.{first_of_all}
 use Rattle.dp_laws.specs.Restricted.Extensions.{better, joined, all_joined, extended, extensions, candidates}
-use Rattle.dp_laws.specs.Restricted.Leaders.{unstruck}
+use Rattle.dp_laws.specs.Restricted.Leaders.{unstruck, dominated, leaders_after, undominated}
 use Rattle.dp_laws.specs.Restricted.Ordered.{IsInOrder, LayersInOrder}
 use Rattle.dp_laws.specs.Restricted.ReductionOrder.{stands_before, placed, in_order}
 use Rattle.dp_laws.proofs.Diagrams.Places.{length-below}
@@ -121,3 +121,25 @@ few-expanded dp k layer =
     let few = few-all_joined [] (candidates dp k layer) in
     let all = few-candidates dp k layer in
     omega arith
+
+few-undominated : (dp : Dp) (k : ℕ) (leaders rs : List Reached) → length (undominated dp k leaders rs) ≤ length rs
+few-undominated dp k leaders [] = omega arith
+few-undominated dp k leaders (r ∷ rs) =
+    let rest = few-undominated dp k (leaders_after dp k leaders r) rs in
+    elim (dominated dp k leaders r) as (λ b. length (cond b [] (r ∷ []) ++ undominated dp k (leaders_after dp k leaders r) rs) ≤ length (r ∷ rs)) [ true ↦ omega arith | false ↦ omega arith ]
+
+pub few-pruned : (dp : Dp) (k : ℕ) (t : Option ℤ) (rs : List Reached) → length (pruned dp k t rs) ≤ length rs
+few-pruned dp k t rs =
+    let left = few-undominated dp k [] (unstruck dp k t rs) in
+    let few = few-filter (λ (r : Reached). not (is_struck_by r.value (dp.rough k r.row) t)) rs in
+    omega arith
+
+few-take : (n : ℕ) (rs : List Reached) → length (take n rs) ≤ length rs
+few-take zero rs = omega arith
+few-take (suc n) [] = omega arith
+few-take (suc n) (r ∷ rs) = let rest = few-take n rs in omega arith
+
+pub few-reduced : (dp : Dp) (w first depth : ℕ) (rs : List Reached) → length (reduced_to dp w first depth rs) ≤ length rs
+few-reduced dp w first depth rs =
+    let few = few-take w rs in
+    elim (is_reduced dp first depth) as (λ b. length (cond b (take w rs) rs) ≤ length rs) [ true ↦ few | false ↦ omega arith ]

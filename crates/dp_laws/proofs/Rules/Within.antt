@@ -304,7 +304,7 @@ numbers-small dp laws = record {
 
 -- Suffixes.
 
-greatest-has : (xs : List ℤ) (s : ℤ) → greatest xs ≡ Some s → Has s xs
+pub greatest-has : (xs : List ℤ) (s : ℤ) → greatest xs ≡ Some s → Has s xs
 greatest-has [] s e = absurd (let none : None ≡ Some s = e in cc)
 greatest-has (x ∷ xs) s e = subst (λ v. Has v (x ∷ xs)) (same-Some (greatest_from x xs) s e) (greatest_from-in x xs)
 
