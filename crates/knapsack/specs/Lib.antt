@@ -13,6 +13,3 @@ pub mod Placed
 pub mod Shown
 pub mod Reading
 pub mod Printing
-pub use Rattle.dp_model.specs.Dp
-pub use Rattle.dp_model.specs.Worth
-pub use Rattle.dd_text.specs.Grammar

@@ -9,6 +9,3 @@ pub mod PullLaws
 pub mod StateLaws
 pub mod ProgramLaws
 pub mod CutLaws
-pub use Rattle.dd_text.specs.Grammar
-pub use Rattle.dp_model.specs.Dp
-pub use Rattle.dp_model.specs.Worth
