@@ -120,6 +120,18 @@ differences-most [] ss = omega (arith, ints, rank_of-positive ss)
 differences-most (a ∷ as_) [] = omega (arith, ints, rank_of-positive (a ∷ as_))
 differences-most (a ∷ as_) (s ∷ ss) = omega (arith, ints, size_of-sub s a, differences-most as_ ss)
 
+-- no rank exceeds another one by more than the sizes of the differences
+pub rank_of-differences : (as_ ss : List ℤ) → length as_ ≡ length ss → rank_of ss ≤ℤ (rank_of as_ +ℤ rank_of (differences as_ ss))
+rank_of-differences [] [] p = omega (arith, ints)
+rank_of-differences [] (s ∷ ss) p = absurd (omega arith)
+rank_of-differences (a ∷ as_) [] p = absurd (omega arith)
+rank_of-differences (a ∷ as_) (s ∷ ss) p = omega (arith, ints, clamps, rank_of-differences as_ ss (omega arith))
+
+pub length-differences : (as_ ss : List ℤ) → length as_ ≡ length ss → length (differences as_ ss) ≡ length as_
+length-differences [] ss p = refl
+length-differences (a ∷ as_) [] p = absurd (omega arith)
+length-differences (a ∷ as_) (s ∷ ss) p = omega (arith, length-differences as_ ss (omega arith))
+
 -- twice the gap is how much greater the second rank is, and the sizes of the differences
 pub gap_of-by_sizes : (as_ ss : List ℤ) → length as_ ≡ length ss
     → gap_of as_ ss +ℤ gap_of as_ ss ≡ (rank_of ss -ℤ rank_of as_) +ℤ rank_of (differences as_ ss)

@@ -1,5 +1,5 @@
 -- Signed benefits: what each of some yes-or-no choices gains by yes rather than by no.
-use Rattle.std.specs.Prelude.{ℕ, zero, suc, ℤ, pos, neg_ℤ, ◌+ℤ◌, ◌-ℤ◌, List, [], ◌∷◌, ◌&&◌, int_le, if◌then◌else◌}
+use Rattle.std.specs.Prelude.{ℕ, zero, suc, ℤ, pos, neg_ℤ, ◌+ℤ◌, ◌-ℤ◌, List, [], ◌∷◌, ◌&&◌, int_le, if◌then◌else◌, Option, Some, None}
 use Rattle.std.specs.Int.{int_max, int_min}
 
 -- how far a benefit is above zero
@@ -57,3 +57,7 @@ abbrev pub differences : List ℤ → List ℤ → List ℤ
 differences [] ss = []
 differences (a ∷ rest) [] = []
 differences (a ∷ rest) (s ∷ ss) = (s -ℤ a) ∷ differences rest ss
+
+-- the number where it is at most another one
+abbrev pub where_at_most : ℤ → ℤ → Option ℤ
+where_at_most most z = if int_le z most then Some z else None

@@ -9,7 +9,7 @@
 
 mod row;
 
-pub use row::{above_zero, below_zero, doubled_gap, gap, merge_into, rank, size};
+pub use row::{above_zero, below_zero, doubled_gap, gap, gap_within, merge_into, rank, size};
 
 #[cfg(test)]
 mod tests;

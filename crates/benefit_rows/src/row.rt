@@ -1,7 +1,10 @@
 //! One pass over rows of signed benefits.
 
-ghost use Rattle.std.specs.Prelude.{◌≡◌, ◌^◌, pos, ◌+ℤ◌, ◌≤ℤ◌, length};
-ghost use Rattle.benefit_rows.specs.Benefits.{above_zero, below_zero, benefit_merged, gap_between, gap_of, merged_of, rank_of, size_of};
+ghost use Rattle.std.specs.Prelude.{◌≡◌, ◌^◌, ◌+◌, ◌*◌, ◌≤◌, pos, ◌+ℤ◌, ◌≤ℤ◌, length, take, drop};
+ghost use Rattle.benefit_rows.specs.Benefits.{above_zero, below_zero, benefit_merged, differences, gap_between, gap_of, merged_of, rank_of, size_of, where_at_most};
+
+// How many differences are added up before their sum is tested.
+const BLOCK: usize = 8;
 
 /// How far a benefit is above zero: what it gains by yes.
 pub fn above_zero(benefit: i64) -> i64
@@ -60,6 +63,74 @@ pub fn doubled_gap(from: i64, to: i64) -> i64
     ensures { result ≡ gap_between from to +ℤ gap_between from to }
 {
     size(to) - size(from) + size(to - from)
+}
+
+/// The gap between two rows of one length where it is at most `most`. The ranks of the rows are told, and they alone
+/// may decide; else the rows are read only until the gap is known to exceed. It needs ranks of at most `2^60`.
+pub fn gap_within(from: &[i64], from_rank: i64, to: &[i64], to_rank: i64, most: i64) -> Option<i64>
+    requires lengths { length from.now ≡ length to.now }
+    requires from_rank { from_rank ≡ rank_of from.now }
+    requires to_rank { to_rank ≡ rank_of to.now }
+    requires from_size { rank_of from.now ≤ℤ pos (2 ^ 60) }
+    requires to_size { rank_of to.now ≤ℤ pos (2 ^ 60) }
+    ensures { result ≡ where_at_most most (gap_of from.now to.now) }
+{
+    // A gap is at least zero, at least the difference of the ranks and at most the second rank.
+    let more = to_rank - from_rank;
+    if most < more.max(0) {
+        return None;
+    }
+    let sizes = distance_within(from, to, 2 * most.min(to_rank) - more)?;
+    Some((more + sizes) / 2)
+}
+
+/// The sum of the sizes of the differences where it is at most `most`. The rows are read only until it is known to exceed.
+fn distance_within(from: &[i64], to: &[i64], most: i64) -> Option<i64>
+    requires lengths { length from.now ≡ length to.now }
+    requires from_size { rank_of from.now ≤ℤ pos (2 ^ 60) }
+    requires to_size { rank_of to.now ≤ℤ pos (2 ^ 60) }
+    ensures { result ≡ where_at_most most (rank_of (differences from.now to.now)) }
+{
+    let mut sizes = 0;
+    let blocks = from.len() / BLOCK;
+    for block in 0..blocks {
+        sizes += distance(block_of(from, block), block_of(to, block));
+        if sizes > most {
+            return None;
+        }
+    }
+    sizes += distance(rest_after(from, blocks), rest_after(to, blocks));
+    if sizes > most { None } else { Some(sizes) }
+}
+
+/// Eight benefits of a row.
+fn block_of(row: &[i64], block: usize) -> &[i64]
+    requires { 8 * (block + 1) ≤ length row.now }
+    ensures { result.now ≡ take 8 (drop (8 * block) row.now) }
+{
+    &row[BLOCK * block..BLOCK * block + BLOCK]
+}
+
+/// What follows so many blocks of a row.
+fn rest_after(row: &[i64], blocks: usize) -> &[i64]
+    requires { 8 * blocks ≤ length row.now }
+    ensures { result.now ≡ drop (8 * blocks) row.now }
+{
+    &row[BLOCK * blocks..]
+}
+
+/// The sum of the sizes of the differences.
+fn distance(from: &[i64], to: &[i64]) -> i64
+    requires lengths { length from.now ≡ length to.now }
+    requires from_size { rank_of from.now ≤ℤ pos (2 ^ 60) }
+    requires to_size { rank_of to.now ≤ℤ pos (2 ^ 60) }
+    ensures { result ≡ rank_of (differences from.now to.now) }
+{
+    let mut total = 0;
+    for i in 0..from.len() {
+        total += size(to[i] - from[i]);
+    }
+    total
 }
 
 /// Merges a row of the same length into `merged`: of two benefits at least zero the lesser stays, of two

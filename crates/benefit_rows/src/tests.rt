@@ -1,4 +1,4 @@
-use crate::{above_zero, below_zero, doubled_gap, gap, merge_into, rank, size};
+use crate::{above_zero, below_zero, doubled_gap, gap, gap_within, merge_into, rank, size};
 use std::test::Fail;
 
 #[test]
@@ -20,6 +20,14 @@ fn rows(rt: HostRuntime) -> Result<(), Fail> {
     assert_eq!(rt; gap(&from, &to), 7);
     // 2 + 0 + 0 + 4 + 0
     assert_eq!(rt; gap(&to, &from), 6);
+    for (most, within) in [
+        (7i64, Some(7i64)),
+        (6, None),
+        (-1, None),
+        (i64::MAX, Some(7)),
+    ] {
+        assert_eq!(rt; gap_within(&from, 18, &to, 19, most), within, "at {most}");
+    }
     assert_eq!(rt; doubled_gap(-1, 4), 8);
     let mut merged = from;
     merge_into(&mut merged, &to);

@@ -10,7 +10,7 @@ use Rattle.dp_model.specs.Laws.{IsLawful}
 use Rattle.dp_model.specs.NumberLaws.{int_le-is}
 use Rattle.dp_model.specs.Numbers.{AtMost, add_some}
 use Rattle.dp_model.specs.Prefixes.{IsPath, IsContinuation, IsSolution, gain_of, value_of}
-use Rattle.dp_model.specs.Worth.{IsWorth}
+use Rattle.dp_model.specs.Solution.{IsSolutionWith}
 use Rattle.dp_model.proofs.Members.{Has, Has-filter, Has-below}
 use Rattle.dp_model.proofs.Solutions.{best-is_best, IsBest-unique}
 use Rattle.dp_laws.proofs.Diagrams.Places.{Has-at}
@@ -175,14 +175,14 @@ path-worth dp k s (d ∷ x) v e =
       | false ↦ λ t f. absurd (let clash : None ≡ Some v = f in cc)
     ] refl e
 
-pub worth-is : (dp : Dp) (x : List ℕ) (v : ℤ) → worth dp x ≡ Some v → IsWorth dp x v
+pub worth-is : (dp : Dp) (x : List ℕ) (v : ℤ) → worth dp x ≡ Some v → IsSolutionWith dp x v
 worth-is dp x v e =
     let rest = after-first dp.root_value (worth_from dp 0 dp.root x) v e in
     let is = path-worth dp 0 dp.root x rest.0 rest.1 in
     let whole = is.whole in let gain = is.gain in let sum = rest.2 in
     record { solution = record { prefix = is.path; whole = omega arith }; value = omega (arith, ints) }
 
-value-of-fault : (dp : Dp) (x : List ℕ) (o : Option ℤ) (v : ℤ) → worth dp x ≡ o → value_fault o v ≡ None → IsWorth dp x v
+value-of-fault : (dp : Dp) (x : List ℕ) (o : Option ℤ) (v : ℤ) → worth dp x ≡ o → value_fault o v ≡ None → IsSolutionWith dp x v
 value-of-fault dp x None v is e = absurd (let clash : Some Assignment ≡ None = e in cc)
 value-of-fault dp x (Some z) v is e =
     let test = unless-none (int_le z v && int_le v z) Value e in

@@ -14,3 +14,5 @@ pub mod Borders
 pub mod Frontier
 pub mod Deep
 pub mod Kinds
+pub mod Placed
+pub mod Fits

@@ -4,6 +4,7 @@ pub mod Matching
 pub mod Prefixes
 pub mod Reaches
 pub mod RowTests
+pub mod Widths
 pub mod Restricted
 pub mod Diagrams
 pub mod Rules

@@ -1,7 +1,7 @@
 -- Proofs on the rules.
 pub mod Examples
 pub mod Linked
-pub mod Landing
+pub mod Redirecting
 pub mod Layers
 pub mod Expanded
 pub mod Pruned
@@ -11,3 +11,5 @@ pub mod Compiled
 pub mod Unreduced
 pub mod Relaxed
 pub mod Diagrams
+pub mod Within
+pub mod Fitting

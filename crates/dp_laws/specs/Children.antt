@@ -1,6 +1,6 @@
 -- The children of a prefix: how two of them differ, how deep they stand, how long their list is, and when they are sound.
 use Rattle.std.specs.Prelude.{◌≡◌, ℕ, ◌+◌, ◌*◌, ◌^◌, ◌≤◌, nat_eq, ℤ, Bool, false, ◌&&◌, List, [], length, map, sum_by, Option, Some, None, option_map, ◌⊎◌}
-use Rattle.dp_model.specs.Best.{Best}
+use Rattle.dp_model.specs.Solution.{Solution}
 use Rattle.dp_model.specs.Cover.{IsHeld}
 use Rattle.dp_model.specs.Dp.{Dp}
 use Rattle.dp_model.specs.Lists.{Each, OneOf}
@@ -37,29 +37,29 @@ StandDeep (Some depth) children = Each (λ (c : Subproblem). depth ≤ length c.
 abbrev pub children_size : List Subproblem → ℕ
 children_size cs = 12 + sum_by (λ (c : Subproblem). 20 + 4 * length c.decisions) cs
 
--- a completion of p with its value
-pub record IsFound (dp : Dp) (p x : List ℕ) (v : ℤ) : Type 0 where
+-- the decisions are a completion of p, with this value
+pub record IsCompletionWith (dp : Dp) (p x : List ℕ) (v : ℤ) : Type 0 where
   pub completion : IsCompletion dp p x
   pub value : v ≡ value_of dp x
 
-abbrev pub FoundHolds : Dp → List ℕ → Option Best → Type 0
-FoundHolds dp p None = Unit {0}
-FoundHolds dp p (Some best) = IsFound dp p best.decisions best.value
+abbrev pub FoundCompletes : Dp → List ℕ → Option Solution → Type 0
+FoundCompletes dp p None = Unit {0}
+FoundCompletes dp p (Some best) = IsCompletionWith dp p best.decisions best.value
 
 -- the value of a found solution
-abbrev pub found_value : Option Best → Option ℤ
-found_value found = option_map (λ (b : Best). b.value) found
+abbrev pub found_value : Option Solution → Option ℤ
+found_value found = option_map (λ (b : Solution). b.value) found
 
 -- sound children of p, for a threshold and a found solution or none: each is a prefix of its own that properly extends p, no
 -- prefix of one begins with that of another, no two have one depth and state, and the threshold holds their bounds; the found
 -- solution is a completion of p with its value; and each completion of p is at most the threshold, at most the found solution,
 -- or matched by a child
-pub record AreSound (dp : Dp) (p : List ℕ) (t : Option ℤ) (found : Option Best) (cs : List Subproblem) : Type 0 where
+pub record AreSound (dp : Dp) (p : List ℕ) (t : Option ℤ) (found : Option Solution) (cs : List Subproblem) : Type 0 where
   pub own : Each (IsChild dp p) cs
   pub apart : EachTwo AreApart cs
   pub differ : EachTwo DifferInPlace cs
   pub held : Each (λ c. IsHeld dp t c.decisions c.bound) cs
-  pub solution : FoundHolds dp p found
+  pub solution : FoundCompletes dp p found
   pub matched : (x : List ℕ) → IsCompletion dp p x →
       AtMost (value_of dp x) t ⊎ (AtMost (value_of dp x) (found_value found) ⊎ OneOf (IsMatched dp x) (map (λ c. c.decisions) cs))
 
@@ -76,5 +76,5 @@ pub record AreChildren (dp : Dp) (reach : Option ℤ) (p : List ℕ) (cs : List 
 
 -- sound children may take the place of p where threshold and found solution are at most the reach
 abbrev pub SoundChildrenFollow : Dp → Type 0
-SoundChildrenFollow dp = (reach t : Option ℤ) (found : Option Best) (p : List ℕ) (cs : List Subproblem) → OptionAtMost t reach → OptionAtMost (found_value found) reach
+SoundChildrenFollow dp = (reach t : Option ℤ) (found : Option Solution) (p : List ℕ) (cs : List Subproblem) → OptionAtMost t reach → OptionAtMost (found_value found) reach
     → length cs ≤ 2 ^ 24 → Each (λ c. IsFar c.bound) cs → AreSound dp p t found cs → AreChildren dp reach p cs

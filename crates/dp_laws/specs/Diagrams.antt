@@ -2,3 +2,4 @@
 pub mod Nodes
 pub mod Seen
 pub mod Cutsets
+pub mod Placed

@@ -5,15 +5,15 @@ use Rattle.dp_model.specs.Gaps.{IsStateOf}
 use Rattle.dp_model.specs.Prefixes.{IsPrefix, IsCompletion, IsContinuation, IsMatched, Reaches, gain_of, state_of, value_of}
 
 -- the prefix a dominates the state s with this value at its layer: its state has a gap to s that lifts the value to at most its own
-pub record Dominates (dp : Dp) (a : List ℕ) (s : List ℤ) (worth : ℤ) : Type 0 where
+pub record Dominates (dp : Dp) (a : List ℕ) (s : List ℤ) (value : ℤ) : Type 0 where
   pub gap : ℤ
   pub is : dp.gap (length a) (state_of dp a) s ≡ Some gap
-  pub within : (worth +ℤ gap) ≤ℤ value_of dp a
+  pub within : (value +ℤ gap) ≤ℤ value_of dp a
 
 -- where a prefix dominates a state with a value, each continuation of the state leads to no more than some completion of the prefix
 abbrev pub ContinuationsAreMatched : Dp → Type 0
-ContinuationsAreMatched dp = (a : List ℕ) (s : List ℤ) (worth : ℤ) → IsPrefix dp a → IsStateOf dp (length a) s → Dominates dp a s worth
-    → (c : List ℕ) → IsContinuation dp (length a) s c → Reaches dp (worth +ℤ gain_of dp (length a) s c) a
+ContinuationsAreMatched dp = (a : List ℕ) (s : List ℤ) (value : ℤ) → IsPrefix dp a → IsStateOf dp (length a) s → Dominates dp a s value
+    → (c : List ℕ) → IsContinuation dp (length a) s c → Reaches dp (value +ℤ gain_of dp (length a) s c) a
 
 -- the completions of a dominated prefix are matched by the prefix of its layer that dominates it
 abbrev pub CompletionsAreMatched : Dp → Type 0

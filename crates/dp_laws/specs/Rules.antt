@@ -1,6 +1,7 @@
 -- The rules by which the layers of a diagram are built, on plain lists of nodes.
-pub mod Landings
+pub mod Redirects
 pub mod Expanding
 pub mod Pruning
 pub mod Reducing
 pub mod Compiling
+pub mod Within

@@ -16,3 +16,7 @@ pub record FitsWidth (dp : Dp) (w : ℕ) : Type 0 where
 pub record IsGreatestWidth (dp : Dp) (w : ℕ) : Type 0 where
   pub fits : FitsWidth dp w
   pub greatest : (v : ℕ) → FitsWidth dp v → v ≤ w
+
+-- some width fits, so the greatest one is at least 1
+abbrev pub WidthsFit : Dp → Type 0
+WidthsFit dp = (w : ℕ) → IsGreatestWidth dp w → 1 ≤ w

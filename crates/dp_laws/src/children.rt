@@ -12,6 +12,7 @@ ghost use Rattle.dp_laws.specs.Restricted.Beams.{beam};
 ghost use Rattle.dp_laws.specs.Diagrams.Nodes.{DdNode, DdLayers};
 ghost use Rattle.dp_laws.specs.Diagrams.Seen.{AreLayers, IsBounded, IsDiagram};
 ghost use Rattle.dp_laws.specs.Diagrams.Cutsets.{children_of, found_in};
+ghost use Rattle.dp_laws.specs.Diagrams.Placed.{ChildrenArePlaced, ChildrenFit};
 
 /// A continuation from a node gains no more than the node's suffix, or leads to no more than the threshold.
 pub fn suffixes_bound()
@@ -44,4 +45,15 @@ pub fn without_reduction_the_beam_is_found()
 /// Sound children may take the place of their prefix on a board, where threshold and found solution are at most its reach.
 pub fn sound_children_follow()
     ensures { (dp : Dp) → SoundChildrenFollow dp }
+{}
+
+/// Each child of a diagram is an exact node at its place, with its bound.
+pub fn children_have_places()
+    ensures { (dp : Dp) → ChildrenArePlaced dp }
+{}
+
+/// The bounds of a diagram's children are at most 2^62 in size. Where the width fits into the memory of one worker, there are at
+/// most 2^24 children of either kind, and a record of those of the last exact layer has at most 2^32 - 1 bytes.
+pub fn children_fit()
+    ensures { (dp : Dp) (p : List ℕ) (w : ℕ) (t : Option ℤ) (d : DdLayers) → IsLawful dp → length p < dp.vars → IsDiagram dp p w t d → ChildrenFit dp w d }
 {}

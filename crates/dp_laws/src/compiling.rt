@@ -1,17 +1,19 @@
 //! What diagrams that are compiled by the rules are, as functions whose contracts state it.
 
-ghost use Rattle.std.specs.Prelude.{◌≡◌, ℕ, ◌+◌, ◌<◌, ◌≤◌, ℤ, List, length, map, Option, Some};
+ghost use Rattle.std.specs.Prelude.{◌≡◌, ℕ, ◌+◌, ◌-◌, ◌<◌, ◌≤◌, ℤ, List, length, map, Option, Some, option_map};
 ghost use Rattle.dp_model.specs.Dp.{Dp};
 ghost use Rattle.dp_model.specs.Laws.{IsLawful, IsChained};
 ghost use Rattle.dp_model.specs.Prefixes.{IsPrefix};
 ghost use Rattle.dp_model.specs.Reached.{reached};
 ghost use Rattle.dp_model.specs.declared.cut_kind.CutKind.{CutKind};
 ghost use Rattle.dp_laws.specs.Restricted.Beam.{layer_below};
+ghost use Rattle.dp_laws.specs.Restricted.Beams.{beam};
 ghost use Rattle.dp_laws.specs.Diagrams.Nodes.{as_member};
 ghost use Rattle.dp_laws.specs.Diagrams.Seen.{IsDiagram};
 ghost use Rattle.dp_laws.specs.Children.{AreSound};
-ghost use Rattle.dp_laws.specs.Diagrams.Cutsets.{children_of, found_in};
-ghost use Rattle.dp_laws.specs.Rules.Compiling.{start_layer, relaxed, restricted_below};
+ghost use Rattle.dp_laws.specs.Diagrams.Cutsets.{children_of, first_exact, found_in};
+ghost use Rattle.dp_laws.specs.Width.{WidthsFit};
+ghost use Rattle.dp_laws.specs.Rules.Compiling.{start_layer, relaxed, restricted_below, LayersFit};
 
 /// Each layer of a restricted diagram that is built by the rules has exact nodes alone, and they stand, in order, for the
 /// prefixes of the layer as it is defined on plain lists.
@@ -30,4 +32,20 @@ pub fn relaxed_diagrams_are_as_seen()
 pub fn relaxed_children_are_sound()
     ensures { (dp : Dp) (p : List ℕ) (w : ℕ) (t : Option ℤ) (kind : CutKind) → IsLawful dp → IsChained dp → IsPrefix dp p → length p < dp.vars → 1 ≤ w
         → AreSound dp p t (found_in dp (relaxed dp (reached dp p) w t)) (children_of dp (relaxed dp (reached dp p) w t) kind) }
+{}
+
+/// The first exact node of the last layer of a restricted diagram that is built by the rules is the beam.
+pub fn restricted_diagrams_find_the_beam()
+    ensures { (dp : Dp) (p : List ℕ) (w : ℕ) (t : Option ℤ)
+        → first_exact (restricted_below dp (length p) w t (length p) (dp.vars - length p) (start_layer (reached dp p))) ≡ option_map (λ r. record { decisions = r.decisions; value = r.value }) (beam dp p w t) }
+{}
+
+/// A layer that is expanded has no more nodes than there are decisions for the nodes above it.
+pub fn layers_fit()
+    ensures { (dp : Dp) → LayersFit dp }
+{}
+
+/// The greatest width that fits into the memory of one worker is at least 1.
+pub fn widths_fit()
+    ensures { (dp : Dp) → IsLawful dp → WidthsFit dp }
 {}

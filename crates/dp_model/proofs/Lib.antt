@@ -1,4 +1,5 @@
 pub mod Examples
+pub mod FoldSteps
 pub mod Members
 pub mod Paths
 pub mod RowLemmas

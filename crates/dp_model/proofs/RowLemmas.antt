@@ -1,5 +1,5 @@
 -- What the tests on rows and on lists of decisions mean.
-use Rattle.std.proofs.Common.{◌≡◌, ℕ, ℤ, ◌≤ℤ◌, int_le, Bool, true, false, ◌&&◌, nat_eq, List, [], ◌∷◌, ◌++◌, IsTrue, refl, sym, subst, arith}
+use Rattle.std.proofs.Common.{◌≡◌, ℕ, ℤ, int_le, ◌&&◌, nat_eq, List, [], ◌∷◌, ◌++◌, IsTrue, refl, sym, subst, arith}
 use Rattle.std.proofs.lemmas.Bool.{and_parts}
 use Rattle.std.proofs.lemmas.Int.{ints}
 use Rattle.dp_model.specs.Decisions.{begins}

@@ -6,7 +6,7 @@ use Rattle.dp_model.specs.Decisions.{below}
 use Rattle.dp_model.specs.Numbers.{greatest, greatest_from}
 use Rattle.dp_model.specs.Prefixes.{IsPath, IsSolution, value_of}
 use Rattle.dp_model.specs.Best.{paths_of, solutions, best, IsBest}
-use Rattle.dp_model.specs.Worth.{SolutionGives}
+use Rattle.dp_model.specs.Solution.{SolutionGives}
 use Rattle.dp_model.proofs.Members.{Has, Has-map, Has-map-from, Has-filter, Has-filter-from, Has-flat_map, Has-flat_map-from, Has-below, Has-below-from}
 
 -- each list of paths_of is a path of that many decisions

@@ -6,11 +6,6 @@ use Rattle.dp_model.specs.Decisions.{below}
 use Rattle.dp_model.specs.Numbers.{greatest}
 use Rattle.dp_model.specs.Prefixes.{IsSolution, value_of}
 
--- a solution with its value
-pub record Best : Type 0 where
-  pub decisions : List ℕ
-  pub value : ℤ
-
 -- the lists of n decisions that are allowed one after another from the state at the layer
 abbrev pub paths_of : Dp → ℕ → ℕ → List ℤ → List (List ℕ)
 paths_of dp zero k s = [] ∷ []

@@ -1,5 +1,5 @@
 -- When one state covers another, and what a rough bound bounds.
-use Rattle.std.specs.Prelude.{◌≡◌, ℕ, ◌≤◌, ℤ, ◌+ℤ◌, ◌≤ℤ◌, Bool, true, false, int_le, List, Option, Some, None, IsTrue}
+use Rattle.std.specs.Prelude.{◌≡◌, ℕ, ◌≤◌, ℤ, ◌+ℤ◌, ◌≤ℤ◌, Bool, true, false, cond, int_le, List, Option, Some, None, IsTrue}
 use Rattle.dp_model.specs.Dp.{Dp}
 use Rattle.dp_model.specs.Prefixes.{IsContinuation, gain_of}
 
@@ -39,3 +39,8 @@ abbrev pub is_struck_by : ℤ → Option ℤ → Option ℤ → Bool
 is_struck_by value None threshold = true
 is_struck_by value (Some rough) None = false
 is_struck_by value (Some rough) (Some threshold) = int_le (value +ℤ rough) threshold
+
+-- the gap where it is there and at most the number
+abbrev pub within : ℤ → Option ℤ → Option ℤ
+within most None = None
+within most (Some gap) = cond (int_le gap most) (Some gap) None

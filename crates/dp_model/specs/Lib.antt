@@ -9,9 +9,10 @@ pub mod Counts
 pub mod Gaps
 pub mod Laws
 pub mod Rows
+pub mod Folds
 pub mod Decisions
 pub mod Reached
 pub mod Subproblem
 pub mod Decided
 pub mod Walked
-pub mod Worth
+pub mod Solution

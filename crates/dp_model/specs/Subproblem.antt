@@ -10,8 +10,8 @@ pub record Subproblem : Type 0 where
   pub value : ℤ
   pub bound : ℤ
 
--- a subproblem in memory, with the number of decisions that it has room for
-pub record Roomy : Type 0 where
+-- a `Sub`: a subproblem in memory, with the number of decisions that it has room for
+pub record SubView : Type 0 where
   pub subproblem : Subproblem
   pub room : ℕ
 

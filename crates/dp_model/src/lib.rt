@@ -3,10 +3,12 @@
 //!
 //! It stands on std alone. Its definitions (prefix, state and value, feasible solution, completion, continuation, frontier
 //! cover, bounds, counts) speak of lists of decisions only; every other crate speaks in their words.
-//! `DpModel` is the interface of a problem, `walk` follows decisions from the root, and `Sub` is a subproblem in memory.
+//! `DpModel` is the interface of a problem, `walk` follows decisions from the root, `Sub` is a subproblem in memory, and
+//! `fold` gives a number by which equal rows are found.
 #![tactic(auto)]
 
 mod cut_kind;
+mod folds;
 mod found;
 mod model;
 mod sub;
@@ -14,8 +16,9 @@ mod theory;
 mod walking;
 
 pub use cut_kind::CutKind;
+pub use folds::fold;
 pub use found::Found;
-pub use model::DpModel;
+pub use model::{DpModel, Extended};
 pub use std::alloc::AllocError as OutOfMemory;
 pub use sub::Sub;
 pub use theory::{best_is_best, best_is_unique};

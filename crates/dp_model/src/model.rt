@@ -1,7 +1,14 @@
-ghost use Rattle.std.specs.Prelude.{◌≡◌, ℕ, ◌+◌, ◌<◌, ◌≤◌, ℤ, List, length, IsTrue};
+ghost use Rattle.std.specs.Prelude.{◌≡◌, ℕ, ◌+◌, ◌<◌, ◌≤◌, ℤ, pos, List, length, replicate, take, IsTrue};
 ghost use Rattle.dp_model.specs.Dp.{Dp, IsAllowed};
 ghost use Rattle.dp_model.specs.Laws.{IsLawful, IsChained};
-ghost use Rattle.dp_model.specs.Gaps.{IsStateOf};
+ghost use Rattle.dp_model.specs.Gaps.{IsStateOf, within};
+
+/// What a decision adds to the value, and the rank of the state that it leads to.
+#[derive(Clone, Copy, Debug, PartialEq, Eq)]
+pub struct Extended {
+    pub gain: i64,
+    pub rank: i64,
+}
 
 /// A problem that is given as a dynamic program.
 ///
@@ -10,6 +17,9 @@ ghost use Rattle.dp_model.specs.Gaps.{IsStateOf};
 ///
 /// The type is a problem with its instance: the meaning of each call is that of the program that the instance's list of
 /// numbers spells, and this program meets the laws.
+///
+/// `covers_within`, `extend` and `first_live` say nothing that the other calls don't. They are there for speed: each has a
+/// body by the others, which a problem replaces where it knows a shorter way.
 pub trait DpModel: Send + Sync + Drop {
     /// The whole numbers of the instance.
     ghost numbers: { Self → List ℤ };
@@ -91,6 +101,53 @@ pub trait DpModel: Send + Sync + Drop {
         requires layer { k ≤ (meaning (numbers self.now)).vars }
         requires cells { length s.now ≡ (meaning (numbers self.now)).words }
         ensures { result ≡ (meaning (numbers self.now)).is_state k s.now };
+
+    /// The gap from `a` to `s` where there is one of at most `most`. The ranks of the two states are told, so that a problem
+    /// need not read the rows to the end, or at all.
+    fn covers_within(
+        &self,
+        k: usize,
+        a: &[i64],
+        rank_a: i64,
+        s: &[i64],
+        rank_s: i64,
+        most: i64,
+    ) -> Option<i64>
+        requires covering { IsStateOf (meaning (numbers self.now)) k a.now }
+        requires covering_rank { rank_a ≡ (meaning (numbers self.now)).rank k a.now }
+        requires state { IsStateOf (meaning (numbers self.now)) k s.now }
+        requires rank { rank_s ≡ (meaning (numbers self.now)).rank k s.now }
+        ensures { result ≡ within most ((meaning (numbers self.now)).gap k a.now s.now) }
+    {
+        let gap = self.gap(k, a, s)?;
+        if gap <= most { Some(gap) } else { None }
+    }
+
+    /// Step, gain and the rank of the next state in one pass, where the rank of the state is told.
+    fn extend(&self, k: usize, s: &[i64], rank: i64, d: u32, out: &mut [i64]) -> Extended
+        requires state { IsTrue ((meaning (numbers self.now)).is_state k s.now) }
+        requires rank { rank ≡ (meaning (numbers self.now)).rank k s.now }
+        requires allowed { IsAllowed (meaning (numbers self.now)) k s.now d }
+        requires cells { length out.old ≡ (meaning (numbers self.now)).words }
+        ensures row { out.new ≡ (meaning (numbers self.now)).step k s.now d }
+        ensures gain { result.gain ≡ (meaning (numbers self.now)).gain k s.now d }
+        ensures rank { result.rank ≡ (meaning (numbers self.now)).rank (k + 1) ((meaning (numbers self.now)).step k s.now d) }
+    {
+        self.step(k, s, d, out);
+        let gain = self.gain(k, s, d);
+        let rank = self.rank(k + 1, out);
+        Extended { gain, rank }
+    }
+
+    /// So many first cells are zero in every state of the layer: two of its states are equal exactly where their other
+    /// cells are, so these alone need be compared, folded and copied.
+    fn first_live(&self, k: usize) -> usize
+        requires { k ≤ (meaning (numbers self.now)).vars }
+        ensures cells { result ≤ (meaning (numbers self.now)).words }
+        ensures zeros { (s : List ℤ) → IsStateOf (meaning (numbers self.now)) k s → take result s ≡ replicate result (pos 0) }
+    {
+        0
+    }
 
     /// The six laws.
     ghost lawful: { (m : Self) → IsLawful (meaning (numbers m)) };

@@ -14,9 +14,9 @@ pub struct Sub {
 
 impl Model for Sub {
     ghost use Rattle.std.specs.Prelude.{vec_capacity};
-    ghost use Rattle.dp_model.specs.Subproblem.{Roomy};
+    ghost use Rattle.dp_model.specs.Subproblem.{SubView};
 
-    ghost Value = { Roomy };
+    ghost Value = { SubView };
 
     ghost view = { λ s. record {
       subproblem = record { decisions = s.decisions.items; row = s.row.items; value = s.value; bound = s.bound };

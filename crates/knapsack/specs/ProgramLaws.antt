@@ -9,7 +9,7 @@ use Rattle.knapsack.specs.declared.item.Item.{Item}
 use Rattle.knapsack.specs.Instance.{Instance, instance_of, numbers_of, item_numbers, items_of, is_small}
 use Rattle.knapsack.specs.Order.{in_order, fill}
 use Rattle.knapsack.specs.OwnWords.{has_copies, total_weight, total_profit, packed_value}
-use Rattle.dp_model.specs.Worth.{IsWorth, SolutionGives}
+use Rattle.dp_model.specs.Solution.{IsSolutionWith, SolutionGives}
 use Rattle.knapsack.specs.Greedy.{packing-le-fill}
 use Rattle.knapsack.specs.Program.{left, program_of}
 use Rattle.knapsack.specs.States.{is_left-is, is_left-from, gap-is, gap-from}
@@ -95,7 +95,7 @@ solution_packs i ds solution =
     let p = path_packs i 0 (pos i.capacity ∷ []) ds solution.prefix (let whole = solution.whole in omega arith) in
     record { copies = p.copies; fits = p.fits; worth = let w = p.worth in omega (arith, ints) }
 
-pub packing_solves : (i : Instance) (ds : List ℕ) → has_copies i.items ds ≡ true → total_weight i.items ds ≤ i.capacity → IsWorth (program_of i) ds (pos (total_profit i.items ds))
+pub packing_solves : (i : Instance) (ds : List ℕ) → has_copies i.items ds ≡ true → total_weight i.items ds ≤ i.capacity → IsSolutionWith (program_of i) ds (pos (total_profit i.items ds))
 packing_solves i ds copies fits =
     let solution : IsSolution (program_of i) ds = record { prefix = packing_paths i 0 (pos i.capacity ∷ []) ds copies fits; whole = copies_all i.items ds copies } in
     record { solution = solution; value = sym (solution_packs i ds solution).worth }

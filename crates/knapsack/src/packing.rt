@@ -2,7 +2,7 @@ ghost use Rattle.std.specs.Prelude.{◌≡◌, MatchOption, false};
 ghost use Rattle.knapsack.specs.OwnWords.{packed_value, has_copies, IsTotal};
 ghost use Rattle.knapsack.specs.Limits.{AreSmall};
 ghost use Rattle.knapsack.specs.Shown.{instance_in, program_in};
-ghost use Rattle.dp_model.specs.Worth.{SolutionGives};
+ghost use Rattle.dp_model.specs.Solution.{SolutionGives};
 
 use crate::item::Item;
 use crate::problem::Knapsack;

@@ -6,7 +6,7 @@ use Rattle.dp_model.specs.Lists.{Each}
 use Rattle.dp_model.specs.Rows.{row_same}
 use Rattle.dp_model.proofs.RowLemmas.{row_same-is}
 use Rattle.dp_laws.specs.Pairs.{EachTwo}
-use Rattle.dp_laws.specs.Rules.Landings.{Landing}
+use Rattle.dp_laws.specs.Rules.Redirects.{Redirect}
 use Rattle.dp_laws.proofs.RowTests.{same-self, same-tests}
 use Rattle.layer_build.specs.Stored.{Made}
 use Rattle.layer_build.specs.Joining.{row_at, rows_at, LandsBelow, AllLand, all_exact}
@@ -93,7 +93,7 @@ marked-more cs i c rows marks more is h =
 pub row-is : (cs : List Made) (i : ℕ) (c : Made) → i < length cs → c ≡ get_or cs i c → row_at cs i ≡ c.row
 row-is cs i c more is = row-get cs i c more ∙ ap (λ (x : Made). x.row) (sym is)
 
-pub marks-within : (cs : List Made) (kept : List ℕ) (ls : List (Option Landing)) (n : ℕ) → length kept ≡ n → AllLand cs kept ls → (i : ℕ) → i < length cs → LandsBelow n ls i
+pub marks-within : (cs : List Made) (kept : List ℕ) (ls : List (Option Redirect)) (n : ℕ) → length kept ≡ n → AllLand cs kept ls → (i : ℕ) → i < length cs → LandsBelow n ls i
 marks-within cs kept ls n long all i less =
     let h = all i less in
     let inside = slice_get_within (rows_at cs kept) h.place (row_at cs i) h.found in

@@ -8,7 +8,7 @@ use Rattle.dp_model.specs.Numbers.{IsFar}
 use Rattle.dp_model.specs.NumberLaws.{small_natural}
 use Rattle.dp_laws.proofs.Restricted.Permutations.{each-at}
 use Rattle.dp_laws.specs.Rules.Compiling.{expand}
-use Rattle.dp_laws.specs.Rules.Landings.{Landing}
+use Rattle.dp_laws.specs.Rules.Redirects.{Redirect}
 use Rattle.layer_build.specs.Stored.{Stored, Made, shown_layer, without_arcs}
 use Rattle.layer_build.specs.Extending.{allowed_below, arcs_to, all_made, all_with_arcs_to}
 use Rattle.layer_build.specs.Following.{IsNear, HasArcsToLand, with_landed}
@@ -23,11 +23,11 @@ use Rattle.layer_build.proofs.Shown.{made-ranked, next-is, above-is}
 zero-far : IsFar (pos 0)
 zero-far = record { low = omega (arith, ints); high = omega (arith, ints) }
 
-near-landings : (cs : List Made) (kept : List ℕ) (ls : List (Option Landing)) → AllLand cs kept ls → length ls ≡ length cs → Each IsNear ls
+near-landings : (cs : List Made) (kept : List ℕ) (ls : List (Option Redirect)) → AllLand cs kept ls → length ls ≡ length cs → Each IsNear ls
 near-landings cs kept ls all long =
     each-at IsNear ls (λ j d less. (let h = all j (omega arith) in subst IsNear (sym (get_or-any ls j d None less ∙ h.lands)) (small_natural 0 (omega arith))))
 
-pub near-part : (cs : List Made) (kept : List ℕ) (ls rest : List (Option Landing)) → AllLand cs kept ls → length ls ≡ length cs → Each IsNear (take (length cs) (ls ++ rest))
+pub near-part : (cs : List Made) (kept : List ℕ) (ls rest : List (Option Redirect)) → AllLand cs kept ls → length ls ≡ length cs → Each IsNear (take (length cs) (ls ++ rest))
 near-part cs kept ls rest all long = subst (Each IsNear) (sym (take-append-le (length cs) ls rest (omega arith) ∙ take_all (length cs) ls (omega arith))) (near-landings cs kept ls all long)
 
 -- Arcs to candidates are not lengthened.
@@ -47,7 +47,7 @@ bare-arcs : (dp : Dp) (k place : ℕ) (nodes : List Stored) → map without_arcs
 bare-arcs dp k place [] = refl
 bare-arcs dp k place (node ∷ nodes) = ap (λ l. without_arcs node ∷ l) (bare-arcs dp k (place + length (allowed_below dp k node.row (dp.choices k))) nodes)
 
-pub bare-landed : (ls : List (Option Landing)) (nodes : List Stored) → map without_arcs (map (with_landed ls) nodes) ≡ map without_arcs nodes
+pub bare-landed : (ls : List (Option Redirect)) (nodes : List Stored) → map without_arcs (map (with_landed ls) nodes) ≡ map without_arcs nodes
 bare-landed ls [] = refl
 bare-landed ls (node ∷ nodes) = ap (λ l. without_arcs node ∷ l) (bare-landed ls nodes)
 

@@ -6,7 +6,7 @@ use Rattle.dp_model.specs.Lists.{Each}
 use Rattle.dp_model.specs.NumberLaws.{small_natural}
 use Rattle.dp_model.proofs.Members.{Each-append}
 use Rattle.dp_laws.specs.Diagrams.Nodes.{DdNode}
-use Rattle.dp_laws.specs.Rules.Reducing.{staying, keep_landings}
+use Rattle.dp_laws.specs.Rules.Reducing.{staying, keep_redirects}
 use Rattle.layer_build.specs.Expanding.{node_from, kept_nodes}
 use Rattle.layer_build.specs.Following.{IsNear}
 use Rattle.layer_build.specs.Joining.{landing_at}
@@ -40,7 +40,7 @@ among-more width (suc more) =
     ∙ ap (λ l. staying width ++ l) (replicate-append-replicate more 1 None ∙ ap (λ m. replicate m None) one))))
 
 -- the landings of so many nodes
-pub among-keep : (width n : ℕ) (layer : List DdNode) → width ≤ n → length layer ≡ n → map (landing_among width) (below n) ≡ keep_landings width layer
+pub among-keep : (width n : ℕ) (layer : List DdNode) → width ≤ n → length layer ≡ n → map (landing_among width) (below n) ≡ keep_redirects width layer
 among-keep width n layer most long =
     let parts : n ≡ width + (length layer - width) = omega arith in
     ap (λ m. map (landing_among width) (below m)) parts ∙ among-more width (length layer - width)

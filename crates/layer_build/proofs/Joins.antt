@@ -10,7 +10,7 @@ use Rattle.dp_model.proofs.Members.{Each-append, Each-then, each-has, Has-below}
 use Rattle.dp_model.proofs.RowLemmas.{row_same-is, nat_eq-is, nat_eq-self}
 use Rattle.dp_laws.specs.Restricted.Sorting.{firsts_after, firsts}
 use Rattle.dp_laws.proofs.Restricted.Permutations.{each-permutation, Has-permutation}
-use Rattle.dp_laws.specs.Rules.Landings.{Landing}
+use Rattle.dp_laws.specs.Rules.Redirects.{Redirect}
 use Rattle.layer_build.specs.Stored.{Made, pathless}
 use Rattle.layer_build.specs.Joining.{row_at, rows_at, landing_at, LandsAt, LandsIn, AllLand, HaveLanded}
 
@@ -19,11 +19,11 @@ use Rattle.layer_build.specs.Joining.{row_at, rows_at, landing_at, LandsAt, Land
 differ : (p i : ℕ) → nat_eq p i ≡ false → p ≢ i
 differ p i h e = absurd (let yes_same : nat_eq p p ≡ true = nat_eq-self p in let no_same : nat_eq p p ≡ false = subst (λ q. nat_eq p q ≡ false) (sym e) h in cc)
 
-pub lands-here : (rows : List (List ℤ)) (ls : List (Option Landing)) (row : List ℤ) (i j : ℕ) (l : Option Landing) → i < length ls → l ≡ landing_at j → slice_get rows j ≡ Some row → LandsAt rows (set ls i l) row i
+pub lands-here : (rows : List (List ℤ)) (ls : List (Option Redirect)) (row : List ℤ) (i j : ℕ) (l : Option Redirect) → i < length ls → l ≡ landing_at j → slice_get rows j ≡ Some row → LandsAt rows (set ls i l) row i
 lands-here rows ls row i j l within is found = record { place = j; lands = get_or-set_same ls i l None within ∙ is; found = found }
 
 -- what was written at a place of its row keeps what landed before
-pub lands-set : (rows : List (List ℤ)) (ls : List (Option Landing)) (row_of : ℕ → List ℤ) (i j : ℕ) (l : Option Landing) → i < length ls → l ≡ landing_at j → slice_get rows j ≡ Some (row_of i)
+pub lands-set : (rows : List (List ℤ)) (ls : List (Option Redirect)) (row_of : ℕ → List ℤ) (i j : ℕ) (l : Option Redirect) → i < length ls → l ≡ landing_at j → slice_get rows j ≡ Some (row_of i)
     → (p : ℕ) → LandsAt rows ls (row_of p) p → LandsAt rows (set ls i l) (row_of p) p
 lands-set rows ls row_of i j l within is found p h =
     let go : (b : Bool) → nat_eq p i ≡ b → LandsAt rows (set ls i l) (row_of p) p =
@@ -35,7 +35,7 @@ lands-set rows ls row_of i j l within is found p h =
 
 -- The kept ones.
 
-pub kept-more : (kept : List ℕ) (ls : List (Option Landing)) (i d : ℕ) (l : Option Landing) (row_of : ℕ → List ℤ) → i < length kept → get_or kept i d < length ls → l ≡ landing_at i
+pub kept-more : (kept : List ℕ) (ls : List (Option Redirect)) (i d : ℕ) (l : Option Redirect) (row_of : ℕ → List ℤ) → i < length kept → get_or kept i d < length ls → l ≡ landing_at i
     → Each (λ p. LandsAt (map row_of kept) ls (row_of p) p) (take i kept) → Each (λ p. LandsAt (map row_of kept) (set ls (get_or kept i d) l) (row_of p) p) (take (i + 1) kept)
 kept-more kept ls i d l row_of more within is h =
     let rows = map row_of kept in
@@ -51,7 +51,7 @@ kept-more kept ls i d l row_of more within is h =
 same-row-at : (cs : List Made) (i j : ℕ) → row_same (row_at cs i) (row_at cs j) ≡ true → row_at cs i ≡ row_at cs j
 same-row-at cs i j h = row_same-is (row_at cs i) (row_at cs j) h
 
-pub landed-like : (cs : List Made) (rows : List (List ℤ)) (ls : List (Option Landing)) (first last i : ℕ) (rest : List ℕ) (d : ℕ) → HaveLanded cs rows ls first last i rest → i < length rest
+pub landed-like : (cs : List Made) (rows : List (List ℤ)) (ls : List (Option Redirect)) (first last i : ℕ) (rest : List ℕ) (d : ℕ) → HaveLanded cs rows ls first last i rest → i < length rest
     → get_or rest i d < length ls → row_same (row_at cs last) (row_at cs (get_or rest i d)) ≡ true
     → HaveLanded cs rows (set ls (get_or rest i d) (get_or ls last None)) first last (i + 1) rest
 landed-like cs rows ls first last i rest d h more within same =
@@ -73,7 +73,7 @@ landed-like cs rows ls first last i rest d h more within same =
       left = Each-then (LandsIn cs rows ls) (LandsIn cs rows new) (firsts_after (pathless cs) last (drop (i + 1) rest)) kept (subst (Each (LandsIn cs rows ls)) left h.left);
     }
 
-pub landed-new : (cs : List Made) (rows : List (List ℤ)) (ls : List (Option Landing)) (first last i : ℕ) (rest : List ℕ) (d : ℕ) → HaveLanded cs rows ls first last i rest → i < length rest
+pub landed-new : (cs : List Made) (rows : List (List ℤ)) (ls : List (Option Redirect)) (first last i : ℕ) (rest : List ℕ) (d : ℕ) → HaveLanded cs rows ls first last i rest → i < length rest
     → row_same (row_at cs last) (row_at cs (get_or rest i d)) ≡ false → HaveLanded cs rows ls first (get_or rest i d) (i + 1) rest
 landed-new cs rows ls first last i rest d h more other =
     let q = get_or rest i d in
@@ -89,12 +89,12 @@ landed-new cs rows ls first last i rest d h more other =
 
 -- All of them.
 
-pub firsts-land : (cs : List Made) (sorted kept : List ℕ) (ls : List (Option Landing)) → IsPermutation (firsts (pathless cs) sorted) kept
+pub firsts-land : (cs : List Made) (sorted kept : List ℕ) (ls : List (Option Redirect)) → IsPermutation (firsts (pathless cs) sorted) kept
     → ((row_of : ℕ → List ℤ) → Each (λ p. LandsAt (map row_of kept) ls (row_of p) p) kept) → Each (LandsIn cs (rows_at cs kept) ls) (firsts (pathless cs) sorted)
 firsts-land cs sorted kept ls moved h =
     each-permutation kept (firsts (pathless cs) sorted) (IsPermutation-sym (firsts (pathless cs) sorted) kept moved) (LandsIn cs (rows_at cs kept) ls) (h (row_at cs))
 
-pub all-land : (cs : List Made) (sorted kept : List ℕ) (ls : List (Option Landing)) → IsPermutation (below (length cs)) sorted → Each (LandsIn cs (rows_at cs kept) ls) sorted → AllLand cs kept ls
+pub all-land : (cs : List Made) (sorted kept : List ℕ) (ls : List (Option Redirect)) → IsPermutation (below (length cs)) sorted → Each (LandsIn cs (rows_at cs kept) ls) sorted → AllLand cs kept ls
 all-land cs sorted kept ls moved h i less = each-has (LandsIn cs (rows_at cs kept) ls) sorted i h (Has-permutation (below (length cs)) sorted moved i (Has-below (length cs) i less))
 
 -- an element within does not depend on the default

@@ -4,28 +4,28 @@ use Rattle.std.proofs.lemmas.List.{take_all, take-append-le}
 use Rattle.dp_model.specs.Lists.{Each}
 use Rattle.dp_model.specs.Numbers.{IsSmall}
 use Rattle.dp_laws.specs.declared.arc.DdArc.{DdArc}
-use Rattle.dp_laws.specs.Rules.Landings.{Landing, landed_at, landed, following}
+use Rattle.dp_laws.specs.Rules.Redirects.{Redirect, redirected_by, redirected, with_redirected}
 use Rattle.layer_build.specs.Following.{landing_of, IsNear, with_landed}
 use Rattle.layer_build.specs.Stored.{Stored, shown, shown_from}
 use Rattle.layer_build.proofs.Extended.{left_after}
 
 -- One arc.
 
-near-at : (ls : List (Option Landing)) (i : ℕ) (l : Landing) → Each IsNear ls → option_and_then (λ o. o) (slice_get ls i) ≡ Some l → IsSmall l.longer
+near-at : (ls : List (Option Redirect)) (i : ℕ) (l : Redirect) → Each IsNear ls → option_and_then (λ o. o) (slice_get ls i) ≡ Some l → IsSmall l.longer
 near-at [] i l near h = absurd (cc)
 near-at (o ∷ ls) zero l near h = subst IsNear h near.0
 near-at (o ∷ ls) (suc i) l near h = near-at ls i l near.1 h
 
-pub near-landing : (ls : List (Option Landing)) (target : Option ℕ) (l : Landing) → Each IsNear ls → landing_of ls target ≡ Some l → IsSmall l.longer
+pub near-landing : (ls : List (Option Redirect)) (target : Option ℕ) (l : Redirect) → Each IsNear ls → landing_of ls target ≡ Some l → IsSmall l.longer
 near-landing ls None l near h = absurd (cc)
 near-landing ls (Some i) l near h = near-at ls i l near h
 
 abbrev arc_of : ℕ → Option ℕ → ℤ → ℤ → DdArc
 arc_of d t g l = record { decision = d; target = t; gain = g; longer = l }
 
-pub landed-some : (ls : List (Option Landing)) (arc : DdArc) (l : Landing) (place : ℕ) (gain longer : ℤ) → landing_of ls arc.target ≡ Some l → place ≡ l.place → gain ≡ arc.gain → longer ≡ (arc.longer +ℤ l.longer)
-    → arc_of arc.decision (Some place) gain longer ≡ landed ls arc
-landed-some ls arc l place gain longer h a b c = rw a (rw b (rw c (sym (ap (landed_at arc) h))))
+pub landed-some : (ls : List (Option Redirect)) (arc : DdArc) (l : Redirect) (place : ℕ) (gain longer : ℤ) → landing_of ls arc.target ≡ Some l → place ≡ l.place → gain ≡ arc.gain → longer ≡ (arc.longer +ℤ l.longer)
+    → arc_of arc.decision (Some place) gain longer ≡ redirected ls arc
+landed-some ls arc l place gain longer h a b c = rw a (rw b (rw c (sym (ap (redirected_by arc) h))))
 
 -- What was done and what is left.
 
@@ -54,14 +54,14 @@ each-left P old now i x all left same inside is =
 
 -- The layer above.
 
-pub shown-follow : (paths : ℕ → List ℕ) (i : ℕ) (landings : List (Option Landing)) (nodes : List Stored) → shown_from paths i (map (with_landed landings) nodes) ≡ following landings (shown_from paths i nodes)
+pub shown-follow : (paths : ℕ → List ℕ) (i : ℕ) (landings : List (Option Redirect)) (nodes : List Stored) → shown_from paths i (map (with_landed landings) nodes) ≡ with_redirected landings (shown_from paths i nodes)
 shown-follow paths i landings [] = refl
 shown-follow paths i landings (node ∷ nodes) = ap (λ l. shown (paths i) (with_landed landings node) ∷ l) (shown-follow paths (i + 1) landings nodes)
 
 -- arcs that follow the first landings of a longer list, those of the kept ones
-pub followed-first : (n : ℕ) (ls rest : List (Option Landing)) (old new : List Stored) → length ls ≡ n → new ≡ map (with_landed (take n (ls ++ rest))) old → new ≡ map (with_landed ls) old
+pub followed-first : (n : ℕ) (ls rest : List (Option Redirect)) (old new : List Stored) → length ls ≡ n → new ≡ map (with_landed (take n (ls ++ rest))) old → new ≡ map (with_landed ls) old
 followed-first n ls rest old new long h = h ∙ ap (λ x. map (with_landed x) old) (take-append-le n ls rest (omega arith) ∙ take_all n ls (omega arith))
 
 -- the first landings of a longer list are near
-pub near-first : (n : ℕ) (ls rest : List (Option Landing)) → length ls ≡ n → Each IsNear ls → Each IsNear (take n (ls ++ rest))
+pub near-first : (n : ℕ) (ls rest : List (Option Redirect)) → length ls ≡ n → Each IsNear ls → Each IsNear (take n (ls ++ rest))
 near-first n ls rest long near = subst (Each IsNear) (sym (take-append-le n ls rest (omega arith) ∙ take_all n ls (omega arith))) near

@@ -5,7 +5,7 @@ use Rattle.dp_model.specs.Dp.{Dp}
 use Rattle.dp_model.specs.Gaps.{IsStateOf}
 use Rattle.dp_model.specs.Laws.{IsLawful}
 use Rattle.dp_model.specs.Numbers.{IsSmall}
-use Rattle.dp_laws.specs.Rules.Pruning.{Leader, landing_within, first_landing, at_leader, led}
+use Rattle.dp_laws.specs.Rules.Pruning.{Leader, redirect_within, first_redirect, at_leader, leaders_past}
 use Rattle.layer_build.specs.declared.leader.LeaderAt.{LeaderAt}
 use Rattle.layer_build.specs.Expanding.{node_from}
 use Rattle.layer_build.specs.Stored.{Made, made_at}
@@ -19,10 +19,10 @@ gap-small dp laws k a s (Some g) x y e = (laws.sizes.gap k a s g x y (sym e)).1
 -- the path of a node and whether it is exact do not count
 pub at-leader-bare : (dp : Dp) (k : ℕ) (leaders : List Leader) (paths : ℕ → List ℕ) (c : Made) (e : Bool) → at_leader dp k leaders (node_from paths c e) ≡ at_leader dp k leaders (bare c)
 at-leader-bare dp k [] paths c e = refl
-at-leader-bare dp k (a ∷ leaders) paths c e = ap (first_landing (landing_within a.place (dp.gap k a.row c.row) a.value c.value)) (at-leader-bare dp k leaders paths c e)
+at-leader-bare dp k (a ∷ leaders) paths c e = ap (first_redirect (redirect_within a.place (dp.gap k a.row c.row) a.value c.value)) (at-leader-bare dp k leaders paths c e)
 
 -- a candidate that stays leads as its node does
-pub leaders-led : (cs : List Made) (ls : List LeaderAt) (paths : ℕ → List ℕ) (place p : ℕ) (e : Bool) → leaders_of cs (led_at ls place p e) ≡ led (leaders_of cs ls) place (node_from paths (made_at cs p) e)
+pub leaders-led : (cs : List Made) (ls : List LeaderAt) (paths : ℕ → List ℕ) (place p : ℕ) (e : Bool) → leaders_of cs (led_at ls place p e) ≡ leaders_past (leaders_of cs ls) place (node_from paths (made_at cs p) e)
 leaders-led cs ls paths place p e =
     let l : LeaderAt = record { place = place; candidate = p } in
     let few : (e && not (nat_le 16 (length ls))) ≡ (e && not (nat_le 16 (length (leaders_of cs ls)))) = ap (λ n. e && not (nat_le 16 n)) (sym (length-map ls (leader_of cs))) in

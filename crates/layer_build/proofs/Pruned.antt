@@ -7,8 +7,8 @@ use Rattle.dp_model.specs.NumberLaws.{small_natural}
 use Rattle.dp_model.proofs.Members.{Each-append}
 use Rattle.dp_laws.specs.Diagrams.Nodes.{DdNode}
 use Rattle.dp_laws.proofs.Diagrams.Places.{same-Some}
-use Rattle.dp_laws.specs.Rules.Landings.{Landing}
-use Rattle.dp_laws.specs.Rules.Pruning.{Leader, at_leader, is_struck, led, pruned_nodes, prune_landings}
+use Rattle.dp_laws.specs.Rules.Redirects.{Redirect}
+use Rattle.dp_laws.specs.Rules.Pruning.{Leader, at_leader, is_struck, leaders_past, pruned_nodes, prune_redirects}
 use Rattle.layer_build.specs.declared.leader.LeaderAt.{LeaderAt}
 use Rattle.layer_build.specs.Expanding.{node_from, kept_nodes}
 use Rattle.layer_build.specs.Following.{IsNear}
@@ -22,13 +22,13 @@ use Rattle.layer_build.proofs.Leaders.{at-leader-bare, leaders-led}
 
 -- One node.
 
-out-test : (b : Bool) (a : Option Landing) (o : Option Landing) (ns other : List DdNode) (ls others : List (Option Landing)) → cond b (Some None) (led_out a) ≡ Some o
+out-test : (b : Bool) (a : Option Redirect) (o : Option Redirect) (ns other : List DdNode) (ls others : List (Option Redirect)) → cond b (Some None) (led_out a) ≡ Some o
     → (cond (b || is_some a) ns other ≡ ns) × (cond b (None ∷ ls) (cond (is_some a) (a ∷ ls) others) ≡ o ∷ ls)
 out-test true a o ns other ls others e = (refl, ap (λ x. x ∷ ls) (same-Some None o e))
 out-test false None o ns other ls others e = absurd (cc)
 out-test false (Some l) o ns other ls others e = (refl, ap (λ x. x ∷ ls) (same-Some (Some l) o e))
 
-stays-test : (b : Bool) (a : Option Landing) (ns other : List DdNode) (ls others : List (Option Landing)) → cond b (Some None) (led_out a) ≡ None
+stays-test : (b : Bool) (a : Option Redirect) (ns other : List DdNode) (ls others : List (Option Redirect)) → cond b (Some None) (led_out a) ≡ None
     → (cond (b || is_some a) ns other ≡ other) × (cond b (None ∷ ls) (cond (is_some a) (a ∷ ls) others) ≡ others)
 stays-test true a ns other ls others e = absurd (cc)
 stays-test false None ns other ls others e = (refl, refl)
@@ -39,23 +39,23 @@ module _ (dp : Dp) (k : ℕ) (t : Option ℤ) (leaders : List Leader) (stay : �
   any-path = ap (λ o. cond (is_struck dp k t (bare c)) (Some None) (led_out o)) (at-leader-bare dp k leaders paths c e)
 
   abbrev more_leaders : List Leader
-  more_leaders = led leaders stay (node_from paths c e)
+  more_leaders = leaders_past leaders stay (node_from paths c e)
 
   -- a node that is taken out
-  out-next : (o : Option Landing) → taken_out dp k t leaders (bare c) ≡ Some o
+  out-next : (o : Option Redirect) → taken_out dp k t leaders (bare c) ≡ Some o
       → (pruned_nodes dp k t leaders stay (node_from paths c e ∷ rest) ≡ pruned_nodes dp k t leaders stay rest)
-      × (prune_landings dp k t leaders stay (node_from paths c e ∷ rest) ≡ o ∷ prune_landings dp k t leaders stay rest)
+      × (prune_redirects dp k t leaders stay (node_from paths c e ∷ rest) ≡ o ∷ prune_redirects dp k t leaders stay rest)
   out-next o h = out-test (is_struck dp k t (bare c)) (at_leader dp k leaders (node_from paths c e)) o
       (pruned_nodes dp k t leaders stay rest) (node_from paths c e ∷ pruned_nodes dp k t more_leaders (stay + 1) rest)
-      (prune_landings dp k t leaders stay rest) (landing_at stay ∷ prune_landings dp k t more_leaders (stay + 1) rest) (any-path ∙ h)
+      (prune_redirects dp k t leaders stay rest) (landing_at stay ∷ prune_redirects dp k t more_leaders (stay + 1) rest) (any-path ∙ h)
 
   -- a node that stays
   stays-next : taken_out dp k t leaders (bare c) ≡ None
       → (pruned_nodes dp k t leaders stay (node_from paths c e ∷ rest) ≡ node_from paths c e ∷ pruned_nodes dp k t more_leaders (stay + 1) rest)
-      × (prune_landings dp k t leaders stay (node_from paths c e ∷ rest) ≡ landing_at stay ∷ prune_landings dp k t more_leaders (stay + 1) rest)
+      × (prune_redirects dp k t leaders stay (node_from paths c e ∷ rest) ≡ landing_at stay ∷ prune_redirects dp k t more_leaders (stay + 1) rest)
   stays-next h = stays-test (is_struck dp k t (bare c)) (at_leader dp k leaders (node_from paths c e))
       (pruned_nodes dp k t leaders stay rest) (node_from paths c e ∷ pruned_nodes dp k t more_leaders (stay + 1) rest)
-      (prune_landings dp k t leaders stay rest) (landing_at stay ∷ prune_landings dp k t more_leaders (stay + 1) rest) (any-path ∙ h)
+      (prune_redirects dp k t leaders stay rest) (landing_at stay ∷ prune_redirects dp k t more_leaders (stay + 1) rest) (any-path ∙ h)
 
 -- One more of the kept nodes.
 
@@ -76,7 +76,7 @@ each-led dp k cs ls place p e all one =
 
 -- What was done and what is left.
 
-module _ (dp : Dp) (k : ℕ) (t : Option ℤ) (cs : List Made) (kept : List ℕ) (marks : List Bool) (ls : List LeaderAt) (places : List ℕ) (exact : List Bool) (landings : List (Option Landing)) (stay i : ℕ)
+module _ (dp : Dp) (k : ℕ) (t : Option ℤ) (cs : List Made) (kept : List ℕ) (marks : List Bool) (ls : List LeaderAt) (places : List ℕ) (exact : List Bool) (landings : List (Option Redirect)) (stay i : ℕ)
     (h : ArePruned dp k t cs kept marks ls places exact landings stay i) (more : i < length kept) (same : length marks ≡ length kept) where
   abbrev place_of : ℕ
   place_of = get_or places i 0
@@ -97,20 +97,20 @@ module _ (dp : Dp) (k : ℕ) (t : Option ℤ) (cs : List Made) (kept : List ℕ)
   nodes-next : (paths : ℕ → List ℕ) → nodes_from paths cs kept marks i ≡ node_from paths (made_at cs place_of) mark_of ∷ nodes_from paths cs kept marks (i + 1)
   nodes-next paths = ap₂ (kept_nodes paths cs) places-after.0 exact-after.0
 
-  lands-more : (paths : ℕ → List ℕ) (o : Option Landing) (rest : List (Option Landing)) → prune_landings dp k t (leaders_of cs ls) stay (nodes_from paths cs kept marks i) ≡ o ∷ rest
-      → take (i + 1) (set landings i o) ++ rest ≡ prune_landings dp k t [] 0 (kept_nodes paths cs kept marks)
+  lands-more : (paths : ℕ → List ℕ) (o : Option Redirect) (rest : List (Option Redirect)) → prune_redirects dp k t (leaders_of cs ls) stay (nodes_from paths cs kept marks i) ≡ o ∷ rest
+      → take (i + 1) (set landings i o) ++ rest ≡ prune_redirects dp k t [] 0 (kept_nodes paths cs kept marks)
   lands-more paths o rest is =
       let size = h.landings_size in
       ap (λ l. l ++ rest) (take_more_set landings i o (omega arith))
       ∙ (append_assoc (take i landings) (o ∷ []) rest ∙ (ap (λ l. take i landings ++ l) (sym is) ∙ h.lands paths))
 
-  near-more : (o : Option Landing) → IsNear o → Each IsNear (take (i + 1) (set landings i o))
+  near-more : (o : Option Redirect) → IsNear o → Each IsNear (take (i + 1) (set landings i o))
   near-more o near =
       let size = h.landings_size in
       subst (Each IsNear) (sym (take_more_set landings i o (omega arith))) (Each-append IsNear (take i landings) (o ∷ []) h.near (near, tt))
 
   -- the next one is taken out
-  pub pruned-out : (c : Made) (o : Option Landing) → c ≡ made_at cs place_of → taken_out dp k t (leaders_of cs ls) (bare c) ≡ Some o → IsNear o
+  pub pruned-out : (c : Made) (o : Option Redirect) → c ≡ made_at cs place_of → taken_out dp k t (leaders_of cs ls) (bare c) ≡ Some o → IsNear o
       → ArePruned dp k t cs kept marks ls places exact (set landings i o) stay (i + 1)
   pruned-out c o is out near =
       let L = leaders_of cs ls in
@@ -128,7 +128,7 @@ module _ (dp : Dp) (k : ℕ) (t : Option ℤ) (cs : List Made) (kept : List ℕ)
         leading = h.leading;
         near = near-more o near;
         nodes = λ paths. ap (λ l. kept_nodes paths cs (take stay places) (take stay exact) ++ l) (sym (ap (pruned_nodes dp k t L stay) (nodes-next paths) ∙ (next paths).0)) ∙ h.nodes paths;
-        lands = λ paths. lands-more paths o (prune_landings dp k t L stay (nodes_from paths cs kept marks (i + 1))) (ap (prune_landings dp k t L stay) (nodes-next paths) ∙ (next paths).1);
+        lands = λ paths. lands-more paths o (prune_redirects dp k t L stay (nodes_from paths cs kept marks (i + 1))) (ap (prune_redirects dp k t L stay) (nodes-next paths) ∙ (next paths).1);
       }
 
   -- the next one stays
@@ -166,12 +166,12 @@ module _ (dp : Dp) (k : ℕ) (t : Option ℤ) (cs : List Made) (kept : List ℕ)
             ap (pruned_nodes dp k t L stay) (nodes-next paths) ∙ ((next paths).0 ∙ ap (λ x. node ∷ pruned_nodes dp k t x (stay + 1) (rest paths)) (sym (leads paths))) in
             ap (λ l. l ++ later) first ∙ (append_assoc done (node ∷ []) later ∙ (ap (λ l. done ++ l) (sym left) ∙ h.nodes paths)));
         lands = λ paths. (
-            let left = ap (prune_landings dp k t L stay) (nodes-next paths) ∙ ((next paths).1 ∙ ap (λ x. landing_at stay ∷ prune_landings dp k t x (stay + 1) (rest paths)) (sym (leads paths))) in
-            lands-more paths (landing_at stay) (prune_landings dp k t (leaders_of cs (led_at ls stay p e)) (stay + 1) (rest paths)) left);
+            let left = ap (prune_redirects dp k t L stay) (nodes-next paths) ∙ ((next paths).1 ∙ ap (λ x. landing_at stay ∷ prune_redirects dp k t x (stay + 1) (rest paths)) (sym (leads paths))) in
+            lands-more paths (landing_at stay) (prune_redirects dp k t (leaders_of cs (led_at ls stay p e)) (stay + 1) (rest paths)) left);
       }
 
 -- the same by equal parts
-pub pruned-by : (dp : Dp) (k : ℕ) (t : Option ℤ) (cs : List Made) (kept : List ℕ) (marks : List Bool) (ls ls' : List LeaderAt) (places places' : List ℕ) (exact exact' : List Bool) (landings landings' : List (Option Landing)) (stay stay' i : ℕ)
+pub pruned-by : (dp : Dp) (k : ℕ) (t : Option ℤ) (cs : List Made) (kept : List ℕ) (marks : List Bool) (ls ls' : List LeaderAt) (places places' : List ℕ) (exact exact' : List Bool) (landings landings' : List (Option Redirect)) (stay stay' i : ℕ)
     → ArePruned dp k t cs kept marks ls places exact landings stay i → ls' ≡ ls → places' ≡ places → exact' ≡ exact → landings' ≡ landings → stay' ≡ stay → ArePruned dp k t cs kept marks ls' places' exact' landings' stay' i
 pruned-by dp k t cs kept marks ls ls' places places' exact exact' landings landings' stay stay' i h a b c d e =
     subst (λ x. ArePruned dp k t cs kept marks x places' exact' landings' stay' i) (sym a)

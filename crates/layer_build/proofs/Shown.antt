@@ -18,7 +18,7 @@ use Rattle.dp_laws.specs.Diagrams.Nodes.{DdNode, prefix_at}
 use Rattle.dp_laws.specs.Diagrams.Seen.{decisions_at}
 use Rattle.dp_laws.proofs.Diagrams.Places.{same-Some, Has-at}
 use Rattle.dp_laws.specs.Rules.Expanding.{makes, is_exact_row, node_for, new_layer, arc_of, with_arcs}
-use Rattle.dp_laws.specs.Rules.Landings.{Landing, landed_at, landed}
+use Rattle.dp_laws.specs.Rules.Redirects.{Redirect, redirected_by, redirected}
 use Rattle.dp_laws.proofs.Rules.Expanded.{RowsApart, found-row, one-place, new-apart}
 use Rattle.layer_build.specs.Stored.{Stored, Made, shown, shown_from, prefix_of, pathless, made_at}
 use Rattle.layer_build.specs.Expanding.{node_from, kept_nodes}
@@ -115,18 +115,18 @@ arc_with d gain target = record { decision = d; target = target; gain = gain; lo
 abbrev with_arcs_shown : List ℕ → Stored → List DdArc → DdNode
 with_arcs_shown path node arcs = record (shown path node) { arcs = arcs }
 
-module _ (dp : Dp) (k : ℕ) (next : List DdNode) (cs : List Made) (kept : List ℕ) (ls : List (Option Landing)) (apart : RowsApart next)
+module _ (dp : Dp) (k : ℕ) (next : List DdNode) (cs : List Made) (kept : List ℕ) (ls : List (Option Redirect)) (apart : RowsApart next)
     (rows : map (λ (n : DdNode). n.row) next ≡ rows_at cs kept) (all : AllLand cs kept ls) (long : length ls ≡ length cs) where
-  arc-lands : (s : List ℤ) (place d : ℕ) → place < length cs → row_at cs place ≡ dp.step k s d → landed ls (arc_to dp k s place d) ≡ arc_of dp k next s d
+  arc-lands : (s : List ℤ) (place d : ℕ) → place < length cs → row_at cs place ≡ dp.step k s d → redirected ls (arc_to dp k s place d) ≡ arc_of dp k next s d
   arc-lands s place d less row =
       let h = all place less in
       let there : slice_get ls place ≡ Some (landing_at h.place) = slice_get-get_or ls place None (omega arith) ∙ ap Some h.lands in
-      let lands : landing_of ls (Some place) ≡ landing_at h.place = ap (λ o. option_and_then (λ (l : Option Landing). l) o) there in
+      let lands : landing_of ls (Some place) ≡ landing_at h.place = ap (λ o. option_and_then (λ (l : Option Redirect). l) o) there in
       let found = place-of next h.place (dp.step k s d) apart (ap (λ l. slice_get l h.place) rows ∙ (h.found ∙ ap Some row)) in
-      ap (landed_at (arc_to dp k s place d)) lands ∙ ap (arc_with d (dp.gain k s d)) (sym found)
+      ap (redirected_by (arc_to dp k s place d)) lands ∙ ap (arc_with d (dp.gain k s d)) (sym found)
 
   arcs-land : (i : ℕ) (node : Stored) (ds : List ℕ) (before rest : List Made) (place : ℕ) → cs ≡ before ++ (map (made_from dp k i node) ds ++ rest) → length before ≡ place
-      → map (landed ls) (arcs_to dp k node.row place ds) ≡ map (arc_of dp k next node.row) ds
+      → map (redirected ls) (arcs_to dp k node.row place ds) ≡ map (arc_of dp k next node.row) ds
   arcs-land i node [] before rest place is e = refl
   arcs-land i node (d ∷ ds) before rest place is e =
       let c = made_from dp k i node d in
@@ -189,6 +189,6 @@ module _ (dp : Dp) (k : ℕ) (paths : ℕ → List ℕ) (nodes : List Stored) (c
   pub next-is : Each (λ p. p < length cs) kept → (marks : List Bool) → marks ≡ map (all_exact cs) (rows_at cs kept) → kept_nodes paths cs kept marks ≡ new_layer dp k layer_of
   next-is within marks h = ap (kept_nodes paths cs kept) h ∙ (nodes-from kept within ∙ sym new-is)
 
-  pub above-is : (ls : List (Option Landing)) → AllLand cs kept ls → length ls ≡ length cs
+  pub above-is : (ls : List (Option Redirect)) → AllLand cs kept ls → length ls ≡ length cs
       → shown_from paths 0 (map (with_landed ls) (all_with_arcs_to dp k 0 nodes)) ≡ with_arcs dp k (new_layer dp k layer_of) layer_of
   above-is ls all long = layer-lands dp k (new_layer dp k layer_of) cs kept ls (new-apart dp k layer_of) new-rows all long paths low 0 nodes [] 0 made refl

@@ -2,7 +2,7 @@
 use Rattle.std.specs.Prelude.{◌≡◌, ℕ, Bool, List, [], ◌∷◌, ◌++◌, length, map, take, drop, Option, None}
 use Rattle.dp_model.specs.Lists.{Each}
 use Rattle.dp_laws.specs.Diagrams.Nodes.{DdNode}
-use Rattle.dp_laws.specs.Rules.Landings.{Landing}
+use Rattle.dp_laws.specs.Rules.Redirects.{Redirect}
 use Rattle.layer_build.specs.Following.{with_landed}
 use Rattle.layer_build.specs.Joining.{AllLand}
 use Rattle.layer_build.specs.Stored.{Stored, Made, path_below, made_at, shown_below}
@@ -32,7 +32,7 @@ pub record AreWritten (cs : List Made) (kept : List ℕ) (marks : List Bool) (ol
 
 -- the arcs of a layer have followed its candidates to the kept ones
 pub record HaveFollowed (cs : List Made) (kept : List ℕ) (old new : List Stored) : Type 0 where
-  pub landings : List (Option Landing)
+  pub landings : List (Option Redirect)
   pub long : length landings ≡ length cs
   pub all : AllLand cs kept landings
   pub arcs : new ≡ map (with_landed landings) old

@@ -5,8 +5,8 @@ use Rattle.dp_model.specs.Gaps.{IsStateOf}
 use Rattle.dp_model.specs.Lists.{Each}
 use Rattle.dp_model.specs.Numbers.{IsFar}
 use Rattle.dp_laws.specs.Diagrams.Nodes.{DdNode}
-use Rattle.dp_laws.specs.Rules.Landings.{Landing}
-use Rattle.dp_laws.specs.Rules.Pruning.{Leader, at_leader, is_struck, pruned_nodes, prune_landings}
+use Rattle.dp_laws.specs.Rules.Redirects.{Redirect}
+use Rattle.dp_laws.specs.Rules.Pruning.{Leader, at_leader, is_struck, pruned_nodes, prune_redirects}
 use Rattle.layer_build.specs.declared.leader.LeaderAt.{LeaderAt}
 use Rattle.layer_build.specs.Expanding.{node_from, kept_nodes}
 use Rattle.layer_build.specs.Following.{IsNear}
@@ -51,12 +51,12 @@ abbrev pub bare : Made → DdNode
 bare c = node_from (λ _. []) c false
 
 -- where a node lands that a leader takes out
-abbrev pub led_out : Option Landing → Option (Option Landing)
+abbrev pub led_out : Option Redirect → Option (Option Redirect)
 led_out None = None
 led_out (Some l) = Some (Some l)
 
 -- where a node lands that is taken out, and none where it stays
-abbrev pub taken_out : Dp → ℕ → Option ℤ → List Leader → DdNode → Option (Option Landing)
+abbrev pub taken_out : Dp → ℕ → Option ℤ → List Leader → DdNode → Option (Option Redirect)
 taken_out dp k t leaders node = cond (is_struck dp k t node) (Some None) (led_out (at_leader dp k leaders node))
 
 -- the kept candidates from the place i on, as nodes
@@ -65,7 +65,7 @@ nodes_from paths cs kept marks i = kept_nodes paths cs (drop i kept) (drop i mar
 
 -- the first i kept candidates have landed, and those of them that stay are the first ones, so many
 pub record ArePruned (dp : Dp) (k : ℕ) (t : Option ℤ) (cs : List Made) (kept : List ℕ) (marks : List Bool) (ls : List LeaderAt)
-    (places : List ℕ) (exact : List Bool) (landings : List (Option Landing)) (stay i : ℕ) : Type 0 where
+    (places : List ℕ) (exact : List Bool) (landings : List (Option Redirect)) (stay i : ℕ) : Type 0 where
   pub places_left : drop i places ≡ drop i kept
   pub exact_left : drop i exact ≡ drop i marks
   pub places_size : length places ≡ length kept
@@ -77,14 +77,14 @@ pub record ArePruned (dp : Dp) (k : ℕ) (t : Option ℤ) (cs : List Made) (kept
   pub near : Each IsNear (take i landings)
   pub nodes : (paths : ℕ → List ℕ) → kept_nodes paths cs (take stay places) (take stay exact) ++ pruned_nodes dp k t (leaders_of cs ls) stay (nodes_from paths cs kept marks i)
       ≡ pruned_nodes dp k t [] 0 (kept_nodes paths cs kept marks)
-  pub lands : (paths : ℕ → List ℕ) → take i landings ++ prune_landings dp k t (leaders_of cs ls) stay (nodes_from paths cs kept marks i)
-      ≡ prune_landings dp k t [] 0 (kept_nodes paths cs kept marks)
+  pub lands : (paths : ℕ → List ℕ) → take i landings ++ prune_redirects dp k t (leaders_of cs ls) stay (nodes_from paths cs kept marks i)
+      ≡ prune_redirects dp k t [] 0 (kept_nodes paths cs kept marks)
 
 -- the kept candidates have landed, and the first ones, so many, are those that stay, whatever the paths of the layer above are
 pub record HasPruned (dp : Dp) (k : ℕ) (t : Option ℤ) (cs : List Made) (kept : List ℕ) (marks : List Bool)
-    (places : List ℕ) (exact : List Bool) (landings : List (Option Landing)) (stay : ℕ) : Type 0 where
+    (places : List ℕ) (exact : List Bool) (landings : List (Option Redirect)) (stay : ℕ) : Type 0 where
   pub nodes : (paths : ℕ → List ℕ) → kept_nodes paths cs (take stay places) (take stay exact) ≡ pruned_nodes dp k t [] 0 (kept_nodes paths cs kept marks)
-  pub lands : (paths : ℕ → List ℕ) → landings ≡ prune_landings dp k t [] 0 (kept_nodes paths cs kept marks)
+  pub lands : (paths : ℕ → List ℕ) → landings ≡ prune_redirects dp k t [] 0 (kept_nodes paths cs kept marks)
   pub near : Each IsNear landings
   pub within : Each (λ p. p < length cs) places
   pub few : stay ≤ length kept

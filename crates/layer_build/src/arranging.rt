@@ -11,7 +11,7 @@ ghost use Rattle.layer_build.specs.Stored.{Stored, Made};
 use crate::candidate::Candidate;
 use crate::following::follow;
 use crate::joining::{join, mark_exact};
-use crate::landing::Landing;
+use crate::landing::Redirect;
 use crate::node::Node;
 use crate::ordering::order_candidates;
 
@@ -21,7 +21,7 @@ pub fn arrange(
     candidates: &[Candidate],
     sorted: &mut Vec<usize>,
     kept: &mut Vec<usize>,
-    landings: &mut [Option<Landing>],
+    landings: &mut [Option<Redirect>],
     exact: &mut Vec<bool>,
 )
     requires ranks { AreRanked candidates.now }
@@ -51,7 +51,7 @@ pub fn settle(
     above: &mut [Node],
     sorted: &mut Vec<usize>,
     kept: &mut Vec<usize>,
-    landings: &mut [Option<Landing>],
+    landings: &mut [Option<Redirect>],
     exact: &mut Vec<bool>,
 )
     requires ranks { AreRanked candidates.now }

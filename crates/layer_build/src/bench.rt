@@ -1,9 +1,9 @@
 ghost use Rattle.std.specs.Prelude.{◌≡◌, ℕ, ◌*◌, ◌<◌, ◌≤◌, ◌^◌, ℤ, List, [], length, map, take, IfOk, vec_len};
 ghost use Rattle.dp_model.specs.Lists.{Each};
 ghost use Rattle.dp_laws.specs.Rules.Compiling.{expand};
-ghost use Rattle.dp_laws.specs.Rules.Landings.{following};
-ghost use Rattle.dp_laws.specs.Rules.Pruning.{pruned_nodes, prune_landings};
-ghost use Rattle.dp_laws.specs.Rules.Reducing.{keep_landings};
+ghost use Rattle.dp_laws.specs.Rules.Redirects.{with_redirected};
+ghost use Rattle.dp_laws.specs.Rules.Pruning.{pruned_nodes, prune_redirects};
+ghost use Rattle.dp_laws.specs.Rules.Reducing.{keep_redirects};
 ghost use Rattle.layer_build.specs.Stored.{Stored, Made, shown_layer, shown_below, without_arcs};
 ghost use Rattle.layer_build.specs.Extending.{IsParent};
 ghost use Rattle.layer_build.specs.Following.{HasArcsToLand};
@@ -14,7 +14,7 @@ use crate::arranging::settle;
 use crate::candidate::Candidate;
 use crate::extending::extend_layer;
 use crate::keeping::keep_first;
-use crate::landing::Landing;
+use crate::landing::Redirect;
 use crate::leader::{LeaderAt, MOST_LEADERS};
 use crate::node::Node;
 use crate::striking::strike;
@@ -31,7 +31,7 @@ pub struct Bench {
     pool: Vec<Candidate>,
     sorted: Vec<usize>,
     kept: Vec<usize>,
-    landings: Vec<Option<Landing>>,
+    landings: Vec<Option<Redirect>>,
     exact: Vec<bool>,
     leaders: Vec<LeaderAt>,
 }
@@ -66,7 +66,7 @@ fn candidates(alloc: Global, words: usize, count: usize) -> Result<Vec<Candidate
 }
 
 /// So many places to land at, none of them known.
-fn landings(alloc: Global, count: usize) -> Result<Vec<Option<Landing>>, OutOfMemory>
+fn landings(alloc: Global, count: usize) -> Result<Vec<Option<Redirect>>, OutOfMemory>
     ensures { IfOk result (λ landings. vec_len landings ≡ count) }
 {
     let mut landings = Vec::with_capacity(alloc, count)?;
@@ -135,7 +135,7 @@ impl Bench {
         requires comparable { Each (MayBePruned (M.meaning (M.numbers model.now)) k) (next_of (λ _. []) self.old) }
         requires longer { Each HasArcsToLand above.old }
         ensures next { (paths : ℕ → List ℕ) → next_of paths self.new ≡ pruned_nodes (M.meaning (M.numbers model.now)) k threshold [] 0 (next_of paths self.old) }
-        ensures above { (paths below : ℕ → List ℕ) → shown_layer paths above.new ≡ following (prune_landings (M.meaning (M.numbers model.now)) k threshold [] 0 (next_of below self.old)) (shown_layer paths above.old) }
+        ensures above { (paths below : ℕ → List ℕ) → shown_layer paths above.new ≡ with_redirected (prune_redirects (M.meaning (M.numbers model.now)) k threshold [] 0 (next_of below self.old)) (shown_layer paths above.old) }
         ensures rest { map without_arcs above.new ≡ map without_arcs above.old }
         ensures fewer { length self.new.kept ≤ length self.old.kept }
         ensures words { self.new.words ≡ self.old.words }
@@ -160,7 +160,7 @@ impl Bench {
         requires fewer { width ≤ length self.old.kept }
         requires longer { Each HasArcsToLand above.old }
         ensures next { (paths : ℕ → List ℕ) → next_of paths self.new ≡ take width (next_of paths self.old) }
-        ensures above { (paths below : ℕ → List ℕ) → shown_layer paths above.new ≡ following (keep_landings width (next_of below self.old)) (shown_layer paths above.old) }
+        ensures above { (paths below : ℕ → List ℕ) → shown_layer paths above.new ≡ with_redirected (keep_redirects width (next_of below self.old)) (shown_layer paths above.old) }
         ensures rest { map without_arcs above.new ≡ map without_arcs above.old }
         ensures kept { length self.new.kept ≡ width }
         ensures words { self.new.words ≡ self.old.words }

@@ -6,23 +6,23 @@ ghost use Rattle.dp_model.specs.Decisions.{below};
 ghost use Rattle.dp_model.specs.Lists.{Each};
 ghost use Rattle.dp_laws.specs.Pairs.{EachTwo};
 ghost use Rattle.dp_laws.specs.Restricted.Sorting.{firsts, firsts_after};
-ghost use Rattle.dp_laws.specs.Rules.Landings.{Landing};
+ghost use Rattle.dp_laws.specs.Rules.Redirects.{Redirect};
 ghost use Rattle.layer_build.specs.Stored.{Made, pathless};
 ghost use Rattle.layer_build.specs.Joining.{rows_at, landing_at, LandsAt, LandsBelow, LandsIn, AllLand, all_exact};
 
 use crate::candidate::Candidate;
 use crate::comparing::same_state;
-use crate::landing::Landing;
+use crate::landing::Redirect;
 
 /// Each kept candidate lands at its own place among them.
-fn land_kept(kept: &[usize], landings: &mut [Option<Landing>])
+fn land_kept(kept: &[usize], landings: &mut [Option<Redirect>])
     requires within { Each (λ p. p < length landings.old) kept.now }
     requires small { length kept.now ≤ 2 ^ 32 }
     ensures lands { (row_of : ℕ → List ℤ) → Each (λ p. LandsAt (map row_of kept.now) landings.new (row_of p) p) kept.now }
     ensures size { length landings.new ≡ length landings.old }
 {
     'kept: for place in 0..kept.len() {
-        landings[kept[place]] = Some(Landing {
+        landings[kept[place]] = Some(Redirect {
             place: place as u32,
             longer: 0,
         });
@@ -34,7 +34,7 @@ fn land_like_firsts(
     candidates: &[Candidate],
     first: usize,
     rest: &[usize],
-    landings: &mut [Option<Landing>],
+    landings: &mut [Option<Redirect>],
 )
     requires first { first < length landings.old }
     requires rest { Each (λ p. p < length landings.old) rest.now }
@@ -57,7 +57,7 @@ pub fn join(
     candidates: &[Candidate],
     sorted: &[usize],
     kept: &[usize],
-    landings: &mut [Option<Landing>],
+    landings: &mut [Option<Redirect>],
 )
     requires size { length landings.old ≡ length candidates.now }
     requires small { length candidates.now ≤ 2 ^ 32 }
@@ -85,7 +85,7 @@ fn all_true(exact: &mut Vec<bool>, count: usize)
 }
 
 /// The place where the i-th candidate lands.
-fn place_at(landings: &[Option<Landing>], i: usize) -> usize
+fn place_at(landings: &[Option<Redirect>], i: usize) -> usize
     requires { i < length landings.now }
     ensures { (place : ℕ) → slice_index_or landings.now i None ≡ landing_at place → result ≡ place }
 {
@@ -96,7 +96,7 @@ fn place_at(landings: &[Option<Landing>], i: usize) -> usize
 }
 
 /// A kept candidate is not exact where one of its state has an inexact parent.
-fn strike_inexact(candidates: &[Candidate], landings: &[Option<Landing>], exact: &mut [bool])
+fn strike_inexact(candidates: &[Candidate], landings: &[Option<Redirect>], exact: &mut [bool])
     requires size { length landings.now ≡ length candidates.now }
     requires within { (i : ℕ) → i < length candidates.now → LandsBelow (length exact.old) landings.now i }
     ensures exact { (rows : List (List ℤ)) → EachTwo (λ a b. a ≢ b) rows → ((i : ℕ) → i < length candidates.now → LandsIn candidates.now rows landings.now i) → exact.old ≡ map (all_exact []) rows
@@ -114,7 +114,7 @@ fn strike_inexact(candidates: &[Candidate], landings: &[Option<Landing>], exact:
 pub fn mark_exact(
     candidates: &[Candidate],
     kept: &[usize],
-    landings: &[Option<Landing>],
+    landings: &[Option<Redirect>],
     exact: &mut Vec<bool>,
 )
     requires room { length kept.now ≤ vec_capacity exact.old }

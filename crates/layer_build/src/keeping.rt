@@ -4,23 +4,23 @@ ghost use Rattle.std.specs.Prelude.{◌≡◌, ℕ, ◌<◌, ◌≤◌, ◌^◌,
 ghost use Rattle.dp_model.specs.Decisions.{below};
 ghost use Rattle.dp_model.specs.Lists.{Each};
 ghost use Rattle.dp_laws.specs.Diagrams.Nodes.{DdNode};
-ghost use Rattle.dp_laws.specs.Rules.Landings.{following};
-ghost use Rattle.dp_laws.specs.Rules.Reducing.{keep_landings};
+ghost use Rattle.dp_laws.specs.Rules.Redirects.{with_redirected};
+ghost use Rattle.dp_laws.specs.Rules.Reducing.{keep_redirects};
 ghost use Rattle.layer_build.specs.Following.{HasArcsToLand};
 ghost use Rattle.layer_build.specs.Keeping.{landing_among};
 ghost use Rattle.layer_build.specs.Stored.{shown_layer, without_arcs};
 
 use crate::following::follow;
-use crate::landing::Landing;
+use crate::landing::Redirect;
 use crate::node::Node;
 
 /// Where the node at the place lands when so many stay.
-fn landing_among(place: usize, width: usize) -> Option<Landing>
+fn landing_among(place: usize, width: usize) -> Option<Redirect>
     requires small { place < 2 ^ 32 }
     ensures { result ≡ landing_among width place }
 {
     if place < width {
-        Some(Landing {
+        Some(Redirect {
             place: place as u32,
             longer: 0,
         })
@@ -30,7 +30,7 @@ fn landing_among(place: usize, width: usize) -> Option<Landing>
 }
 
 /// Those that stay land at their own places, and the others nowhere.
-fn land_first(landings: &mut [Option<Landing>], width: usize)
+fn land_first(landings: &mut [Option<Redirect>], width: usize)
     requires small { length landings.old ≤ 2 ^ 32 }
     ensures { landings.new ≡ map (landing_among width) (below (length landings.old)) }
 {
@@ -46,7 +46,7 @@ pub fn keep_first(
     above: &mut [Node],
     kept: &mut Vec<usize>,
     exact: &mut Vec<bool>,
-    landings: &mut [Option<Landing>],
+    landings: &mut [Option<Redirect>],
 )
     requires fewer { width ≤ length kept.old.items }
     requires longer { Each HasArcsToLand above.old }
@@ -55,7 +55,7 @@ pub fn keep_first(
     requires room { length kept.old.items ≤ length landings.old }
     ensures kept { kept.new.items ≡ take width kept.old.items }
     ensures exact { exact.new.items ≡ take width exact.old.items }
-    ensures above { (paths : ℕ → List ℕ) (layer : List DdNode) → length layer ≡ length kept.old.items → shown_layer paths above.new ≡ following (keep_landings width layer) (shown_layer paths above.old) }
+    ensures above { (paths : ℕ → List ℕ) (layer : List DdNode) → length layer ≡ length kept.old.items → shown_layer paths above.new ≡ with_redirected (keep_redirects width layer) (shown_layer paths above.old) }
     ensures rest { map without_arcs above.new ≡ map without_arcs above.old }
     ensures size { length landings.new ≡ length landings.old }
     ensures kept_capacity { vec_capacity kept.new ≡ vec_capacity kept.old }

@@ -3,17 +3,17 @@ use std::marker::Model;
 /// Where the arcs to a node go when it is taken out of its place: the place in the next layer, and by how much they are
 /// lengthened.
 #[derive(Clone, Copy, Debug)]
-pub struct Landing {
+pub struct Redirect {
     /// The place in the next layer.
     pub place: u32,
     /// By how much an arc is lengthened.
     pub longer: i64,
 }
 
-impl Model for Landing {
-    ghost use Rattle.dp_laws.specs.Rules.Landings.{Landing};
+impl Model for Redirect {
+    ghost use Rattle.dp_laws.specs.Rules.Redirects.{Redirect};
 
-    ghost Value = { Landing };
+    ghost Value = { Redirect };
 
     ghost view = { λ l. record { place = l.place; longer = l.longer } };
 

@@ -3,13 +3,13 @@
 ghost use Rattle.std.specs.Prelude.{◌≡◌, ℕ, ◌<◌, ◌≤◌, ℤ, pos, ◌≤ℤ◌, List, IfSome, length, vec_capacity};
 ghost use Rattle.dp_model.specs.Lists.{Each};
 ghost use Rattle.dp_model.specs.Numbers.{IsSmall, IsFar};
-ghost use Rattle.dp_laws.specs.Rules.Pruning.{landing_within, at_leader};
+ghost use Rattle.dp_laws.specs.Rules.Pruning.{redirect_within, at_leader};
 ghost use Rattle.layer_build.specs.Following.{IsNear};
 ghost use Rattle.layer_build.specs.Stored.{Made};
 ghost use Rattle.layer_build.specs.Striking.{MayBeKept, IsLeading, leaders_of, led_at, bare};
 
 use crate::candidate::Candidate;
-use crate::landing::Landing;
+use crate::landing::Redirect;
 use dp_model::DpModel;
 
 /// No layer has more leaders.
@@ -36,15 +36,15 @@ pub fn lead(leaders: &mut Vec<LeaderAt>, place: u32, candidate: usize, exact: bo
 }
 
 /// The landing at the place, where the gap lifts the number to at most the other one.
-fn landing_within(place: u32, gap: Option<i64>, above: i64, number: i64) -> Option<Landing>
+fn redirect_within(place: u32, gap: Option<i64>, above: i64, number: i64) -> Option<Redirect>
     requires far { IsFar number }
     requires small { IfSome gap (λ g. IsSmall g) }
-    ensures landing { result ≡ landing_within place gap above number }
+    ensures landing { result ≡ redirect_within place gap above number }
     ensures near { IsNear result }
 {
     let longer = gap?;
     if number + longer <= above {
-        Some(Landing { place, longer })
+        Some(Redirect { place, longer })
     } else {
         None
     }
@@ -57,14 +57,14 @@ fn landing_at_leader<M: DpModel>(
     place: u32,
     leader: &Candidate,
     candidate: &Candidate,
-) -> Option<Landing>
+) -> Option<Redirect>
     requires leader { MayBeKept (M.meaning (M.numbers model.now)) k leader.now }
     requires candidate { MayBeKept (M.meaning (M.numbers model.now)) k candidate.now }
-    ensures landing { result ≡ landing_within place ((M.meaning (M.numbers model.now)).gap k leader.now.row candidate.now.row) leader.now.value candidate.now.value }
+    ensures landing { result ≡ redirect_within place ((M.meaning (M.numbers model.now)).gap k leader.now.row candidate.now.row) leader.now.value candidate.now.value }
     ensures near { IsNear result }
 {
     let gap = model.gap(k, leader.row.as_slice(), candidate.row.as_slice());
-    landing_within(place, gap, leader.value, candidate.value)
+    redirect_within(place, gap, leader.value, candidate.value)
 }
 
 /// The landing at the first leader that dominates the candidate.
@@ -74,7 +74,7 @@ pub fn at_leader<M: DpModel>(
     candidates: &[Candidate],
     leaders: &[LeaderAt],
     candidate: &Candidate,
-) -> Option<Landing>
+) -> Option<Redirect>
     requires leading { Each (IsLeading (M.meaning (M.numbers model.now)) k candidates.now) leaders.now }
     requires candidate { MayBeKept (M.meaning (M.numbers model.now)) k candidate.now }
     ensures landing { result ≡ at_leader (M.meaning (M.numbers model.now)) k (leaders_of candidates.now leaders.now) (bare candidate.now) }

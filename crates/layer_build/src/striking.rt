@@ -4,8 +4,8 @@ ghost use Rattle.std.specs.Prelude.{◌≡◌, ℕ, ◌<◌, ◌≤◌, ◌^◌,
 ghost use Rattle.dp_model.specs.Gaps.{is_struck_by};
 ghost use Rattle.dp_model.specs.Lists.{Each};
 ghost use Rattle.dp_model.specs.Numbers.{IsSmall, IsFar};
-ghost use Rattle.dp_laws.specs.Rules.Landings.{following};
-ghost use Rattle.dp_laws.specs.Rules.Pruning.{is_struck, pruned_nodes, prune_landings};
+ghost use Rattle.dp_laws.specs.Rules.Redirects.{with_redirected};
+ghost use Rattle.dp_laws.specs.Rules.Pruning.{is_struck, pruned_nodes, prune_redirects};
 ghost use Rattle.layer_build.specs.Expanding.{kept_nodes};
 ghost use Rattle.layer_build.specs.Following.{IsNear, HasArcsToLand};
 ghost use Rattle.layer_build.specs.Joining.{landing_at};
@@ -14,7 +14,7 @@ ghost use Rattle.layer_build.specs.Striking.{MayBeKept, IsComparableAt, IsLeadin
 
 use crate::candidate::Candidate;
 use crate::following::follow;
-use crate::landing::Landing;
+use crate::landing::Redirect;
 use crate::leader::{LeaderAt, MOST_LEADERS, at_leader, lead};
 use crate::node::Node;
 use dp_model::DpModel;
@@ -51,7 +51,7 @@ fn taken_out<M: DpModel>(
     candidates: &[Candidate],
     leaders: &[LeaderAt],
     candidate: &Candidate,
-) -> Option<Option<Landing>>
+) -> Option<Option<Redirect>>
     requires leading { Each (IsLeading (M.meaning (M.numbers model.now)) k candidates.now) leaders.now }
     requires candidate { MayBeKept (M.meaning (M.numbers model.now)) k candidate.now }
     ensures landing { result ≡ taken_out (M.meaning (M.numbers model.now)) k threshold (leaders_of candidates.now leaders.now) (bare candidate.now) }
@@ -69,7 +69,7 @@ fn keep_at(
     kept: &mut [usize],
     exact: &mut [bool],
     leaders: &mut Vec<LeaderAt>,
-    landings: &mut [Option<Landing>],
+    landings: &mut [Option<Redirect>],
     i: usize,
     place: usize,
 )
@@ -85,7 +85,7 @@ fn keep_at(
     ensures landings { landings.new ≡ set landings.old i (landing_at place) }
     ensures capacity { vec_capacity leaders.new ≡ vec_capacity leaders.old }
 {
-    landings[i] = Some(Landing {
+    landings[i] = Some(Redirect {
         place: place as u32,
         longer: 0,
     });
@@ -104,7 +104,7 @@ fn prune<M: DpModel>(
     kept: &mut [usize],
     exact: &mut [bool],
     leaders: &mut Vec<LeaderAt>,
-    landings: &mut [Option<Landing>],
+    landings: &mut [Option<Redirect>],
 ) -> usize
     requires comparable { Each (IsComparableAt (M.meaning (M.numbers model.now)) k candidates.now) kept.old }
     requires marks { length exact.old ≡ length kept.old }
@@ -148,7 +148,7 @@ pub fn strike<M: DpModel>(
     kept: &mut Vec<usize>,
     exact: &mut Vec<bool>,
     leaders: &mut Vec<LeaderAt>,
-    landings: &mut [Option<Landing>],
+    landings: &mut [Option<Redirect>],
 )
     requires comparable { Each (IsComparableAt (M.meaning (M.numbers model.now)) k candidates.now) kept.old.items }
     requires longer { Each HasArcsToLand above.old }
@@ -157,7 +157,7 @@ pub fn strike<M: DpModel>(
     requires landings_room { length kept.old.items ≤ length landings.old }
     requires leaders_room { MOST_LEADERS ≤ vec_capacity leaders.old }
     ensures next { (paths : ℕ → List ℕ) → kept_nodes paths candidates.now kept.new.items exact.new.items ≡ pruned_nodes (M.meaning (M.numbers model.now)) k threshold [] 0 (kept_nodes paths candidates.now kept.old.items exact.old.items) }
-    ensures above { (paths below : ℕ → List ℕ) → shown_layer paths above.new ≡ following (prune_landings (M.meaning (M.numbers model.now)) k threshold [] 0 (kept_nodes below candidates.now kept.old.items exact.old.items)) (shown_layer paths above.old) }
+    ensures above { (paths below : ℕ → List ℕ) → shown_layer paths above.new ≡ with_redirected (prune_redirects (M.meaning (M.numbers model.now)) k threshold [] 0 (kept_nodes below candidates.now kept.old.items exact.old.items)) (shown_layer paths above.old) }
     ensures rest { map without_arcs above.new ≡ map without_arcs above.old }
     ensures within { Each (λ p. p < length candidates.now) kept.new.items }
     ensures fewer { length kept.new.items ≤ length kept.old.items }

@@ -5,7 +5,7 @@ ghost use Rattle.std.specs.Prelude.{◌≡◌, IfOk, length, vec_len};
 use crate::bench::Bench;
 use crate::candidate::Candidate;
 use crate::joining::join;
-use crate::landing::Landing;
+use crate::landing::Redirect;
 use crate::node::Node;
 use crate::ordering::order_candidates;
 use std::alloc::{AllocError, Global};
@@ -41,7 +41,7 @@ fn keeps_the_best_of_each_state(rt: HostRuntime) -> Result<(), Fail> {
     order_candidates(made.as_slice(), &mut sorted, &mut kept);
     assert_eq!(rt; sorted.as_slice(), [1usize, 3, 2, 0, 4].as_slice());
     assert_eq!(rt; kept.as_slice(), [2usize, 4, 1].as_slice());
-    let none: Option<Landing> = None;
+    let none: Option<Redirect> = None;
     let mut landings = [none; 5];
     join(
         made.as_slice(),

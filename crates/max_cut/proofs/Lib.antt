@@ -5,4 +5,5 @@ pub mod Places
 pub mod Totals
 pub mod Rereading
 pub mod TextLengths
+pub mod Settling
 pub mod StateFacts

@@ -4,7 +4,7 @@ use Rattle.std.specs.Int.{int_min}
 use Rattle.std.proofs.lemmas.Int.{ints}
 use Rattle.std.proofs.lemmas.List.{drop_more, take_more_set, append_assoc}
 use Rattle.benefit_rows.specs.Benefits.{size_of, rank_of}
-use Rattle.benefit_rows.specs.BenefitLaws.{size_of-add}
+use Rattle.benefit_rows.specs.BenefitLaws.{size_of-add, rank_of-positive}
 use Rattle.benefit_rows.proofs.Steps.{fits_by_size, read_at, read_by_size, size_of-at}
 use Rattle.max_cut.specs.Graph.{negatives_of}
 use Rattle.max_cut.specs.PullLaws.{length-pulls, size_of-pull}
@@ -28,6 +28,12 @@ pulls_of-at d (w ∷ ws) (suc i) h = pulls_of-at d ws i (omega arith)
 
 pub negatives_of-drop_more : (ws : List ℤ) (i : ℕ) (d : ℤ) → i < length ws → negatives_of (drop i ws) ≡ int_min (get_or ws i d) (pos 0) +ℤ negatives_of (drop (i + 1) ws)
 negatives_of-drop_more ws i d h = ap negatives_of (drop_more ws i d h)
+
+-- the sums are no larger than the rows together
+pub rank_of-sums_of : (ss ps : List ℤ) → rank_of (sums_of ss ps) ≤ℤ (rank_of ss +ℤ rank_of ps)
+rank_of-sums_of [] ps = omega (arith, ints, rank_of-positive ps)
+rank_of-sums_of (s ∷ ss) [] = omega (arith, ints, rank_of-positive (s ∷ ss))
+rank_of-sums_of (s ∷ ss) (p ∷ ps) = omega (arith, ints, size_of-add s p, rank_of-sums_of ss ps)
 
 -- one sum more is written
 pub sums_written : (out ss ps total : List ℤ) (i : ℕ) (v : ℤ) → i < length out → length out ≡ length ss → length ss ≡ length ps

@@ -8,7 +8,7 @@ use Rattle.std.proofs.lemmas.Bool.{and_parts, and_from}
 use Rattle.std.proofs.lemmas.Bool.Decides.{nat_tests}
 use Rattle.benefit_rows.specs.Benefits.{gain_of, gains_of}
 use Rattle.dp_model.specs.Prefixes.{IsPath, IsSolution, value_of}
-use Rattle.dp_model.specs.Worth.{SolutionGives}
+use Rattle.dp_model.specs.Solution.{SolutionGives}
 use Rattle.max_cut.specs.Graph.{Graph, IsGraph, row_of, weights_from, negatives_of}
 use Rattle.max_cut.specs.GraphLaws.{length-row_of, weights_from-none, weights_from-next, weights_from-split}
 use Rattle.max_cut.specs.Program.{zeros, pull_of, pulls_of, words_of, stepped, program_of}

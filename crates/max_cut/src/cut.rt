@@ -1,7 +1,7 @@
 //! The problem's own words: a side for each vertex, and the weight across.
 
 ghost use Rattle.std.specs.Prelude.{◌≡◌};
-ghost use Rattle.dp_model.specs.Worth.{SolutionGives};
+ghost use Rattle.dp_model.specs.Solution.{SolutionGives};
 ghost use Rattle.max_cut.specs.Cuts.{cut_value};
 ghost use Rattle.max_cut.specs.Shown.{instance_in, program_in};
 

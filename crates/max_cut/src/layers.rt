@@ -5,7 +5,8 @@ ghost use Rattle.benefit_rows.specs.Benefits.{gain_of, rank_of, size_of};
 ghost use Rattle.max_cut.specs.Graph.{IsGraph, negatives_of, pairs_of, row_of, row_start};
 ghost use Rattle.max_cut.specs.Program.{pull_of, pulls_of, settled_of, sums_of, zeros};
 
-use benefit_rows::{above_zero, below_zero, doubled_gap};
+use benefit_rows::{above_zero, below_zero, doubled_gap, size};
+use dp_model::Extended;
 
 /// Where the weights of the pairs begin whose first vertex is `k`.
 pub(crate) fn start_of_row(vertices: usize, k: usize) -> usize
@@ -54,35 +55,72 @@ pub(crate) fn write_zeros(out: &mut [i64])
     }
 }
 
-/// Writes what the step of vertex `k` makes of a state, with the weights to the later vertices.
-pub(crate) fn write_step(out: &mut [i64], k: usize, s: &[i64], d: u32, weights: &[i64])
+/// Writes what the step of vertex `k` makes of a state, with the weights to the later vertices. Answers its rank.
+pub(crate) fn write_step(out: &mut [i64], k: usize, s: &[i64], d: u32, weights: &[i64]) -> i64
     requires vertex { k < length s.now }
     requires cells { length out.old ≡ length s.now }
     requires weights { length weights.now + (k + 1) ≡ length s.now }
     requires benefit_sizes { rank_of s.now ≤ℤ pos (2 ^ 50) }
     requires weight_sizes { rank_of weights.now ≤ℤ pos (2 ^ 50) }
-    ensures { out.new ≡ zeros (k + 1) ++ sums_of (drop (k + 1) s.now) (pulls_of d weights.now) }
+    ensures row { out.new ≡ zeros (k + 1) ++ sums_of (drop (k + 1) s.now) (pulls_of d weights.now) }
+    ensures rank { result ≡ rank_of (sums_of (drop (k + 1) s.now) (pulls_of d weights.now)) }
 {
     let (decided, later) = out.split_at_mut(k + 1);
     write_zeros(decided);
     if d == 0 {
-        write_pulled::<0>(later, tail(s, k + 1), weights);
+        write_pulled::<0>(later, tail(s, k + 1), weights)
     } else {
-        write_pulled::<1>(later, tail(s, k + 1), weights);
+        write_pulled::<1>(later, tail(s, k + 1), weights)
     }
 }
 
-/// Writes each benefit with what the side `D` of an earlier vertex adds to it.
-fn write_pulled<const D: u32>(out: &mut [i64], benefits: &[i64], weights: &[i64])
+/// Writes the step of vertex `k`. Answers its gain and its rank, by the rank of the benefits from `k` on and that of the
+/// weights: what the vertex settles with the later ones is half of what their benefits and the weights lose in size.
+pub(crate) fn extend_row(
+    out: &mut [i64],
+    k: usize,
+    s: &[i64],
+    rank: i64,
+    d: u32,
+    weights: &[i64],
+    weights_rank: i64,
+) -> Extended
+    requires vertex { k < length s.now }
+    requires cells { length out.old ≡ length s.now }
+    requires weights { length weights.now + (k + 1) ≡ length s.now }
+    requires benefit_sizes { rank_of s.now ≤ℤ pos (2 ^ 50) }
+    requires weight_sizes { rank_of weights.now ≤ℤ pos (2 ^ 50) }
+    requires rank { rank ≡ rank_of (drop k s.now) }
+    requires weights_rank { weights_rank ≡ rank_of weights.now }
+    ensures row { out.new ≡ zeros (k + 1) ++ sums_of (drop (k + 1) s.now) (pulls_of d weights.now) }
+    ensures gain { result.gain ≡ gain_of (slice_index_or s.now k (pos 0)) d +ℤ settled_of (drop (k + 1) s.now) (pulls_of d weights.now) }
+    ensures rank { result.rank ≡ rank_of (sums_of (drop (k + 1) s.now) (pulls_of d weights.now)) }
+{
+    let benefit = s[k];
+    let next = write_step(out, k, s, d, weights);
+    let settled = (rank - size(benefit) + weights_rank - next) / 2;
+    Extended {
+        gain: gain_alone(benefit, d) + settled,
+        rank: next,
+    }
+}
+
+/// Writes each benefit with what the side `D` of an earlier vertex adds to it. Answers the sum of their sizes.
+fn write_pulled<const D: u32>(out: &mut [i64], benefits: &[i64], weights: &[i64]) -> i64
     requires benefits { length out.old ≡ length benefits.now }
     requires weights { length benefits.now ≡ length weights.now }
     requires benefit_sizes { rank_of benefits.now ≤ℤ pos (2 ^ 50) }
     requires weight_sizes { rank_of weights.now ≤ℤ pos (2 ^ 50) }
-    ensures { out.new ≡ sums_of benefits.now (pulls_of D weights.now) }
+    ensures row { out.new ≡ sums_of benefits.now (pulls_of D weights.now) }
+    ensures rank { result ≡ rank_of (sums_of benefits.now (pulls_of D weights.now)) }
 {
+    let mut rank = 0;
     for i in 0..out.len() {
-        out[i] = pulled::<D>(benefits, weights, i);
+        let sum = pulled::<D>(benefits, weights, i);
+        out[i] = sum;
+        rank += size(sum);
     }
+    rank
 }
 
 /// A benefit with what the side `D` of an earlier vertex adds to it.
@@ -118,6 +156,18 @@ pub(crate) fn gain_by_side(benefit: i64, benefits: &[i64], d: u32, weights: &[i6
         below_zero(benefit) + settled_by::<0>(benefits, weights)
     } else {
         above_zero(benefit) + settled_by::<1>(benefits, weights)
+    }
+}
+
+/// What the side `d` of a vertex gains from its benefit alone.
+pub(crate) fn gain_alone(benefit: i64, d: u32) -> i64
+    requires { size_of benefit ≤ℤ pos (2 ^ 50) }
+    ensures { result ≡ gain_of benefit d }
+{
+    if d == 0 {
+        below_zero(benefit)
+    } else {
+        above_zero(benefit)
     }
 }
 

@@ -1,10 +1,10 @@
 ghost use Rattle.std.specs.Prelude.{◌≡◌, ◌≤◌, ◌+◌, ◌<◌, length, pos, slice_index_or};
 ghost use Rattle.max_cut.specs.Graph.{IsPrepared};
 
-use crate::layers::{gain_by_side, row_of_pairs, tail, write_step, write_zeros};
+use crate::layers::{extend_row, gain_by_side, row_of_pairs, tail, write_step, write_zeros};
 use crate::limits::is_within_limits;
-use benefit_rows::{gap, merge_into, rank};
-use dp_model::DpModel;
+use benefit_rows::{gap, gap_within, merge_into, rank};
+use dp_model::{DpModel, Extended};
 
 /// An instance of maximum cut: up to 1,024 vertices, and a weight of up to 500,000,000 in size for each
 /// pair of them, 0 where no edge stands.
@@ -43,11 +43,20 @@ impl MaxCut {
         self.sizes[k]
     }
 
+    /// The sum of the sizes of the weights of pairs of `k` and each later vertex.
+    fn size_of_row(&self, k: usize) -> i64
+        requires { k < self.now.vertices }
+        ensures { result ≡ rank_of (row_of (instance_in self.now) k) }
+    {
+        self.size_from(k) - self.size_from(k + 1)
+    }
+
     /// The benefits of the vertices from `k` on.
     fn later<'s>(&self, k: usize, s: &'s [i64]) -> &'s [i64]
         requires { IsStateOf (program_in self.now) k s.now }
         ensures benefits { result.now ≡ drop k s.now }
         ensures count { length result.now ≡ words_of (instance_in self.now) - k }
+        ensures rank { rank_of result.now ≡ rank_of s.now }
         ensures size { (rank_of result.now +ℤ rank_of (weights_from (instance_in self.now) k)) ≤ℤ pos (2 ^ 49) }
         ensures small { rank_of result.now ≤ℤ pos (2 ^ 49) }
     {
@@ -93,7 +102,7 @@ impl DpModel for MaxCut {
     }
 
     fn step(&self, k: usize, s: &[i64], d: u32, out: &mut [i64]) {
-        write_step(out, k, s, d, self.row(k));
+        let _ = write_step(out, k, s, d, self.row(k));
     }
 
     fn gain(&self, k: usize, s: &[i64], d: u32) -> i64 {
@@ -114,6 +123,26 @@ impl DpModel for MaxCut {
 
     fn rank(&self, _k: usize, s: &[i64]) -> i64 {
         rank(s)
+    }
+
+    fn covers_within(
+        &self,
+        k: usize,
+        a: &[i64],
+        rank_a: i64,
+        s: &[i64],
+        rank_s: i64,
+        most: i64,
+    ) -> Option<i64> {
+        gap_within(self.later(k, a), rank_a, self.later(k, s), rank_s, most)
+    }
+
+    fn extend(&self, k: usize, s: &[i64], rank: i64, d: u32, out: &mut [i64]) -> Extended {
+        extend_row(out, k, s, rank, d, self.row(k), self.size_of_row(k))
+    }
+
+    fn first_live(&self, k: usize) -> usize {
+        k
     }
 
     fn bucket(&self, _k: usize, _s: &[i64]) -> u64 {

@@ -9,7 +9,7 @@ use Rattle.max_two_sat.specs.declared.weights.UnitWeights.{UnitWeights}
 use Rattle.max_two_sat.specs.declared.weights.PairWeights.{PairWeights}
 use Rattle.max_two_sat.specs.Instance.{Instance, rows_of, row_at, pair_count, unit_total, pair_total, units_total, pairs_total, rows_total, no_pair, no_unit}
 use Rattle.dp_model.specs.Prefixes.{IsSolution}
-use Rattle.dp_model.specs.Worth.{IsWorth, SolutionGives}
+use Rattle.dp_model.specs.Solution.{IsSolutionWith, SolutionGives}
 use Rattle.max_two_sat.specs.GapLaws.{row_value-most, rows_value-most}
 use Rattle.max_two_sat.specs.Kept.{IsKept, PairIsPositive, UnitIsPositive, pairs_are_positive, units_are_positive, pair_is_positive, unit_is_positive, unit-positive, pair-positive}
 use Rattle.max_two_sat.specs.OwnWords.{all_truth_values, own_value, weight_of, unit_value, pair_value, pair_left, units_value, row_value, rows_value}
@@ -208,7 +208,7 @@ value-none i xs answer kept is no_assignment =
 
 pub record ValueIs (i : Instance) (xs : List ℕ) (units_part pairs_part : ℤ) : Type 0 where
   pub value : Some (i.tautologies +ℤ (units_part +ℤ pairs_part)) ≡ own_value i xs
-  pub solution : IsWorth (program_of i) xs (i.tautologies +ℤ (units_part +ℤ pairs_part))
+  pub solution : IsSolutionWith (program_of i) xs (i.tautologies +ℤ (units_part +ℤ pairs_part))
   pub read : to_z w64 (of_z w64 (to_z w64 (of_z w64 i.tautologies) +ℤ to_z w64 (of_z w64 (to_z w64 (of_z w64 units_part) +ℤ to_z w64 (of_z w64 pairs_part))))) ≡ i.tautologies +ℤ (units_part +ℤ pairs_part)
 
 pub value-is : (i : Instance) (xs : List ℕ) (answer : Bool) (units_part pairs_part : ℤ) → IsKept i → answer ≡ ((length xs == length i.units) && all_truth_values xs) → answer ≡ true →
@@ -218,7 +218,7 @@ value-is i xs answer units_part pairs_part kept is yes_assignment units_is pairs
     let whole : length xs ≡ length i.units = eqb-true (length xs) (length i.units) (and_parts _ _ test).0 in
     let pairs : pairs_part ≡ rows_value (rows_of (length i.units) i.pairs) xs = pairs_is ∙ ap (λ n. rows_value (rows_of n i.pairs) xs) whole in
     let sum : i.tautologies +ℤ (units_part +ℤ pairs_part) ≡ weight_of i xs = omega (arith, ints) in
-    let agrees : IsWorth (program_of i) xs (weight_of i xs) =
+    let agrees : IsSolutionWith (program_of i) xs (weight_of i xs) =
     subst (λ (b : Bool). SolutionGives (program_of i) xs (if b then Some (weight_of i xs) else None)) test (own_value-agrees i xs kept) in
     let units_low = units_value-positive i.units xs kept.units in
     let units_high = units_value-most i.units xs kept.units in

@@ -7,7 +7,7 @@ use Rattle.std.proofs.lemmas.Bool.Decides.{nat_tests}
 use Rattle.std.proofs.lemmas.Int.{ints, clamps}
 use Rattle.benefit_rows.specs.Benefits.{gain_of, gains_of}
 use Rattle.dp_model.specs.Prefixes.{IsPath, value_of}
-use Rattle.dp_model.specs.Worth.{SolutionGives}
+use Rattle.dp_model.specs.Solution.{SolutionGives}
 use Rattle.max_two_sat.specs.declared.weights.UnitWeights.{UnitWeights}
 use Rattle.max_two_sat.specs.Instance.{Instance}
 use Rattle.max_two_sat.specs.Kept.{IsKept}

@@ -1,6 +1,6 @@
 -- The bounded knapsack as a problem of the program.
 use Rattle.std.proofs.Common.{sym, subst}
-use Rattle.dp_model.specs.Worth.{SolutionGives}
+use Rattle.dp_model.specs.Solution.{SolutionGives}
 use Rattle.knapsack.specs.Instance.{Instance, instance_of, numbers_of}
 use Rattle.knapsack.specs.OwnWords.{packed_value}
 use Rattle.knapsack.specs.Printing.{text_of}

@@ -2,7 +2,7 @@
 use Rattle.std.proofs.Common.{sym, subst}
 use Rattle.dd_text.specs.Text.{text_start}
 use Rattle.dd_text.specs.declared.comment.Comment.TheVariants.{LetterC}
-use Rattle.dp_model.specs.Worth.{SolutionGives}
+use Rattle.dp_model.specs.Solution.{SolutionGives}
 use Rattle.max_two_sat.specs.Instance.{Instance}
 use Rattle.max_two_sat.specs.InstanceNumbers.{numbers_of, instance_of, instance_of-numbers_of}
 use Rattle.max_two_sat.specs.Kept.{IsKept}

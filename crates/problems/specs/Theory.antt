@@ -2,7 +2,7 @@
 use Rattle.std.specs.Prelude.{ℕ, ℤ, List, Option, Result, Ok, Err}
 use Rattle.dd_text.specs.declared.instance_error.InstanceError.{InstanceError}
 use Rattle.dp_model.specs.Dp.{Dp}
-use Rattle.dp_model.specs.Worth.{SolutionGives}
+use Rattle.dp_model.specs.Solution.{SolutionGives}
 
 -- an instance is its list of numbers here
 pub record Theory : Type 0 where

@@ -1,7 +1,7 @@
 -- Tours with time windows as a problem of the program.
 use Rattle.std.specs.Prelude.{◌≡◌, IsTrue}
 use Rattle.std.proofs.Common.{sym, subst}
-use Rattle.dp_model.specs.Worth.{SolutionGives}
+use Rattle.dp_model.specs.Solution.{SolutionGives}
 use Rattle.tsp_windows.specs.Instance.{Instance, is_small, numbers_of, instance_of}
 use Rattle.tsp_windows.specs.Instances.{is_small-gives}
 use Rattle.tsp_windows.specs.OwnWords.{tour_value}

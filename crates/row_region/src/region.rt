@@ -1,4 +1,4 @@
-ghost use Rattle.std.specs.Prelude.{◌≡◌, ℕ, ℤ, List, ◌+◌, ◌-◌, ◌*◌, ◌<◌, ◌≤◌, ◌↔◌, ◌++◌, length, replicate, count_by, is_none, slice_get, slice_set, pos, Some, None, IsNone, IfSome, IfNone, IfOk, OnErr, OnOk};
+ghost use Rattle.std.specs.Prelude.{◌≡◌, ℕ, ℤ, List, [], ◌+◌, ◌-◌, ◌*◌, ◌^◌, ◌<◌, ◌≤◌, ◌↔◌, ◌++◌, length, replicate, count_by, is_none, slice_get, slice_set, pos, Some, None, IsNone, IfSome, IfNone, IfOk, OnErr, OnOk};
 ghost use Rattle.std.specs.Borrow.{sem};
 ghost use Rattle.row_region.specs.Region.{IsLive, IsRow, HasTaken};
 ghost use Rattle.row_region.specs.Lending.{LendsRow};
@@ -11,10 +11,10 @@ use std::marker::Model;
 /// The most rows of a region: a name has 32 bits.
 const MOST_ROWS: usize = 0x1_0000_0000;
 
-/// The name of a row of its region.
+/// The name of a row of its region: its place, by which other arrays may be indexed too.
 #[derive(Clone, Copy, Debug, PartialEq, Eq, Hash)]
 pub struct RowId {
-    place: u32,
+    pub place: u32,
 }
 
 /// Rows of one length in one block of cells. Each is live or free.
@@ -42,6 +42,22 @@ impl Model for Region {
 }
 
 impl Region {
+    /// No rows, of so many cells each. It takes no memory.
+    ///
+    /// A row has at least one cell.
+    pub fn empty(alloc: Global, words: usize) -> Region
+        requires { 0 < words }
+        ensures { result ≡ record { words = words; rows = []; spare = 0 } }
+    {
+        Region {
+            cells: Vec::new(alloc),
+            words,
+            count: 0,
+            free: 0,
+            spare: 0,
+        }
+    }
+
     /// So many rows of so many cells, all free. It fails only for want of memory.
     ///
     /// A row has at least one cell.
@@ -49,13 +65,7 @@ impl Region {
         requires { 0 < words }
         ensures { IfOk result (λ r. r ≡ record { words = words; rows = replicate rows None; spare = rows }) }
     {
-        let mut region = Region {
-            cells: Vec::new(alloc),
-            words,
-            count: 0,
-            free: 0,
-            spare: 0,
-        };
+        let mut region = Region::empty(alloc, words);
         region.grow(rows)?;
         Ok(region)
     }
@@ -116,6 +126,14 @@ impl Region {
         ensures counts { self.now.spare ≡ count_by is_none self.now.rows }
     {
         self.spare
+    }
+
+    /// How many rows there are, the free ones among them: at most 2^32.
+    pub fn rows(&self) -> usize
+        ensures rows { result ≡ length self.now.rows }
+        ensures most { result ≤ 2 ^ 32 }
+    {
+        self.count
     }
 
     /// How many cells a row has.

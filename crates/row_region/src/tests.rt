@@ -22,6 +22,6 @@ fn a_row_is_taken_once(rt: HostRuntime) -> Result<(), Fail> {
     region.grow(1)?;
     assert_eq!(rt; region.spare(), 1);
     region.clear();
-    assert_eq!(rt; (region.spare(), region.words()), (2, 2));
+    assert_eq!(rt; (region.spare(), region.rows(), region.words()), (2, 2, 2));
     Ok(())
 }

@@ -4,7 +4,7 @@ use Rattle.std.proofs.lemmas.Bool.Decides.{nat_tests}
 use Rattle.std.proofs.lemmas.Int.{ints}
 use Rattle.std.specs.List.{sum_by}
 use Rattle.std.proofs.lemmas.List.Sums.{sum_by-cons}
-use Rattle.dp_model.specs.Best.{Best}
+use Rattle.dp_model.specs.Solution.{Solution}
 use Rattle.dp_model.specs.Counts.{tree}
 use Rattle.dp_model.specs.Cover.{Covers}
 use Rattle.dp_model.specs.Dp.{Dp}
@@ -33,7 +33,7 @@ slots-many zero = refl
 slots-many (suc n) = let rest = slots-many n in omega arith
 
 -- what is good of an incumbent and the open ones where no slot is full and nothing was taken
-record Begins (dp : Dp) (best : Option Best) (os : List Ticketed) : Type 0 where
+record Begins (dp : Dp) (best : Option Solution) (os : List Ticketed) : Type 0 where
   pub incumbent : IncumbentHolds dp best
   pub covers : Covers dp (value_held best) (prefixes os)
   pub own : Each (λ o. IsOwn dp o.subproblem) os
@@ -45,7 +45,7 @@ record Begins (dp : Dp) (best : Option Best) (os : List Ticketed) : Type 0 where
   pub ends : sum_by (pot_of dp) os ≤ tree dp
   pub shares : length os + sum_by (rest_of dp) os ≤ tree dp
 
-begin : (dp : Dp) (best : Option Best) (os : List Ticketed) (slots : List (Option Ticketed)) (budget : ℕ) → full_slots slots ≡ [] → Begins dp best os
+begin : (dp : Dp) (best : Option Solution) (os : List Ticketed) (slots : List (Option Ticketed)) (budget : ℕ) → full_slots slots ≡ [] → Begins dp best os
     → IsGood dp (fresh_board best os slots budget)
 begin dp best os slots budget none s =
     let same : os ≡ full_slots slots ++ os = ap (λ l. l ++ os) (sym none) in
@@ -91,7 +91,7 @@ pub root-state : (dp : Dp) → IsLawful dp → IsStateOf dp 0 dp.root
 root-state dp laws = record { layer = omega arith; test = laws.states.root }
 
 -- where nothing is open, the incumbent alone covers
-begins-none : (dp : Dp) (best : Option Best) → IncumbentHolds dp best → Covers dp (value_held best) [] → Begins dp best []
+begins-none : (dp : Dp) (best : Option Solution) → IncumbentHolds dp best → Covers dp (value_held best) [] → Begins dp best []
 begins-none dp best incumbent covers = record {
   incumbent = incumbent;
   covers = covers;

@@ -7,7 +7,7 @@ use Rattle.dp_model.specs.Dp.{Dp}
 use Rattle.dp_model.specs.Laws.{IsLawful}
 use Rattle.dp_model.specs.Numbers.{is_above}
 use Rattle.dp_model.specs.Prefixes.{IsSolution, value_of, state_of}
-use Rattle.dp_model.specs.Subproblem.{Subproblem, Roomy, IsOwn}
+use Rattle.dp_model.specs.Subproblem.{Subproblem, SubView, IsOwn}
 use Rattle.dp_model.proofs.Paths.{state_of-state}
 use Rattle.shared_fringe.specs.Firsts.{first_taken}
 use Rattle.shared_fringe.specs.Tickets.{Ticketed, above_value, by_ticket}
@@ -143,7 +143,7 @@ improve-kept dp b x value for_best for_best2 for_open cells spare_cells k soluti
 
 -- Finish.
 
-pub contents-many : (held : List Roomy) → length (contents held) ≡ length held
+pub contents-many : (held : List SubView) → length (contents held) ≡ length held
 contents-many [] = refl
 contents-many (h ∷ held) = let rest = contents-many held in omega arith
 

@@ -1,8 +1,11 @@
 -- What a good board says of the feasible solutions and of the counts.
-use Rattle.std.proofs.Common.{◌≡◌, ◌≢◌, ℕ, ◌<◌, ◌≤◌, ℤ, ◌≤ℤ◌, List, [], ◌∷◌, ◌++◌, length, Bool, true, false, cond, Option, Some, None, ◌⊎◌, inl, inr, refl, ◌∙◌, length-append, arith}
+use Rattle.std.proofs.Common.{◌≡◌, ◌≢◌, ℕ, ◌<◌, ◌≤◌, ℤ, ◌≤ℤ◌, List, [], ◌∷◌, ◌++◌, length, Bool, true, false, cond, Option, Some, None, ◌⊎◌, inl, inr, refl, sym, ◌∙◌, subst, ◌+◌, length-append, arith}
 use Rattle.std.proofs.lemmas.Int.{ints}
 use Rattle.std.specs.Prelude.{int_lt}
+use Rattle.dp_model.specs.Solution.{Solution}
+use Rattle.dp_model.specs.Best.{IsBest}
 use Rattle.dp_model.specs.Counts.{tree}
+use Rattle.dp_model.specs.Cover.{Covers}
 use Rattle.dp_model.specs.Dp.{Dp}
 use Rattle.dp_model.specs.Lists.{Each, OneOf}
 use Rattle.dp_model.specs.Numbers.{AtMost, OptionAtMost}
@@ -10,9 +13,9 @@ use Rattle.dp_model.specs.Prefixes.{IsSolution, value_of}
 use Rattle.dp_model.proofs.Members.{Each-then}
 use Rattle.shared_fringe.specs.Bounds.{raised, raised_by}
 use Rattle.shared_fringe.specs.Tickets.{Ticketed}
-use Rattle.search_core.specs.Board.{BoardState, incumbent_value, value_held, full_slots, frontier}
+use Rattle.search_core.specs.Board.{BoardState, incumbent_value, value_held, full_slots, frontier, prefixes}
 use Rattle.search_core.specs.Bound.{bound_of, IsGreatest}
-use Rattle.search_core.specs.GoodBoard.{IsGood}
+use Rattle.search_core.specs.GoodBoard.{IncumbentHolds, IsGood}
 use Rattle.search_core.specs.Kept.{best_of}
 use Rattle.search_core.proofs.Counting.{pots-many}
 use Rattle.search_core.proofs.Frontier.{MatchedBy, HeldBy, covers-by, matched-below}
@@ -89,6 +92,28 @@ bound-holds dp b g x s =
 pub raised-append : (most : Option ℤ) (xs ys : List Ticketed) → raised_by (raised_by most xs) ys ≡ raised_by most (xs ++ ys)
 raised-append most [] ys = refl
 raised-append most (x ∷ xs) ys = raised-append (raised most x.subproblem.bound) xs ys
+
+-- The explored board.
+
+none-there : {X : Type 0} (xs ys : List X) → length ys + length xs ≡ 0 → xs ++ ys ≡ []
+none-there [] [] e = refl
+none-there [] (y ∷ ys) e = absurd (omega arith)
+none-there (x ∷ xs) ys e = absurd (omega arith)
+
+-- where nothing is left to match a solution, the incumbent is best, or there is no feasible solution
+best-alone : (dp : Dp) (found : Option Solution) → IncumbentHolds dp found → Covers dp (value_held found) [] → IsBest dp (value_held found)
+best-alone dp None h covers = λ x s. elim (covers x s) as (λ _. ⊥) [ inl a ↦ a | inr n ↦ n ]
+best-alone dp (Some found) h covers = record {
+  by = found.decisions;
+  solution = h.solution;
+  value = sym h.value;
+  most = λ x s. elim (covers x s) as (λ _. value_of dp x ≤ℤ found.value) [ inl a ↦ a | inr n ↦ absurd n ];
+}
+
+-- the incumbent of a good board with nothing open or out is best, or there is no feasible solution
+pub explored-best : (dp : Dp) (b : BoardState) → IsGood dp b → length b.open_ones + length (full_slots b.slots) ≡ 0 → IsBest dp (incumbent_value b)
+explored-best dp b g none =
+    best-alone dp b.incumbent g.incumbent (subst (λ os. Covers dp (incumbent_value b) (prefixes os)) (none-there (full_slots b.slots) b.open_ones none) g.covers)
 
 -- The counts.
 

@@ -1,12 +1,12 @@
 -- The board as data.
 use Rattle.std.specs.Prelude.{◌≡◌, ℕ, ◌+◌, ℤ, Bool, List, [], ◌∷◌, ◌++◌, map, length, nat_eq, slice_get, Option, Some, None}
-use Rattle.dp_model.specs.Best.{Best}
+use Rattle.dp_model.specs.Solution.{Solution}
 use Rattle.shared_fringe.specs.Tickets.{Ticketed}
 use Rattle.search_core.specs.declared.cause.Cause.{Cause}
 
 -- the incumbent, the open ones in order of ticket, a slot for each worker, the counts, the budget and the cause of a halt
 pub record BoardState : Type 0 where
-  pub incumbent : Option Best
+  pub incumbent : Option Solution
   pub open_ones : List Ticketed
   pub slots : List (Option Ticketed)
   pub taken : ℕ
@@ -21,7 +21,7 @@ pub record BoardView : Type 0 where
   pub board : BoardState
   pub room : ℕ
 
-abbrev pub value_held : Option Best → Option ℤ
+abbrev pub value_held : Option Solution → Option ℤ
 value_held None = None
 value_held (Some best) = Some best.value
 

@@ -5,7 +5,7 @@ use Rattle.dp_model.specs.Dp.{Dp}
 use Rattle.dp_model.specs.Lists.{Each, OneOf}
 use Rattle.dp_model.specs.Numbers.{AtMost, IsFar}
 use Rattle.dp_model.specs.Prefixes.{IsCompletion, IsMatched, value_of}
-use Rattle.dp_model.specs.Subproblem.{Subproblem, Roomy, IsChild}
+use Rattle.dp_model.specs.Subproblem.{Subproblem, SubView, IsChild}
 use Rattle.dp_laws.specs.Pairs.{EachTwo}
 use Rattle.shared_fringe.specs.Tickets.{Ticketed}
 use Rattle.search_core.specs.declared.fate.Fate.{Fate}
@@ -14,7 +14,7 @@ use Rattle.search_core.specs.Fates.{fates_on}
 use Rattle.dp_laws.specs.Children.{AreApart}
 
 -- subproblems in memory as data
-abbrev pub contents : List Roomy → List Subproblem
+abbrev pub contents : List SubView → List Subproblem
 contents held = map (λ h. h.subproblem) held
 
 -- the slot is full; there are not too many children; the fates are those of the board; each child is a prefix of its own

@@ -1,13 +1,12 @@
 -- What every board keeps.
 use Rattle.std.specs.Prelude.{◌≡◌, ℕ, ◌+◌, ◌-◌, ◌*◌, ◌^◌, ◌<◌, ◌≤◌, ◌≢◌, List, length, sum_by, Option, Some, None, IsTrue}
-use Rattle.dp_model.specs.Best.{Best}
+use Rattle.dp_model.specs.Solution.{Solution, IsSolutionWith}
 use Rattle.dp_model.specs.Counts.{pot, tree}
 use Rattle.dp_model.specs.Cover.{Covers, IsHeld}
 use Rattle.dp_model.specs.Dp.{Dp}
 use Rattle.dp_model.specs.Lists.{Each}
 use Rattle.dp_model.specs.Numbers.{is_above}
 use Rattle.dp_model.specs.Subproblem.{IsOwn}
-use Rattle.dp_model.specs.Worth.{IsWorth}
 use Rattle.dp_laws.specs.Children.{AreApart}
 use Rattle.dp_laws.specs.Pairs.{EachTwo}
 use Rattle.shared_fringe.specs.Tickets.{Ticketed, IsEarlier}
@@ -15,9 +14,9 @@ use Rattle.search_core.specs.declared.cause.Cause.TheVariants.{Budget}
 use Rattle.search_core.specs.Board.{BoardState, incumbent_value, full_slots, frontier, prefixes}
 
 -- the incumbent, where there is one, is a feasible solution with its value
-abbrev pub IncumbentHolds : Dp → Option Best → Type 0
+abbrev pub IncumbentHolds : Dp → Option Solution → Type 0
 IncumbentHolds dp None = Unit {0}
-IncumbentHolds dp (Some best) = IsWorth dp best.decisions best.value
+IncumbentHolds dp (Some best) = IsSolutionWith dp best.decisions best.value
 
 -- how many prefixes begin with that of a subproblem, and how many more than itself
 abbrev pub pot_of : Dp → Ticketed → ℕ

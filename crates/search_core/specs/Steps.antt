@@ -1,6 +1,6 @@
 -- The steps of a board beside Take: Improve, Finish, GiveBack and Halt, and the first board.
 use Rattle.std.specs.Prelude.{ℕ, zero, suc, ◌+◌, ℤ, cond, List, [], ◌∷◌, ◌++◌, length, nat_eq, slice_set, Option, Some, None}
-use Rattle.dp_model.specs.Best.{Best}
+use Rattle.dp_model.specs.Solution.{Solution}
 use Rattle.dp_model.specs.Dp.{Dp}
 use Rattle.dp_model.specs.Numbers.{is_above, add_some}
 use Rattle.dp_model.specs.Subproblem.{Subproblem}
@@ -71,7 +71,7 @@ empty_slots zero = []
 empty_slots (suc n) = None ∷ empty_slots n
 
 -- the empty solution of an instance without variables
-abbrev pub first_incumbent : Dp → Option Best
+abbrev pub first_incumbent : Dp → Option Solution
 first_incumbent dp = cond (nat_eq dp.vars 0) (Some (record { decisions = []; value = dp.root_value })) None
 
 -- what is open at first: the root, where there are variables
@@ -79,7 +79,7 @@ abbrev pub first_open : Dp → List Ticketed
 first_open dp = cond (nat_eq dp.vars 0) [] (opened (root_of dp))
 
 -- a board before the first Take, with these open
-abbrev pub fresh_board : Option Best → List Ticketed → List (Option Ticketed) → ℕ → BoardState
+abbrev pub fresh_board : Option Solution → List Ticketed → List (Option Ticketed) → ℕ → BoardState
 fresh_board incumbent os slots budget = record {
   incumbent = incumbent;
   open_ones = os;

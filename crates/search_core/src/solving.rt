@@ -1,7 +1,7 @@
 //! Whether decisions are a feasible solution, and how one is kept.
 
 ghost use Rattle.std.specs.Prelude.{◌≡◌, ◌≤◌, length, Option, vec_capacity};
-ghost use Rattle.dp_model.specs.Worth.{SolutionGives};
+ghost use Rattle.dp_model.specs.Solution.{SolutionGives};
 
 use dp_model::{DpModel, walk};
 

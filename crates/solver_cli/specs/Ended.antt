@@ -26,6 +26,14 @@ pub record Writings : Type 0 where
   pub idle_before : ℕ
   pub idle_now : ℕ
 
+-- the source at two moments, by what it tells of itself
+abbrev pub readings : {S : Type 0} → (S → Option (List ℕ)) → (S → ℕ) → S → S → Readings
+readings left faults old new = record { before = left old; now = left new; faults_before = faults old; faults_now = faults new }
+
+-- the sink likewise
+abbrev pub writings : {K : Type 0} → (K → Option (List ℕ)) → (K → ℕ) → (K → ℕ) → K → K → Writings
+writings taken faults idle old new = record { before = taken old; now = taken new; faults_before = faults old; faults_now = faults new; idle_before = idle old; idle_now = idle new }
+
 abbrev pub input_limit : ℕ
 input_limit = 2 ^ 26
 

@@ -1,5 +1,5 @@
 ghost use Rattle.std.specs.Prelude.{map, string_bytes};
-ghost use Rattle.solver_cli.specs.Ended.{IsRight};
+ghost use Rattle.solver_cli.specs.Ended.{IsRight, readings};
 
 use dd_io::{ReadError, Source, read_all};
 use solver_jobs::reply;
@@ -12,7 +12,7 @@ const INPUT_LIMIT: usize = 1 << 26;
 
 /// The answer to the words and the input.
 pub fn answer<S: Source>(alloc: Global, words: &[String], input: &mut S) -> Answer
-    ensures { IsRight (map string_bytes words.now) (record { before = S.left input.old; now = S.left input.new; faults_before = S.faults input.old; faults_now = S.faults input.new }) result }
+    ensures { IsRight (map string_bytes words.now) (readings S.left S.faults input.old input.new) result }
 {
     let Some(job) = read_words(words) else {
         return Answer::Usage;

@@ -1,5 +1,5 @@
 ghost use Rattle.std.specs.Prelude.{◌≡◌, ◌⊎◌};
-ghost use Rattle.solver_cli.specs.Ended.{Says, IsSaid};
+ghost use Rattle.solver_cli.specs.Ended.{Says, IsSaid, writings};
 
 use dd_io::{Sink, write_all};
 use solver_report::{Answer, report_text, status};
@@ -7,7 +7,7 @@ use std::alloc::Global;
 
 /// Writes the text of the answer, or that memory ran out where it can't be made, and gives the status.
 pub fn say<K: Sink>(alloc: Global, out: &mut K, answer: &Answer) -> u8
-    ensures { IsSaid (record { before = K.taken out.old; now = K.taken out.new; faults_before = K.faults out.old; faults_now = K.faults out.new; idle_before = K.idle out.old; idle_now = K.idle out.new }) answer.now result }
+    ensures { IsSaid (writings K.taken K.faults K.idle out.old out.new) answer.now result }
 {
     match report_text(alloc, answer) {
         Ok(text) => write(out, text.as_slice(), status(answer)),
@@ -24,7 +24,7 @@ const UNWRITTEN: u8 = 7;
 /// Writes the text, and gives the status that goes with it, or the one of an output that failed. An input that failed goes before
 /// that.
 fn write<K: Sink>(out: &mut K, text: &[u8], own: u8) -> u8
-    ensures { Says (record { before = K.taken out.old; now = K.taken out.new; faults_before = K.faults out.old; faults_now = K.faults out.new; idle_before = K.idle out.old; idle_now = K.idle out.new }) text.now own result }
+    ensures { Says (writings K.taken K.faults K.idle out.old out.new) text.now own result }
 {
     match write_all(out, text) {
         Ok(()) => own,

@@ -1,11 +1,12 @@
 -- What a search that is over may answer.
 use Rattle.std.proofs.Common.{◌≡◌, ◌≢◌, ℕ, ◌+◌, ◌^◌, ◌≤◌, ℤ, List, [], ◌∷◌, ◌++◌, length, false, nat_eq, Option, Some, None, refl, sym, ◌∙◌, ap, subst, arith}
-use Rattle.dp_model.specs.Best.{Best, best, IsBest}
+use Rattle.std.proofs.lemmas.Int.{ints}
+use Rattle.dp_model.specs.Solution.{Solution, IsSolutionWith, SolutionGives}
+use Rattle.dp_model.specs.Best.{best, IsBest}
 use Rattle.dp_model.specs.Counts.{tree}
 use Rattle.dp_model.specs.Dp.{Dp}
 use Rattle.dp_model.specs.Numbers.{AtMost}
 use Rattle.dp_model.specs.Prefixes.{IsSolution, value_of}
-use Rattle.dp_model.specs.Worth.{IsWorth}
 use Rattle.dp_model.proofs.Solutions.{best-is_best, IsBest-unique, given_value, given_none}
 use Rattle.problems.specs.Theory.{Agrees}
 use Rattle.search_core.specs.Bounds.{raised, raised_by}
@@ -18,30 +19,39 @@ use Rattle.search_core.specs.Bound.{bound_of}
 use Rattle.search_core.specs.GoodBoard.{IncumbentHolds, IsGood}
 use Rattle.solver_report.specs.declared.answer.Stop.{Stop}
 use Rattle.solver_report.specs.declared.answer.Stop.TheVariants.{Budget}
-use Rattle.solver_jobs.specs.Answers.{IsFound, FoundHolds, IsProved, IsInfeasible, StopHolds, IsStopped}
+use Rattle.solver_jobs.specs.Answers.{IsFound, FoundHolds, NoneIsWorthMore, IsProved, IsInfeasible, StopHolds, IsStopped}
 use Rattle.solver_jobs.specs.Over.{IsOver}
 
 -- an incumbent is a solution in the problem's own words too
-pub found_one : (dp : Dp) (own : List ℕ → Option ℤ) → Agrees dp own → (found : Best) → IsWorth dp found.decisions found.value → IsFound dp own found
+pub found_one : (dp : Dp) (own : List ℕ → Option ℤ) → Agrees dp own → (found : Solution) → IsSolutionWith dp found.decisions found.value → IsFound dp own found
 found_one dp own agrees found h = record {
   solution = h.solution;
   value = h.value;
   own_words = given_value dp found.decisions (own found.decisions) (agrees found.decisions) h.solution ∙ ap Some (sym h.value);
 }
 
-pub found_holds : (dp : Dp) (own : List ℕ → Option ℤ) → Agrees dp own → (found : Option Best) → IncumbentHolds dp found → FoundHolds dp own found
+pub found_holds : (dp : Dp) (own : List ℕ → Option ℤ) → Agrees dp own → (found : Option Solution) → IncumbentHolds dp found → FoundHolds dp own found
 found_holds dp own agrees None h = tt
 found_holds dp own agrees (Some found) h = found_one dp own agrees found h
 
+-- where no feasible solution exceeds a number, no list is worth more in the problem's own words
+none_worth_more : (dp : Dp) (own : List ℕ → Option ℤ) → Agrees dp own → (value : ℤ) → ((x : List ℕ) → IsSolution dp x → AtMost (value_of dp x) (Some value)) → NoneIsWorthMore own value
+none_worth_more dp own agrees value most x worth is =
+    let found : IsSolutionWith dp x worth = subst (SolutionGives dp x) is (agrees x) in
+    let up = most x found.solution in
+    let same = found.value in
+    omega (arith, ints)
+
 -- the incumbent of an explored board is best
-pub proved : (dp : Dp) (own : List ℕ → Option ℤ) → Agrees dp own → (held : Option Best) (found : Best) → Some found ≡ held → IncumbentHolds dp held → IsBest dp (value_held held) → IsProved dp own found
+pub proved : (dp : Dp) (own : List ℕ → Option ℤ) → Agrees dp own → (held : Option Solution) (found : Solution) → Some found ≡ held → IncumbentHolds dp held → IsBest dp (value_held held) → IsProved dp own found
 proved dp own agrees held found same h is = record {
   found_one = found_one dp own agrees found (subst (IncumbentHolds dp) (sym same) h);
   is_best = sym (IsBest-unique dp (Some found.value) (best dp) (subst (λ b. IsBest dp (value_held b)) (sym same) is) (best-is_best dp));
+  own_best = (let greatest : IsBest dp (Some found.value) = subst (λ b. IsBest dp (value_held b)) (sym same) is in none_worth_more dp own agrees found.value greatest.most);
 }
 
 -- an explored board without an incumbent says that there is no feasible solution
-pub infeasible : (dp : Dp) (own : List ℕ → Option ℤ) → Agrees dp own → (held : Option Best) → None ≡ held → IsBest dp (value_held held) → IsInfeasible dp own
+pub infeasible : (dp : Dp) (own : List ℕ → Option ℤ) → Agrees dp own → (held : Option Solution) → None ≡ held → IsBest dp (value_held held) → IsInfeasible dp own
 infeasible dp own agrees held same is =
     let never : IsBest dp None = subst (λ b. IsBest dp (value_held b)) (sym same) is in
     record {
@@ -82,7 +92,7 @@ bound_there dp budget b over left h =
     raised_by-open (incumbent_value b) (full_slots b.slots ++ b.open_ones) (no_append (full_slots b.slots) b.open_ones some) h
 
 -- a search that is over with something open is stopped, for the reason that holds
-pub is_stopped : (dp : Dp) (own : List ℕ → Option ℤ) → Agrees dp own → (budget : ℕ) (b : BoardState) (stop : Stop) (found : Option Best) (bound : ℤ)
+pub is_stopped : (dp : Dp) (own : List ℕ → Option ℤ) → Agrees dp own → (budget : ℕ) (b : BoardState) (stop : Stop) (found : Option Solution) (bound : ℤ)
     → IsGood dp b → IsOver dp budget b → is_explored b ≡ false → found ≡ b.incumbent → bound_of b ≡ Some bound → ((x : List ℕ) → IsSolution dp x → AtMost (value_of dp x) (Some bound))
     → StopHolds b stop → (stop ≡ Budget → tree dp ≤ budget → tree dp ≤ 2 ^ 63 → ⊥) → IsStopped dp own budget stop found bound
 is_stopped dp own agrees budget b stop found bound good over left same bound_is most holds incomplete = record {
@@ -96,6 +106,7 @@ is_stopped dp own agrees budget b stop found bound good over left same bound_is 
   bound_is = bound_is;
   found_one = found_holds dp own agrees found (subst (IncumbentHolds dp) (sym same) good.incumbent);
   most = most;
+  own_most = none_worth_more dp own agrees bound most;
   incomplete = incomplete;
 }
 

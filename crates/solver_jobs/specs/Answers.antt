@@ -1,7 +1,8 @@
 -- When what a job answers for an instance is right.
-use Rattle.std.specs.Prelude.{◌≡◌, ◌≢◌, ℕ, ◌^◌, ◌≤◌, ℤ, List, [], Option, Some, None, MatchResult, IsTrue}
+use Rattle.std.specs.Prelude.{◌≡◌, ◌≢◌, ℕ, ◌^◌, ◌≤◌, ℤ, ◌≤ℤ◌, List, [], Option, Some, None, MatchResult, IsTrue}
 use Rattle.dd_text.specs.declared.instance_error.InstanceError.{InstanceError}
-use Rattle.dp_model.specs.Best.{Best, best}
+use Rattle.dp_model.specs.Solution.{Solution}
+use Rattle.dp_model.specs.Best.{best}
 use Rattle.dp_model.specs.Counts.{tree}
 use Rattle.dp_model.specs.Dp.{Dp}
 use Rattle.dp_model.specs.Numbers.{AtMost}
@@ -23,19 +24,24 @@ use Rattle.solver_report.specs.declared.answer.Answer.{Answer}
 use Rattle.solver_report.specs.declared.answer.Answer.TheVariants as answers
 
 -- a feasible solution with its value, in the states and gains and in the problem's own words
-pub record IsFound (dp : Dp) (own : List ℕ → Option ℤ) (found : Best) : Type 0 where
+pub record IsFound (dp : Dp) (own : List ℕ → Option ℤ) (found : Solution) : Type 0 where
   pub solution : IsSolution dp found.decisions
   pub value : found.value ≡ value_of dp found.decisions
   pub own_words : own found.decisions ≡ Some found.value
 
-abbrev pub FoundHolds : Dp → (List ℕ → Option ℤ) → Option Best → Type 0
+abbrev pub FoundHolds : Dp → (List ℕ → Option ℤ) → Option Solution → Type 0
 FoundHolds dp own None = Unit {0}
 FoundHolds dp own (Some found) = IsFound dp own found
 
--- a feasible solution of the greatest value
-pub record IsProved (dp : Dp) (own : List ℕ → Option ℤ) (found : Best) : Type 0 where
+-- no list that is a solution in the problem's own words is worth more than this
+abbrev pub NoneIsWorthMore : (List ℕ → Option ℤ) → ℤ → Type 0
+NoneIsWorthMore own value = (x : List ℕ) (worth : ℤ) → own x ≡ Some worth → worth ≤ℤ value
+
+-- a feasible solution of the greatest value, in both senses
+pub record IsProved (dp : Dp) (own : List ℕ → Option ℤ) (found : Solution) : Type 0 where
   pub found_one : IsFound dp own found
   pub is_best : best dp ≡ Some found.value
+  pub own_best : NoneIsWorthMore own found.value
 
 -- there is no feasible solution, and no list is one in the problem's own words
 pub record IsInfeasible (dp : Dp) (own : List ℕ → Option ℤ) : Type 0 where
@@ -50,7 +56,7 @@ StopHolds b Memory = b.cause ≡ Some causes.Memory
 
 -- the search ended on a good board with something open: for the budget only where it is less than the number of prefixes, or these
 -- are more than 2^63
-pub record IsStopped (dp : Dp) (own : List ℕ → Option ℤ) (budget : ℕ) (stop : Stop) (incumbent : Option Best) (bound : ℤ) : Type 0 where
+pub record IsStopped (dp : Dp) (own : List ℕ → Option ℤ) (budget : ℕ) (stop : Stop) (incumbent : Option Solution) (bound : ℤ) : Type 0 where
   pub board : BoardState
   pub good : IsGood dp board
   pub within : board.budget ≡ budget
@@ -61,6 +67,7 @@ pub record IsStopped (dp : Dp) (own : List ℕ → Option ℤ) (budget : ℕ) (s
   pub bound_is : bound_of board ≡ Some bound
   pub found_one : FoundHolds dp own incumbent
   pub most : (x : List ℕ) → IsSolution dp x → AtMost (value_of dp x) (Some bound)
+  pub own_most : NoneIsWorthMore own bound
   pub incomplete : stop ≡ Budget → tree dp ≤ budget → tree dp ≤ 2 ^ 63 → ⊥
 
 -- what a search of an instance may answer

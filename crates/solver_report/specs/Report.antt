@@ -6,7 +6,7 @@ use Rattle.dd_text.specs.declared.instance_error.InstanceError.{InstanceError}
 use Rattle.dd_text.specs.declared.instance_error.InstanceFault.{InstanceFault}
 use Rattle.dd_text.specs.declared.place.Place.{Place}
 use Rattle.dd_text.specs.declared.instance_error.InstanceFault.TheVariants.{NotNumber, OutOfRange, EndOfText, Trailing, NotAscii, Count, Limit, ThreeLiterals, Hard, Vertex, Window, Word}
-use Rattle.dp_model.specs.Best.{Best}
+use Rattle.dp_model.specs.Solution.{Solution}
 use Rattle.hex.specs.Hex.{encode_lower}
 use Rattle.solver_report.specs.declared.answer.Stop.{Stop}
 use Rattle.solver_report.specs.declared.answer.Stop.TheVariants.{Budget, Memory}
@@ -27,10 +27,10 @@ spaced ds = flat_map (λ d. 32 ∷ decimal_of (pos d)) ds
 abbrev pub assignment_line : List ℕ → List ℕ
 assignment_line ds = line (codes "assignment" ++ spaced ds)
 
-abbrev pub solution_lines : Best → List ℕ
+abbrev pub solution_lines : Solution → List ℕ
 solution_lines best = number_line (codes "value") best.value ++ assignment_line best.decisions
 
-abbrev pub incumbent_lines : Option Best → List ℕ
+abbrev pub incumbent_lines : Option Solution → List ℕ
 incumbent_lines None = line (codes "value none")
 incumbent_lines (Some best) = solution_lines best
 

@@ -13,9 +13,9 @@ pub struct Solution {
 }
 
 impl Model for Solution {
-    ghost use Rattle.dp_model.specs.Best.{Best};
+    ghost use Rattle.dp_model.specs.Solution.{Solution};
 
-    ghost Value = { Best };
+    ghost Value = { Solution };
 
     ghost view = { λ s. record { decisions = s.decisions.items; value = s.value } };
 }

@@ -13,7 +13,7 @@ use Rattle.tsp_windows.specs.States.{TourState, from_elsewhere, leg, arrival, de
 use Rattle.tsp_windows.specs.Rows.{IsBounded, shown-row_for, words_enough}
 use Rattle.tsp_windows.specs.Program.{program_of}
 use Rattle.tsp_windows.specs.OwnWords.{are_different, ends_at_home, is_order, end_time, negated, tour_value}
-use Rattle.dp_model.specs.Worth.{IsWorth, SolutionGives}
+use Rattle.dp_model.specs.Solution.{IsSolutionWith, SolutionGives}
 use Rattle.tsp_windows.specs.Tours.{visits, returns, may_visit-from, may_return-from, goes_on, goes_home, start-bounded}
 use Rattle.tsp_windows.specs.Walks.{IsGone, IsTour, last_time, tour-of_path, path-of_tour, gain-of_tour}
 
@@ -439,7 +439,7 @@ solution-kept i ds small x =
     (tour, kept-of_tour i 0 0 (start i) ds small (start-at i small.some) small.some (omega (arith, x.whole)) tour)
 
 -- a tour within the windows is a feasible solution with its value
-order-worth : (i : Instance) (ds : List ℕ) (last : ℕ) → IsSmall i → is_order i.nodes ds ≡ true → end_time i 0 (opening i 0) ds ≡ Some last → IsWorth (program_of i) ds (neg_ℤ (pos last))
+order-worth : (i : Instance) (ds : List ℕ) (last : ℕ) → IsSmall i → is_order i.nodes ds ≡ true → end_time i 0 (opening i 0) ds ≡ Some last → IsSolutionWith (program_of i) ds (neg_ℤ (pos last))
 order-worth i ds last small order e =
     let lists = order-gives i ds small.some order in
     let whole : length ds ≡ i.nodes = lists.whole ∙ start-count i small.some in

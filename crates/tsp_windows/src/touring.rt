@@ -2,7 +2,7 @@
 
 ghost use Rattle.std.specs.Prelude.{◌≡◌, ◌≤◌, IfSome, true, pos, neg_ℤ, nat_lt, nat_eq};
 ghost use Rattle.std.specs.List.{list_all, list_any};
-ghost use Rattle.dp_model.specs.Worth.{SolutionGives};
+ghost use Rattle.dp_model.specs.Solution.{SolutionGives};
 ghost use Rattle.tsp_windows.specs.OwnWords as words;
 ghost use Rattle.tsp_windows.specs.Shown.{instance_in, program_in};
 ghost use Rattle.tsp_windows.specs.Instance.{opening};

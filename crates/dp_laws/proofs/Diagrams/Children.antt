@@ -1,7 +1,7 @@
 -- The children of a diagram as subproblems, without their places.
 use Rattle.std.proofs.Common.{◌≡◌, ℕ, zero, suc, ◌+◌, ◌-◌, ◌+ℤ◌, Bool, true, false, cond, List, [], ◌∷◌, ◌++◌, length, map, filter, drop, slice_get, Option, Some, None, option_map, option_and_then, unwrap_or, refl, sym, ◌∙◌, ap, arith, length-append, append_assoc}
 use Rattle.std.specs.List.{filter_map, cons_option}
-use Rattle.dp_model.specs.Best.{Best}
+use Rattle.dp_model.specs.Solution.{Solution}
 use Rattle.dp_model.specs.Dp.{Dp}
 use Rattle.dp_model.specs.Subproblem.{Subproblem}
 use Rattle.dp_laws.specs.Diagrams.Nodes.{DdNode, DdLayers, node_at}
@@ -31,7 +31,7 @@ path_of c = c.decisions
 abbrev pub frontier_from : Dp → ℕ → List (List DdNode) → List Subproblem
 frontier_from dp first layers = outermost path_of [] (all_borders dp (first + 1) (drop 1 layers))
 
-abbrev pub found_from : Dp → ℕ → List (List DdNode) → Option Best
+abbrev pub found_from : Dp → ℕ → List (List DdNode) → Option Solution
 found_from dp first layers = first_exact (unwrap_or (slice_get layers (dp.vars - first)) [])
 
 -- The subproblems of the places.

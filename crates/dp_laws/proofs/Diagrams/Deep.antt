@@ -3,7 +3,7 @@ use Rattle.std.proofs.Common.{◌≡◌, ℕ, suc, ◌+◌, ◌-◌, ◌<◌, �
 use Rattle.std.proofs.lemmas.Option.{slice_get-get_or, slice_get_within}
 use Rattle.std.specs.List.{filter_map}
 use Rattle.dp_model.specs.Dp.{Dp}
-use Rattle.dp_model.specs.Best.{Best}
+use Rattle.dp_model.specs.Solution.{Solution}
 use Rattle.dp_model.specs.Laws.{IsLawful}
 use Rattle.dp_model.specs.Lists.{Each}
 use Rattle.dp_model.specs.Reached.{Reached, reached}
@@ -28,12 +28,12 @@ use Rattle.dp_laws.proofs.Diagrams.Frontier.{frontier-is-sound}
 use Rattle.dp_laws.proofs.Diagrams.LastExact.{all-exact, cut-of}
 
 -- a prefix as a solution with its value
-abbrev pub as_best : Reached → Best
+abbrev pub as_best : Reached → Solution
 as_best r = record { decisions = r.decisions; value = r.value }
 
 -- Where nothing is reduced the beam is found.
 
-first-member : (layer : List DdNode) (rs : List Reached) → map as_member layer ≡ map (λ r. Some r) rs → first_exact layer ≡ option_map as_best (first_of_all rs)
+pub first-member : (layer : List DdNode) (rs : List Reached) → map as_member layer ≡ map (λ r. Some r) rs → first_exact layer ≡ option_map as_best (first_of_all rs)
 first-member [] [] e = refl
 first-member [] (r ∷ rs) e = absurd (let long = ap length e in omega arith)
 first-member (node ∷ layer) [] e = absurd (let long = ap length e in omega arith)

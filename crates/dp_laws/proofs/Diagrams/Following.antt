@@ -66,7 +66,7 @@ pub record GoesOn (dp : Dp) (k : ℕ) (node : DdNode) (next : List DdNode) (gain
 abbrev GoesTo : Dp → ℕ → Option ℤ → DdNode → List DdNode → ℤ → Type 0
 GoesTo dp k t node next gain = AtMost (node.value +ℤ gain) t ⊎ GoesOn dp k node next gain
 
-covers-within : (gap : Option ℤ) (most : ℤ) → CoversWithin gap most → (g : ℤ) × (gap ≡ Some g) × (g ≤ℤ most)
+pub covers-within : (gap : Option ℤ) (most : ℤ) → CoversWithin gap most → (g : ℤ) × (gap ≡ Some g) × (g ≤ℤ most)
 covers-within None most h = absurd h
 covers-within (Some g) most h = (g, refl, h)
 

@@ -2,7 +2,7 @@
 use Rattle.std.proofs.Common.{◌≡◌, ℕ, zero, suc, ◌+◌, ◌-◌, ◌<◌, ℤ, pos, ◌+ℤ◌, ◌≤ℤ◌, Bool, true, false, not, ◌&&◌, ◌||◌, List, [], ◌∷◌, ◌++◌, length, map, filter, drop, slice_get, Option, Some, None, option_map, ◌⊎◌, inl, inr, IsTrue, refl, sym, ◌∙◌, ap, subst, arith}
 use Rattle.std.proofs.lemmas.Int.{ints}
 use Rattle.dp_model.specs.Dp.{Dp}
-use Rattle.dp_model.specs.Best.{Best}
+use Rattle.dp_model.specs.Solution.{Solution}
 use Rattle.dp_model.specs.Cover.{IsHeld}
 use Rattle.dp_model.specs.Gaps.{IsStateOf}
 use Rattle.dp_model.specs.Laws.{IsLawful}
@@ -111,7 +111,7 @@ is-last (one ∷ []) (suc m) layer long at = absurd (omega arith)
 is-last (one ∷ next ∷ rest) zero layer long at = absurd (let none : length (next ∷ rest) ≡ 0 = omega arith in omega arith)
 is-last (one ∷ next ∷ rest) (suc m) layer long at = is-last (next ∷ rest) m layer (omega arith) at
 
-some-below : (dp : Dp) (p : List ℕ) (w : ℕ) (t : Option ℤ) (d : DdLayers) → IsDiagram dp p w t d → length p < dp.vars → (o : Option ℕ) → d.first_reduced ≡ o → 1 < exact_layers dp.vars (length p) o
+pub some-below : (dp : Dp) (p : List ℕ) (w : ℕ) (t : Option ℤ) (d : DdLayers) → IsDiagram dp p w t d → length p < dp.vars → (o : Option ℕ) → d.first_reduced ≡ o → 1 < exact_layers dp.vars (length p) o
 some-below dp p w t d h short None e = omega arith
 some-below dp p w t d h short (Some depth) e = let r = reducible dp p w t depth (sym h.first_reduced ∙ e) in let low = r.below_first in omega arith
 
@@ -147,7 +147,7 @@ written-out dp laws p w t d h short root (next ∷ rest) are row value =
     let e' : k + 1 + length rest ≡ dp.vars = omega arith in
     let l = last-of dp p w t d h short in
     let ends : IsLast ((root ∷ []) ∷ next ∷ rest) l.layer = is-last ((root ∷ []) ∷ next ∷ rest) (dp.vars - k) l.layer (sym count ∙ long) (subst (λ ds. slice_get ds (dp.vars - k) ≡ Some l.layer) are l.at) in
-    let best : (x : DdNode) → Has x l.layer → IsTrue x.exact → AtMost x.value (option_map (λ (b : Best). b.value) (found_from dp k d.layers)) = λ x has t. rw l.found (first-greatest l.layer l.falls x has t) in
+    let best : (x : DdNode) → Has x l.layer → IsTrue x.exact → AtMost x.value (option_map (λ (b : Solution). b.value) (found_from dp k d.layers)) = λ x has t. rw l.found (first-greatest l.layer l.falls x has t) in
     let at : slice_get d.layers 1 ≡ Some next = ap (λ ds. slice_get ds 1) are in
     let exact : (x : DdNode) → Has x next → IsTrue x.exact = λ x has. all-exact dp p w t d h (exact_layers dp.vars k d.first_reduced) 1 refl (some-below dp p w t d h short d.first_reduced refl) next at x has in
     let cs = all_borders dp (k + 1) (next ∷ rest) in
@@ -164,7 +164,7 @@ written-out dp laws p w t d h short root (next ∷ rest) are row value =
           let path : IsContinuation dp k root.row completion.rest = subst (λ s. IsContinuation dp k s completion.rest) (sym row) (continued dp p x completion) in
           let sum : root.value +ℤ gain_of dp k root.row completion.rest ≡ value_of dp x =
           ap (λ z. z +ℤ gain_of dp k root.row completion.rest) value ∙ (ap (λ s. value_of dp p +ℤ gain_of dp k s completion.rest) row ∙ sym (value_of-split dp p x completion)) in
-          let found = option_map (λ (b : Best). b.value) (found_from dp k d.layers) in
+          let found = option_map (λ (b : Solution). b.value) (found_from dp k d.layers) in
           with-outermost dp t found cs (value_of dp x) (subst (λ z. ComesTo dp t found cs z) sum (comes-from dp laws p w t found k root next rest l.layer all e ends best exact completion.rest path)));
     }
 

@@ -4,7 +4,7 @@ use Rattle.std.proofs.lemmas.Int.{ints}
 use Rattle.std.proofs.lemmas.Option.{slice_get-get_or}
 use Rattle.std.specs.List.{filter_map}
 use Rattle.dp_model.specs.Dp.{Dp}
-use Rattle.dp_model.specs.Best.{Best}
+use Rattle.dp_model.specs.Solution.{Solution}
 use Rattle.dp_model.specs.Cover.{IsHeld}
 use Rattle.dp_model.specs.Gaps.{IsStateOf}
 use Rattle.dp_model.specs.Laws.{IsLawful}
@@ -53,7 +53,7 @@ no-gain dp k s (d ∷ c) e = absurd (omega arith)
 
 -- a completion that stands at the last layer is no better than what is found
 pub at-last : (dp : Dp) (p : List ℕ) (w : ℕ) (t : Option ℤ) (d : DdLayers) → IsDiagram dp p w t d → length p < dp.vars → (l : HasLast dp p w t d) → ((node : DdNode) → Has node l.layer → IsTrue node.exact)
-    → (v : ℤ) → Stands dp (length p) (dp.vars - length p) d.layers v → AtMost v (option_map (λ (b : Best). b.value) (found_from dp (length p) d.layers))
+    → (v : ℤ) → Stands dp (length p) (dp.vars - length p) d.layers v → AtMost v (option_map (λ (b : Solution). b.value) (found_from dp (length p) d.layers))
 at-last dp p w t d h short l exact v s =
     let same : s.layer ≡ l.layer = same-Some s.layer l.layer (sym s.at ∙ l.at) in
     let has : Has s.node l.layer = subst (λ ns. Has s.node ns) same s.has in
@@ -61,7 +61,7 @@ at-last dp p w t d h short l exact v s =
     let none : gain_of dp (length p + (dp.vars - length p)) s.node.row s.by ≡ pos 0 = no-gain dp (length p + (dp.vars - length p)) s.node.row s.by (omega arith) in
     let enough = s.enough in
     let less : v ≤ℤ s.node.value = omega (arith, ints) in
-    rw l.found (at_most-below v s.node.value (option_map (λ (b : Best). b.value) (first_exact l.layer)) less (first-greatest l.layer l.falls s.node has (exact s.node has)))
+    rw l.found (at_most-below v s.node.value (option_map (λ (b : Solution). b.value) (first_exact l.layer)) less (first-greatest l.layer l.falls s.node has (exact s.node has)))
 
 pub all-exact : (dp : Dp) (p : List ℕ) (w : ℕ) (t : Option ℤ) (d : DdLayers) → IsDiagram dp p w t d → (count m : ℕ) → count ≡ exact_layers dp.vars (length p) d.first_reduced → m < count → (layer : List DdNode) → slice_get d.layers m ≡ Some layer → (node : DdNode) → Has node layer → IsTrue node.exact
 all-exact dp p w t d h count m e less layer at node has =
@@ -80,7 +80,7 @@ unreduced dp laws p w t d h short e =
       differ = tt;
       held = tt;
       solution = found-is-sound dp p w t d h short;
-      matched = λ x completion. elim (walked dp laws p w t d h short (dp.vars - length p) (omega arith) x completion) as (λ _. AtMost (value_of dp x) t ⊎ (AtMost (value_of dp x) (option_map (λ (b : Best). b.value) (found_from dp (length p) d.layers)) ⊎ OneOf (Reaches dp (value_of dp x)) [])) [
+      matched = λ x completion. elim (walked dp laws p w t d h short (dp.vars - length p) (omega arith) x completion) as (λ _. AtMost (value_of dp x) t ⊎ (AtMost (value_of dp x) (option_map (λ (b : Solution). b.value) (found_from dp (length p) d.layers)) ⊎ OneOf (Reaches dp (value_of dp x)) [])) [
         | inl low ↦ inl low
         | inr s ↦ inr (inl (at-last dp p w t d h short l exact (value_of dp x) s))
       ];
@@ -110,14 +110,14 @@ cut-of dp laws p w t d h short k m e low layer at exact =
     subst (λ n. IsCut dp p t n layer) (sym e) cut
 
 by-child : (dp : Dp) → IsLawful dp → (p : List ℕ) (t : Option ℤ) (d : DdLayers) (k m : ℕ) (layer : List DdNode) → slice_get d.layers m ≡ Some layer → k ≡ length p + m → IsCut dp p t k layer → (v : ℤ) → Stands dp (length p) m d.layers v
-    → AtMost v t ⊎ (AtMost v (option_map (λ (b : Best). b.value) (found_from dp (length p) d.layers)) ⊎ OneOf (Reaches dp v) (map (λ (c : Subproblem). c.decisions) (filter_map (child_of dp k) layer)))
+    → AtMost v t ⊎ (AtMost v (option_map (λ (b : Solution). b.value) (found_from dp (length p) d.layers)) ⊎ OneOf (Reaches dp v) (map (λ (c : Subproblem). c.decisions) (filter_map (child_of dp k) layer)))
 by-child dp laws p t d k m layer at place cut v s =
     let same : s.layer ≡ layer = same-Some s.layer layer (sym s.at ∙ at) in
     let has : Has s.node layer = subst (λ ns. Has s.node ns) same s.has in
     let path : IsContinuation dp k s.node.row s.by = subst (λ n. IsContinuation dp n s.node.row s.by) (sym place) s.continuation in
     let enough : v ≤ℤ (s.node.value +ℤ gain_of dp k s.node.row s.by) = subst (λ n. v ≤ℤ (s.node.value +ℤ gain_of dp n s.node.row s.by)) (sym place) s.enough in
     elim (matched dp laws p t k s.node s.by v (cut.reached s.node has).1 (cut.states s.node has) path enough (cut.bounds s.node has s.by path)) as
-    (λ _. AtMost v t ⊎ (AtMost v (option_map (λ (b : Best). b.value) (found_from dp (length p) d.layers)) ⊎ OneOf (Reaches dp v) (map (λ (c : Subproblem). c.decisions) (filter_map (child_of dp k) layer)))) [
+    (λ _. AtMost v t ⊎ (AtMost v (option_map (λ (b : Solution). b.value) (found_from dp (length p) d.layers)) ⊎ OneOf (Reaches dp v) (map (λ (c : Subproblem). c.decisions) (filter_map (child_of dp k) layer)))) [
       | inl low ↦ inl low
       | inr c ↦ inr (inr (one-of-has (Reaches dp v) (map (λ (c : Subproblem). c.decisions) (filter_map (child_of dp k) layer)) c.child.decisions c.reaches
           (Has-map (λ (c : Subproblem). c.decisions) (filter_map (child_of dp k) layer) c.child (Has-filter_map (child_of dp k) layer s.node c.child has c.is))))
@@ -145,7 +145,7 @@ reduced dp laws p w t d h short depth e layer at =
           let from = Has-filter_map-from (child_of dp k) layer c has in
           is-held dp laws p t k from.0 c (cut.reached from.0 from.1).1 (cut.states from.0 from.1) (child-from dp k from.0 c from.2) (cut.bounds from.0 from.1));
       solution = found-is-sound dp p w t d h short;
-      matched = λ x completion. elim (walked dp laws p w t d h short m (omega arith) x completion) as (λ _. AtMost (value_of dp x) t ⊎ (AtMost (value_of dp x) (option_map (λ (b : Best). b.value) (found_from dp (length p) d.layers)) ⊎ OneOf (Reaches dp (value_of dp x)) (map (λ (c : Subproblem). c.decisions) (filter_map (child_of dp k) layer)))) [
+      matched = λ x completion. elim (walked dp laws p w t d h short m (omega arith) x completion) as (λ _. AtMost (value_of dp x) t ⊎ (AtMost (value_of dp x) (option_map (λ (b : Solution). b.value) (found_from dp (length p) d.layers)) ⊎ OneOf (Reaches dp (value_of dp x)) (map (λ (c : Subproblem). c.decisions) (filter_map (child_of dp k) layer)))) [
         | inl low ↦ inl low
         | inr s ↦ by-child dp laws p t d k m layer at place cut (value_of dp x) s
       ];

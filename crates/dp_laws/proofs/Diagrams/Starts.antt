@@ -6,7 +6,7 @@ use Rattle.dp_model.specs.Decisions.{below}
 use Rattle.dp_model.specs.Prefixes.{state_of, value_of}
 use Rattle.dp_model.specs.Reached.{Reached, reached}
 use Rattle.std.proofs.lemmas.Bool.{and_parts}
-use Rattle.dp_laws.specs.Restricted.Beam.{is_cut, is_too_wide, layer_below, whole_layer}
+use Rattle.dp_laws.specs.Restricted.Beam.{is_reduced, is_too_wide, layer_below, whole_layer}
 use Rattle.dp_laws.specs.Restricted.Beams.{layers, wide}
 use Rattle.dp_laws.specs.Diagrams.Nodes.{DdNode, DdLayers, prefix_at, as_member}
 use Rattle.dp_laws.specs.Diagrams.Seen.{IsDiagram, exact_layers}
@@ -27,7 +27,7 @@ pub record IsReducible (dp : Dp) (first depth : ℕ) : Type 0 where
   pub below_first : first + 2 ≤ depth
   pub above_last : depth < dp.vars
 
-cut-at : (dp : Dp) (first depth : ℕ) → IsTrue (is_cut dp first depth) → IsReducible dp first depth
+cut-at : (dp : Dp) (first depth : ℕ) → IsTrue (is_reduced dp first depth) → IsReducible dp first depth
 cut-at dp first depth h =
     let parts = and_parts (nat_le (first + 2) depth) (nat_lt depth dp.vars) h in
     let a : nat_le (first + 2) depth ≡ true = parts.0 in
@@ -37,7 +37,7 @@ cut-at dp first depth h =
 wide-at : (dp : Dp) (p : List ℕ) (w : ℕ) (t : Option ℤ) (m : ℕ) → IsTrue (is_too_wide dp (reached dp p) w t m) → IsReducible dp (length p) (length p + m)
 wide-at dp p w t zero h = absurd (let clash : false ≡ true = h in cc)
 wide-at dp p w t (suc m) h =
-    let parts = and_parts (is_cut dp (length p) (length p + m + 1)) (nat_lt w (length (whole_layer dp (length p + m) t (layer_below dp (reached dp p) w t m)))) h in
+    let parts = and_parts (is_reduced dp (length p) (length p + m + 1)) (nat_lt w (length (whole_layer dp (length p + m) t (layer_below dp (reached dp p) w t m)))) h in
     let same : length p + m + 1 ≡ length p + suc m = omega arith in
     subst (λ n. IsReducible dp (length p) n) same (cut-at dp (length p) (length p + m + 1) parts.0)
 

@@ -15,13 +15,13 @@ use Rattle.dp_model.proofs.Members.{Has, each-has, one-of-has, Has-map, Has-filt
 use Rattle.dp_model.proofs.Paths.{IsPrefix-back, IsPrefix-length, state_of-state, continued, value_of-split}
 use Rattle.std.proofs.lemmas.Bool.{and_parts}
 use Rattle.dp_model.proofs.RowLemmas.{int_same-is}
-use Rattle.dp_laws.specs.Restricted.Beam.{is_cut, cut, expanded, pruned, whole_layer, layer_below, is_too_wide}
+use Rattle.dp_laws.specs.Restricted.Beam.{is_reduced, reduced_to, expanded, pruned, whole_layer, layer_below, is_too_wide}
 use Rattle.dp_laws.specs.Restricted.Beams.{beam, wide, first_of_all}
 use Rattle.dp_laws.specs.Restricted.BestOfState.{IsBestOfState}
 use Rattle.dp_laws.specs.Restricted.Covering.{AreWhole, WholeLayersCover, LastExactCovers, WholeBeamsAreBest}
 use Rattle.dp_laws.specs.Dominance.{Dominates}
 use Rattle.dp_laws.specs.Restricted.Extensions.{extended, extensions, candidates}
-use Rattle.dp_laws.specs.Restricted.Leaders.{unstruck, dominates, dominated, led, undominated}
+use Rattle.dp_laws.specs.Restricted.Leaders.{unstruck, dominates, dominated, leaders_after, undominated}
 use Rattle.dp_laws.specs.Restricted.Members.{IsMember}
 use Rattle.dp_laws.specs.Restricted.Ordered.{IsInOrder}
 use Rattle.dp_laws.specs.Pairs.{EachTwo}
@@ -170,7 +170,7 @@ led-more P leaders r q rest false false (inl one) = elim (one-cases P leaders (r
 pub undominated-led : (dp : Dp) (k : ℕ) (leaders rs : List Reached) (q : Reached) → Has q rs → IsLed (λ a. dominates dp k a q ≡ true) leaders q (undominated dp k leaders rs)
 undominated-led dp k leaders [] q h = absurd h
 undominated-led dp k leaders (r ∷ rs) q (inl same) =
-    let rest = undominated dp k (led dp k leaders r) rs in
+    let rest = undominated dp k (leaders_after dp k leaders r) rs in
     let go : (b : Bool) → dominated dp k leaders r ≡ b → IsLed (λ a. dominates dp k a q ≡ true) leaders q (cond b [] (r ∷ []) ++ rest) =
     λ b. elim b as (λ b. dominated dp k leaders r ≡ b → IsLed (λ a. dominates dp k a q ≡ true) leaders q (cond b [] (r ∷ []) ++ rest)) [
       | true ↦ λ e. inl (subst (λ z. OneOf (λ a. dominates dp k a z ≡ true) leaders) same (dominated-by dp k leaders r e))
@@ -178,8 +178,8 @@ undominated-led dp k leaders (r ∷ rs) q (inl same) =
     ] in
     go (dominated dp k leaders r) refl
 undominated-led dp k leaders (r ∷ rs) q (inr later) =
-    led-more (λ a. dominates dp k a q ≡ true) leaders r q (undominated dp k (led dp k leaders r) rs) (dominated dp k leaders r) (nat_le 16 (length leaders))
-    (undominated-led dp k (led dp k leaders r) rs q later)
+    led-more (λ a. dominates dp k a q ≡ true) leaders r q (undominated dp k (leaders_after dp k leaders r) rs) (dominated dp k leaders r) (nat_le 16 (length leaders))
+    (undominated-led dp k (leaders_after dp k leaders r) rs q later)
 
 pub pruned-covers : (dp : Dp) → IsLawful dp → (p : List ℕ) (k : ℕ) (t : Option ℤ) (rs : List Reached) → Each (IsMember dp p k) rs → (x : List ℕ)
     → OneOf (Matching dp x) rs → AtMost (value_of dp x) t ⊎ OneOf (Matching dp x) (pruned dp k t rs)
@@ -208,14 +208,14 @@ pruned-covers dp laws p k t rs members x one =
 
 -- Layers that the width leaves whole.
 
-cut-whole : (dp : Dp) (w first depth : ℕ) (layer : List Reached) → (is_cut dp first depth && nat_lt w (length layer)) ≡ false → cut dp w first depth layer ≡ layer
+cut-whole : (dp : Dp) (w first depth : ℕ) (layer : List Reached) → (is_reduced dp first depth && nat_lt w (length layer)) ≡ false → reduced_to dp w first depth layer ≡ layer
 cut-whole dp w first depth layer h =
     let go : (b : Bool) → (b && nat_lt w (length layer)) ≡ false → cond b (take w layer) layer ≡ layer =
     λ b. elim b as (λ b. (b && nat_lt w (length layer)) ≡ false → cond b (take w layer) layer ≡ layer) [
       | true ↦ λ h. (let few : length layer ≤ w = grind (arith, nat_tests) in take_all w layer few)
       | false ↦ λ h. refl
     ] in
-    go (is_cut dp first depth) h
+    go (is_reduced dp first depth) h
 
 pub layers-cover : (dp : Dp) → IsLawful dp → WholeLayersCover dp
 layers-cover dp laws p w t zero h short whole x comp = inr (inl (record { by = x; completion = comp; least = omega (arith, ints) }))
@@ -313,12 +313,12 @@ pub last_exact-cover : (dp : Dp) → IsLawful dp → LastExactCovers dp
 last_exact-cover dp laws p w t depth h last =
     let test = is_too_wide dp (reached dp p) w t in
     let n = dp.vars - length p + 1 in
-    let cut = option_map-some (λ d. d - 1) (wide dp p w t) depth last in
-    let first = option_map-some (λ m. length p + m) (find test (below n)) cut.0 cut.1 in
+    let reduced_to = option_map-some (λ d. d - 1) (wide dp p w t) depth last in
+    let first = option_map-some (λ m. length p + m) (find test (below n)) reduced_to.0 reduced_to.1 in
     let found = find-below test n first.0 first.1 in
     let some = not-zero dp p w t first.0 found.passes in
     let within = found.within in
-    let one = cut.2 in let other = first.2 in
+    let one = reduced_to.2 in let other = first.2 in
     let short = IsPrefix-length dp p h in
     layers-cover dp laws p w t (depth - length p) h (omega arith) (λ j le. found.least j (omega arith))
 

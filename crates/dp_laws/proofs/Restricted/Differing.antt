@@ -8,8 +8,8 @@ use Rattle.dp_model.specs.Rows.{row_same}
 use Rattle.dp_model.proofs.RowLemmas.{row_same-self, row_same-is}
 use Rattle.dp_laws.specs.Restricted.Extensions.{better, joined, all_joined, candidates}
 use Rattle.dp_laws.specs.Restricted.ReductionOrder.{stands_before, placed, in_order}
-use Rattle.dp_laws.specs.Restricted.Leaders.{unstruck, dominated, led, undominated}
-use Rattle.dp_laws.specs.Restricted.Beam.{is_cut, cut, pruned, expanded, whole_layer, layer_below}
+use Rattle.dp_laws.specs.Restricted.Leaders.{unstruck, dominated, leaders_after, undominated}
+use Rattle.dp_laws.specs.Restricted.Beam.{is_reduced, reduced_to, pruned, expanded, whole_layer, layer_below}
 use Rattle.dp_laws.specs.Restricted.Ordered.{RowsDiffer, LayersDiffer}
 use Rattle.dp_laws.specs.Pairs.{EachTwo}
 use Rattle.dp_laws.proofs.Restricted.Keeping.{each-joined, each-placed, each-in_order, each-undominated}
@@ -21,17 +21,17 @@ module _ (R : Reached → Reached → Type 0) where
   pub two-undominated : (dp : Dp) (k : ℕ) (leaders rs : List Reached) → EachTwo R rs → EachTwo R (undominated dp k leaders rs)
   two-undominated dp k leaders [] h = tt
   two-undominated dp k leaders (r ∷ rs) h =
-      let rest = two-undominated dp k (led dp k leaders r) rs h.1 in
-      elim (dominated dp k leaders r) as (λ b. EachTwo R (cond b [] (r ∷ []) ++ undominated dp k (led dp k leaders r) rs)) [
+      let rest = two-undominated dp k (leaders_after dp k leaders r) rs h.1 in
+      elim (dominated dp k leaders r) as (λ b. EachTwo R (cond b [] (r ∷ []) ++ undominated dp k (leaders_after dp k leaders r) rs)) [
         | true ↦ rest
-        | false ↦ (each-undominated (R r) dp k (led dp k leaders r) rs h.0, rest)
+        | false ↦ (each-undominated (R r) dp k (leaders_after dp k leaders r) rs h.0, rest)
       ]
 
   pub two-pruned : (dp : Dp) (k : ℕ) (t : Option ℤ) (rs : List Reached) → EachTwo R rs → EachTwo R (pruned dp k t rs)
   two-pruned dp k t rs h = two-undominated dp k [] (unstruck dp k t rs) (two-filter R (λ r. not (is_struck_by r.value (dp.rough k r.row) t)) rs h)
 
-  pub two-cut : (dp : Dp) (w first depth : ℕ) (rs : List Reached) → EachTwo R rs → EachTwo R (cut dp w first depth rs)
-  two-cut dp w first depth rs h = elim (is_cut dp first depth) as (λ b. EachTwo R (cond b (take w rs) rs)) [ true ↦ two-take R w rs h | false ↦ h ]
+  pub two-cut : (dp : Dp) (w first depth : ℕ) (rs : List Reached) → EachTwo R rs → EachTwo R (reduced_to dp w first depth rs)
+  two-cut dp w first depth rs h = elim (is_reduced dp first depth) as (λ b. EachTwo R (cond b (take w rs) rs)) [ true ↦ two-take R w rs h | false ↦ h ]
 
 -- Rows.
 

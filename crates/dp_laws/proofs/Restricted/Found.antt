@@ -8,7 +8,7 @@ use Rattle.dp_model.proofs.Paths.{IsPrefix-length}
 use Rattle.dp_model.proofs.RowLemmas.{begins-is}
 use Rattle.dp_laws.specs.Restricted.Beam.{layer_below}
 use Rattle.dp_laws.specs.Restricted.Beams.{first_of_all}
-use Rattle.dp_laws.specs.Children.{IsFound}
+use Rattle.dp_laws.specs.Children.{IsCompletionWith}
 use Rattle.dp_laws.specs.Restricted.BeamGives.{BeamsAreFeasible}
 use Rattle.dp_laws.specs.Restricted.Members.{IsMember}
 use Rattle.dp_laws.proofs.Prefixes.{layers-prefixes}
@@ -18,7 +18,7 @@ first-each P [] r h e = absurd (cc)
 first-each P (a ∷ rs) r h e = let same : a ≡ r = cc in subst P same h.0
 
 -- a member of the last layer is a completion
-pub member-found : (dp : Dp) (p : List ℕ) (r : Reached) → IsMember dp p dp.vars r → IsFound dp p r.decisions r.value
+pub member-found : (dp : Dp) (p : List ℕ) (r : Reached) → IsMember dp p dp.vars r → IsCompletionWith dp p r.decisions r.value
 member-found dp p r h =
     let split = begins-is p r.decisions h.begins in
     record { completion = record { solution = record { prefix = h.prefix; whole = h.deep }; rest = split.0; begins = split.1 }; value = h.value }

@@ -7,8 +7,8 @@ use Rattle.dp_model.specs.Reached.{Reached}
 use Rattle.dp_model.specs.Rows.{row_same}
 use Rattle.dp_laws.specs.Restricted.Extensions.{better, joined, all_joined}
 use Rattle.dp_laws.specs.Restricted.ReductionOrder.{stands_before, placed, in_order}
-use Rattle.dp_laws.specs.Restricted.Leaders.{unstruck, dominated, led, undominated}
-use Rattle.dp_laws.specs.Restricted.Beam.{is_cut, cut, pruned}
+use Rattle.dp_laws.specs.Restricted.Leaders.{unstruck, dominated, leaders_after, undominated}
+use Rattle.dp_laws.specs.Restricted.Beam.{is_reduced, reduced_to, pruned}
 use Rattle.dp_laws.proofs.Lists.{each-filter, each-take}
 
 module _ (P : Reached → Type 0) where
@@ -42,11 +42,11 @@ module _ (P : Reached → Type 0) where
   pub each-undominated : (dp : Dp) (k : ℕ) (leaders rs : List Reached) → Each P rs → Each P (undominated dp k leaders rs)
   each-undominated dp k leaders [] h = tt
   each-undominated dp k leaders (r ∷ rs) h =
-      let rest = each-undominated dp k (led dp k leaders r) rs h.1 in
-      elim (dominated dp k leaders r) as (λ b. Each P (cond b [] (r ∷ []) ++ undominated dp k (led dp k leaders r) rs)) [ true ↦ rest | false ↦ (h.0, rest) ]
+      let rest = each-undominated dp k (leaders_after dp k leaders r) rs h.1 in
+      elim (dominated dp k leaders r) as (λ b. Each P (cond b [] (r ∷ []) ++ undominated dp k (leaders_after dp k leaders r) rs)) [ true ↦ rest | false ↦ (h.0, rest) ]
 
   pub each-pruned : (dp : Dp) (k : ℕ) (t : Option ℤ) (rs : List Reached) → Each P rs → Each P (pruned dp k t rs)
   each-pruned dp k t rs h = each-undominated dp k [] (unstruck dp k t rs) (each-filter P (λ r. not (is_struck_by r.value (dp.rough k r.row) t)) rs h)
 
-  pub each-cut : (dp : Dp) (w first depth : ℕ) (rs : List Reached) → Each P rs → Each P (cut dp w first depth rs)
-  each-cut dp w first depth rs h = elim (is_cut dp first depth) as (λ b. Each P (cond b (take w rs) rs)) [ true ↦ each-take P w rs h | false ↦ h ]
+  pub each-cut : (dp : Dp) (w first depth : ℕ) (rs : List Reached) → Each P rs → Each P (reduced_to dp w first depth rs)
+  each-cut dp w first depth rs h = elim (is_reduced dp first depth) as (λ b. Each P (cond b (take w rs) rs)) [ true ↦ each-take P w rs h | false ↦ h ]

@@ -8,24 +8,24 @@ use Rattle.dp_model.specs.Laws.{IsLawful, IsChained}
 use Rattle.dp_model.specs.Lists.{Each}
 use Rattle.dp_model.proofs.Members.{Has, Has-map-from, Has-append-cases}
 use Rattle.std.proofs.lemmas.Bool.{and_parts}
-use Rattle.dp_laws.specs.Restricted.Beam.{is_cut}
+use Rattle.dp_laws.specs.Restricted.Beam.{is_reduced}
 use Rattle.dp_laws.specs.Pairs.{EachTwo}
 use Rattle.dp_laws.proofs.Lists.{two-take}
 use Rattle.dp_laws.specs.declared.arc.DdArc.{DdArc}
 use Rattle.dp_laws.specs.Diagrams.Nodes.{DdNode}
 use Rattle.dp_laws.specs.Diagrams.Seen.{decisions_at, IsReachedBy}
 use Rattle.dp_laws.proofs.Diagrams.Places.{same-Some}
-use Rattle.dp_laws.specs.Rules.Landings.{Landing, landed, following}
+use Rattle.dp_laws.specs.Rules.Redirects.{Redirect, redirected, with_redirected}
 use Rattle.dp_laws.specs.Rules.Expanding.{new_layer, arc_of, with_arcs}
-use Rattle.dp_laws.specs.Rules.Pruning.{pruned_nodes, prune_landings}
-use Rattle.dp_laws.specs.Rules.Reducing.{merged_node, merged_layer, merge_landings}
+use Rattle.dp_laws.specs.Rules.Pruning.{pruned_nodes, prune_redirects}
+use Rattle.dp_laws.specs.Rules.Reducing.{merged_node, merged_layer, merge_redirects}
 use Rattle.dp_laws.specs.Rules.Compiling.{TwoLayers, expand, prune, merge_rest, is_wide, reduced, built}
 use Rattle.dp_laws.proofs.Rules.Linked.{AreLinked}
-use Rattle.dp_laws.proofs.Rules.Landing.{followed_node, AreStruck, linked-landed, landed-decision-of, linked-target}
+use Rattle.dp_laws.proofs.Rules.Redirecting.{followed_node, AreStruck, linked-redirected, redirected-decision-of, linked-target}
 use Rattle.dp_laws.proofs.Rules.Layers.{Differ, AreNodes, nodes-mapped}
 use Rattle.dp_laws.proofs.Rules.Expanded.{arc-of, leads-into, step-state, most-reaching, linked-expanded, new-nodes}
-use Rattle.dp_laws.proofs.Rules.Pruned.{pruned-nodes, prune-landings, struck-node}
-use Rattle.dp_laws.proofs.Rules.Merged.{covered, merge-landings-of, none-gone}
+use Rattle.dp_laws.proofs.Rules.Pruned.{pruned-nodes, prune-redirects, struck-node}
+use Rattle.dp_laws.proofs.Rules.Merged.{covered, merge-redirects-of, none-gone}
 
 -- the arcs of a layer make states of the next one
 abbrev pub StepsAreStates : Dp → ℕ → List DdNode → Type 0
@@ -64,7 +64,7 @@ struck-less v y (Some r) (Some top) low h =
     let less : (v +ℤ r) ≤ℤ top = omega (arith, ints) in
     grind (arith, ints)
 
-struck-arcs : (dp : Dp) → IsLawful dp → (t : Option ℤ) (p : List ℕ) (k : ℕ) (layer : List DdNode) → AreNodes dp p k layer → k < dp.vars → AreNodes dp p (k + 1) (new_layer dp k layer) → AreStruck dp t k (with_arcs dp k (new_layer dp k layer) layer) (prune_landings dp (k + 1) t [] 0 (new_layer dp k layer))
+struck-arcs : (dp : Dp) → IsLawful dp → (t : Option ℤ) (p : List ℕ) (k : ℕ) (layer : List DdNode) → AreNodes dp p k layer → k < dp.vars → AreNodes dp p (k + 1) (new_layer dp k layer) → AreStruck dp t k (with_arcs dp k (new_layer dp k layer) layer) (prune_redirects dp (k + 1) t [] 0 (new_layer dp k layer))
 struck-arcs dp laws t p k layer h low new = λ x has arc listed i aims gone.
     let next = new_layer dp k layer in
     let a = arc-of dp k layer next x arc has listed in
@@ -78,17 +78,17 @@ struck-arcs dp laws t p k layer h low new = λ x has arc listed i aims gone.
     let longer : arc.longer ≡ pos 0 = ap (λ (b : DdArc). b.longer) a.is in
     struck-less (x.value +ℤ arc.gain) f.node.value (dp.rough (k + 1) (dp.step k x.row arc.decision)) t (omega (arith, ints)) (subst (λ r. IsTrue (is_struck_by f.node.value (dp.rough (k + 1) r) t)) row struck)
 
-steps-following : (dp : Dp) (k : ℕ) (above : List DdNode) (landings : List (Option Landing)) → StepsAreStates dp k above → StepsAreStates dp k (following landings above)
-steps-following dp k above landings h = λ x has arc listed.
-    let from = Has-map-from (followed_node landings) above x has in
-    let arcs : x.arcs ≡ map (landed landings) from.0.arcs = ap (λ (n : DdNode). n.arcs) (sym from.2) in
+steps-redirected : (dp : Dp) (k : ℕ) (above : List DdNode) (redirects : List (Option Redirect)) → StepsAreStates dp k above → StepsAreStates dp k (with_redirected redirects above)
+steps-redirected dp k above redirects h = λ x has arc listed.
+    let from = Has-map-from (followed_node redirects) above x has in
+    let arcs : x.arcs ≡ map (redirected redirects) from.0.arcs = ap (λ (n : DdNode). n.arcs) (sym from.2) in
     let row : x.row ≡ from.0.row = ap (λ (n : DdNode). n.row) (sym from.2) in
-    let old = Has-map-from (landed landings) from.0.arcs arc (subst (λ as_. Has arc as_) arcs listed) in
-    let decision : arc.decision ≡ old.0.decision = ap (λ (b : DdArc). b.decision) (sym old.2) ∙ landed-decision-of landings old.0 in
+    let old = Has-map-from (redirected redirects) from.0.arcs arc (subst (λ as_. Has arc as_) arcs listed) in
+    let decision : arc.decision ≡ old.0.decision = ap (λ (b : DdArc). b.decision) (sym old.2) ∙ redirected-decision-of redirects old.0 in
     subst (λ d. IsStateOf dp (k + 1) (dp.step k x.row d)) (sym decision) (subst (λ s. IsStateOf dp (k + 1) (dp.step k s old.0.decision)) (sym row) (h from.0 from.1 old.0 old.1))
 
-nodes-following : (dp : Dp) (p : List ℕ) (k : ℕ) (above : List DdNode) (landings : List (Option Landing)) → AreNodes dp p k above → AreNodes dp p k (following landings above)
-nodes-following dp p k above landings h = nodes-mapped dp p k above (followed_node landings) (λ x. record { row = refl; value = refl; exact = refl; path = refl }) h
+nodes-redirected : (dp : Dp) (p : List ℕ) (k : ℕ) (above : List DdNode) (redirects : List (Option Redirect)) → AreNodes dp p k above → AreNodes dp p k (with_redirected redirects above)
+nodes-redirected dp p k above redirects h = nodes-mapped dp p k above (followed_node redirects) (λ x. record { row = refl; value = refl; exact = refl; path = refl }) h
 
 states-in : (dp : Dp) (p : List ℕ) (k : ℕ) (layer : List DdNode) → AreNodes dp p k layer → k ≤ dp.vars → (x : DdNode) → Has x layer → IsStateOf dp k x.row
 states-in dp p k layer h low x has = record { layer = low; test = h.states x has }
@@ -97,14 +97,14 @@ pruned-built : (dp : Dp) → IsLawful dp → IsChained dp → (t : Option ℤ) (
 pruned-built dp laws chained t p k layer h low deep =
     let b = expanded-built dp laws t p k layer h low deep in
     let next = new_layer dp k layer in
-    let landings = prune_landings dp (k + 1) t [] 0 next in
+    let redirects = prune_redirects dp (k + 1) t [] 0 next in
     let kept = pruned-nodes dp p (k + 1) t next b.next in
     record {
-      linked = linked-landed dp chained t k (with_arcs dp k next layer) next (pruned_nodes dp (k + 1) t [] 0 next) landings b.linked (prune-landings dp laws p (k + 1) t next b.next (omega arith)) (struck-arcs dp laws t p k layer h low b.next)
+      linked = linked-redirected dp chained t k (with_arcs dp k next layer) next (pruned_nodes dp (k + 1) t [] 0 next) redirects b.linked (prune-redirects dp laws p (k + 1) t next b.next (omega arith)) (struck-arcs dp laws t p k layer h low b.next)
           (states-in dp p (k + 1) next b.next (omega arith)) (states-in dp p (k + 1) (pruned_nodes dp (k + 1) t [] 0 next) kept (omega arith)) b.steps;
-      above = nodes-following dp p k (with_arcs dp k next layer) landings b.above;
+      above = nodes-redirected dp p k (with_arcs dp k next layer) redirects b.above;
       next = kept;
-      steps = steps-following dp k (with_arcs dp k next layer) landings b.steps;
+      steps = steps-redirected dp k (with_arcs dp k next layer) redirects b.steps;
     }
 
 -- Merging.
@@ -145,22 +145,22 @@ merged-nodes dp laws p k n layer h low wide =
 merged-built : (dp : Dp) → IsLawful dp → IsChained dp → (t : Option ℤ) (p : List ℕ) (k n : ℕ) (two : TwoLayers) → AreBuilt dp p t k two → k < dp.vars → n + 1 < length two.next → AreBuilt dp p t k (merge_rest dp (k + 1) (n + 1) two)
 merged-built dp laws chained t p k n two b low wide =
     let states = states-in dp p (k + 1) two.next b.next (omega arith) in
-    let landings = merge_landings dp (k + 1) (n + 1) two.next in
+    let redirects = merge_redirects dp (k + 1) (n + 1) two.next in
     let kept = merged-nodes dp laws p (k + 1) n two.next b.next (omega arith) wide in
     record {
-      linked = linked-landed dp chained t k two.above two.next (merged_layer dp (k + 1) (n + 1) two.next) landings b.linked (merge-landings-of dp laws (k + 1) n two.next wide states)
+      linked = linked-redirected dp chained t k two.above two.next (merged_layer dp (k + 1) (n + 1) two.next) redirects b.linked (merge-redirects-of dp laws (k + 1) n two.next wide states)
           (λ x has arc listed i aims gone. absurd (let to = linked-target dp t k two.above two.next b.linked x has arc listed i aims in none-gone dp laws (k + 1) n two.next wide states i to.0 to.1 gone))
           states (states-in dp p (k + 1) (merged_layer dp (k + 1) (n + 1) two.next) kept (omega arith)) b.steps;
-      above = nodes-following dp p k two.above landings b.above;
+      above = nodes-redirected dp p k two.above redirects b.above;
       next = kept;
-      steps = steps-following dp k two.above landings b.steps;
+      steps = steps-redirected dp k two.above redirects b.steps;
     }
 
 reduced-built : (dp : Dp) → IsLawful dp → IsChained dp → (t : Option ℤ) (p : List ℕ) (first w k : ℕ) (two : TwoLayers) → AreBuilt dp p t k two → k < dp.vars → 1 ≤ w → AreBuilt dp p t k (reduced dp first w (k + 1) two)
 reduced-built dp laws chained t p first w k two b low some =
     elim (is_wide dp first w (k + 1) two.next) as (λ v. is_wide dp first w (k + 1) two.next ≡ v → AreBuilt dp p t k (cond v (merge_rest dp (k + 1) w two) two)) [
       | true ↦ λ e. (
-          let test : nat_lt w (length two.next) ≡ true = (and_parts (is_cut dp first (k + 1)) (nat_lt w (length two.next)) e).1 in
+          let test : nat_lt w (length two.next) ≡ true = (and_parts (is_reduced dp first (k + 1)) (nat_lt w (length two.next)) e).1 in
           let same : w - 1 + 1 ≡ w = omega arith in
           let wide : w - 1 + 1 < length two.next = grind arith in
           subst (λ n. AreBuilt dp p t k (merge_rest dp (k + 1) n two)) same (merged-built dp laws chained t p k (w - 1) two b low wide))
@@ -171,10 +171,10 @@ pub built-well : (dp : Dp) → IsLawful dp → IsChained dp → (t : Option ℤ)
 built-well dp laws chained t p first w k layer h low deep some = reduced-built dp laws chained t p first w k (prune dp (k + 1) t (expand dp k layer)) (pruned-built dp laws chained t p k layer h low deep) low some
 
 -- the next layer is no wider than the width where it is cut
-pub built-narrow : (dp : Dp) (first w : ℕ) (t : Option ℤ) (k : ℕ) (layer : List DdNode) → 1 ≤ w → IsTrue (is_cut dp first (k + 1)) → length (built dp first w t k layer).next ≤ w
+pub built-narrow : (dp : Dp) (first w : ℕ) (t : Option ℤ) (k : ℕ) (layer : List DdNode) → 1 ≤ w → IsTrue (is_reduced dp first (k + 1)) → length (built dp first w t k layer).next ≤ w
 built-narrow dp first w t k layer some cut =
     let two = prune dp (k + 1) t (expand dp k layer) in
-    elim (nat_lt w (length two.next)) as (λ v. nat_lt w (length two.next) ≡ v → length (cond (is_cut dp first (k + 1) && v) (merge_rest dp (k + 1) w two) two).next ≤ w) [
+    elim (nat_lt w (length two.next)) as (λ v. nat_lt w (length two.next) ≡ v → length (cond (is_reduced dp first (k + 1) && v) (merge_rest dp (k + 1) w two) two).next ≤ w) [
       | true ↦ λ e. rw cut (let long = length-append (take (w - 1) two.next) (merged_node dp (k + 1) (drop (w - 1) two.next) ∷ []) in let short = length-take-le (w - 1) two.next (grind arith) in omega arith)
       | false ↦ λ e. rw cut (grind arith)
     ] refl

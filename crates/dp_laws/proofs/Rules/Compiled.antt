@@ -5,24 +5,24 @@ use Rattle.dp_model.specs.Dp.{Dp}
 use Rattle.dp_model.specs.Laws.{IsLawful, IsChained}
 use Rattle.dp_model.specs.Lists.{Each}
 use Rattle.dp_model.proofs.Members.{Has, each-of-all, Has-map-from, Has-append-cases}
-use Rattle.dp_laws.specs.Restricted.Beam.{expanded, is_cut}
+use Rattle.dp_laws.specs.Restricted.Beam.{expanded, is_reduced}
 use Rattle.dp_laws.specs.declared.arc.DdArc.{DdArc}
 use Rattle.dp_laws.specs.Diagrams.Nodes.{DdNode, prefix_at}
 use Rattle.dp_laws.specs.Diagrams.Seen.{decisions_at, HasArcs, Leads, IsReachedBy, suffix_from, IsLayer, AreLayers}
-use Rattle.dp_laws.specs.Rules.Landings.{Landing, following}
+use Rattle.dp_laws.specs.Rules.Redirects.{Redirect, with_redirected}
 use Rattle.dp_laws.specs.Rules.Expanding.{node_for, new_layer, arc_of, with_arcs}
-use Rattle.dp_laws.specs.Rules.Pruning.{prune_landings}
-use Rattle.dp_laws.specs.Rules.Reducing.{merged_node, merge_landings}
+use Rattle.dp_laws.specs.Rules.Pruning.{prune_redirects}
+use Rattle.dp_laws.specs.Rules.Reducing.{merged_node, merge_redirects}
 use Rattle.dp_laws.specs.Rules.Compiling.{expand, prune, merge_rest, is_wide, built, compiled, first_of_layers, with_suffixes}
 use Rattle.dp_laws.proofs.Rules.Linked.{AreLinked, linked-values, linked-arcs, linked-leads, linked-same}
-use Rattle.dp_laws.proofs.Rules.Landing.{followed_node}
+use Rattle.dp_laws.proofs.Rules.Redirecting.{followed_node}
 use Rattle.dp_laws.proofs.Rules.Pruned.{pruned-has}
 use Rattle.dp_laws.proofs.Rules.Layers.{AreNodes, LooksSame, nodes-mapped, are-distinct}
 use Rattle.dp_laws.proofs.Rules.Built.{in-take, built-well, built-narrow}
 
 -- a layer is no wider than the width where it is cut
 abbrev pub IsNarrow : Dp → List ℕ → ℕ → ℕ → List DdNode → Type 0
-IsNarrow dp p w k layer = IsTrue (is_cut dp (length p) k) → length layer ≤ w
+IsNarrow dp p w k layer = IsTrue (is_reduced dp (length p) k) → length layer ≤ w
 
 -- layers from depth k on, before their suffixes are known
 abbrev pub AreCompiled : Dp → List ℕ → ℕ → Option ℤ → ℕ → List (List DdNode) → Type 0
@@ -43,17 +43,17 @@ linked-next : (dp : Dp) (t : Option ℤ) (j : ℕ) (above next : List DdNode) (g
 linked-next dp t j above next g keeps l =
     subst (λ a. AreLinked dp t j a (map g next)) (map-id above) (linked-same dp t j above next (λ x. x) g (λ x. record { row = refl; value = refl; arcs = refl }) keeps l)
 
-linked-following : (dp : Dp) (t : Option ℤ) (j : ℕ) (above layer : List DdNode) (landings : List (Option Landing)) → AreLinked dp t j above layer → AreLinked dp t j above (following landings layer)
-linked-following dp t j above layer landings l = linked-next dp t j above layer (followed_node landings) (λ y. (refl, refl)) l
+linked-redirected : (dp : Dp) (t : Option ℤ) (j : ℕ) (above layer : List DdNode) (redirects : List (Option Redirect)) → AreLinked dp t j above layer → AreLinked dp t j above (with_redirected redirects layer)
+linked-redirected dp t j above layer redirects l = linked-next dp t j above layer (followed_node redirects) (λ y. (refl, refl)) l
 
 linked-built : (dp : Dp) (first w : ℕ) (t : Option ℤ) (k : ℕ) (layer : List DdNode) (j : ℕ) (above : List DdNode) → AreLinked dp t j above layer → AreLinked dp t j above (built dp first w t k layer).above
 linked-built dp first w t k layer j above l =
     let next = new_layer dp k layer in
     let one = linked-next dp t j above layer (λ (node : DdNode). record node { arcs = map (arc_of dp k next node.row) (decisions_at dp k node.row) }) (λ y. (refl, refl)) l in
     let two = prune dp (k + 1) t (expand dp k layer) in
-    let pruned : AreLinked dp t j above two.above = linked-following dp t j above (with_arcs dp k next layer) (prune_landings dp (k + 1) t [] 0 next) one in
+    let pruned : AreLinked dp t j above two.above = linked-redirected dp t j above (with_arcs dp k next layer) (prune_redirects dp (k + 1) t [] 0 next) one in
     elim (is_wide dp first w (k + 1) two.next) as (λ v. AreLinked dp t j above (cond v (merge_rest dp (k + 1) w two) two).above) [
-      | true ↦ linked-following dp t j above two.above (merge_landings dp (k + 1) w two.next) pruned
+      | true ↦ linked-redirected dp t j above two.above (merge_redirects dp (k + 1) w two.next) pruned
       | false ↦ pruned
     ]
 
@@ -77,9 +77,9 @@ built-length dp first w t k layer =
     let next = new_layer dp k layer in
     let two = prune dp (k + 1) t (expand dp k layer) in
     let one : length (with_arcs dp k next layer) ≡ length layer = length-map layer (λ (node : DdNode). record node { arcs = map (arc_of dp k next node.row) (decisions_at dp k node.row) }) in
-    let pruned : length two.above ≡ length layer = length-map (with_arcs dp k next layer) (followed_node (prune_landings dp (k + 1) t [] 0 next)) ∙ one in
+    let pruned : length two.above ≡ length layer = length-map (with_arcs dp k next layer) (followed_node (prune_redirects dp (k + 1) t [] 0 next)) ∙ one in
     elim (is_wide dp first w (k + 1) two.next) as (λ v. length (cond v (merge_rest dp (k + 1) w two) two).above ≡ length layer) [
-      | true ↦ length-map two.above (followed_node (merge_landings dp (k + 1) w two.next)) ∙ pruned
+      | true ↦ length-map two.above (followed_node (merge_redirects dp (k + 1) w two.next)) ∙ pruned
       | false ↦ pruned
     ]
 

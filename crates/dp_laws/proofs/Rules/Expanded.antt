@@ -178,7 +178,7 @@ leads-into dp k layer node d low has listed =
     let there = each-has (λ (c : Reached). OneOf (λ (r : Reached). r.row ≡ c.row) (joined_candidates dp k layer)) (candidates dp k (map prefix_at layer)) c best.all (made dp k layer node d low has listed) in
     found-row (new_layer dp k layer) (dp.step k node.row d) (row-there dp k layer (dp.step k node.row d) (joined_candidates dp k layer) there)
 
-abbrev with_arcs_of : Dp → ℕ → List DdNode → DdNode → DdNode
+abbrev pub with_arcs_of : Dp → ℕ → List DdNode → DdNode → DdNode
 with_arcs_of dp k next node = record node { arcs = map (arc_of dp k next node.row) (decisions_at dp k node.row) }
 
 -- an arc of a node, by its decision

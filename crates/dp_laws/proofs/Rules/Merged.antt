@@ -14,9 +14,9 @@ use Rattle.dp_model.proofs.Solutions.{greatest_from-in}
 use Rattle.dp_laws.specs.Diagrams.Nodes.{DdNode}
 use Rattle.dp_laws.proofs.Diagrams.Places.{same-Some, Has-at, Has-filter_map, Has-filter_map-from, greatest-most, slice_get-append, slice_get-last, length-below, below-at}
 use Rattle.dp_laws.proofs.Diagrams.Walks.{slice_get-take}
-use Rattle.dp_laws.specs.Rules.Landings.{Landing}
-use Rattle.dp_laws.specs.Rules.Reducing.{staying, merged_row, row_of_all, merged_node, merged_layer, landing_by, merge_landing, merge_landings}
-use Rattle.dp_laws.proofs.Rules.Landing.{LandsAt, LandsWhole, AreLandings}
+use Rattle.dp_laws.specs.Rules.Redirects.{Redirect}
+use Rattle.dp_laws.specs.Rules.Reducing.{staying, merged_row, row_of_all, merged_node, merged_layer, redirect_by, merge_redirect, merge_redirects}
+use Rattle.dp_laws.proofs.Rules.Redirecting.{GoesTo, GoesWhole, AreRedirects}
 
 -- The row into which nodes are merged.
 
@@ -81,7 +81,7 @@ slice_get-drop (suc n) i [] = refl
 slice_get-drop (suc n) i (x ∷ xs) = slice_get-drop n i xs ∙ (let e : suc (n + i) ≡ suc n + i = omega arith in ap (slice_get (x ∷ xs)) e)
 
 -- what stands behind n members of a list
-behind : {X : Type 0} (xs ys : List X) (n i : ℕ) → length xs ≡ n → slice_get (xs ++ ys) (n + i) ≡ slice_get ys i
+pub behind : {X : Type 0} (xs ys : List X) (n i : ℕ) → length xs ≡ n → slice_get (xs ++ ys) (n + i) ≡ slice_get ys i
 behind [] ys zero i e = ap (slice_get ys) (zero_plus i)
 behind [] ys (suc n) i e = absurd (omega arith)
 behind (x ∷ xs) ys zero i e = absurd (omega arith)
@@ -92,19 +92,19 @@ some-at [] i h = absurd (omega arith)
 some-at (x ∷ xs) zero h = (x, refl)
 some-at (x ∷ xs) (suc i) h = some-at xs i (omega arith)
 
-length-staying : (n : ℕ) → length (staying n) ≡ n
+pub length-staying : (n : ℕ) → length (staying n) ≡ n
 length-staying n = length-map (below n) (λ (i : ℕ). Some (record { place = i; longer = pos 0 })) ∙ length-below n
 
-staying-at : (n i : ℕ) → i < n → slice_get (staying n) i ≡ Some (Some (record { place = i; longer = pos 0 }))
+pub staying-at : (n i : ℕ) → i < n → slice_get (staying n) i ≡ Some (Some (record { place = i; longer = pos 0 }))
 staying-at n i h = slice_get-map (λ (i : ℕ). Some (record { place = i; longer = pos 0 })) (below n) i ∙ ap (option_map (λ (i : ℕ). Some (record { place = i; longer = pos 0 }))) (below-at n i h)
 
 -- a member is at a place
-place-of : {X : Type 0} (xs : List X) (x : X) → Has x xs → (i : ℕ) × (slice_get xs i ≡ Some x)
+pub place-of : {X : Type 0} (xs : List X) (x : X) → Has x xs → (i : ℕ) × (slice_get xs i ≡ Some x)
 place-of [] x h = absurd h
 place-of (y ∷ ys) x (inl same) = (0, ap Some same)
 place-of (y ∷ ys) x (inr later) = let r = place-of ys x later in (suc r.0, r.1)
 
--- The landings of a layer of more than w nodes, of which n = w - 1 stay.
+-- The redirects of a layer of more than w nodes, of which n = w - 1 stay.
 
 module _ (dp : Dp) (laws : IsLawful dp) (k n : ℕ) (layer : List DdNode) (wide : n + 1 < length layer) (states : (x : DdNode) → Has x layer → IsStateOf dp k x.row) where
   abbrev front : List DdNode
@@ -143,42 +143,42 @@ module _ (dp : Dp) (laws : IsLawful dp) (k n : ℕ) (layer : List DdNode) (wide 
       let same : n + 1 - 1 ≡ n = omega arith in
       subst (λ m. slice_get (take m layer ++ merged_node dp k (drop m layer) ∷ []) i ≡ Some x) (sym same) (slice_get-append (take n layer) (merged_node dp k (drop n layer) ∷ []) i x (slice_get-take n i layer less ∙ e))
 
-  front-landing : (i : ℕ) → i < n → slice_get (merge_landings dp k (n + 1) layer) i ≡ Some (Some (record { place = i; longer = pos 0 }))
-  front-landing i less =
+  front-redirect : (i : ℕ) → i < n → slice_get (merge_redirects dp k (n + 1) layer) i ≡ Some (Some (record { place = i; longer = pos 0 }))
+  front-redirect i less =
       let same : n + 1 - 1 ≡ n = omega arith in
-      subst (λ m. slice_get (staying m ++ map (merge_landing dp k m (row_of_all dp k (drop m layer))) (drop m layer)) i ≡ Some (Some (record { place = i; longer = pos 0 }))) (sym same)
-      (slice_get-append (staying n) (map (merge_landing dp k n into) (drop n layer)) i (Some (record { place = i; longer = pos 0 })) (staying-at n i less))
+      subst (λ m. slice_get (staying m ++ map (merge_redirect dp k m (row_of_all dp k (drop m layer))) (drop m layer)) i ≡ Some (Some (record { place = i; longer = pos 0 }))) (sym same)
+      (slice_get-append (staying n) (map (merge_redirect dp k n into) (drop n layer)) i (Some (record { place = i; longer = pos 0 })) (staying-at n i less))
 
-  back-landing : (i : ℕ) (x : DdNode) → slice_get layer (n + i) ≡ Some x → slice_get (merge_landings dp k (n + 1) layer) (n + i) ≡ Some (merge_landing dp k n into x)
-  back-landing i x e =
+  back-redirect : (i : ℕ) (x : DdNode) → slice_get layer (n + i) ≡ Some x → slice_get (merge_redirects dp k (n + 1) layer) (n + i) ≡ Some (merge_redirect dp k n into x)
+  back-redirect i x e =
       let same : n + 1 - 1 ≡ n = omega arith in
-      subst (λ m. slice_get (staying m ++ map (merge_landing dp k m (row_of_all dp k (drop m layer))) (drop m layer)) (n + i) ≡ Some (merge_landing dp k n into x)) (sym same)
-      (behind (staying n) (map (merge_landing dp k n into) (drop n layer)) n i (length-staying n) ∙ (slice_get-map (merge_landing dp k n into) (drop n layer) i ∙ ap (option_map (merge_landing dp k n into)) (slice_get-drop n i layer ∙ e)))
+      subst (λ m. slice_get (staying m ++ map (merge_redirect dp k m (row_of_all dp k (drop m layer))) (drop m layer)) (n + i) ≡ Some (merge_redirect dp k n into x)) (sym same)
+      (behind (staying n) (map (merge_redirect dp k n into) (drop n layer)) n i (length-staying n) ∙ (slice_get-map (merge_redirect dp k n into) (drop n layer) i ∙ ap (option_map (merge_redirect dp k n into)) (slice_get-drop n i layer ∙ e)))
 
-  back-lands : (i : ℕ) (x : DdNode) → slice_get layer (n + i) ≡ Some x → (g : ℤ) → dp.gap k into x.row ≡ Some g → LandsAt dp k (merged_layer dp k (n + 1) layer) x (record { place = n; longer = g })
-  back-lands i x e g is =
+  back-goes : (i : ℕ) (x : DdNode) → slice_get layer (n + i) ≡ Some x → (g : ℤ) → dp.gap k into x.row ≡ Some g → GoesTo dp k (merged_layer dp k (n + 1) layer) x (record { place = n; longer = g })
+  back-goes i x e g is =
       let has : Has x (drop n layer) = Has-at (drop n layer) i x (slice_get-drop n i layer ∙ e) in
       record { node = merged_node dp k (drop n layer); at = merged-at; gap = is; value = (top x has).most (x.value +ℤ g) (lifted-in x has g is) }
 
-  front-lands : (i : ℕ) (x : DdNode) → i < n → slice_get layer i ≡ Some x → LandsAt dp k (merged_layer dp k (n + 1) layer) x (record { place = i; longer = pos 0 })
-  front-lands i x less e = record { node = x; at = front-at i x less e; gap = laws.gaps.own k x.row (states x (Has-at layer i x e)); value = omega (arith, ints) }
+  front-goes : (i : ℕ) (x : DdNode) → i < n → slice_get layer i ≡ Some x → GoesTo dp k (merged_layer dp k (n + 1) layer) x (record { place = i; longer = pos 0 })
+  front-goes i x less e = record { node = x; at = front-at i x less e; gap = laws.gaps.own k x.row (states x (Has-at layer i x e)); value = omega (arith, ints) }
 
   split : (i : ℕ) → (i < n) ⊎ ((j : ℕ) × (i ≡ n + j))
   split i = (let at : (i < n) ⊎ (n ≤ i) = grind arith in elim at as (λ _. (i < n) ⊎ ((j : ℕ) × (i ≡ n + j))) [ inl less ↦ inl less | inr more ↦ inr (i - n, omega arith) ])
 
-  landing-known : (i : ℕ) (x : DdNode) → slice_get layer i ≡ Some x → (l : Landing) × (slice_get (merge_landings dp k (n + 1) layer) i ≡ Some (Some l)) × LandsAt dp k (merged_layer dp k (n + 1) layer) x l
-  landing-known i x e = elim (split i) as (λ _. (l : Landing) × (slice_get (merge_landings dp k (n + 1) layer) i ≡ Some (Some l)) × LandsAt dp k (merged_layer dp k (n + 1) layer) x l) [
-    | inl less ↦ (record { place = i; longer = pos 0 }, front-landing i less, front-lands i x less e)
+  redirect-known : (i : ℕ) (x : DdNode) → slice_get layer i ≡ Some x → (l : Redirect) × (slice_get (merge_redirects dp k (n + 1) layer) i ≡ Some (Some l)) × GoesTo dp k (merged_layer dp k (n + 1) layer) x l
+  redirect-known i x e = elim (split i) as (λ _. (l : Redirect) × (slice_get (merge_redirects dp k (n + 1) layer) i ≡ Some (Some l)) × GoesTo dp k (merged_layer dp k (n + 1) layer) x l) [
+    | inl less ↦ (record { place = i; longer = pos 0 }, front-redirect i less, front-goes i x less e)
     | inr more ↦ (
         let at : slice_get layer (n + more.0) ≡ Some x = ap (slice_get layer) (sym more.1) ∙ e in
         let g = covered.gaps x (Has-at (drop n layer) more.0 x (slice_get-drop n more.0 layer ∙ at)) in
-        let lands : slice_get (merge_landings dp k (n + 1) layer) i ≡ Some (Some (record { place = n; longer = g.gap })) =
-        ap (slice_get (merge_landings dp k (n + 1) layer)) more.1 ∙ (back-landing more.0 x at ∙ ap (λ o. Some (landing_by n o)) g.is) in
-        (record { place = n; longer = g.gap }, lands, back-lands more.0 x at g.gap g.is))
+        let goes : slice_get (merge_redirects dp k (n + 1) layer) i ≡ Some (Some (record { place = n; longer = g.gap })) =
+        ap (slice_get (merge_redirects dp k (n + 1) layer)) more.1 ∙ (back-redirect more.0 x at ∙ ap (λ o. Some (redirect_by n o)) g.is) in
+        (record { place = n; longer = g.gap }, goes, back-goes more.0 x at g.gap g.is))
   ]
 
   -- the node that stays whole behind the width is the one of the greatest value
-  merged-whole : LandsWhole layer (merge_landings dp k (n + 1) layer) n (merged_node dp k (drop n layer))
+  merged-whole : GoesWhole layer (merge_redirects dp k (n + 1) layer) n (merged_node dp k (drop n layer))
   merged-whole =
       let first = some-at (drop n layer) 0 (let long = length-drop n layer in omega arith) in
       let best = (top first.0 (Has-at (drop n layer) 0 first.0 first.1)).has in
@@ -187,33 +187,33 @@ module _ (dp : Dp) (laws : IsLawful dp) (k n : ℕ) (layer : List DdNode) (wide 
       let g = covered.gaps from.0 from.1 in
       let there : slice_get layer (n + at.0) ≡ Some from.0 = sym (slice_get-drop n at.0 layer) ∙ at.1 in
       let value : from.0.value +ℤ g.gap ≡ (merged_node dp k (drop n layer)).value = same-Some (from.0.value +ℤ g.gap) (merged_node dp k (drop n layer)).value (ap (add_some from.0.value) (sym g.is) ∙ from.2) in
-      record { from = n + at.0; old = from.0; at = there; longer = g.gap; lands = back-landing at.0 from.0 there ∙ ap (λ o. Some (landing_by n o)) g.is; value = sym value }
+      record { from = n + at.0; old = from.0; at = there; longer = g.gap; goes = back-redirect at.0 from.0 there ∙ ap (λ o. Some (redirect_by n o)) g.is; value = sym value }
 
-  whole-at : (j : ℕ) (y : DdNode) → slice_get (merged_layer dp k (n + 1) layer) j ≡ Some y → LandsWhole layer (merge_landings dp k (n + 1) layer) j y
+  whole-at : (j : ℕ) (y : DdNode) → slice_get (merged_layer dp k (n + 1) layer) j ≡ Some y → GoesWhole layer (merge_redirects dp k (n + 1) layer) j y
   whole-at j y e =
       let shape : merged_layer dp k (n + 1) layer ≡ take n layer ++ merged_node dp k (drop n layer) ∷ [] = (let same : n + 1 - 1 ≡ n = omega arith in ap (λ m. take m layer ++ merged_node dp k (drop m layer) ∷ []) same) in
-      elim (split j) as (λ _. LandsWhole layer (merge_landings dp k (n + 1) layer) j y) [
+      elim (split j) as (λ _. GoesWhole layer (merge_redirects dp k (n + 1) layer) j y) [
         | inl less ↦ (
             let old = some-at layer j (omega arith) in
             let same : old.0 ≡ y = same-Some old.0 y (sym (front-at j old.0 less old.1) ∙ e) in
-            record { from = j; old = old.0; at = old.1; longer = pos 0; lands = front-landing j less; value = (let v = ap (λ (x : DdNode). x.value) same in omega (arith, ints)) })
+            record { from = j; old = old.0; at = old.1; longer = pos 0; goes = front-redirect j less; value = (let v = ap (λ (x : DdNode). x.value) same in omega (arith, ints)) })
         | inr more ↦ (
             let at : slice_get (merged_node dp k (drop n layer) ∷ []) more.0 ≡ Some y = sym (behind (take n layer) (merged_node dp k (drop n layer) ∷ []) n more.0 front-long) ∙ (ap (λ l. slice_get l (n + more.0)) (sym shape) ∙ (ap (slice_get (merged_layer dp k (n + 1) layer)) (sym more.1) ∙ e)) in
             let within = slice_get_within (merged_node dp k (drop n layer) ∷ []) more.0 y at in
             let zero_more : more.0 ≡ 0 = omega arith in
             let place : j ≡ n = (let e' = more.1 in omega arith) in
             let node : merged_node dp k (drop n layer) ≡ y = same-Some (merged_node dp k (drop n layer)) y (ap (slice_get (merged_node dp k (drop n layer) ∷ [])) (sym zero_more) ∙ at) in
-            subst (λ m. LandsWhole layer (merge_landings dp k (n + 1) layer) m y) (sym place) (subst (LandsWhole layer (merge_landings dp k (n + 1) layer) n) node merged-whole))
+            subst (λ m. GoesWhole layer (merge_redirects dp k (n + 1) layer) m y) (sym place) (subst (GoesWhole layer (merge_redirects dp k (n + 1) layer) n) node merged-whole))
       ]
 
-  pub merge-landings-of : AreLandings dp k layer (merged_layer dp k (n + 1) layer) (merge_landings dp k (n + 1) layer)
-  merge-landings-of = record {
-    lands = λ i y l at e. (let known = landing-known i y at in
+  pub merge-redirects-of : AreRedirects dp k layer (merged_layer dp k (n + 1) layer) (merge_redirects dp k (n + 1) layer)
+  merge-redirects-of = record {
+    goes = λ i y l at e. (let known = redirect-known i y at in
         let same : known.0 ≡ l = same-Some known.0 l (same-Some (Some known.0) (Some l) (sym known.1 ∙ e)) in
-        subst (LandsAt dp k (merged_layer dp k (n + 1) layer) y) same known.2);
-    all = λ i y at. (let known = landing-known i y at in (Some known.0, known.1));
+        subst (GoesTo dp k (merged_layer dp k (n + 1) layer) y) same known.2);
+    all = λ i y at. (let known = redirect-known i y at in (Some known.0, known.1));
     whole = whole-at;
   }
 
-  pub none-gone : (i : ℕ) (x : DdNode) → slice_get layer i ≡ Some x → slice_get (merge_landings dp k (n + 1) layer) i ≡ Some None → ⊥
-  none-gone i x e gone = let known = landing-known i x e in let clash : Some known.0 ≡ None = same-Some (Some known.0) None (sym known.1 ∙ gone) in cc
+  pub none-gone : (i : ℕ) (x : DdNode) → slice_get layer i ≡ Some x → slice_get (merge_redirects dp k (n + 1) layer) i ≡ Some None → ⊥
+  none-gone i x e gone = let known = redirect-known i x e in let clash : Some known.0 ≡ None = same-Some (Some known.0) None (sym known.1 ∙ gone) in cc

@@ -10,7 +10,7 @@ use Rattle.dp_model.specs.Rows.{row_smaller}
 use Rattle.dp_model.specs.Reached.{Reached, reached}
 use Rattle.std.proofs.lemmas.Bool.{and_parts}
 use Rattle.dp_model.proofs.RowLemmas.{int_same-is}
-use Rattle.dp_laws.specs.Restricted.Beam.{expanded, whole_layer, is_cut, cut, layer_below, is_too_wide}
+use Rattle.dp_laws.specs.Restricted.Beam.{expanded, whole_layer, is_reduced, reduced_to, layer_below, is_too_wide}
 use Rattle.dp_laws.specs.Restricted.Extensions.{candidates}
 use Rattle.dp_laws.specs.Restricted.Ordered.{IsInOrder}
 use Rattle.dp_laws.specs.Pairs.{EachTwo}
@@ -20,12 +20,12 @@ use Rattle.dp_laws.specs.Diagrams.Nodes.{DdNode, prefix_at, as_member}
 use Rattle.dp_laws.specs.Diagrams.Seen.{decisions_at, suffix_from, FallFrom}
 use Rattle.dp_laws.proofs.Diagrams.Places.{same-Some}
 use Rattle.dp_laws.proofs.Diagrams.Apart.{and-false}
-use Rattle.dp_laws.specs.Rules.Landings.{Landing, following}
+use Rattle.dp_laws.specs.Rules.Redirects.{Redirect, with_redirected}
 use Rattle.dp_laws.specs.Rules.Expanding.{node_for, new_layer, arc_of, with_arcs}
-use Rattle.dp_laws.specs.Rules.Pruning.{pruned_nodes, prune_landings}
-use Rattle.dp_laws.specs.Rules.Reducing.{merge_landings}
+use Rattle.dp_laws.specs.Rules.Pruning.{pruned_nodes, prune_redirects}
+use Rattle.dp_laws.specs.Rules.Reducing.{merge_redirects}
 use Rattle.dp_laws.specs.Rules.Compiling.{first_of_layers, expand, prune, merge_rest, is_wide, built, compiled, first_reduced_below, with_suffixes, start_layer, kept_next, restricted_below}
-use Rattle.dp_laws.proofs.Rules.Landing.{followed_node}
+use Rattle.dp_laws.proofs.Rules.Redirecting.{followed_node}
 use Rattle.dp_laws.proofs.Rules.Pruned.{pruned-two}
 use Rattle.dp_laws.proofs.Rules.Unreduced.{StandFor, length-same, next-stands}
 
@@ -72,7 +72,7 @@ wide-same : (dp : Dp) (p : List ℕ) (w : ℕ) (t : Option ℤ) (m : ℕ) (layer
     → is_wide dp (length p) w (length p + m + 1) (prune dp (length p + m + 1) t (expand dp (length p + m) layer)).next ≡ is_too_wide dp (reached dp p) w t (suc m)
 wide-same dp p w t m layer h =
     let long = length-same (prune dp (length p + m + 1) t (expand dp (length p + m) layer)).next (whole_layer dp (length p + m) t (layer_below dp (reached dp p) w t m)) (next-stands dp (length p + m) t layer (layer_below dp (reached dp p) w t m) h) in
-    ap (λ n. is_cut dp (length p) (length p + m + 1) && nat_lt w n) long
+    ap (λ n. is_reduced dp (length p) (length p + m + 1) && nat_lt w n) long
 
 -- where the next layer is not reduced it stands for the next one of the restricted diagram
 built-stands : (dp : Dp) (p : List ℕ) (w : ℕ) (t : Option ℤ) (m : ℕ) (layer : List DdNode) → StandFor layer (layer_below dp (reached dp p) w t m) → is_too_wide dp (reached dp p) w t (suc m) ≡ false
@@ -81,13 +81,13 @@ built-stands dp p w t m layer h e =
     let whole = whole_layer dp (length p + m) t (layer_below dp (reached dp p) w t m) in
     let not-wide = wide-same dp p w t m layer h ∙ e in
     let next = next-stands dp (length p + m) t layer (layer_below dp (reached dp p) w t m) h in
-    let uncut : cut dp w (length p) (length p + m + 1) whole ≡ whole =
-    elim (is_cut dp (length p) (length p + m + 1)) as (λ b. (b && nat_lt w (length whole)) ≡ false → cond b (take w whole) whole ≡ whole) [
+    let uncut : reduced_to dp w (length p) (length p + m + 1) whole ≡ whole =
+    elim (is_reduced dp (length p) (length p + m + 1)) as (λ b. (b && nat_lt w (length whole)) ≡ false → cond b (take w whole) whole ≡ whole) [
       | true ↦ λ x. take_all w whole (let test : nat_lt w (length whole) ≡ false = x in grind arith)
       | false ↦ λ x. refl
     ] e in
     let plain : (built dp (length p) w t (length p + m) layer).next ≡ (prune dp (length p + m + 1) t (expand dp (length p + m) layer)).next = rw not-wide refl in
-    subst (λ ns. StandFor ns (cut dp w (length p) (length p + m + 1) whole)) (sym plain) (subst (λ rs. StandFor (prune dp (length p + m + 1) t (expand dp (length p + m) layer)).next rs) (sym uncut) next)
+    subst (λ ns. StandFor ns (reduced_to dp w (length p) (length p + m + 1) whole)) (sym plain) (subst (λ rs. StandFor (prune dp (length p + m + 1) t (expand dp (length p + m) layer)).next rs) (sym uncut) next)
 
 -- the layers are not too wide as far as the m-th
 abbrev pub NoneTooWide : Dp → List ℕ → ℕ → Option ℤ → ℕ → Type 0
@@ -133,17 +133,17 @@ members-same f keeps (x ∷ layer) = ap (λ o. o ∷ map as_member (map f layer)
 members-ended : (dp : Dp) (k : ℕ) (next layer : List DdNode) → map as_member (map (λ (node : DdNode). record node { suffix = suffix_from dp k next node.arcs }) layer) ≡ map as_member layer
 members-ended dp k next layer = members-same (λ (node : DdNode). record node { suffix = suffix_from dp k next node.arcs }) (λ x. refl) layer
 
-members-following : (landings : List (Option Landing)) (layer : List DdNode) → map as_member (following landings layer) ≡ map as_member layer
-members-following landings layer = members-same (followed_node landings) (λ x. refl) layer
+members-redirected : (redirects : List (Option Redirect)) (layer : List DdNode) → map as_member (with_redirected redirects layer) ≡ map as_member layer
+members-redirected redirects layer = members-same (followed_node redirects) (λ x. refl) layer
 
 members-built : (dp : Dp) (first w : ℕ) (t : Option ℤ) (k : ℕ) (layer : List DdNode) → map as_member (built dp first w t k layer).above ≡ map as_member layer
 members-built dp first w t k layer =
     let next = new_layer dp k layer in
     let two = prune dp (k + 1) t (expand dp k layer) in
     let one = members-same (λ (node : DdNode). record node { arcs = map (arc_of dp k next node.row) (decisions_at dp k node.row) }) (λ x. refl) layer in
-    let pruned : map as_member two.above ≡ map as_member layer = members-following (prune_landings dp (k + 1) t [] 0 next) (with_arcs dp k next layer) ∙ one in
+    let pruned : map as_member two.above ≡ map as_member layer = members-redirected (prune_redirects dp (k + 1) t [] 0 next) (with_arcs dp k next layer) ∙ one in
     elim (is_wide dp first w (k + 1) two.next) as (λ v. map as_member (cond v (merge_rest dp (k + 1) w two) two).above ≡ map as_member layer) [
-      | true ↦ members-following (merge_landings dp (k + 1) w two.next) two.above ∙ pruned
+      | true ↦ members-redirected (merge_redirects dp (k + 1) w two.next) two.above ∙ pruned
       | false ↦ pruned
     ]
 
@@ -240,7 +240,7 @@ falls-pruned dp k t layer =
     falls-two (pruned_nodes dp (k + 1) t [] 0 (new_layer dp k layer))
     (pruned-two (λ (a b : DdNode). b.value ≤ℤ a.value) dp (k + 1) t [] 0 (new_layer dp k layer) (falls-new dp k (k + 1) layer (expanded dp k (map prefix_at layer)) (expansion dp (k + 1) (candidates dp k (map prefix_at layer))).order))
 
-uncut-last : (dp : Dp) (first depth : ℕ) → depth ≡ dp.vars → is_cut dp first depth ≡ false
+uncut-last : (dp : Dp) (first depth : ℕ) → depth ≡ dp.vars → is_reduced dp first depth ≡ false
 uncut-last dp first depth e =
     let over : nat_lt depth dp.vars ≡ false = grind arith in
     rw over (and-false (nat_le (first + 2) depth))
@@ -295,7 +295,7 @@ kept-stands dp p w t m layer h =
       | true ↦ λ e. stands-take w two.next whole next
       | false ↦ λ e. subst (StandFor two.next) (sym (take_all w whole (grind arith))) next
     ] in
-    elim (is_cut dp (length p) (length p + m + 1)) as Goal [ true ↦ inside (nat_lt w (length two.next)) refl | false ↦ next ]
+    elim (is_reduced dp (length p) (length p + m + 1)) as Goal [ true ↦ inside (nat_lt w (length two.next)) refl | false ↦ next ]
 
 -- each layer of a restricted diagram that is built by the rules stands for the one that is defined on prefixes
 pub restricted-stands : (dp : Dp) (p : List ℕ) (w : ℕ) (t : Option ℤ) (m : ℕ) → StandFor (restricted_below dp (length p) w t (length p) m (start_layer (reached dp p))) (layer_below dp (reached dp p) w t m)

@@ -12,9 +12,9 @@ use Rattle.dp_laws.specs.Diagrams.Nodes.{DdNode, prefix_at, as_member}
 use Rattle.dp_laws.proofs.Diagrams.Places.{same-Some}
 use Rattle.dp_laws.proofs.Diagrams.Walks.{exact-layer, exact-member}
 use Rattle.dp_laws.proofs.Diagrams.Starts.{as-member-is}
-use Rattle.dp_laws.specs.Rules.Landings.{Landing}
+use Rattle.dp_laws.specs.Rules.Redirects.{Redirect}
 use Rattle.dp_laws.specs.Rules.Expanding.{is_exact_row, node_for, new_layer}
-use Rattle.dp_laws.specs.Rules.Pruning.{Leader, landing_within, first_landing, at_leader, is_struck, led, pruned_nodes}
+use Rattle.dp_laws.specs.Rules.Pruning.{Leader, redirect_within, first_redirect, at_leader, is_struck, leaders_past, pruned_nodes}
 use Rattle.dp_laws.specs.Rules.Compiling.{expand, prune}
 
 -- the nodes are exact and stand for the prefixes
@@ -63,13 +63,13 @@ record AreSameLeaders (as_ : List Leader) (rs : List Reached) : Type 0 where
   rows : map (λ (a : Leader). a.row) as_ ≡ map (λ (r : Reached). r.row) rs
   values : map (λ (a : Leader). a.value) as_ ≡ map (λ (r : Reached). r.value) rs
 
-within-covers : (place : ℕ) (gap : Option ℤ) (above number : ℤ) → is_some (landing_within place gap above number) ≡ covers_at gap above number
+within-covers : (place : ℕ) (gap : Option ℤ) (above number : ℤ) → is_some (redirect_within place gap above number) ≡ covers_at gap above number
 within-covers place None above number = refl
 within-covers place (Some g) above number =
-    let l : Landing = record { place = place; longer = g } in
+    let l : Redirect = record { place = place; longer = g } in
     elim (int_le (number +ℤ g) above) as (λ b. is_some (cond b (Some l) None) ≡ b) [ true ↦ refl | false ↦ refl ]
 
-some-first : (one other : Option Landing) → is_some (first_landing one other) ≡ (is_some one || is_some other)
+some-first : (one other : Option Redirect) → is_some (first_redirect one other) ≡ (is_some one || is_some other)
 some-first None other = refl
 some-first (Some l) other = refl
 
@@ -89,7 +89,7 @@ led-same dp k (a ∷ as_) (q ∷ rs) node r h e =
     let rest = led-same dp k as_ rs node r (record { rows = ap (drop 1) h.rows; values = ap (drop 1) h.values }) e in
     let here : covers_at (dp.gap k a.row node.row) a.value node.value ≡ dominates dp k q r =
     ap (λ s. covers_at (dp.gap k s node.row) a.value node.value) row ∙ (ap (λ v. covers_at (dp.gap k q.row node.row) v node.value) value ∙ ap (λ (x : Reached). covers_at (dp.gap k q.row x.row) q.value x.value) e) in
-    some-first (landing_within a.place (dp.gap k a.row node.row) a.value node.value) (at_leader dp k as_ node)
+    some-first (redirect_within a.place (dp.gap k a.row node.row) a.value node.value) (at_leader dp k as_ node)
     ∙ (ap (λ b. b || is_some (at_leader dp k as_ node)) (within-covers a.place (dp.gap k a.row node.row) a.value node.value ∙ here) ∙ ap (λ b. dominates dp k q r || b) rest)
 
 length-leaders : (as_ : List Leader) (rs : List Reached) → AreSameLeaders as_ rs → length as_ ≡ length rs
@@ -101,7 +101,7 @@ leaders-then as_ rs place node r h e = record {
   values = map-append (λ (a : Leader). a.value) as_ (record { place = place; row = node.row; value = node.value } ∷ []) ∙ (ap (λ l. l ++ node.value ∷ []) h.values ∙ (ap (λ (x : Reached). map (λ (r : Reached). r.value) rs ++ x.value ∷ []) e ∙ sym (map-append (λ (r : Reached). r.value) rs (r ∷ []))));
 }
 
-leaders-led : (dp : Dp) (k : ℕ) (as_ : List Leader) (rs : List Reached) (place : ℕ) (node : DdNode) (r : Reached) → AreSameLeaders as_ rs → prefix_at node ≡ r → IsTrue node.exact → dominated dp k rs r ≡ false → AreSameLeaders (led as_ place node) (beam_leaders.led dp k rs r)
+leaders-led : (dp : Dp) (k : ℕ) (as_ : List Leader) (rs : List Reached) (place : ℕ) (node : DdNode) (r : Reached) → AreSameLeaders as_ rs → prefix_at node ≡ r → IsTrue node.exact → dominated dp k rs r ≡ false → AreSameLeaders (leaders_past as_ place node) (beam_leaders.leaders_after dp k rs r)
 leaders-led dp k as_ rs place node r h e exact free =
     let long = length-leaders as_ rs h in
     let more = leaders-then as_ rs place node r h e in
@@ -125,17 +125,17 @@ pruned-stand dp k t as_ qs place (node ∷ layer) (r ∷ rs) same h =
     let struck = struck-same dp k t node r is in
     let led-too = led-same dp k as_ qs node r same is in
     let Left : Bool → List DdNode → Type 0 = λ b ns. StandFor ns (undominated dp k qs (cond (not b) (r ∷ unstruck dp k t rs) (unstruck dp k t rs))) in
-    let after : is_struck_by r.value (dp.rough k r.row) t ≡ false → (b : Bool) → dominated dp k qs r ≡ b → Left false (cond b (pruned_nodes dp k t as_ place layer) (node ∷ pruned_nodes dp k t (led as_ place node) (place + 1) layer)) = λ free b.
-    elim b as (λ b. dominated dp k qs r ≡ b → Left false (cond b (pruned_nodes dp k t as_ place layer) (node ∷ pruned_nodes dp k t (led as_ place node) (place + 1) layer))) [
+    let after : is_struck_by r.value (dp.rough k r.row) t ≡ false → (b : Bool) → dominated dp k qs r ≡ b → Left false (cond b (pruned_nodes dp k t as_ place layer) (node ∷ pruned_nodes dp k t (leaders_past as_ place node) (place + 1) layer)) = λ free b.
+    elim b as (λ b. dominated dp k qs r ≡ b → Left false (cond b (pruned_nodes dp k t as_ place layer) (node ∷ pruned_nodes dp k t (leaders_past as_ place node) (place + 1) layer))) [
       | true ↦ λ e. rw e (pruned-stand dp k t as_ qs place layer rs same rest)
       | false ↦ λ e. (
           let more = leaders-led dp k as_ qs place node r same is exact e in
-          let ih = pruned-stand dp k t (led as_ place node) (beam_leaders.led dp k qs r) (place + 1) layer rs more rest in
-          let shape : undominated dp k qs (r ∷ unstruck dp k t rs) ≡ r ∷ undominated dp k (beam_leaders.led dp k qs r) (unstruck dp k t rs) = ap (λ b. cond b [] (r ∷ []) ++ undominated dp k (beam_leaders.led dp k qs r) (unstruck dp k t rs)) e in
-          subst (λ us. StandFor (node ∷ pruned_nodes dp k t (led as_ place node) (place + 1) layer) us) (sym shape)
-          (ap (λ o. o ∷ map as_member (pruned_nodes dp k t (led as_ place node) (place + 1) layer)) first ∙ ap (λ os. Some r ∷ os) ih))
+          let ih = pruned-stand dp k t (leaders_past as_ place node) (beam_leaders.leaders_after dp k qs r) (place + 1) layer rs more rest in
+          let shape : undominated dp k qs (r ∷ unstruck dp k t rs) ≡ r ∷ undominated dp k (beam_leaders.leaders_after dp k qs r) (unstruck dp k t rs) = ap (λ b. cond b [] (r ∷ []) ++ undominated dp k (beam_leaders.leaders_after dp k qs r) (unstruck dp k t rs)) e in
+          subst (λ us. StandFor (node ∷ pruned_nodes dp k t (leaders_past as_ place node) (place + 1) layer) us) (sym shape)
+          (ap (λ o. o ∷ map as_member (pruned_nodes dp k t (leaders_past as_ place node) (place + 1) layer)) first ∙ ap (λ os. Some r ∷ os) ih))
     ] in
-    let Goal : Bool → Bool → Bool → Type 0 = λ s l b. Left b (cond (s || l) (pruned_nodes dp k t as_ place layer) (node ∷ pruned_nodes dp k t (led as_ place node) (place + 1) layer)) in
+    let Goal : Bool → Bool → Bool → Type 0 = λ s l b. Left b (cond (s || l) (pruned_nodes dp k t as_ place layer) (node ∷ pruned_nodes dp k t (leaders_past as_ place node) (place + 1) layer)) in
     let split : (b : Bool) → is_struck_by r.value (dp.rough k r.row) t ≡ b → Goal b (dominated dp k qs r) b = λ b.
     elim b as (λ b. is_struck_by r.value (dp.rough k r.row) t ≡ b → Goal b (dominated dp k qs r) b) [
       | true ↦ λ e. pruned-stand dp k t as_ qs place layer rs same rest

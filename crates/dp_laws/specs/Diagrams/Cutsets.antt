@@ -1,7 +1,7 @@
 -- The children that a diagram leaves, and the solution that it finds.
 use Rattle.std.specs.Prelude.{ℕ, ◌+◌, ◌-◌, ℤ, pos, ◌+ℤ◌, int_le, Bool, true, false, not, cond, ◌&&◌, ◌||◌, List, [], ◌∷◌, ◌++◌, drop, map, slice_get, Option, Some, None, option_map, unwrap_or}
 use Rattle.std.specs.List.{cons_option}
-use Rattle.dp_model.specs.Best.{Best}
+use Rattle.dp_model.specs.Solution.{Solution}
 use Rattle.dp_model.specs.Decisions.{begins}
 use Rattle.dp_model.specs.Dp.{Dp}
 use Rattle.dp_model.specs.Subproblem.{Subproblem}
@@ -95,10 +95,10 @@ abbrev pub children_of : Dp → DdLayers → CutKind → List Subproblem
 children_of dp d kind = map (child_from d) (children_at dp d kind)
 
 -- the first exact node of a layer, as a solution
-abbrev pub first_exact : List DdNode → Option Best
+abbrev pub first_exact : List DdNode → Option Solution
 first_exact [] = None
 first_exact (node ∷ nodes) = cond node.exact (Some (record { decisions = node.path; value = node.value })) (first_exact nodes)
 
 -- the found solution: the first exact node of the last layer
-abbrev pub found_in : Dp → DdLayers → Option Best
+abbrev pub found_in : Dp → DdLayers → Option Solution
 found_in dp d = first_exact (unwrap_or (slice_get d.layers (dp.vars - d.first)) [])

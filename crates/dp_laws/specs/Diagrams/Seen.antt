@@ -8,7 +8,7 @@ use Rattle.dp_model.specs.Lists.{Each}
 use Rattle.dp_model.specs.Numbers.{AtMost, add_some, greatest}
 use Rattle.dp_model.specs.Prefixes.{IsPrefix, state_of, value_of}
 use Rattle.dp_model.specs.Rows.{row_same}
-use Rattle.dp_laws.specs.Restricted.Beam.{is_cut}
+use Rattle.dp_laws.specs.Restricted.Beam.{is_reduced}
 use Rattle.dp_laws.specs.Restricted.Beams.{layers, wide}
 use Rattle.dp_laws.specs.declared.arc.DdArc.{DdArc}
 use Rattle.dp_laws.specs.Diagrams.Nodes.{DdNode, DdLayers, as_member}
@@ -92,7 +92,7 @@ pub record IsLayer (dp : Dp) (p : List ℕ) (w : ℕ) (t : Option ℤ) (k : ℕ)
   pub values : HaveValues layer 0 next
   pub exact : Each (λ node. IsTrue node.exact → IsReachedBy dp p k node) layer
   pub suffixes : Each (λ node. node.suffix ≡ suffix_from dp k next node.arcs) layer
-  pub narrow : IsTrue (is_cut dp (length p) k) → length layer ≤ w
+  pub narrow : IsTrue (is_reduced dp (length p) k) → length layer ≤ w
 
 abbrev pub AreLayers : Dp → List ℕ → ℕ → Option ℤ → ℕ → List (List DdNode) → Type 0
 AreLayers dp p w t k [] = Unit {0}

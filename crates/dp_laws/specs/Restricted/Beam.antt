@@ -19,21 +19,21 @@ abbrev pub whole_layer : Dp → ℕ → Option ℤ → List Reached → List Rea
 whole_layer dp k t layer = pruned dp (k + 1) t (expanded dp k layer)
 
 -- whether a layer is reduced to the width: from the second below the first depth to the last but one of all
-abbrev pub is_cut : Dp → ℕ → ℕ → Bool
-is_cut dp first depth = nat_le (first + 2) depth && nat_lt depth dp.vars
+abbrev pub is_reduced : Dp → ℕ → ℕ → Bool
+is_reduced dp first depth = nat_le (first + 2) depth && nat_lt depth dp.vars
 
 -- a layer with the first of its members, as many as the width, where it is reduced
-abbrev pub cut : Dp → ℕ → ℕ → ℕ → List Reached → List Reached
-cut dp w first depth layer = cond (is_cut dp first depth) (take w layer) layer
+abbrev pub reduced_to : Dp → ℕ → ℕ → ℕ → List Reached → List Reached
+reduced_to dp w first depth layer = cond (is_reduced dp first depth) (take w layer) layer
 
 -- the layer m steps below the prefix
 abbrev pub layer_below : Dp → Reached → ℕ → Option ℤ → ℕ → List Reached
 layer_below dp r w t zero = r ∷ []
 layer_below dp r w t (suc m) =
-    cut dp w (length r.decisions) (length r.decisions + m + 1) (whole_layer dp (length r.decisions + m) t (layer_below dp r w t m))
+    reduced_to dp w (length r.decisions) (length r.decisions + m + 1) (whole_layer dp (length r.decisions + m) t (layer_below dp r w t m))
 
 -- whether the width takes something from the layer m steps below the prefix
 abbrev pub is_too_wide : Dp → Reached → ℕ → Option ℤ → ℕ → Bool
 is_too_wide dp r w t zero = false
 is_too_wide dp r w t (suc m) =
-    is_cut dp (length r.decisions) (length r.decisions + m + 1) && nat_lt w (length (whole_layer dp (length r.decisions + m) t (layer_below dp r w t m)))
+    is_reduced dp (length r.decisions) (length r.decisions + m + 1) && nat_lt w (length (whole_layer dp (length r.decisions + m) t (layer_below dp r w t m)))

@@ -18,10 +18,10 @@ dominated dp k [] r = false
 dominated dp k (a ∷ leaders) r = dominates dp k a r || dominated dp k leaders r
 
 -- the leaders after the prefix: it is one of them if none of them dominates it and there are fewer than 16
-abbrev pub led : Dp → ℕ → List Reached → Reached → List Reached
-led dp k leaders r = cond (dominated dp k leaders r || nat_le 16 (length leaders)) leaders (leaders ++ r ∷ [])
+abbrev pub leaders_after : Dp → ℕ → List Reached → Reached → List Reached
+leaders_after dp k leaders r = cond (dominated dp k leaders r || nat_le 16 (length leaders)) leaders (leaders ++ r ∷ [])
 
 -- what the leaders so far, and those that are still to come, leave of the rest
 abbrev pub undominated : Dp → ℕ → List Reached → List Reached → List Reached
 undominated dp k leaders [] = []
-undominated dp k leaders (r ∷ rs) = cond (dominated dp k leaders r) [] (r ∷ []) ++ undominated dp k (led dp k leaders r) rs
+undominated dp k leaders (r ∷ rs) = cond (dominated dp k leaders r) [] (r ∷ []) ++ undominated dp k (leaders_after dp k leaders r) rs

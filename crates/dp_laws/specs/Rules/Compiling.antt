@@ -1,14 +1,14 @@
 -- A relaxed diagram, compiled layer by layer.
-use Rattle.std.specs.Prelude.{ℕ, zero, suc, ◌+◌, ◌-◌, nat_lt, ℤ, Bool, true, cond, ◌&&◌, List, [], ◌∷◌, length, map, take, Option, Some, None}
+use Rattle.std.specs.Prelude.{ℕ, zero, suc, ◌+◌, ◌-◌, ◌*◌, ◌≤◌, nat_lt, ℤ, Bool, true, cond, ◌&&◌, List, [], ◌∷◌, length, map, take, Option, Some, None}
 use Rattle.dp_model.specs.Dp.{Dp}
 use Rattle.dp_model.specs.Reached.{Reached}
-use Rattle.dp_laws.specs.Restricted.Beam.{is_cut}
+use Rattle.dp_laws.specs.Restricted.Beam.{is_reduced}
 use Rattle.dp_laws.specs.Diagrams.Nodes.{DdNode, DdLayers}
 use Rattle.dp_laws.specs.Diagrams.Seen.{suffix_from}
-use Rattle.dp_laws.specs.Rules.Landings.{following}
+use Rattle.dp_laws.specs.Rules.Redirects.{with_redirected}
 use Rattle.dp_laws.specs.Rules.Expanding.{new_layer, with_arcs}
-use Rattle.dp_laws.specs.Rules.Pruning.{pruned_nodes, prune_landings}
-use Rattle.dp_laws.specs.Rules.Reducing.{merged_layer, merge_landings}
+use Rattle.dp_laws.specs.Rules.Pruning.{pruned_nodes, prune_redirects}
+use Rattle.dp_laws.specs.Rules.Reducing.{keep_redirects, merged_layer, merge_redirects}
 
 -- a layer with its arcs, and the next layer
 pub record TwoLayers : Type 0 where
@@ -21,15 +21,19 @@ expand dp k layer = record { above = with_arcs dp k (new_layer dp k layer) layer
 
 -- nodes of the next layer, at depth k, are struck and dominated
 abbrev pub prune : Dp → ℕ → Option ℤ → TwoLayers → TwoLayers
-prune dp k t two = record { above = following (prune_landings dp k t [] 0 two.next) two.above; next = pruned_nodes dp k t [] 0 two.next }
+prune dp k t two = record { above = with_redirected (prune_redirects dp k t [] 0 two.next) two.above; next = pruned_nodes dp k t [] 0 two.next }
+
+-- of the next layer only the first nodes stay, as many as the width
+abbrev pub keep_first : ℕ → TwoLayers → TwoLayers
+keep_first w two = record { above = with_redirected (keep_redirects w two.next) two.above; next = take w two.next }
 
 -- the next layer, at depth k, is merged to the width
 abbrev pub merge_rest : Dp → ℕ → ℕ → TwoLayers → TwoLayers
-merge_rest dp k w two = record { above = following (merge_landings dp k w two.next) two.above; next = merged_layer dp k w two.next }
+merge_rest dp k w two = record { above = with_redirected (merge_redirects dp k w two.next) two.above; next = merged_layer dp k w two.next }
 
 -- whether the layer at the depth has to be reduced
 abbrev pub is_wide : Dp → ℕ → ℕ → ℕ → List DdNode → Bool
-is_wide dp first w depth layer = is_cut dp first depth && nat_lt w (length layer)
+is_wide dp first w depth layer = is_reduced dp first depth && nat_lt w (length layer)
 
 abbrev pub reduced : Dp → ℕ → ℕ → ℕ → TwoLayers → TwoLayers
 reduced dp first w k two = cond (is_wide dp first w k two.next) (merge_rest dp k w two) two
@@ -86,3 +90,7 @@ kept_next dp first w t k layer =
 abbrev pub restricted_below : Dp → ℕ → ℕ → Option ℤ → ℕ → ℕ → List DdNode → List DdNode
 restricted_below dp first w t k zero layer = layer
 restricted_below dp first w t k (suc m) layer = kept_next dp first w t (k + m) (restricted_below dp first w t k m layer)
+
+-- a layer that is expanded has no more nodes than it has decisions for its nodes
+abbrev pub LayersFit : Dp → Type 0
+LayersFit dp = (k : ℕ) (layer : List DdNode) → length (expand dp k layer).next ≤ length layer * dp.choices k

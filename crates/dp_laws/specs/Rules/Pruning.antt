@@ -3,7 +3,7 @@ use Rattle.std.specs.Prelude.{ℕ, ◌+◌, nat_le, ℤ, pos, ◌+ℤ◌, int_le
 use Rattle.dp_model.specs.Dp.{Dp}
 use Rattle.dp_model.specs.Gaps.{is_struck_by}
 use Rattle.dp_laws.specs.Diagrams.Nodes.{DdNode}
-use Rattle.dp_laws.specs.Rules.Landings.{Landing}
+use Rattle.dp_laws.specs.Rules.Redirects.{Redirect}
 
 -- an exact node that dominates later ones, with its place among those that stay
 pub record Leader : Type 0 where
@@ -11,27 +11,27 @@ pub record Leader : Type 0 where
   pub row : List ℤ
   pub value : ℤ
 
--- the landing at the place, where the gap lifts the number to at most the other one
-abbrev pub landing_within : ℕ → Option ℤ → ℤ → ℤ → Option Landing
-landing_within place None above number = None
-landing_within place (Some gap) above number = cond (int_le (number +ℤ gap) above) (Some (record { place = place; longer = gap })) None
+-- the redirect to the place, where the gap lifts the number to at most the other one
+abbrev pub redirect_within : ℕ → Option ℤ → ℤ → ℤ → Option Redirect
+redirect_within place None above number = None
+redirect_within place (Some gap) above number = cond (int_le (number +ℤ gap) above) (Some (record { place = place; longer = gap })) None
 
-abbrev pub first_landing : Option Landing → Option Landing → Option Landing
-first_landing None other = other
-first_landing (Some l) other = Some l
+abbrev pub first_redirect : Option Redirect → Option Redirect → Option Redirect
+first_redirect None other = other
+first_redirect (Some l) other = Some l
 
--- the landing at the first leader that dominates the node
-abbrev pub at_leader : Dp → ℕ → List Leader → DdNode → Option Landing
+-- the redirect to the first leader that dominates the node
+abbrev pub at_leader : Dp → ℕ → List Leader → DdNode → Option Redirect
 at_leader dp k [] node = None
 at_leader dp k (a ∷ leaders) node =
-    first_landing (landing_within a.place (dp.gap k a.row node.row) a.value node.value) (at_leader dp k leaders node)
+    first_redirect (redirect_within a.place (dp.gap k a.row node.row) a.value node.value) (at_leader dp k leaders node)
 
 abbrev pub is_struck : Dp → ℕ → Option ℤ → DdNode → Bool
 is_struck dp k t node = is_struck_by node.value (dp.rough k node.row) t
 
 -- the leaders after a node that stays at the place: an exact one becomes a leader while there are fewer than 16
-abbrev pub led : List Leader → ℕ → DdNode → List Leader
-led leaders place node =
+abbrev pub leaders_past : List Leader → ℕ → DdNode → List Leader
+leaders_past leaders place node =
     cond (node.exact && not (nat_le 16 (length leaders))) (leaders ++ record { place = place; row = node.row; value = node.value } ∷ []) leaders
 
 -- the nodes that stay
@@ -40,14 +40,14 @@ pruned_nodes dp k t leaders place [] = []
 pruned_nodes dp k t leaders place (node ∷ nodes) =
     cond (is_struck dp k t node || is_some (at_leader dp k leaders node))
     (pruned_nodes dp k t leaders place nodes)
-    (node ∷ pruned_nodes dp k t (led leaders place node) (place + 1) nodes)
+    (node ∷ pruned_nodes dp k t (leaders_past leaders place node) (place + 1) nodes)
 
--- where each node of the layer lands
-abbrev pub prune_landings : Dp → ℕ → Option ℤ → List Leader → ℕ → List DdNode → List (Option Landing)
-prune_landings dp k t leaders place [] = []
-prune_landings dp k t leaders place (node ∷ nodes) =
+-- where the arcs into each node of the layer are redirected
+abbrev pub prune_redirects : Dp → ℕ → Option ℤ → List Leader → ℕ → List DdNode → List (Option Redirect)
+prune_redirects dp k t leaders place [] = []
+prune_redirects dp k t leaders place (node ∷ nodes) =
     cond (is_struck dp k t node)
-    (None ∷ prune_landings dp k t leaders place nodes)
+    (None ∷ prune_redirects dp k t leaders place nodes)
     (cond (is_some (at_leader dp k leaders node))
-    (at_leader dp k leaders node ∷ prune_landings dp k t leaders place nodes)
-    (Some (record { place = place; longer = pos 0 }) ∷ prune_landings dp k t (led leaders place node) (place + 1) nodes))
+    (at_leader dp k leaders node ∷ prune_redirects dp k t leaders place nodes)
+    (Some (record { place = place; longer = pos 0 }) ∷ prune_redirects dp k t (leaders_past leaders place node) (place + 1) nodes))

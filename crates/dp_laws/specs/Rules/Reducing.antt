@@ -5,15 +5,15 @@ use Rattle.dp_model.specs.Dp.{Dp}
 use Rattle.dp_model.specs.Decisions.{below}
 use Rattle.dp_model.specs.Numbers.{add_some, greatest}
 use Rattle.dp_laws.specs.Diagrams.Nodes.{DdNode}
-use Rattle.dp_laws.specs.Rules.Landings.{Landing}
+use Rattle.dp_laws.specs.Rules.Redirects.{Redirect}
 
--- those that stay land at their own places
-abbrev pub staying : ℕ → List (Option Landing)
+-- the arcs into nodes that stay keep their targets
+abbrev pub staying : ℕ → List (Option Redirect)
 staying w = map (λ i. Some (record { place = i; longer = pos 0 })) (below w)
 
--- where the nodes land when only the first w stay
-abbrev pub keep_landings : ℕ → List DdNode → List (Option Landing)
-keep_landings w layer = staying w ++ replicate (length layer - w) None
+-- where arcs are redirected when only the first w nodes stay
+abbrev pub keep_redirects : ℕ → List DdNode → List (Option Redirect)
+keep_redirects w layer = staying w ++ replicate (length layer - w) None
 
 -- the first row with each of the others merged into it, in order
 abbrev pub merged_row : Dp → ℕ → List ℤ → List DdNode → List ℤ
@@ -40,15 +40,15 @@ merged_node dp k nodes = record {
 abbrev pub merged_layer : Dp → ℕ → ℕ → List DdNode → List DdNode
 merged_layer dp k w layer = take (w - 1) layer ++ merged_node dp k (drop (w - 1) layer) ∷ []
 
-abbrev pub landing_by : ℕ → Option ℤ → Option Landing
-landing_by place None = None
-landing_by place (Some gap) = Some (record { place = place; longer = gap })
+abbrev pub redirect_by : ℕ → Option ℤ → Option Redirect
+redirect_by place None = None
+redirect_by place (Some gap) = Some (record { place = place; longer = gap })
 
 -- an arc into a merged node is lengthened by its gap
-abbrev pub merge_landing : Dp → ℕ → ℕ → List ℤ → DdNode → Option Landing
-merge_landing dp k place row node = landing_by place (dp.gap k row node.row)
+abbrev pub merge_redirect : Dp → ℕ → ℕ → List ℤ → DdNode → Option Redirect
+merge_redirect dp k place row node = redirect_by place (dp.gap k row node.row)
 
--- where the nodes land when all but the first w - 1 are merged
-abbrev pub merge_landings : Dp → ℕ → ℕ → List DdNode → List (Option Landing)
-merge_landings dp k w layer =
-    staying (w - 1) ++ map (merge_landing dp k (w - 1) (row_of_all dp k (drop (w - 1) layer))) (drop (w - 1) layer)
+-- where arcs are redirected when all but the first w - 1 nodes are merged
+abbrev pub merge_redirects : Dp → ℕ → ℕ → List DdNode → List (Option Redirect)
+merge_redirects dp k w layer =
+    staying (w - 1) ++ map (merge_redirect dp k (w - 1) (row_of_all dp k (drop (w - 1) layer))) (drop (w - 1) layer)

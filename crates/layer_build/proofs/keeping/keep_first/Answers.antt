@@ -2,7 +2,7 @@ use Rattle.std.proofs.Common.{rules, ◌≡◌, length, map, take, sym, ◌∙�
 use Rattle.std.proofs.lemmas.List.{length-take-le}
 use Rattle.dp_model.specs.Decisions.{below}
 use Rattle.dp_model.specs.Lists.{Each}
-use Rattle.dp_laws.specs.Rules.Landings.{following}
+use Rattle.dp_laws.specs.Rules.Redirects.{with_redirected}
 use Rattle.layer_build.specs.Following.{IsNear}
 use Rattle.layer_build.specs.Keeping.{landing_among}
 use Rattle.layer_build.specs.Stored.{shown_layer, without_arcs}
@@ -29,7 +29,7 @@ returns-clause-above c =
     let followed = followed-first count ls _ c.args.above.now c.follow.new.above long c.follow.ensures in
     λ paths layer is. ap (shown_layer paths) followed
     ∙ (shown-follow paths 0 ls c.args.above.now
-    ∙ ap (λ x. following x (shown_layer paths c.args.above.now))
+    ∙ ap (λ x. with_redirected x (shown_layer paths c.args.above.now))
     (c.land_first.ensures ∙ (ap (λ m. map (landing_among c.args.width) (below m)) size ∙ among-keep c.args.width n layer c.requires.fewer is)))
 
 pub returns-clause-rest : goal.returns-clause-rest

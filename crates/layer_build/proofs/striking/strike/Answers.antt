@@ -1,8 +1,8 @@
 use Rattle.std.proofs.Common.{rules, ◌≡◌, ◌<◌, [], length, map, take, sym, ◌∙◌, ap, ap₂, subst}
 use Rattle.std.proofs.lemmas.List.{with_items_is}
 use Rattle.dp_model.specs.Lists.{Each}
-use Rattle.dp_laws.specs.Rules.Landings.{following}
-use Rattle.dp_laws.specs.Rules.Pruning.{prune_landings}
+use Rattle.dp_laws.specs.Rules.Redirects.{with_redirected}
+use Rattle.dp_laws.specs.Rules.Pruning.{prune_redirects}
 use Rattle.layer_build.specs.Expanding.{kept_nodes}
 use Rattle.layer_build.specs.Stored.{shown_layer, without_arcs}
 use Rattle.layer_build.proofs.Expansions.{bare-landed}
@@ -18,8 +18,8 @@ returns-clause-above g c =
     let followed = followed-first c.len-count.result ls _ c.args.above.now c.follow.new.above long c.follow.ensures in
     λ paths below. ap (shown_layer paths) followed
     ∙ (shown-follow paths 0 ls c.args.above.now
-    ∙ ap (λ x. following x (shown_layer paths c.args.above.now)) (h.lands below
-    ∙ ap₂ (λ a b. prune_landings dp c.args.k c.args.threshold [] 0 (kept_nodes below c.args.candidates.now a b)) c.as_mut_slice.ensures.value c.as_mut_slice-2.ensures.value))
+    ∙ ap (λ x. with_redirected x (shown_layer paths c.args.above.now)) (h.lands below
+    ∙ ap₂ (λ a b. prune_redirects dp c.args.k c.args.threshold [] 0 (kept_nodes below c.args.candidates.now a b)) c.as_mut_slice.ensures.value c.as_mut_slice-2.ensures.value))
 
 pub returns-clause-rest : goal.returns-clause-rest
 returns-clause-rest g c =

@@ -1,5 +1,5 @@
 use Rattle.std.proofs.Common.{List, ℤ, [], sym, subst}
-use Rattle.dp_model.specs.Subproblem.{Roomy}
+use Rattle.dp_model.specs.Subproblem.{SubView}
 use Rattle.search_core.specs.Finishing.{contents, MayFinish}
 use Rattle.search_core.specs.Ones.{ones, vars_in}
 use Rattle.search_core.proofs.Childless.{childless}
@@ -8,5 +8,5 @@ use Rattle.search_core.proofs.tests.finish_childless.Goals as goal
 pub finish-requires-clause-may : goal.finish-requires-clause-may
 finish-requires-clause-may c = λ _.
     subst (λ (n : List ℤ). MayFinish (ones (vars_in n)) c.args.board.now.board 0 (contents c.new-subs.result.items) []) (sym c.requires.numbers)
-    (subst (λ (subs : List Roomy). MayFinish (ones 2) c.args.board.now.board 0 (contents subs) []) (sym c.new-subs.ensures.items)
+    (subst (λ (subs : List SubView). MayFinish (ones 2) c.args.board.now.board 0 (contents subs) []) (sym c.new-subs.ensures.items)
     (childless 2 c.args.board.now.board 0 c.requires.full c.requires.best))

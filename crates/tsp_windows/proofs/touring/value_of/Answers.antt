@@ -1,5 +1,5 @@
 use Rattle.std.proofs.Common.{sym, subst}
-use Rattle.dp_model.specs.Worth.{SolutionGives}
+use Rattle.dp_model.specs.Solution.{SolutionGives}
 use Rattle.tsp_windows.specs.Shown.{instance_in, program_in}
 use Rattle.tsp_windows.specs.Instances.{is_small-gives}
 use Rattle.tsp_windows.specs.OwnWordsLaws.{solution_gives}

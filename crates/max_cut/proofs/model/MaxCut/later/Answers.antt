@@ -16,3 +16,6 @@ returns-clause-size c = rw c.tail.ensures (state_facts c.args.self.now c.args.k 
 
 pub returns-clause-small : goal.returns-clause-small
 returns-clause-small c = rw c.tail.ensures (state_facts c.args.self.now c.args.k c.args.s.now c.requires).rest
+
+pub returns-clause-rank : goal.returns-clause-rank
+returns-clause-rank c = rw c.tail.ensures (state_facts c.args.self.now c.args.k c.args.s.now c.requires).same

@@ -1,0 +1,77 @@
+-- What the steps and the runs keep, and what a good board says.
+use Rattle.std.specs.Prelude.{◌≡◌, ◌≢◌, ℕ, pos, ℤ, List, true, slice_get, Option, Some, None, IsTrue, IsSome}
+use Rattle.dp_model.specs.Solution.{Solution}
+use Rattle.dp_model.specs.Best.{IsBest}
+use Rattle.dp_model.specs.Dp.{Dp}
+use Rattle.dp_model.specs.Numbers.{AtMost, is_above}
+use Rattle.dp_model.specs.Prefixes.{IsSolution, value_of}
+use Rattle.dp_model.specs.Subproblem.{Subproblem}
+use Rattle.board_laws.specs.declared.cause.Cause.{Cause}
+use Rattle.board_laws.specs.declared.fate.Fate.{Fate}
+use Rattle.board_laws.specs.declared.settings.Settings.{Settings}
+use Rattle.board_laws.specs.Board.{AreSettings, BoardState, incumbent_value, reach, slot_at, is_explored}
+use Rattle.board_laws.specs.Bound.{bound_of}
+use Rattle.board_laws.specs.Finishing.{MayFinish}
+use Rattle.board_laws.specs.GoodBoard.{IncumbentHolds, IsBoard, IsGood}
+use Rattle.board_laws.specs.Runs.{Step, May, after, worker_of, IsRun, Follows}
+use Rattle.board_laws.specs.Steps.{improved, finished_by, given_back, halted, first_board}
+use Rattle.board_laws.specs.Taking.{after_take}
+
+-- the second board keeps what the first one keeps
+pub record Keeps (dp : Dp) (b later : BoardState) : Type 0 where
+  pub board : IsBoard dp b → IsBoard dp later
+  pub good : IsBoard dp b → IsGood dp b → IsGood dp later
+
+abbrev pub TakeKeeps : Dp → Type 0
+TakeKeeps dp = (b : BoardState) (who : ℕ) → slice_get b.slots who ≡ Some None → Keeps dp b (after_take b who)
+
+abbrev pub ImproveKeeps : Dp → Type 0
+ImproveKeeps dp = (b : BoardState) (best : Solution) → IncumbentHolds dp (Some best) → is_above (incumbent_value b) best.value ≡ true → Keeps dp b (improved b best)
+
+abbrev pub FinishKeeps : Dp → Type 0
+FinishKeeps dp = (b : BoardState) (who : ℕ) (threshold : Option ℤ) (cs : List Subproblem) (fs : List Fate) → MayFinish dp b who threshold cs fs → Keeps dp b (finished_by dp b who cs)
+
+-- (what every board keeps, GiveBack keeps whether a cause is held or not; a good one asks that one is)
+pub record GiveBackKeeps (dp : Dp) : Type 0 where
+  pub board : (b : BoardState) (who : ℕ) → IsBoard dp b → IsBoard dp (given_back b who)
+  pub good : (b : BoardState) (who : ℕ) → IsSome b.cause → IsBoard dp b → IsGood dp b → IsGood dp (given_back b who)
+
+abbrev pub HaltKeeps : Dp → Type 0
+HaltKeeps dp = (b : BoardState) (cause : Cause) → Keeps dp b (halted b cause)
+
+-- the first board is a good one
+pub record IsFirstGood (dp : Dp) (settings : Settings) : Type 0 where
+  pub board : IsBoard dp (first_board dp settings)
+  pub good : IsGood dp (first_board dp settings)
+
+abbrev pub FirstBoardsAreGood : Dp → Type 0
+FirstBoardsAreGood dp = (settings : Settings) → AreSettings settings → IsFirstGood dp settings
+
+-- what one step keeps: the board, and each slot but the worker's own
+pub record StepKeeps (dp : Dp) (b : BoardState) (step : Step) : Type 0 where
+  pub keeps : Keeps dp b (after dp b step)
+  pub follows : Follows b (after dp b step)
+  pub others : (who : ℕ) → worker_of step ≢ Some who → slot_at (after dp b step) who ≡ slot_at b who
+
+abbrev pub StepsKeep : Dp → Type 0
+StepsKeep dp = (b : BoardState) (step : Step) → May dp b step → StepKeeps dp b step
+
+-- what a run keeps
+pub record RunKeeps (dp : Dp) (b last : BoardState) : Type 0 where
+  pub keeps : Keeps dp b last
+  pub follows : Follows b last
+
+abbrev pub RunsKeep : Dp → Type 0
+RunsKeep dp = (b : BoardState) (steps : List Step) (last : BoardState) → IsRun dp b steps last → RunKeeps dp b last
+
+-- on a good board no feasible solution exceeds the bound
+abbrev pub NoneExceedsTheBound : Dp → Type 0
+NoneExceedsTheBound dp = (b : BoardState) → IsGood dp b → (x : List ℕ) → IsSolution dp x → AtMost (value_of dp x) (bound_of b)
+
+-- where nothing is open or out, each feasible solution is at most the reach
+abbrev pub ExploredIsWithinReach : Dp → Type 0
+ExploredIsWithinReach dp = (b : BoardState) → IsGood dp b → IsTrue (is_explored b) → (x : List ℕ) → IsSolution dp x → AtMost (value_of dp x) (reach b)
+
+-- so without a distance the incumbent is best
+abbrev pub ExploredIsBest : Dp → Type 0
+ExploredIsBest dp = (b : BoardState) → IsBoard dp b → IsGood dp b → b.settings.within ≡ pos 0 → IsTrue (is_explored b) → IsBest dp (incumbent_value b)

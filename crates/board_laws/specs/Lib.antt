@@ -1,0 +1,17 @@
+-- the board as data, its steps and runs
+pub mod Board
+pub mod Taking
+pub mod Steps
+pub mod Improving
+pub mod Fates
+pub mod Entering
+pub mod Pushes
+pub mod Children
+pub mod Finishing
+pub mod Bound
+pub mod Runs
+-- what boards keep
+pub mod Floors
+pub mod GoodBoard
+-- the laws
+pub mod Laws

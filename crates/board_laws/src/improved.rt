@@ -1,0 +1,10 @@
+/// What became of a solution that was offered.
+#[derive(Clone, Copy, Debug, PartialEq, Eq, Hash)]
+pub enum Improved {
+    /// It is the incumbent now.
+    Yes,
+    /// Its value is at most the incumbent's.
+    NotBetter,
+    /// The decisions are no feasible solution.
+    NoSolution,
+}

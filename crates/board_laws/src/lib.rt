@@ -1,0 +1,36 @@
+//! The board of a branch and bound search as plain data, with its steps, and the laws of boards and of runs.
+//!
+//! It stands on `dp_model`, on the laws of `dp_laws`, and on `shared_fringe` and `dominance_table` for the lists of open
+//! subproblems and of table entries. A board is the incumbent, the open subproblems with their tickets, a slot for each worker,
+//! the entries of the dominance table, the settings, the counts and the cause of a halt. What is left out of a search is what is
+//! at most its reach: the incumbent's value and the distance that the settings allow.
+//!
+//! Each function that has no parameters is a law: its body is empty, and its contract is what is proved. Every step keeps what
+//! every board keeps, and keeps a good board good; no step changes the settings, lowers the incumbent or changes the slot of
+//! another worker; on a good board no feasible solution exceeds the bound, and where nothing is open or out, each feasible
+//! solution is at most the reach.
+#![tactic(auto)]
+
+mod boards;
+mod cause;
+mod fate;
+mod improved;
+mod pushes;
+mod runs;
+mod settings;
+mod steps;
+mod taken;
+
+pub use boards::{
+    explored_is_best, explored_is_within_reach, floors_match, no_solution_exceeds_the_bound,
+};
+pub use cause::Cause;
+pub use fate::Fate;
+pub use improved::Improved;
+pub use pushes::{pushes_are_fates, puts_are_entries};
+pub use runs::{runs_keep, steps_keep};
+pub use settings::Settings;
+pub use steps::{
+    finish_keeps, first_boards_are_good, give_back_keeps, halt_keeps, improve_keeps, take_keeps,
+};
+pub use taken::Taken;

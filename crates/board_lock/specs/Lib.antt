@@ -1,0 +1,4 @@
+pub mod Lends
+pub mod Order
+pub mod Rule
+pub mod Seats

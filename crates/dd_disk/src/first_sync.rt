@@ -1,0 +1,24 @@
+ghost use Rattle.std.specs.Prelude.{◌≡◌};
+ghost use Rattle.dd_disk.specs.Disk.{first_sync};
+ghost use Rattle.dd_disk.specs.FirstSyncs.{noted};
+
+use std::snapshot::Snapshot;
+
+/// The first sync since the attaching that succeeded.
+#[derive(Drop)]
+pub(crate) struct Noted {
+    moment: usize,
+    content: Snapshot<Vec<u8>>,
+}
+
+/// Notes a sync that succeeded, where it is the first.
+pub(crate) fn note(start: &mut Option<Noted>, moment: usize, bytes: &Vec<u8>)
+    ensures { noted start.new ≡ first_sync (noted start.old) moment bytes.now.items }
+{
+    if start.is_none() {
+        *start = Some(Noted {
+            moment,
+            content: Snapshot::of(bytes),
+        });
+    }
+}

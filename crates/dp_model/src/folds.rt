@@ -1,0 +1,53 @@
+ghost use Rattle.std.specs.Prelude.{◌≡◌};
+ghost use Rattle.dp_model.specs.Folds.{fold_of, folded, spread};
+
+// 2^64 divided by the golden ratio, made odd.
+const FACTOR: u64 = 0x9e37_79b9_7f4a_7c15;
+
+/// The fold of a row, begun with a number such as its layer. Equal rows have equal folds, and its low bits, which every
+/// cell reaches, serve as a place in a table.
+///
+/// A step adds a product with the cell to the rotated fold, so that the products do not wait for one another.
+pub fn fold(begun: u64, row: &[i64]) -> u64
+    ensures { result ≡ fold_of begun row.now }
+{
+    let mut so_far = begun;
+    for cell in row {
+        so_far = folded(so_far, cell);
+    }
+    spread(so_far).rotate_left(32)
+}
+
+/// One cell more.
+fn folded(so_far: u64, cell: &i64) -> u64
+    ensures { result ≡ folded so_far cell.now }
+{
+    so_far
+        .rotate_left(27)
+        .wrapping_add(spread(cell.cast_unsigned()))
+}
+
+/// A product that spreads small numbers over all 64 bits.
+fn spread(n: u64) -> u64
+    ensures { result ≡ spread n }
+{
+    n.wrapping_mul(FACTOR)
+}
+
+#[cfg(test)]
+mod tests {
+    use super::*;
+    use std::test::Fail;
+
+    #[test]
+    fn each_row_has_its_fold(rt: HostRuntime) -> Result<(), Fail> {
+        assert_eq!(rt; fold(0, &[]), 0);
+        assert_eq!(rt; fold(1, &[]), 0x7f4a_7c15_9e37_79b9);
+        assert_eq!(rt; fold(0, &[1]), 0xce48_59b9_df44_2d22);
+        assert_eq!(rt;
+            fold(3, &[5, -7, 1_099_511_627_776, 0]),
+            0x441d_e1ed_4116_16c7
+        );
+        Ok(())
+    }
+}

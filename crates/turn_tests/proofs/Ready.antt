@@ -1,0 +1,15 @@
+-- The seats that a turn was made with are ready for work.
+use Rattle.std.proofs.Common.{◌≡◌, ℕ, List, map, length, arith}
+use Rattle.std.specs.List.{All, range_with_len}
+use Rattle.board_lock.specs.Seats.{first_of, number_of, IsFresh}
+use Rattle.board_lock.specs.declared.turn.Seat.{Seat}
+use Rattle.board_lock.specs.declared.turn.Turn.{Turn}
+use Rattle.board_lock.proofs.Numbers.{all_within}
+use Rattle.turn_tests.specs.Counter.{CounterView}
+use Rattle.turn_tests.specs.Work.{IsReady}
+use Rattle.turn_tests.specs.declared.counter.Terms.{Terms}
+
+pub ready : (turn : Turn CounterView Terms) (items : List (Seat CounterView)) (n : ℕ) → All (IsFresh turn) items → map number_of items ≡ range_with_len 0 n → length (first_of turn).slots ≡ n → All (IsReady turn) items
+ready turn items n fresh numbers wide k d lt =
+    let f = fresh k d lt in
+    record { own = f.own; nothing_out = f.nothing_out; within = let w = all_within items n numbers k d lt in omega arith }

@@ -1,0 +1,141 @@
+#!/usr/bin/env python3
+"""Counts what a sceptic has to read: the definitions that a clause stands on, with their lines.
+
+    tools/audit.py                     prints a table, for the clause of `run` and for parts of it
+    tools/audit.py CRATE/FILE NAME     lists the definitions under one, as solver_jobs/Answers IsProved
+
+It follows names through the imports of specs/ and through the re-exports of Lib.antt. Comments, blank lines and imports are
+not counted, nor is what the kit defines, nor the types that are declared in src/ (their number is given).
+"""
+import collections
+import os
+import re
+import sys
+
+TOP = os.path.dirname(os.path.dirname(os.path.abspath(__file__)))
+WORD = r"[A-Za-z_][\w\-']*"
+MARKS = r"(?:(?:pub|abbrev|unfoldable|opaque|record|data)\s+)*"
+PROBLEMS = {
+    "knapsack": ("knapsack/OwnWords packed_value", "knapsack/Program program_of", "knapsack/Reading instance_text"),
+    "maximum cut": ("max_cut/Cuts cut_value", "max_cut/Program program", "max_cut/Edges instance_text"),
+    "MAX-2SAT": ("max_two_sat/OwnWords own_value", "max_two_sat/Program program_of", "max_two_sat/Texts instance_at"),
+    "tours": ("tsp_windows/OwnWords tour_value", "tsp_windows/Program program_of", "tsp_windows/Texts spelled"),
+}
+
+
+class File:
+    """A file of specs/: the lines of each of its definitions, and where the names that it imports come from."""
+
+    def __init__(self, path):
+        self.lines, self.imports, self.shown = {}, {}, {}
+        of = None
+        with open(path, encoding="utf-8") as text:
+            for line in map(str.rstrip, text):
+                taken = re.match(rf"(pub )?use (\S+?)(?:\.{{(.*)}}| as ({WORD}))?$", line)
+                if taken:
+                    self.take(*taken.groups())
+                    of = None
+                elif not line or line.startswith(("--", "pub mod ", "mod ")):
+                    continue
+                else:
+                    begun = re.match(rf"(?!unfolding ){MARKS}({WORD})", line)
+                    of = begun[1] if begun else of
+                    self.lines.setdefault(of, []).append(line)
+
+    def take(self, is_shown, path, names, alias):
+        for name in re.split(r",\s*", names or ""):
+            first, _, other = name.partition(" as ")
+            self.imports[other or first] = (path, first)
+        if alias:
+            self.imports[alias] = (path, alias)
+        if is_shown:
+            self.shown[path.split(".")[-1]] = path
+
+    def words(self, name):
+        return {it.split(".")[0] for line in self.lines[name] for it in re.findall(rf"{WORD}(?:\.{WORD})*", line)}
+
+
+def read_specs():
+    found = {}
+    for crate in sorted(os.listdir(f"{TOP}/crates")):
+        for at, _, names in os.walk(f"{TOP}/crates/{crate}/specs"):
+            for name in names:
+                if name.endswith(".antt"):
+                    inside = os.path.relpath(f"{at}/{name}", f"{TOP}/crates")[:-5]
+                    found["Rattle." + inside.replace("/", ".")] = File(f"{at}/{name}")
+    return found
+
+
+def home(specs, path):
+    """The file that a path leads to, through the re-exports of its crate's Lib."""
+    parts = path.split(".")
+    lib = specs.get(".".join([*parts[:3], "Lib"]))
+    return lib.shown.get(parts[3], path) if path not in specs and lib and len(parts) > 3 else path
+
+
+def meaning(specs, at, word):
+    """The definition, or the type declared in src/, that a word of a file stands for."""
+    if word in specs[at].lines:
+        return at, word
+    path, name = specs[at].imports.get(word, ("", ""))
+    path = home(specs, path)
+    if path in specs and name in specs[path].lines:
+        return path, name
+    declared = re.match(r"Rattle\.(\w+)\.specs\.declared\.([\w.]*?\w+)(\.TheVariants)?$", path)
+    return ("declared", f"{declared[1]}.{declared[2]}") if declared and declared[1] not in ("std", "core") else None
+
+
+def under(specs, starts):
+    """All that these definitions stand on, and they themselves."""
+    found, left = [], list(starts)
+    while left:
+        it = left.pop(0)
+        if it in found:
+            continue
+        found.append(it)
+        if it[0] != "declared":
+            left += sorted(filter(None, {meaning(specs, it[0], word) for word in specs[it[0]].words(it[1])}))
+    return found
+
+
+def start(specs, place):
+    file, name = place.split(" ")
+    at = "Rattle." + file.replace("/", ".specs.", 1)
+    if at not in specs or name not in specs[at].lines:
+        sys.exit(f"audit: there is no {name} in specs/ of {file}")
+    return at, name
+
+
+def count(specs, places):
+    found = [it for it in under(specs, [start(specs, place) for place in places]) if it[0] != "declared"]
+    return len(found), sum(len(specs[at].lines[name]) for at, name in found), len({at for at, _ in found})
+
+
+def main():
+    specs = read_specs()
+    if len(sys.argv) == 3:
+        for at, name in under(specs, [start(specs, " ".join(sys.argv[1:]))]):
+            lines = len(specs[at].lines[name]) if at != "declared" else "a type of src/"
+            print(f"{at.removeprefix('Rattle.').replace('.specs.', '/')} {name}: {lines}")
+        return
+    rows = [("all that the clause of `run` says (`HasEnded`)", ["solver_cli/Ended HasEnded"])]
+    rows += [("`proved`, for any problem (`IsProved`)", ["solver_jobs/Answers IsProved"])]
+    rows += [("`infeasible` (`IsInfeasible`)", ["solver_jobs/Answers IsInfeasible"])]
+    rows += [("`stopped` (`IsStopped`)", ["solver_jobs/Answers IsStopped"])]
+    for name, (own, program, grammar) in PROBLEMS.items():
+        rows += [(f"{name}: the value in its own words", [own]), (f"{name}: its dynamic program", [program])]
+        rows += [(f"{name}: its grammar", [grammar])]
+    print("| What one has to read | definitions | lines | files |\n|---|---|---|---|")
+    for title, places in rows:
+        print("| {} | {} | {:,} | {} |".format(title, *count(specs, places)))
+    lines = collections.Counter()
+    for at, _, names in os.walk(f"{TOP}/crates"):
+        kind = re.search(r"/(specs|proofs|src)(/|$)", at)
+        for name in names if kind and "/out/" not in f"{at}/" else ():
+            with open(f"{at}/{name}", encoding="utf-8") as text:
+                lines[kind[1]] += sum(1 for _ in text)
+    print("\nIn all {:,} lines of specs/, {:,} of proofs/ and {:,} of code with contracts.".format(*map(lines.get, ("specs", "proofs", "src"))))
+
+
+if __name__ == "__main__":
+    main()
