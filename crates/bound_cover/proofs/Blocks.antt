@@ -1,5 +1,5 @@
 -- What a cover in memory shows after a layer or a row is added.
-use Rattle.std.proofs.Common.{◌≡◌, ℕ, zero, suc, ◌+◌, ◌-◌, ◌<◌, ◌≤◌, ℤ, Bool, true, false, cond, List, [], ◌∷◌, ◌++◌, length, map, take, drop, Option, Some, None, refl, sym, ◌∙◌, ap, subst, arith, length-append, length-drop}
+use Rattle.std.proofs.Common.{◌≡◌, ℕ, zero, suc, ◌+◌, ◌-◌, ◌^◌, ◌<◌, ◌≤◌, ℤ, Bool, true, false, cond, List, [], ◌∷◌, ◌++◌, length, map, take, drop, Option, Some, None, refl, sym, ◌∙◌, ap, subst, arith, length-append, length-drop}
 use Rattle.std.proofs.lemmas.List.{drop_all, take_all, drop-append-le, length-map}
 use Rattle.std.proofs.Math.Seq.{drop-append_seam, take-length}
 use Rattle.std.specs.List.{slice_range}
@@ -9,7 +9,8 @@ use Rattle.dp_model.proofs.Members.{Each-append, Each-then}
 use Rattle.bound_cover.specs.declared.cover.CoverArc.{CoverArc}
 use Rattle.bound_cover.specs.declared.storing.Head.{Head}
 use Rattle.bound_cover.specs.Covers.{CoverRow}
-use Rattle.bound_cover.specs.Stored.{row_of, layers_of, IsWithin, RiseTo, IsStored, with_row}
+use Rattle.bound_cover.specs.Exploring.{layer_of}
+use Rattle.bound_cover.specs.Stored.{row_of, layers_of, IsWithin, RiseTo, AreShort, IsStored, last_layer, with_row}
 
 pub length-layers : (starts : List ℕ) (rows : List CoverRow) → length (layers_of starts rows) ≡ length starts
 length-layers [] rows = refl
@@ -124,3 +125,19 @@ pub layer-added : (starts : List ℕ) (heads : List Head) (words : List ℤ) (ar
 layer-added starts heads words arcs =
     let long = length-map heads (row_of words arcs) in
     subst (λ n. layers_of (starts ++ n ∷ []) (map (row_of words arcs) heads) ≡ layers_of starts (map (row_of words arcs) heads) ++ [] ∷ []) long (layers-more starts (map (row_of words arcs) heads))
+
+-- ---- no layer grows too long
+
+pub short-layer : (layers : List (List CoverRow)) → AreShort layers → AreShort (layers ++ [] ∷ [])
+short-layer layers short = Each-append (λ (layer : List CoverRow). length layer < 2 ^ 32) layers ([] ∷ []) short (omega arith, tt)
+
+pub short-row : (layers : List (List CoverRow)) (row : CoverRow) → AreShort layers → length (last_layer layers) < 2 ^ 32 - 1 → AreShort (with_row layers row)
+short-row [] row short few = short
+short-row (layer ∷ []) row short few = (let long = length-append layer (row ∷ []) in omega arith, tt)
+short-row (layer ∷ next ∷ layers) row short few = (short.0, short-row (next ∷ layers) row short.1 few)
+
+-- the layer at any place, also where there is none
+pub short_at : (layers : List (List CoverRow)) → AreShort layers → (k : ℕ) → length (layer_of layers k) < 2 ^ 32
+short_at [] short k = omega arith
+short_at (layer ∷ layers) short zero = short.0
+short_at (layer ∷ layers) short (suc k) = short_at layers short.1 k

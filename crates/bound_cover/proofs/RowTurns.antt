@@ -3,7 +3,7 @@ use Rattle.std.proofs.Common.{◌≡◌, ℕ, zero, suc, ◌+◌, ◌<◌, lengt
 use Rattle.std.specs.Option.{is_some}
 use Rattle.dp_model.specs.Dp.{Dp}
 use Rattle.dp_laws.proofs.Diagrams.Places.{same-Some}
-use Rattle.bound_cover.specs.declared.storing.RowView.{RowView}
+use Rattle.bound_cover.specs.declared.storing.RowRef.{RowRef}
 use Rattle.bound_cover.specs.declared.cover.Why.{Why}
 use Rattle.bound_cover.specs.Covers.{CoverRow}
 use Rattle.bound_cover.specs.Stored.{shown_row}
@@ -24,7 +24,7 @@ first-rest : (a b : Option Why) → false ≡ is_some a → first_of a b ≡ b
 first-rest None b h = refl
 first-rest (Some why) b h = absurd (let clash : false ≡ true = h in cc)
 
-shown-at : (rows : List CoverRow) (i : ℕ) (o : Option RowView) (row : RowView) → option_map shown_row o ≡ slice_get rows i → o ≡ Some row → slice_get rows i ≡ Some (shown_row row)
+shown-at : (rows : List CoverRow) (i : ℕ) (o : Option RowRef) (row : RowRef) → option_map shown_row o ≡ slice_get rows i → o ≡ Some row → slice_get rows i ≡ Some (shown_row row)
 shown-at rows i o row shown is = sym shown ∙ ap (option_map shown_row) is
 
 opened : (dp : Dp) (k i : ℕ) (next rows : List CoverRow) (r : CoverRow) → slice_get rows i ≡ Some r → rows_fault dp k next i (drop i rows) ≡ first_of (row_fault dp k i next r) (rows_fault dp k next (i + 1) (drop (i + 1) rows))
@@ -32,13 +32,13 @@ opened dp k i next rows r at =
     let up : suc i ≡ i + 1 = omega arith in
     ap (rows_fault dp k next i) (next-row rows i r at) ∙ ap (λ n. first_of (row_fault dp k i next r) (rows_fault dp k next (i + 1) (drop n rows))) up
 
-pub row-fails : (dp : Dp) (k i : ℕ) (next rows : List CoverRow) (o : Option RowView) (row : RowView) (why : Option Why) → rows_fault dp k next i (drop i rows) ≡ rows_fault dp k next 0 rows → option_map shown_row o ≡ slice_get rows i → o ≡ Some row
+pub row-fails : (dp : Dp) (k i : ℕ) (next rows : List CoverRow) (o : Option RowRef) (row : RowRef) (why : Option Why) → rows_fault dp k next i (drop i rows) ≡ rows_fault dp k next 0 rows → option_map shown_row o ≡ slice_get rows i → o ≡ Some row
     → why ≡ row_fault dp k i next (shown_row row) → true ≡ is_some why → why ≡ rows_fault dp k next 0 rows
 row-fails dp k i next rows o row why so_far shown is its some =
     let open' = opened dp k i next rows (shown_row row) (shown-at rows i o row shown is) in
     first-some why (rows_fault dp k next (i + 1) (drop (i + 1) rows)) some ∙ (ap (λ a. first_of a (rows_fault dp k next (i + 1) (drop (i + 1) rows))) its ∙ (sym open' ∙ so_far))
 
-pub row-passes : (dp : Dp) (k i : ℕ) (next rows : List CoverRow) (o : Option RowView) (row : RowView) (why : Option Why) → rows_fault dp k next i (drop i rows) ≡ rows_fault dp k next 0 rows → option_map shown_row o ≡ slice_get rows i → o ≡ Some row
+pub row-passes : (dp : Dp) (k i : ℕ) (next rows : List CoverRow) (o : Option RowRef) (row : RowRef) (why : Option Why) → rows_fault dp k next i (drop i rows) ≡ rows_fault dp k next 0 rows → option_map shown_row o ≡ slice_get rows i → o ≡ Some row
     → why ≡ row_fault dp k i next (shown_row row) → false ≡ is_some why → rows_fault dp k next (i + 1) (drop (i + 1) rows) ≡ rows_fault dp k next 0 rows
 row-passes dp k i next rows o row why so_far shown is its none =
     let open' = opened dp k i next rows (shown_row row) (shown-at rows i o row shown is) in
@@ -84,13 +84,13 @@ open-root dp claim i rows r at =
     let up : suc i ≡ i + 1 = omega arith in
     ap (has_root dp claim) (next-row rows i r at) ∙ ap (λ n. root_test dp claim r || has_root dp claim (drop n rows)) up
 
-pub root-found : (dp : Dp) (claim : Option ℤ) (i : ℕ) (rows : List CoverRow) (o : Option RowView) (row : RowView) (test : Bool) → has_root dp claim (drop i rows) ≡ has_root dp claim rows → option_map shown_row o ≡ slice_get rows i → o ≡ Some row
+pub root-found : (dp : Dp) (claim : Option ℤ) (i : ℕ) (rows : List CoverRow) (o : Option RowRef) (row : RowRef) (test : Bool) → has_root dp claim (drop i rows) ≡ has_root dp claim rows → option_map shown_row o ≡ slice_get rows i → o ≡ Some row
     → test ≡ root_test dp claim (shown_row row) → test ≡ true → true ≡ has_root dp claim rows
 root-found dp claim i rows o row test so_far shown is its holds =
     let open' = open-root dp claim i rows (shown_row row) (shown-at rows i o row shown is) in
     ap (λ b. b || has_root dp claim (drop (i + 1) rows)) (sym holds ∙ its) ∙ (sym open' ∙ so_far)
 
-pub root-not-yet : (dp : Dp) (claim : Option ℤ) (i : ℕ) (rows : List CoverRow) (o : Option RowView) (row : RowView) (test : Bool) → has_root dp claim (drop i rows) ≡ has_root dp claim rows → option_map shown_row o ≡ slice_get rows i → o ≡ Some row
+pub root-not-yet : (dp : Dp) (claim : Option ℤ) (i : ℕ) (rows : List CoverRow) (o : Option RowRef) (row : RowRef) (test : Bool) → has_root dp claim (drop i rows) ≡ has_root dp claim rows → option_map shown_row o ≡ slice_get rows i → o ≡ Some row
     → test ≡ root_test dp claim (shown_row row) → test ≡ false → has_root dp claim (drop (i + 1) rows) ≡ has_root dp claim rows
 root-not-yet dp claim i rows o row test so_far shown is its fails =
     let open' = open-root dp claim i rows (shown_row row) (shown-at rows i o row shown is) in

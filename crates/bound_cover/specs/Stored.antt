@@ -1,10 +1,10 @@
 -- How a cover lies in memory: heads of rows one after another, and their words and arcs in two blocks.
-use Rattle.std.specs.Prelude.{ℕ, ◌+◌, ◌-◌, ◌≤◌, nat_lt, unwrap_or, option_and_then, option_map, slice_get, ℤ, cond, List, [], ◌∷◌, ◌++◌, length, drop, Option, Some, None}
+use Rattle.std.specs.Prelude.{ℕ, ◌+◌, ◌-◌, ◌^◌, ◌<◌, ◌≤◌, nat_lt, unwrap_or, option_and_then, option_map, slice_get, ℤ, cond, List, [], ◌∷◌, ◌++◌, length, drop, Option, Some, None}
 use Rattle.std.specs.List.{slice_range}
 use Rattle.dp_model.specs.Lists.{Each}
 use Rattle.bound_cover.specs.declared.cover.CoverArc.{CoverArc}
 use Rattle.bound_cover.specs.declared.storing.Head.{Head}
-use Rattle.bound_cover.specs.declared.storing.RowView.{RowView}
+use Rattle.bound_cover.specs.declared.storing.RowRef.{RowRef}
 use Rattle.dp_model.specs.Dp.{Dp}
 use Rattle.bound_cover.specs.declared.cover.Why.{Why}
 use Rattle.bound_cover.specs.declared.cover.Why.TheVariants.{Target}
@@ -38,6 +38,17 @@ RiseTo [] rows = Unit {0}
 RiseTo (start ∷ []) rows = start ≤ rows
 RiseTo (start ∷ next ∷ starts) rows = (start ≤ next) × RiseTo (next ∷ starts) rows
 
+-- each layer has fewer than 2^32 rows, so that a number of 32 bits counts them
+abbrev pub AreShort : List (List CoverRow) → Type 0
+AreShort layers = Each (λ layer. length layer < 2 ^ 32) layers
+
+-- the last layer; none is empty
+abbrev pub last_layer : List (List CoverRow) → List CoverRow
+last_layer [] = []
+last_layer (layer ∷ []) = layer
+last_layer (layer ∷ next ∷ layers) = last_layer (next ∷ layers)
+
+-- the starts rise to the number of rows, and each head's words and arcs lie within the blocks
 pub record IsStored (starts : List ℕ) (heads : List Head) (words arcs : ℕ) : Type 0 where
   pub starts_rise : RiseTo starts (length heads)
   pub within : Each (IsWithin words arcs) heads
@@ -49,7 +60,7 @@ with_row (layer ∷ []) row = (layer ++ row ∷ []) ∷ []
 with_row (layer ∷ next ∷ layers) row = layer ∷ with_row (next ∷ layers) row
 
 -- a row as a reader shows it
-abbrev pub shown_row : RowView → CoverRow
+abbrev pub shown_row : RowRef → CoverRow
 shown_row row = record { bound = row.bound; words = row.words.now; arcs = cond row.has_arcs (Some row.arcs.now) None }
 
 -- an arc to a row, as the code tests it: with the gain and the next state at hand

@@ -1,6 +1,8 @@
-ghost use Rattle.std.specs.Prelude.{◌≡◌, ℕ, ◌<◌, cond, List, [], ◌∷◌, ◌++◌, length, slice_get, Option, Some, None, option_map, OnOk, OnErr};
+//! Covers in memory: heads of rows one after another, and their words and arcs in two blocks.
+
+ghost use Rattle.std.specs.Prelude.{◌≡◌, ℕ, ◌<◌, ◌-◌, ◌^◌, cond, List, [], ◌∷◌, ◌++◌, length, slice_get, Option, Some, None, option_map, OnOk, OnErr};
 ghost use Rattle.bound_cover.specs.Covers.{CoverRow};
-ghost use Rattle.bound_cover.specs.Stored.{with_row, shown_row, row_of, place_at, count_at, IsWithin};
+ghost use Rattle.bound_cover.specs.Stored.{with_row, shown_row, row_of, place_at, count_at, last_layer, AreShort, IsWithin};
 ghost use Rattle.bound_cover.specs.Exploring.{layer_of};
 
 use crate::cover::CoverArc;
@@ -21,7 +23,7 @@ pub struct Head {
 
 /// A row as it is read.
 #[derive(Clone, Copy, Debug)]
-pub struct RowView<'c> {
+pub struct RowRef<'c> {
     pub bound: Option<i64>,
     pub words: &'c [i64],
     pub has_arcs: bool,
@@ -73,11 +75,11 @@ fn head_at(heads: &[Head], place: usize) -> Option<Head>
 }
 
 /// The row of a head.
-fn view_of<'c>(head: Head, words: &'c [i64], arcs: &'c [CoverArc]) -> RowView<'c>
+fn view_of<'c>(head: Head, words: &'c [i64], arcs: &'c [CoverArc]) -> RowRef<'c>
     requires { IsWithin (length words.now) (length arcs.now) head }
     ensures { shown_row result ≡ row_of words.now arcs.now head }
 {
-    RowView {
+    RowRef {
         bound: head.bound,
         words: &words[head.words_from..head.words_to],
         has_arcs: head.has_arcs,
@@ -97,13 +99,14 @@ pub struct Cover {
 impl Model for Cover {
     ghost use Rattle.std.specs.Prelude.{List, map, vec_len};
     ghost use Rattle.bound_cover.specs.Covers.{CoverRow};
-    ghost use Rattle.bound_cover.specs.Stored.{row_of, layers_of, IsStored};
+    ghost use Rattle.bound_cover.specs.Stored.{row_of, layers_of, AreShort, IsStored};
 
     ghost Value = { List (List CoverRow) };
 
     ghost view = { λ c. layers_of c.starts.items (map (row_of c.words.items c.arcs.items) c.heads.items) };
 
-    ghost invariant = { λ c. IsStored c.starts.items c.heads.items (vec_len c.words) (vec_len c.arcs) };
+    ghost invariant = { λ c. IsStored c.starts.items c.heads.items (vec_len c.words) (vec_len c.arcs)
+        × AreShort (layers_of c.starts.items (map (row_of c.words.items c.arcs.items) c.heads.items)) };
 }
 
 impl Cover {
@@ -121,13 +124,14 @@ impl Cover {
 
     /// How many layers there are.
     pub fn layers(&self) -> usize
-        ensures { result ≡ length self.now }
+        ensures count { result ≡ length self.now }
+        ensures short { AreShort self.now }
     {
         self.starts.len()
     }
 
     /// The row at a place of a layer, or `None` where there is none.
-    pub fn row(&self, layer: usize, place: usize) -> Option<RowView<'_>>
+    pub fn row(&self, layer: usize, place: usize) -> Option<RowRef<'_>>
         ensures { option_map shown_row result ≡ slice_get (layer_of self.now layer) place }
     {
         match place_of(self.starts.as_slice(), self.heads.len(), layer, place) {
@@ -139,10 +143,44 @@ impl Cover {
         }
     }
 
+    /// The bound of a row, which is there; `None` where the row claims that its state has no continuation.
+    pub fn bound(&self, layer: usize, row: usize) -> Option<i64>
+        requires { row < length (layer_of self.now layer) }
+        ensures { option_map (λ r. r.bound) (slice_get (layer_of self.now layer) row) ≡ Some result }
+    {
+        let Some(row) = self.row(layer, row) else {
+            unreachable!()
+        };
+        row.bound
+    }
+
+    /// The words of a row, which is there.
+    pub fn words(&self, layer: usize, row: usize) -> &[i64]
+        requires { row < length (layer_of self.now layer) }
+        ensures { option_map (λ r. r.words) (slice_get (layer_of self.now layer) row) ≡ Some result.now }
+    {
+        let Some(row) = self.row(layer, row) else {
+            unreachable!()
+        };
+        row.words
+    }
+
+    /// The arcs of a row, which is there; `None` exactly where it has no arc part.
+    pub fn arcs(&self, layer: usize, row: usize) -> Option<&[CoverArc]>
+        requires { row < length (layer_of self.now layer) }
+        ensures { option_map (λ r. r.arcs) (slice_get (layer_of self.now layer) row) ≡ Some (option_map (λ a. a.now) result) }
+    {
+        let Some(row) = self.row(layer, row) else {
+            unreachable!()
+        };
+        if row.has_arcs { Some(row.arcs) } else { None }
+    }
+
     /// How many rows the layer has, which is there.
     pub fn rows(&self, layer: usize) -> usize
         requires { layer < length self.now }
-        ensures { result ≡ length (layer_of self.now layer) }
+        ensures count { result ≡ length (layer_of self.now layer) }
+        ensures small { result < 2 ^ 32 }
     {
         count_of(self.starts.as_slice(), self.heads.len(), layer)
     }
@@ -157,15 +195,37 @@ impl Cover {
         Ok(())
     }
 
-    /// Adds a row to the last layer, with the arcs or, where it has no arc part, without. A refusal changes nothing.
+    /// Adds a row to the last layer: its bound, its words, and its arcs, or none where it has no arc part.
+    ///
+    /// There is a layer, and the last one has fewer than `2^32 - 1` rows. It fails only for want of memory, and then changes
+    /// nothing.
     pub fn add_row(
+        &mut self,
+        bound: Option<i64>,
+        words: &[i64],
+        arcs: Option<&[CoverArc]>,
+    ) -> Result<(), OutOfMemory>
+        requires layer { 0 < length self.old }
+        requires few { length (last_layer self.old) < 2 ^ 32 - 1 }
+        ensures ok { OnOk result (self.new ≡ with_row self.old (record { bound = bound; words = words.now; arcs = option_map (λ a. a.now) arcs.entry })) }
+        ensures err { OnErr result (self.new ≡ self.old) }
+    {
+        match arcs {
+            None => self.add_parts(bound, words, false, &[]),
+            Some(arcs) => self.add_parts(bound, words, true, arcs),
+        }
+    }
+
+    /// Adds a row whose arcs count only where it is to have an arc part.
+    fn add_parts(
         &mut self,
         bound: Option<i64>,
         words: &[i64],
         has_arcs: bool,
         arcs: &[CoverArc],
     ) -> Result<(), OutOfMemory>
-        requires { 0 < length self.old }
+        requires layer { 0 < length self.old }
+        requires few { length (last_layer self.old) < 2 ^ 32 - 1 }
         ensures ok { OnOk result (self.new ≡ with_row self.old (record { bound = bound; words = words.now; arcs = cond has_arcs (Some arcs.now) None })) }
         ensures err { OnErr result (self.new ≡ self.old) }
     {

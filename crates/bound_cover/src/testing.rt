@@ -1,3 +1,5 @@
+//! The tests of a cover, each by a function of its own.
+
 ghost use Rattle.std.specs.Prelude.{◌≡◌, ℕ, ◌<◌, ◌≤◌, ◌+◌, ◌^◌, ◌+ℤ◌, List, length, slice_get, Option, Some, option_map, IsTrue, IfSome, int_le};
 ghost use Rattle.dp_model.specs.Dp.{Dp, IsAllowed};
 ghost use Rattle.dp_model.specs.Gaps.{IsStateOf};
@@ -12,7 +14,7 @@ ghost use Rattle.bound_cover.specs.declared.cover.Verdict.TheVariants.{Accepted}
 ghost use Rattle.bound_cover.specs.Exploring.{layer_of};
 
 use crate::cover::{CoverArc, Verdict, Why};
-use crate::storing::{Cover, RowView};
+use crate::storing::{Cover, RowRef};
 use dp_model::{DpModel, walk};
 
 /// The rows of a layer.
@@ -20,7 +22,7 @@ pub trait Rows {
     ghost rows: { Self → List CoverRow };
 
     /// The row at a place, or `None` where there is none.
-    fn row(&self, place: u32) -> Option<RowView<'_>>
+    fn row(&self, place: u32) -> Option<RowRef<'_>>
         ensures { option_map shown_row result ≡ slice_get (rows self.now) place };
 }
 
@@ -64,7 +66,7 @@ fn row_arc_fault<M: DpModel>(
     step: &[i64],
     bound: Option<i64>,
     decision: u32,
-    next: Option<RowView<'_>>,
+    next: Option<RowRef<'_>>,
 ) -> Option<Why>
     requires layer { k < (M.meaning (M.numbers model.now)).vars }
     requires step { IsStateOf (M.meaning (M.numbers model.now)) (k + 1) step.now }
@@ -129,7 +131,7 @@ fn arc_fault<M: DpModel, N: Rows>(
     next: &N,
     k: usize,
     i: u32,
-    row: RowView<'_>,
+    row: RowRef<'_>,
     arc: CoverArc,
     step: &mut [i64],
 ) -> Option<Why>
@@ -209,7 +211,7 @@ fn step_fault<M: DpModel, N: Rows>(
     next: &N,
     k: usize,
     i: u32,
-    row: RowView<'_>,
+    row: RowRef<'_>,
     decision: u32,
     arc: Option<CoverArc>,
     step: &mut [i64],
@@ -254,7 +256,7 @@ fn decisions_fault<M: DpModel, N: Rows>(
     next: &N,
     k: usize,
     i: u32,
-    row: RowView<'_>,
+    row: RowRef<'_>,
     step: &mut [i64],
 ) -> Option<Why>
     requires layer { k < (M.meaning (M.numbers model.now)).vars }
@@ -312,7 +314,7 @@ pub fn row_fault<M: DpModel, N: Rows>(
     next: &N,
     k: usize,
     i: u32,
-    row: RowView<'_>,
+    row: RowRef<'_>,
     step: &mut [i64],
 ) -> Option<Why>
     requires layer { k ≤ (M.meaning (M.numbers model.now)).vars }
@@ -375,7 +377,7 @@ pub struct LayerOf<'c> {
 impl<'c> Rows for LayerOf<'c> {
     ghost rows = { λ l. layer_of l.cover.now l.layer };
 
-    fn row(&self, place: u32) -> Option<RowView<'_>> {
+    fn row(&self, place: u32) -> Option<RowRef<'_>> {
         self.cover.row(self.layer, place as usize)
     }
 }
@@ -402,12 +404,7 @@ pub fn layers_fault<M: DpModel>(model: &M, cover: &Cover, step: &mut [i64]) -> O
 }
 
 /// Whether the row is a state that covers the root within the claim.
-fn row_covers_root<M: DpModel>(
-    model: &M,
-    row: RowView<'_>,
-    root: &[i64],
-    claim: Option<i64>,
-) -> bool
+fn row_covers_root<M: DpModel>(model: &M, row: RowRef<'_>, root: &[i64], claim: Option<i64>) -> bool
     requires { root.now ≡ (M.meaning (M.numbers model.now)).root }
     ensures { result ≡ root_test (M.meaning (M.numbers model.now)) claim (shown_row row.entry) }
 {
@@ -452,7 +449,6 @@ pub fn check_rows<M: DpModel>(
     root: &mut [i64],
     step: &mut [i64],
 ) -> Option<Why>
-    requires short { (k : ℕ) → length (layer_of cover.now k) < 2 ^ 32 }
     requires root_cells { length root.old ≡ (M.meaning (M.numbers model.now)).words }
     requires cells { length step.old ≡ (M.meaning (M.numbers model.now)).words }
     ensures { result ≡ checked_rows (M.meaning (M.numbers model.now)) claim cover.now }
@@ -520,7 +516,6 @@ pub fn check<M: DpModel>(
     root: &mut [i64],
     step: &mut [i64],
 ) -> Verdict
-    requires short { (k : ℕ) → length (layer_of cover.now k) < 2 ^ 32 }
     requires root_cells { length root.old ≡ (M.meaning (M.numbers model.now)).words }
     requires cells { length step.old ≡ (M.meaning (M.numbers model.now)).words }
     ensures verdict { result ≡ verdict (M.meaning (M.numbers model.now)) best assignment.now cover.now }

@@ -14,5 +14,5 @@ pub mod Shown
 pub mod Reading
 pub mod Printing
 pub use Rattle.dp_model.specs.Dp
-pub use Rattle.dp_model.specs.Worth
+pub use Rattle.dp_model.specs.Solution
 pub use Rattle.dd_text.specs.Grammar

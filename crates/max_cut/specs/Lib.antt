@@ -11,4 +11,4 @@ pub mod ProgramLaws
 pub mod CutLaws
 pub use Rattle.dd_text.specs.Grammar
 pub use Rattle.dp_model.specs.Dp
-pub use Rattle.dp_model.specs.Worth
+pub use Rattle.dp_model.specs.Solution

@@ -7,13 +7,13 @@ use Rattle.bound_cover.proofs.storing.Cover.row.Goals as goal
 pub returns-in-None : goal.returns-in-None
 returns-in-None c =
     row-none c.args.self.now c.self.inside.starts.items c.as_slice.result.now c.self.inside.heads.items c.self.inside.words.items c.self.inside.arcs.items c.args.layer c.args.place c.len.result c.place_of.result
-    c.self.view_is c.self.invariant.starts_rise c.as_slice.ensures.value (c.len.ensures ∙ c.self.inside.heads.ok.0) c.place_of.ensures c.in-None.is
+    c.self.view_is c.self.invariant.0.starts_rise c.as_slice.ensures.value (c.len.ensures ∙ c.self.inside.heads.ok.0) c.place_of.ensures c.in-None.is
 
 pub returns-in-None-head_at : goal.returns-in-None-head_at
 returns-in-None-head_at c =
     ap (option_map (row_of c.self.inside.words.items c.self.inside.arcs.items)) (sym c.in-None-head_at.is)
     ∙ row-some c.args.self.now c.self.inside.starts.items c.as_slice.result.now c.self.inside.heads.items c.as_slice-in-Some.result.now c.self.inside.words.items c.self.inside.arcs.items c.args.layer c.args.place c.len.result c.in-Some.place c.place_of.result c.head_at.result
-    c.self.view_is c.self.invariant.starts_rise c.as_slice.ensures.value (c.len.ensures ∙ c.self.inside.heads.ok.0) c.place_of.ensures c.in-Some.is c.as_slice-in-Some.ensures.value c.head_at.ensures
+    c.self.view_is c.self.invariant.0.starts_rise c.as_slice.ensures.value (c.len.ensures ∙ c.self.inside.heads.ok.0) c.place_of.ensures c.in-Some.is c.as_slice-in-Some.ensures.value c.head_at.ensures
 
 pub returns-in-Some-head_at : goal.returns-in-Some-head_at
 returns-in-Some-head_at c =
@@ -22,4 +22,4 @@ returns-in-Some-head_at c =
     ∙ (ap (λ a. Some (row_of c.self.inside.words.items a c.in-Some-head_at.head)) c.as_slice-in-Some-head_at-2.ensures.value
     ∙ (ap (option_map (row_of c.self.inside.words.items c.self.inside.arcs.items)) (sym c.in-Some-head_at.is)
     ∙ row-some c.args.self.now c.self.inside.starts.items c.as_slice.result.now c.self.inside.heads.items c.as_slice-in-Some.result.now c.self.inside.words.items c.self.inside.arcs.items c.args.layer c.args.place c.len.result c.in-Some.place c.place_of.result c.head_at.result
-    c.self.view_is c.self.invariant.starts_rise c.as_slice.ensures.value (c.len.ensures ∙ c.self.inside.heads.ok.0) c.place_of.ensures c.in-Some.is c.as_slice-in-Some.ensures.value c.head_at.ensures)))
+    c.self.view_is c.self.invariant.0.starts_rise c.as_slice.ensures.value (c.len.ensures ∙ c.self.inside.heads.ok.0) c.place_of.ensures c.in-Some.is c.as_slice-in-Some.ensures.value c.head_at.ensures)))
