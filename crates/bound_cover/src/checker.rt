@@ -1,0 +1,87 @@
+//! The checker of covers: what `check_rows` and `check` need beside a cover and a model.
+
+ghost use Rattle.std.specs.Prelude.{◌≡◌, ℕ, IfOk, length};
+ghost use Rattle.bound_cover.specs.Verdicts.{checked_rows, verdict};
+ghost use Rattle.bound_cover.specs.Proved.{IsProved};
+ghost use Rattle.bound_cover.specs.declared.cover.Verdict.TheVariants.{Accepted};
+
+use crate::cover::{Verdict, Why};
+use crate::storing::Cover;
+use crate::testing::{check, check_rows};
+use dp_model::{DpModel, OutOfMemory};
+use std::alloc::Global;
+use std::marker::Model;
+
+/// Room for two states of a model, so that checking takes no memory.
+#[derive(Debug, Drop)]
+pub struct Checker {
+    root: Vec<i64>,
+    step: Vec<i64>,
+}
+
+impl Model for Checker {
+    ghost use Rattle.std.specs.Prelude.{◌≡◌, vec_len};
+    ghost use Rattle.bound_cover.specs.Checkers.{CheckerView};
+
+    ghost Value = { CheckerView };
+
+    ghost view = { λ c. record { words = vec_len c.root } };
+
+    ghost invariant = { λ c. vec_len c.step ≡ vec_len c.root };
+}
+
+impl Checker {
+    /// A checker for covers of the model. It fails only for want of memory.
+    pub fn prepare<M: DpModel>(alloc: Global, model: &M) -> Result<Checker, OutOfMemory>
+        ensures { IfOk result (λ c. c.words ≡ (M.meaning (M.numbers model.now)).words) }
+    {
+        let words = model.words();
+        let root = vec![in alloc; 0; words]?;
+        let step = vec![in alloc; 0; words]?;
+        Ok(Checker { root, step })
+    }
+
+    /// The first failing test of the rows, where the assignment and its value are left out and `claim` stands for the best value;
+    /// `None` exactly where no test fails. A claim of `None` says that there is no feasible solution.
+    ///
+    /// The checker was prepared for the model. It takes no memory.
+    pub fn check_rows<M: DpModel>(
+        &mut self,
+        model: &M,
+        claim: Option<i64>,
+        cover: &Cover,
+    ) -> Option<Why>
+        requires { self.old.words ≡ (M.meaning (M.numbers model.now)).words }
+        ensures why { result ≡ checked_rows (M.meaning (M.numbers model.now)) claim cover.now }
+        ensures same { self.new ≡ self.old }
+    {
+        check_rows(model, claim, cover, &mut self.root, &mut self.step)
+    }
+
+    /// The verdict on a cover with its reported value and assignment: accepted, or refused by the first test that fails. An
+    /// accepted value is the greatest of all feasible solutions, and the assignment is a feasible solution of that value; where
+    /// no value is reported, there is no feasible solution.
+    ///
+    /// The checker was prepared for the model. It takes no memory.
+    pub fn check<M: DpModel>(
+        &mut self,
+        model: &M,
+        best: Option<i64>,
+        assignment: &[u32],
+        cover: &Cover,
+    ) -> Verdict
+        requires { self.old.words ≡ (M.meaning (M.numbers model.now)).words }
+        ensures verdict { result ≡ verdict (M.meaning (M.numbers model.now)) best assignment.now cover.now }
+        ensures sound { result ≡ Accepted → IsProved (M.meaning (M.numbers model.now)) assignment.now best }
+        ensures same { self.new ≡ self.old }
+    {
+        check(
+            model,
+            best,
+            assignment,
+            cover,
+            &mut self.root,
+            &mut self.step,
+        )
+    }
+}

@@ -1,0 +1,249 @@
+//! Covers in memory: heads of rows one after another, and their words and arcs in two blocks.
+
+ghost use Rattle.std.specs.Prelude.{◌≡◌, ℕ, ◌<◌, ◌-◌, ◌^◌, cond, List, [], ◌∷◌, ◌++◌, length, slice_get, Option, Some, None, option_map, OnOk, OnErr};
+ghost use Rattle.bound_cover.specs.Covers.{CoverRow};
+ghost use Rattle.bound_cover.specs.Stored.{with_row, shown_row, row_of, place_at, count_at, last_layer, AreShort, IsWithin};
+ghost use Rattle.bound_cover.specs.Exploring.{layer_of};
+
+use crate::cover::CoverArc;
+use dp_model::OutOfMemory;
+use std::alloc::Global;
+use std::marker::Model;
+
+/// A row's bound, and where its words and its arcs lie.
+#[derive(Clone, Copy, Debug)]
+pub struct Head {
+    bound: Option<i64>,
+    words_from: usize,
+    words_to: usize,
+    has_arcs: bool,
+    arcs_from: usize,
+    arcs_to: usize,
+}
+
+/// A row as it is read.
+#[derive(Clone, Copy, Debug)]
+pub struct RowRef<'c> {
+    pub bound: Option<i64>,
+    pub words: &'c [i64],
+    pub has_arcs: bool,
+    pub arcs: &'c [CoverArc],
+}
+
+/// The place among all rows of a row of a layer, or `None` where there is none.
+fn place_of(starts: &[usize], rows: usize, layer: usize, row: usize) -> Option<usize>
+    ensures { result ≡ place_at starts.now rows layer row }
+{
+    let Some(start) = starts.get(layer) else {
+        return None;
+    };
+    let start = *start;
+    let end = match starts.get(layer + 1) {
+        Some(next) => *next,
+        None => rows,
+    };
+    if start <= end && row < end - start {
+        Some(start + row)
+    } else {
+        None
+    }
+}
+
+/// How many rows a layer has.
+fn count_of(starts: &[usize], rows: usize, layer: usize) -> usize
+    ensures { result ≡ count_at starts.now rows layer }
+{
+    let Some(start) = starts.get(layer) else {
+        return 0;
+    };
+    let start = *start;
+    let end = match starts.get(layer + 1) {
+        Some(next) => *next,
+        None => rows,
+    };
+    if start <= end { end - start } else { 0 }
+}
+
+/// The head at a place, or `None` where there is none.
+fn head_at(heads: &[Head], place: usize) -> Option<Head>
+    ensures { result ≡ slice_get heads.now place }
+{
+    match heads.get(place) {
+        None => None,
+        Some(head) => Some(*head),
+    }
+}
+
+/// The row of a head.
+fn view_of<'c>(head: Head, words: &'c [i64], arcs: &'c [CoverArc]) -> RowRef<'c>
+    requires { IsWithin (length words.now) (length arcs.now) head }
+    ensures { shown_row result ≡ row_of words.now arcs.now head }
+{
+    RowRef {
+        bound: head.bound,
+        words: &words[head.words_from..head.words_to],
+        has_arcs: head.has_arcs,
+        arcs: &arcs[head.arcs_from..head.arcs_to],
+    }
+}
+
+/// A cover: for each layer a list of rows.
+#[derive(Debug, Drop)]
+pub struct Cover {
+    starts: Vec<usize>,
+    heads: Vec<Head>,
+    words: Vec<i64>,
+    arcs: Vec<CoverArc>,
+}
+
+impl Model for Cover {
+    ghost use Rattle.std.specs.Prelude.{List, map, vec_len};
+    ghost use Rattle.bound_cover.specs.Covers.{CoverRow};
+    ghost use Rattle.bound_cover.specs.Stored.{row_of, layers_of, AreShort, IsStored};
+
+    ghost Value = { List (List CoverRow) };
+
+    ghost view = { λ c. layers_of c.starts.items (map (row_of c.words.items c.arcs.items) c.heads.items) };
+
+    ghost invariant = { λ c. IsStored c.starts.items c.heads.items (vec_len c.words) (vec_len c.arcs)
+        × AreShort (layers_of c.starts.items (map (row_of c.words.items c.arcs.items) c.heads.items)) };
+}
+
+impl Cover {
+    /// A cover without layers. It takes no memory.
+    pub fn new(alloc: Global) -> Cover
+        ensures { result ≡ [] }
+    {
+        Cover {
+            starts: Vec::new(alloc),
+            heads: Vec::new(alloc),
+            words: Vec::new(alloc),
+            arcs: Vec::new(alloc),
+        }
+    }
+
+    /// How many layers there are.
+    pub fn layers(&self) -> usize
+        ensures count { result ≡ length self.now }
+        ensures short { AreShort self.now }
+    {
+        self.starts.len()
+    }
+
+    /// The row at a place of a layer, or `None` where there is none.
+    pub fn row(&self, layer: usize, place: usize) -> Option<RowRef<'_>>
+        ensures { option_map shown_row result ≡ slice_get (layer_of self.now layer) place }
+    {
+        match place_of(self.starts.as_slice(), self.heads.len(), layer, place) {
+            None => None,
+            Some(place) => match head_at(self.heads.as_slice(), place) {
+                None => None,
+                Some(head) => Some(view_of(head, self.words.as_slice(), self.arcs.as_slice())),
+            },
+        }
+    }
+
+    /// The bound of a row, which is there; `None` where the row claims that its state has no continuation.
+    pub fn bound(&self, layer: usize, row: usize) -> Option<i64>
+        requires { row < length (layer_of self.now layer) }
+        ensures { option_map (λ r. r.bound) (slice_get (layer_of self.now layer) row) ≡ Some result }
+    {
+        let Some(row) = self.row(layer, row) else {
+            unreachable!()
+        };
+        row.bound
+    }
+
+    /// The words of a row, which is there.
+    pub fn words(&self, layer: usize, row: usize) -> &[i64]
+        requires { row < length (layer_of self.now layer) }
+        ensures { option_map (λ r. r.words) (slice_get (layer_of self.now layer) row) ≡ Some result.now }
+    {
+        let Some(row) = self.row(layer, row) else {
+            unreachable!()
+        };
+        row.words
+    }
+
+    /// The arcs of a row, which is there; `None` exactly where it has no arc part.
+    pub fn arcs(&self, layer: usize, row: usize) -> Option<&[CoverArc]>
+        requires { row < length (layer_of self.now layer) }
+        ensures { option_map (λ r. r.arcs) (slice_get (layer_of self.now layer) row) ≡ Some (option_map (λ a. a.now) result) }
+    {
+        let Some(row) = self.row(layer, row) else {
+            unreachable!()
+        };
+        if row.has_arcs { Some(row.arcs) } else { None }
+    }
+
+    /// How many rows the layer has, which is there.
+    pub fn rows(&self, layer: usize) -> usize
+        requires { layer < length self.now }
+        ensures count { result ≡ length (layer_of self.now layer) }
+        ensures small { result < 2 ^ 32 }
+    {
+        count_of(self.starts.as_slice(), self.heads.len(), layer)
+    }
+
+    /// Adds an empty layer. A refusal changes nothing.
+    pub fn add_layer(&mut self) -> Result<(), OutOfMemory>
+        ensures ok { OnOk result (self.new ≡ self.old ++ [] ∷ []) }
+        ensures err { OnErr result (self.new ≡ self.old) }
+    {
+        self.starts.reserve(1)?;
+        self.starts.push_reserved(self.heads.len());
+        Ok(())
+    }
+
+    /// Adds a row to the last layer: its bound, its words, and its arcs, or none where it has no arc part.
+    ///
+    /// There is a layer, and the last one has fewer than `2^32 - 1` rows. It fails only for want of memory, and then changes
+    /// nothing.
+    pub fn add_row(
+        &mut self,
+        bound: Option<i64>,
+        words: &[i64],
+        arcs: Option<&[CoverArc]>,
+    ) -> Result<(), OutOfMemory>
+        requires layer { 0 < length self.old }
+        requires few { length (last_layer self.old) < 2 ^ 32 - 1 }
+        ensures ok { OnOk result (self.new ≡ with_row self.old (record { bound = bound; words = words.now; arcs = option_map (λ a. a.now) arcs.entry })) }
+        ensures err { OnErr result (self.new ≡ self.old) }
+    {
+        match arcs {
+            None => self.add_parts(bound, words, false, &[]),
+            Some(arcs) => self.add_parts(bound, words, true, arcs),
+        }
+    }
+
+    /// Adds a row whose arcs count only where it is to have an arc part.
+    fn add_parts(
+        &mut self,
+        bound: Option<i64>,
+        words: &[i64],
+        has_arcs: bool,
+        arcs: &[CoverArc],
+    ) -> Result<(), OutOfMemory>
+        requires layer { 0 < length self.old }
+        requires few { length (last_layer self.old) < 2 ^ 32 - 1 }
+        ensures ok { OnOk result (self.new ≡ with_row self.old (record { bound = bound; words = words.now; arcs = cond has_arcs (Some arcs.now) None })) }
+        ensures err { OnErr result (self.new ≡ self.old) }
+    {
+        self.heads.reserve(1)?;
+        self.words.reserve(words.len())?;
+        self.arcs.reserve(arcs.len())?;
+        let words_from = self.words.len();
+        let arcs_from = self.arcs.len();
+        let _ = self.words.extend_from_slice(words);
+        let _ = self.arcs.extend_from_slice(arcs);
+        self.heads.push_reserved(Head {
+            bound,
+            words_from,
+            words_to: self.words.len(),
+            has_arcs,
+            arcs_from,
+            arcs_to: self.arcs.len(),
+        });
+        Ok(())
+    }
+}
