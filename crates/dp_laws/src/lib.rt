@@ -19,7 +19,7 @@ mod numbers;
 
 pub use arc::DdArc;
 pub use children::{
-    children_are_sound, children_fit, children_have_places, children_stand_deep,
+    children_are_sound, children_fit, children_have_places, children_stand_deep, found_is_greatest,
     sound_children_follow, suffixes_bound, without_reduction_the_beam_is_found,
 };
 pub use compiling::{
@@ -33,7 +33,10 @@ pub use expansions::{
     expansions_are_unique, order_is_unique, reduction_order_is_total, sorting_expands,
 };
 pub use floors::floors_match;
-pub use gaps::{chains_match, completions_are_matched, continuations_are_matched, gaps_add_up};
+pub use gaps::{
+    chains_match, completions_are_matched, continuations_are_matched, gaps_add_up,
+    same_states_match,
+};
 pub use layers::{
     beams_are_feasible, beams_are_greatest, layers_differ, layers_have_prefixes,
     layers_stand_in_order, members_are_unstruck,
