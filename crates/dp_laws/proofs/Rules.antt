@@ -13,3 +13,4 @@ pub mod Relaxed
 pub mod Diagrams
 pub mod Within
 pub mod Fitting
+pub mod Ranked

@@ -19,3 +19,8 @@ ContinuationsAreMatched dp = (a : List ℕ) (s : List ℤ) (value : ℤ) → IsP
 abbrev pub CompletionsAreMatched : Dp → Type 0
 CompletionsAreMatched dp = (a p : List ℕ) → IsPrefix dp a → IsPrefix dp p → length a ≡ length p → Dominates dp a (state_of dp p) (value_of dp p)
     → (x : List ℕ) → IsCompletion dp p x → IsMatched dp x a
+
+-- of two prefixes of one depth and state, that of no less value matches the completions of the other
+abbrev pub SameStatesMatch : Dp → Type 0
+SameStatesMatch dp = (a p : List ℕ) → IsPrefix dp a → IsPrefix dp p → length a ≡ length p → state_of dp a ≡ state_of dp p → value_of dp p ≤ℤ value_of dp a
+    → (x : List ℕ) → IsCompletion dp p x → IsMatched dp x a

@@ -5,3 +5,4 @@ pub mod Pruning
 pub mod Reducing
 pub mod Compiling
 pub mod Within
+pub mod Ranked

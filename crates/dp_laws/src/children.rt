@@ -1,13 +1,14 @@
 //! What the suffixes and the children of a diagram promise.
 
-ghost use Rattle.std.specs.Prelude.{ℕ, ◌+◌, ◌<◌, ◌≡◌, ℤ, List, ◌∷◌, length, Option, None, option_map};
+ghost use Rattle.std.specs.Prelude.{ℕ, ◌+◌, ◌-◌, ◌<◌, ◌≡◌, ℤ, List, ◌∷◌, length, slice_get, Option, Some, None, option_map, IsTrue};
 ghost use Rattle.dp_model.specs.Dp.{Dp};
 ghost use Rattle.dp_model.specs.Laws.{IsLawful};
 ghost use Rattle.dp_model.specs.Lists.{Each};
+ghost use Rattle.dp_model.specs.Numbers.{AtMost};
 ghost use Rattle.dp_model.specs.Prefixes.{IsContinuation, gain_of};
 ghost use Rattle.dp_model.specs.declared.cut_kind.CutKind.{CutKind};
 ghost use Rattle.dp_model.specs.declared.cut_kind.CutKind.TheVariants.{LastExactLayer};
-ghost use Rattle.dp_laws.specs.Children.{StandAt, StandDeep, AreSound, SoundChildrenFollow};
+ghost use Rattle.dp_laws.specs.Children.{StandAt, StandDeep, AreSound, SoundChildrenFollow, found_value};
 ghost use Rattle.dp_laws.specs.Restricted.Beams.{beam};
 ghost use Rattle.dp_laws.specs.Diagrams.Nodes.{DdNode, DdLayers};
 ghost use Rattle.dp_laws.specs.Diagrams.Seen.{AreLayers, IsBounded, IsDiagram};
@@ -40,6 +41,12 @@ pub fn children_stand_deep()
 pub fn without_reduction_the_beam_is_found()
     ensures { (dp : Dp) (p : List ℕ) (w : ℕ) (t : Option ℤ) (d : DdLayers) → length p < dp.vars → IsDiagram dp p w t d → d.first_reduced ≡ None
         → found_in dp d ≡ option_map (λ r. record { decisions = r.decisions; value = r.value }) (beam dp p w t) }
+{}
+
+/// No exact node of the last layer has a greater value than the found solution.
+pub fn found_is_greatest()
+    ensures { (dp : Dp) (p : List ℕ) (w : ℕ) (t : Option ℤ) (d : DdLayers) (layer : List DdNode) → length p < dp.vars → IsDiagram dp p w t d → slice_get d.layers (dp.vars - length p) ≡ Some layer
+        → Each (λ node. IsTrue node.exact → AtMost node.value (found_value (found_in dp d))) layer }
 {}
 
 /// Sound children may take the place of their prefix on a board, where threshold and found solution are at most its reach.

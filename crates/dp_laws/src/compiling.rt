@@ -13,6 +13,7 @@ ghost use Rattle.dp_laws.specs.Diagrams.Seen.{IsDiagram};
 ghost use Rattle.dp_laws.specs.Children.{AreSound};
 ghost use Rattle.dp_laws.specs.Diagrams.Cutsets.{children_of, first_exact, found_in};
 ghost use Rattle.dp_laws.specs.Width.{WidthsFit};
+ghost use Rattle.dp_laws.specs.Rules.Ranked.{RelaxedChildrenStand, ExactAreUnstruck};
 ghost use Rattle.dp_laws.specs.Rules.Compiling.{start_layer, relaxed, restricted_below, LayersFit};
 
 /// Each layer of a restricted diagram that is built by the rules has exact nodes alone, and they stand, in order, for the
@@ -48,4 +49,14 @@ pub fn layers_fit()
 /// The greatest width that fits into the memory of one worker is at least 1.
 pub fn widths_fit()
     ensures { (dp : Dp) → IsLawful dp → WidthsFit dp }
+{}
+
+/// The children of a compiled diagram stand by depth, and within a depth in the reduction order; none of them is struck.
+pub fn relaxed_children_stand()
+    ensures { (dp : Dp) → IsLawful dp → IsChained dp → RelaxedChildrenStand dp }
+{}
+
+/// No exact node of a compiled diagram below its first layer is struck.
+pub fn exact_nodes_are_unstruck()
+    ensures { (dp : Dp) → ExactAreUnstruck dp }
 {}

@@ -3,7 +3,7 @@
 ghost use Rattle.dp_model.specs.Dp.{Dp};
 ghost use Rattle.dp_model.specs.Laws.{IsLawful, IsChained};
 ghost use Rattle.dp_laws.specs.GapChains.{GapsAddUp, ChainsMatch};
-ghost use Rattle.dp_laws.specs.Dominance.{ContinuationsAreMatched, CompletionsAreMatched};
+ghost use Rattle.dp_laws.specs.Dominance.{ContinuationsAreMatched, CompletionsAreMatched, SameStatesMatch};
 
 /// Gaps add up along a chain of states.
 pub fn gaps_add_up()
@@ -23,4 +23,9 @@ pub fn continuations_are_matched()
 /// The completions of a dominated prefix are matched by the prefix that dominates it.
 pub fn completions_are_matched()
     ensures { (dp : Dp) → IsLawful dp → CompletionsAreMatched dp }
+{}
+
+/// Of two prefixes of one depth and state, the one of no less value matches the completions of the other.
+pub fn same_states_match()
+    ensures { (dp : Dp) → IsLawful dp → SameStatesMatch dp }
 {}

@@ -19,12 +19,13 @@ mod numbers;
 
 pub use arc::DdArc;
 pub use children::{
-    children_are_sound, children_fit, children_have_places, children_stand_deep,
+    children_are_sound, children_fit, children_have_places, children_stand_deep, found_is_greatest,
     sound_children_follow, suffixes_bound, without_reduction_the_beam_is_found,
 };
 pub use compiling::{
-    layers_fit, relaxed_children_are_sound, relaxed_diagrams_are_as_seen,
-    restricted_diagrams_find_the_beam, restricted_layers_are_beams, widths_fit,
+    exact_nodes_are_unstruck, layers_fit, relaxed_children_are_sound, relaxed_children_stand,
+    relaxed_diagrams_are_as_seen, restricted_diagrams_find_the_beam, restricted_layers_are_beams,
+    widths_fit,
 };
 pub use counts::{pots_are_below, pots_are_positive};
 pub use covers::{last_exact_layers_cover, whole_beams_are_best, whole_layers_cover};
@@ -32,7 +33,10 @@ pub use expansions::{
     expansions_are_unique, order_is_unique, reduction_order_is_total, sorting_expands,
 };
 pub use floors::floors_match;
-pub use gaps::{chains_match, completions_are_matched, continuations_are_matched, gaps_add_up};
+pub use gaps::{
+    chains_match, completions_are_matched, continuations_are_matched, gaps_add_up,
+    same_states_match,
+};
 pub use layers::{
     beams_are_feasible, beams_are_greatest, layers_differ, layers_have_prefixes,
     layers_stand_in_order, members_are_unstruck,

@@ -127,7 +127,7 @@ lifted : (value : ℤ) (o : Option ℤ) (bound : ℤ) → option_map (λ more. v
 lifted value None bound e = absurd (let none : None ≡ Some bound = e in cc)
 lifted value (Some m) bound e = (m, refl, same-Some (value +ℤ m) bound e)
 
-layer-of : (d : DdLayers) (depth place : ℕ) (node : DdNode) → node_at d depth place ≡ Some node → (layer : List DdNode) × (slice_get d.layers (depth - d.first) ≡ Some layer) × (slice_get layer place ≡ Some node)
+pub layer-of : (d : DdLayers) (depth place : ℕ) (node : DdNode) → node_at d depth place ≡ Some node → (layer : List DdNode) × (slice_get d.layers (depth - d.first) ≡ Some layer) × (slice_get layer place ≡ Some node)
 layer-of d depth place node e =
     elim (slice_get d.layers (depth - d.first)) as (λ o. slice_get d.layers (depth - d.first) ≡ o → option_and_then (λ (l : List DdNode). slice_get l place) o ≡ Some node
     → (layer : List DdNode) × (slice_get d.layers (depth - d.first) ≡ Some layer) × (slice_get layer place ≡ Some node)) [

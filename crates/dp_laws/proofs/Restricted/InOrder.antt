@@ -24,7 +24,7 @@ use Rattle.dp_laws.proofs.Restricted.Differing.{two-pruned, two-cut, differ-all_
 use Rattle.dp_laws.proofs.Restricted.Keeping.{each-undominated, each-cut}
 use Rattle.dp_laws.proofs.Restricted.Orders.{order-in_order}
 
-layer-ordered : (dp : Dp) (k : ℕ) (layer : List Reached) → IsInOrder dp (k + 1) (expanded dp k layer)
+pub layer-ordered : (dp : Dp) (k : ℕ) (layer : List Reached) → IsInOrder dp (k + 1) (expanded dp k layer)
 layer-ordered dp k layer = order-in_order dp (k + 1) (all_joined [] (candidates dp k layer)) (differ-all_joined [] (candidates dp k layer) tt)
 
 pub layers-ordered : (dp : Dp) → LayersInOrder dp
