@@ -1,0 +1,4 @@
+pub mod Tops
+pub mod Blocks
+pub mod Joined
+pub mod Extended

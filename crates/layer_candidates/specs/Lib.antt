@@ -1,0 +1,6 @@
+pub mod Rows
+pub mod Folds
+pub mod Table
+pub mod Ways
+pub mod Members
+pub mod Extending

@@ -1,0 +1,18 @@
+//! The candidates for a layer: of each state the first way of greatest value, put into the reduction order, and what is left of
+//! them where some are struck or dominated and only the first ones stay.
+//!
+//! It stands on `dp_model` and `dp_laws`. States stand as rows of one length in a block of cells; equal ones are found by a
+//! table of folds, and compared cell by cell. No call takes memory.
+#![tactic(auto)]
+
+mod extending;
+mod folding;
+mod joining;
+mod member;
+mod rows;
+mod table;
+mod way;
+
+pub use extending::extend_layer;
+pub use member::Member;
+pub use way::Way;
