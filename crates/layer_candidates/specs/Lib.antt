@@ -4,3 +4,4 @@ pub mod Table
 pub mod Ways
 pub mod Members
 pub mod Extending
+pub mod KeyOrder

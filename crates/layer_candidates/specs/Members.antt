@@ -1,5 +1,5 @@
 -- The members of a layer in memory, and the steps by which they are reached.
-use Rattle.std.specs.Prelude.{◌≡◌, ℕ, ◌+◌, ◌*◌, ◌<◌, ◌≤◌, ℤ, List, [], ◌∷◌, ◌++◌, length, map, slice_index_or}
+use Rattle.std.specs.Prelude.{◌≡◌, ℕ, ◌+◌, ◌*◌, ◌<◌, ◌≤◌, ℤ, pos, List, [], ◌∷◌, ◌++◌, length, map, slice_index_or}
 use Rattle.dp_model.specs.Dp.{Dp}
 use Rattle.dp_model.specs.Gaps.{IsStateOf}
 use Rattle.dp_model.specs.Lists.{Each}
@@ -7,6 +7,10 @@ use Rattle.dp_model.specs.Reached.{Reached}
 use Rattle.layer_candidates.specs.declared.member.Member.{Member}
 use Rattle.layer_candidates.specs.Rows.{row_at}
 use Rattle.layer_candidates.specs.Ways.{IsNear}
+
+-- the member at the place
+abbrev pub member_at : List Member → ℕ → Member
+member_at ms i = slice_index_or ms i (record { value = pos 0; rank = pos 0; row = 0; step = 0 })
 
 -- the prefix that a member stands for, where steps lead by these paths
 abbrev pub member_as : (ℕ → List ℕ) → List ℤ → ℕ → Member → Reached

@@ -1,9 +1,10 @@
 //! The members of a layer are extended by each allowed decision, and of each state the best way is kept.
 
-ghost use Rattle.std.specs.Prelude.{◌≡◌, ℕ, ◌+◌, ◌*◌, ◌<◌, ◌≤◌, [], List, length, vec_capacity, IsTrue};
+ghost use Rattle.std.specs.Prelude.{◌≡◌, ℕ, ◌+◌, ◌*◌, ◌<◌, ◌≤◌, ◌+ℤ◌, [], List, length, vec_capacity, IsTrue};
 ghost use Rattle.dp_model.specs.Dp.{IsAllowed};
 ghost use Rattle.dp_model.specs.Gaps.{IsStateOf};
 ghost use Rattle.dp_model.specs.Lists.{Each};
+ghost use Rattle.dp_model.specs.Numbers.{IsSmall};
 ghost use Rattle.dp_laws.specs.Extensions.{extended, candidates, joined, all_joined};
 ghost use Rattle.layer_candidates.specs.Rows.{row_at, with_row};
 ghost use Rattle.layer_candidates.specs.Ways.{all_reached, IsNear, IsNearly, AreJoined};
@@ -59,6 +60,23 @@ fn step_at<M: DpModel>(model: &M, k: usize, s: &[i64], decision: u32, out: &mut 
     model.rank(k + 1, out)
 }
 
+/// The way from a parent by a decision.
+fn way_of(parent: Member, gained: Gained, decision: u32) -> Way
+    requires near { IsNear parent.value }
+    requires small { IsSmall gained.gain }
+    ensures value { result.value ≡ (parent.value +ℤ gained.gain) }
+    ensures rank { result.rank ≡ gained.rank }
+    ensures parent { result.parent ≡ parent.step }
+    ensures decision { result.decision ≡ decision }
+{
+    Way {
+        value: parent.value + gained.gain,
+        rank: gained.rank,
+        parent: parent.step,
+        decision,
+    }
+}
+
 /// Takes in the way by an allowed decision.
 fn extend_by<M: DpModel>(
     model: &M,
@@ -87,12 +105,7 @@ fn extend_by<M: DpModel>(
     let words = s.len();
     let count = ways.len();
     let gained = write_state(model, k, s, decision, rows, count * words);
-    let way = Way {
-        value: parent.value + gained.gain,
-        rank: gained.rank,
-        parent: parent.step,
-        decision,
-    };
+    let way = way_of(parent, gained, decision);
     take_in(rows, words, way, ways, folds, heads, next);
 }
 

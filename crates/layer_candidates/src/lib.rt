@@ -8,11 +8,15 @@
 mod extending;
 mod folding;
 mod joining;
+mod key;
 mod member;
+mod ordering;
 mod rows;
 mod table;
 mod way;
 
 pub use extending::extend_layer;
+pub use key::Key;
 pub use member::Member;
+pub use ordering::put_in_order;
 pub use way::Way;
