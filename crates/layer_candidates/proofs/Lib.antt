@@ -2,3 +2,4 @@ pub mod Tops
 pub mod Blocks
 pub mod Joined
 pub mod Extended
+pub mod Sorted
