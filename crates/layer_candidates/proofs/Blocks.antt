@@ -3,7 +3,7 @@ use Rattle.std.proofs.Common.{◌≡◌, ℕ, suc, ◌+◌, ◌-◌, ◌*◌, �
 use Rattle.std.proofs.lemmas.List.{ext_get_or, get_or-take, get_or-drop, get_or_append_left, get_or-append_right, length-take-le, length-drop}
 use Rattle.std.proofs.Math.Nat.{suc-mul}
 use Rattle.layer_candidates.specs.Rows.{row_at, with_row}
-use Rattle.layer_candidates.specs.Folds.{fold_of}
+use Rattle.dp_model.specs.Folds.{fold_of}
 use Rattle.layer_candidates.specs.Table.{IsTable}
 
 -- a row ends before a later one begins
@@ -65,7 +65,7 @@ module _ (cells row : List ℤ) (words p : ℕ) (room : p * words + words ≤ le
     folds_size = t.folds_size;
     next_size = t.next_size;
     some = t.some;
-    folds_are = λ k less. t.folds_are k less ∙ ap fold_of (sym (before-with k less));
+    folds_are = λ k less. t.folds_are k less ∙ ap (fold_of 0) (sym (before-with k less));
     heads_are = t.heads_are;
     next_are = t.next_are;
   }

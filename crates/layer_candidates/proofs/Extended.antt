@@ -10,7 +10,7 @@ use Rattle.dp_model.specs.Laws.{IsLawful}
 use Rattle.dp_model.specs.Lists.{Each}
 use Rattle.dp_model.specs.Numbers.{IsSmall}
 use Rattle.dp_model.specs.Reached.{Reached}
-use Rattle.dp_laws.specs.Extensions.{extended, extensions, joined, all_joined, candidates}
+use Rattle.dp_laws.specs.Restricted.Extensions.{extended, extensions, joined, all_joined, candidates}
 use Rattle.layer_candidates.specs.declared.way.Way.{Way}
 use Rattle.layer_candidates.specs.declared.member.Member.{Member}
 use Rattle.layer_candidates.specs.Rows.{row_at, with_row}

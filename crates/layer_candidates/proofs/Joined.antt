@@ -6,7 +6,7 @@ use Rattle.dp_model.specs.Dp.{Dp}
 use Rattle.dp_model.specs.Reached.{Reached}
 use Rattle.dp_model.specs.Rows.{row_same}
 use Rattle.dp_model.proofs.RowLemmas.{row_same-self, row_same-is}
-use Rattle.dp_laws.specs.Extensions.{better, joined, all_joined}
+use Rattle.dp_laws.specs.Restricted.Extensions.{better, joined, all_joined}
 use Rattle.layer_candidates.specs.declared.way.Way.{Way}
 use Rattle.layer_candidates.specs.Rows.{row_at}
 use Rattle.layer_candidates.specs.Table.{IsTable, IsFound}

@@ -3,3 +3,4 @@ pub mod Blocks
 pub mod Joined
 pub mod Extended
 pub mod Sorted
+pub mod Pruned

@@ -4,8 +4,8 @@ use Rattle.std.proofs.Math.Nat.{suc-mul}
 use Rattle.std.proofs.lemmas.Bool.Decides.{nat_tests}
 use Rattle.std.proofs.lemmas.List.{get_or-set_same, get_or-set_other, length-set}
 use Rattle.layer_candidates.specs.Rows.{row_at}
-use Rattle.layer_candidates.specs.Folds.{fold_of, slot_of}
-use Rattle.layer_candidates.specs.Table.{top, has_slot, IsTable, IsFound, IsSearched}
+use Rattle.dp_model.specs.Folds.{fold_of}
+use Rattle.layer_candidates.specs.Table.{slot_of, top, has_slot, IsTable, IsFound, IsSearched}
 
 pub true_false : (b : Bool) → b ≡ true → b ≡ false → ⊥
 true_false b h k = let e : true ≡ false = sym h ∙ k in cc
@@ -103,16 +103,16 @@ search_smaller rows words count fold folds heads next i t s positive =
     omega arith
 
 -- a search that is over found none
-pub search_ends : (rows : List ℤ) (words count fold : ℕ) (folds heads next : List ℕ) → IsTable rows words count folds heads next → fold ≡ fold_of (row_at rows words count) → IsSearched rows words count fold folds (length heads) 0 → IsFound rows words count count
+pub search_ends : (rows : List ℤ) (words count fold : ℕ) (folds heads next : List ℕ) → IsTable rows words count folds heads next → fold ≡ fold_of 0 (row_at rows words count) → IsSearched rows words count fold folds (length heads) 0 → IsFound rows words count count
 search_ends rows words count fold folds heads next t is s = record {
   within = omega arith;
   same = λ h. absurd (omega arith);
   none = λ h k less same.
-      let folded : get_or folds k 0 ≡ fold = t.folds_are k less ∙ ap fold_of same ∙ sym is in
+      let folded : get_or folds k 0 ≡ fold = t.folds_are k less ∙ ap (fold_of 0) same ∙ sym is in
       s.past k (omega arith) less (true_slot (slot_of (get_or folds k 0) (length heads)) (slot_of fold (length heads)) (ap (λ (j : ℕ). slot_of j (length heads)) folded)) same;
 }
 
-pub inserted : (rows : List ℤ) (words count fold : ℕ) (folds heads next : List ℕ) → IsTable rows words count folds heads next → count * words + words ≤ length rows → count < length folds → count < length next → slot_of fold (length heads) < length heads → fold ≡ fold_of (row_at rows words count)
+pub inserted : (rows : List ℤ) (words count fold : ℕ) (folds heads next : List ℕ) → IsTable rows words count folds heads next → count * words + words ≤ length rows → count < length folds → count < length next → slot_of fold (length heads) < length heads → fold ≡ fold_of 0 (row_at rows words count)
     → IsTable rows words (suc count) (set folds count fold) (set heads (slot_of fold (length heads)) (suc count)) (set next count (get_or heads (slot_of fold (length heads)) 0))
 inserted rows words count fold folds heads next t room in_folds in_next less is =
     let size = length heads in
@@ -128,7 +128,7 @@ inserted rows words count fold folds heads next t room in_folds in_next less is 
       next_are = λ k h. subst (λ (j : ℕ). get_or (set next count (get_or heads at 0)) k 0 ≡ top (has_slot (set folds count fold) j (slot_of (get_or (set folds count fold) k 0) j)) k) (sym same) (nexted k (last_or k count h));
     }
   where
-    folded : (k : ℕ) → (k ≡ count) ⊎ (k < count) → get_or (set folds count fold) k 0 ≡ fold_of (row_at rows words k)
+    folded : (k : ℕ) → (k ≡ count) ⊎ (k < count) → get_or (set folds count fold) k 0 ≡ fold_of 0 (row_at rows words k)
     folded k (inl e) = rw e (get_or-set_same folds count fold 0 in_folds ∙ is)
     folded k (inr l) = get_or-set_other folds count k fold 0 (λ e. omega arith) ∙ t.folds_are k l
 

@@ -3,7 +3,7 @@ use Rattle.std.specs.Prelude.{◌≡◌, ℕ, ◌+◌, ◌*◌, ◌^◌, ◌<◌
 use Rattle.dp_model.specs.Dp.{Dp}
 use Rattle.dp_model.specs.Decisions.{below}
 use Rattle.dp_model.specs.Reached.{Reached}
-use Rattle.dp_laws.specs.Extensions.{extended, candidates, all_joined}
+use Rattle.dp_laws.specs.Restricted.Extensions.{extended, candidates, all_joined}
 use Rattle.layer_candidates.specs.declared.way.Way.{Way}
 use Rattle.layer_candidates.specs.declared.member.Member.{Member}
 use Rattle.layer_candidates.specs.Members.{members_as}

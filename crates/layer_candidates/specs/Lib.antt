@@ -1,7 +1,7 @@
 pub mod Rows
-pub mod Folds
 pub mod Table
 pub mod Ways
 pub mod Members
 pub mod Extending
 pub mod KeyOrder
+pub mod Pruning

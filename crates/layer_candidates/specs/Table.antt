@@ -1,7 +1,11 @@
 -- A table whose chains run through the places of the rows.
-use Rattle.std.specs.Prelude.{◌≡◌, ◌≢◌, ℕ, zero, suc, ◌-◌, ◌*◌, ◌<◌, ◌≤◌, nat_eq, ℤ, Bool, true, cond, List, length, slice_index_or}
+use Rattle.std.specs.Prelude.{◌≡◌, ◌≢◌, ℕ, zero, suc, ◌-◌, ◌*◌, ◌<◌, ◌≤◌, nat_eq, ℤ, Bool, true, cond, List, length, slice_index_or, bit_and}
 use Rattle.layer_candidates.specs.Rows.{row_at}
-use Rattle.layer_candidates.specs.Folds.{fold_of, slot_of}
+use Rattle.dp_model.specs.Folds.{fold_of}
+
+-- the slot of a fold among so many
+abbrev pub slot_of : ℕ → ℕ → ℕ
+slot_of fold size = bit_and fold (size - 1)
 
 -- one more than the greatest place below n that passes, or 0 where none does
 abbrev pub top : (ℕ → Bool) → ℕ → ℕ
@@ -18,7 +22,7 @@ pub record IsTable (rows : List ℤ) (words count : ℕ) (folds heads next : Lis
   pub folds_size : count ≤ length folds
   pub next_size : count ≤ length next
   pub some : 0 < length heads
-  pub folds_are : (k : ℕ) → k < count → slice_index_or folds k 0 ≡ fold_of (row_at rows words k)
+  pub folds_are : (k : ℕ) → k < count → slice_index_or folds k 0 ≡ fold_of 0 (row_at rows words k)
   pub heads_are : (slot : ℕ) → slot < length heads → slice_index_or heads slot 0 ≡ top (has_slot folds (length heads) slot) count
   pub next_are : (k : ℕ) → k < count → slice_index_or next k 0 ≡ top (has_slot folds (length heads) (slot_of (slice_index_or folds k 0) (length heads))) k
 

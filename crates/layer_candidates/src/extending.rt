@@ -5,7 +5,7 @@ ghost use Rattle.dp_model.specs.Dp.{IsAllowed};
 ghost use Rattle.dp_model.specs.Gaps.{IsStateOf};
 ghost use Rattle.dp_model.specs.Lists.{Each};
 ghost use Rattle.dp_model.specs.Numbers.{IsSmall};
-ghost use Rattle.dp_laws.specs.Extensions.{extended, candidates, joined, all_joined};
+ghost use Rattle.dp_laws.specs.Restricted.Extensions.{extended, candidates, joined, all_joined};
 ghost use Rattle.layer_candidates.specs.Rows.{row_at, with_row};
 ghost use Rattle.layer_candidates.specs.Ways.{all_reached, IsNear, IsNearly, AreJoined};
 ghost use Rattle.layer_candidates.specs.Members.{members_as, IsMemberOf};
@@ -16,26 +16,21 @@ use crate::member::Member;
 use crate::rows::row;
 use crate::table::reset;
 use crate::way::Way;
-use dp_model::DpModel;
-
-/// What an allowed decision gains, and the rank of the state that it makes.
-#[derive(Clone, Copy, Debug)]
-struct Gained {
-    gain: i64,
-    rank: i64,
-}
+use dp_model::{DpModel, Extended};
 
 /// Writes the state that an allowed decision makes, from the place of its first cell on.
 fn write_state<M: DpModel>(
     model: &M,
     k: usize,
     s: &[i64],
+    rank: i64,
     decision: u32,
     rows: &mut [i64],
     at: usize,
-) -> Gained
+) -> Extended
     requires cells { length s.now ≡ (M.meaning (M.numbers model.now)).words }
     requires state { IsTrue ((M.meaning (M.numbers model.now)).is_state k s.now) }
+    requires rank { rank ≡ (M.meaning (M.numbers model.now)).rank k s.now }
     requires allowed { IsAllowed (M.meaning (M.numbers model.now)) k s.now decision }
     requires room { at + length s.now ≤ length rows.old }
     ensures rows { rows.new ≡ with_row rows.old at ((M.meaning (M.numbers model.now)).step k s.now decision) }
@@ -43,25 +38,11 @@ fn write_state<M: DpModel>(
     ensures rank { result.rank ≡ (M.meaning (M.numbers model.now)).rank (k + 1) ((M.meaning (M.numbers model.now)).step k s.now decision) }
 {
     let words = s.len();
-    let gain = model.gain(k, s, decision);
-    let rank = step_at(model, k, s, decision, &mut rows[at..at + words]);
-    Gained { gain, rank }
-}
-
-/// Writes the state that an allowed decision makes. Answers its rank.
-fn step_at<M: DpModel>(model: &M, k: usize, s: &[i64], decision: u32, out: &mut [i64]) -> i64
-    requires cells { length out.old ≡ (M.meaning (M.numbers model.now)).words }
-    requires state { IsTrue ((M.meaning (M.numbers model.now)).is_state k s.now) }
-    requires allowed { IsAllowed (M.meaning (M.numbers model.now)) k s.now decision }
-    ensures out { out.new ≡ (M.meaning (M.numbers model.now)).step k s.now decision }
-    ensures rank { result ≡ (M.meaning (M.numbers model.now)).rank (k + 1) ((M.meaning (M.numbers model.now)).step k s.now decision) }
-{
-    model.step(k, s, decision, out);
-    model.rank(k + 1, out)
+    model.extend(k, s, rank, decision, &mut rows[at..at + words])
 }
 
 /// The way from a parent by a decision.
-fn way_of(parent: Member, gained: Gained, decision: u32) -> Way
+fn way_of(parent: Member, gained: Extended, decision: u32) -> Way
     requires near { IsNear parent.value }
     requires small { IsSmall gained.gain }
     ensures value { result.value ≡ (parent.value +ℤ gained.gain) }
@@ -93,6 +74,7 @@ fn extend_by<M: DpModel>(
     requires state { IsTrue ((M.meaning (M.numbers model.now)).is_state k s.now) }
     requires cells { length s.now ≡ (M.meaning (M.numbers model.now)).words }
     requires value { IsNear parent.value }
+    requires rank { parent.rank ≡ (M.meaning (M.numbers model.now)).rank k s.now }
     requires allowed { IsAllowed (M.meaning (M.numbers model.now)) k s.now decision }
     requires joined { AreJoined (M.meaning (M.numbers model.now)) (k + 1) rows.old (length s.now) ways.old.items folds.old heads.old next.old }
     requires room { HasRoom (length s.now) (length ways.old.items + 1) rows.old (vec_capacity ways.old) folds.old next.old }
@@ -104,7 +86,7 @@ fn extend_by<M: DpModel>(
 {
     let words = s.len();
     let count = ways.len();
-    let gained = write_state(model, k, s, decision, rows, count * words);
+    let gained = write_state(model, k, s, parent.rank, decision, rows, count * words);
     let way = way_of(parent, gained, decision);
     take_in(rows, words, way, ways, folds, heads, next);
 }
@@ -125,6 +107,7 @@ fn extend_member<M: DpModel>(
     requires state { IsTrue ((M.meaning (M.numbers model.now)).is_state k s.now) }
     requires cells { length s.now ≡ (M.meaning (M.numbers model.now)).words }
     requires value { IsNear parent.value }
+    requires rank { parent.rank ≡ (M.meaning (M.numbers model.now)).rank k s.now }
     requires joined { AreJoined (M.meaning (M.numbers model.now)) (k + 1) rows.old (length s.now) ways.old.items folds.old heads.old next.old }
     requires room { HasRoom (length s.now) (length ways.old.items + (M.meaning (M.numbers model.now)).choices k) rows.old (vec_capacity ways.old) folds.old next.old }
     ensures extended { HasExtended (M.meaning (M.numbers model.now)) k parent.step s.now parent.value ((M.meaning (M.numbers model.now)).choices k) (length s.now) rows.old ways.old.items rows.new ways.new.items folds.new heads.new next.new }

@@ -2,16 +2,16 @@
 
 ghost use Rattle.std.specs.Prelude.{◌≡◌, ℕ, ◌+◌, ◌*◌, ◌^◌, ◌<◌, ◌≤◌, List, length, vec_capacity};
 ghost use Rattle.dp_model.specs.Dp.{Dp};
-ghost use Rattle.dp_laws.specs.Extensions.{joined};
+ghost use Rattle.dp_laws.specs.Restricted.Extensions.{joined};
 ghost use Rattle.layer_candidates.specs.Rows.{row_at};
 ghost use Rattle.layer_candidates.specs.Table.{IsTable};
 ghost use Rattle.layer_candidates.specs.Ways.{bettered, reached_by, all_reached, IsWay, AreApart, AreJoined};
 ghost use Rattle.layer_candidates.specs.declared.way.Way.{Way};
 
-use crate::folding::fold_row;
 use crate::rows::row;
 use crate::table::{find, insert};
 use crate::way::Way;
+use dp_model::fold;
 
 /// Takes a way in, whose row stands behind those of the others: where its state has a way already, the better one stays, and
 /// otherwise it is kept behind the others.
@@ -36,10 +36,10 @@ pub fn take_in(
     ensures capacity { vec_capacity ways.new ≡ vec_capacity ways.old }
 {
     let count = ways.len();
-    let fold = fold_row(row(rows, words, count));
-    let place = find(rows, words, count, fold, folds, heads, next);
+    let folded = fold(0, row(rows, words, count));
+    let place = find(rows, words, count, folded, folds, heads, next);
     if place == count {
-        insert(count, fold, folds, heads, next);
+        insert(count, folded, folds, heads, next);
         ways.push_reserved(way);
     } else {
         better(ways.as_mut_slice(), place, way);

@@ -6,11 +6,11 @@
 #![tactic(auto)]
 
 mod extending;
-mod folding;
 mod joining;
 mod key;
 mod member;
 mod ordering;
+mod pruning;
 mod rows;
 mod table;
 mod way;
@@ -19,4 +19,5 @@ pub use extending::extend_layer;
 pub use key::Key;
 pub use member::Member;
 pub use ordering::put_in_order;
+pub use pruning::prune;
 pub use way::Way;

@@ -2,11 +2,19 @@
 
 ghost use Rattle.std.specs.Prelude.{◌≡◌, ◌≢◌, ℕ, ◌+◌, ◌*◌, ◌^◌, ◌<◌, ◌≤◌, ℤ, List, ◌↔◌, length, replicate, slice_index_or, IsTrue};
 ghost use Rattle.layer_candidates.specs.Rows.{row_at};
-ghost use Rattle.layer_candidates.specs.Folds.{fold_of};
-ghost use Rattle.layer_candidates.specs.Table.{IsTable, IsFound};
+ghost use Rattle.dp_model.specs.Folds.{fold_of};
+ghost use Rattle.layer_candidates.specs.Table.{slot_of, IsTable, IsFound};
 
-use crate::folding::slot;
 use crate::rows::{row, same_row};
+
+/// The slot of a fold among so many.
+fn slot(fold: u64, size: usize) -> usize
+    requires { 0 < size }
+    ensures slot { result ≡ slot_of fold size }
+    ensures within { result < size }
+{
+    fold as usize & (size - 1)
+}
 
 /// Takes all rows out.
 pub fn reset(heads: &mut [u32])
@@ -19,8 +27,8 @@ pub fn reset(heads: &mut [u32])
 fn is_at(rows: &[i64], words: usize, place: usize, new: &[i64], fold: u64, folds: &[u64]) -> bool
     requires within { place < length folds.now }
     requires room { place * words + words ≤ length rows.now }
-    requires folds { slice_index_or folds.now place 0 ≡ fold_of (row_at rows.now words place) }
-    requires fold { fold ≡ fold_of new.now }
+    requires folds { slice_index_or folds.now place 0 ≡ fold_of 0 (row_at rows.now words place) }
+    requires fold { fold ≡ fold_of 0 new.now }
     ensures { IsTrue result ↔ (row_at rows.now words place ≡ new.now) }
 {
     folds[place] == fold && same_row(row(rows, words, place), new)
@@ -38,7 +46,7 @@ pub fn find(
 ) -> usize
     requires table { IsTable rows.now words count folds.now heads.now next.now }
     requires room { count * words + words ≤ length rows.now }
-    requires fold { fold ≡ fold_of (row_at rows.now words count) }
+    requires fold { fold ≡ fold_of 0 (row_at rows.now words count) }
     ensures { IsFound rows.now words count result }
 {
     let new = row(rows, words, count);
@@ -59,7 +67,7 @@ pub fn insert(count: usize, fold: u64, folds: &mut [u64], heads: &mut [u32], nex
     requires folds { count < length folds.old }
     requires next { count < length next.old }
     requires heads { 0 < length heads.old }
-    ensures table { (rows : List ℤ) (words : ℕ) → IsTable rows words count folds.old heads.old next.old → count * words + words ≤ length rows → fold ≡ fold_of (row_at rows words count) → IsTable rows words (count + 1) folds.new heads.new next.new }
+    ensures table { (rows : List ℤ) (words : ℕ) → IsTable rows words count folds.old heads.old next.old → count * words + words ≤ length rows → fold ≡ fold_of 0 (row_at rows words count) → IsTable rows words (count + 1) folds.new heads.new next.new }
     ensures heads_len { length heads.new ≡ length heads.old }
 {
     let at = slot(fold, heads.len());

@@ -2,7 +2,7 @@ use Rattle.std.proofs.Common.{rules, ◌≡◌, ℕ, ◌+◌, ◌*◌, ◌≤◌
 use Rattle.dp_model.specs.Gaps.{IsStateOf}
 use Rattle.dp_model.specs.Laws.{IsLawful}
 use Rattle.dp_model.specs.Numbers.{IsSmall}
-use Rattle.dp_laws.specs.Extensions.{joined}
+use Rattle.dp_laws.specs.Restricted.Extensions.{joined}
 use Rattle.layer_candidates.specs.Rows.{row_at, with_row}
 use Rattle.layer_candidates.specs.Ways.{all_reached, IsWay, AreJoined}
 use Rattle.layer_candidates.proofs.Blocks.{here-with}

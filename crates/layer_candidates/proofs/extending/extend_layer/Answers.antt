@@ -35,6 +35,11 @@ extend_member-requires-clause-value g c κs within =
     let dp = g.M.DpModel.meaning (g.M.DpModel.numbers c.args.model.now) in
     (member-each dp c.args.k c.args.above.now c.args.words c.args.members.now c.members.i _ c.requires.members c.members-test.true).value
 
+pub extend_member-requires-clause-rank : goal.extend_member-requires-clause-rank
+extend_member-requires-clause-rank g c κs within =
+    let dp = g.M.DpModel.meaning (g.M.DpModel.numbers c.args.model.now) in
+    (member-each dp c.args.k c.args.above.now c.args.words c.args.members.now c.members.i _ c.requires.members c.members-test.true).rank ∙ ap (dp.rank c.args.k) (sym c.row-s.ensures)
+
 pub row-s-requires : goal.row-s-requires
 row-s-requires g c =
     let dp = g.M.DpModel.meaning (g.M.DpModel.numbers c.args.model.now) in

@@ -2,7 +2,7 @@ use Rattle.std.proofs.Common.{rules, ◌≡◌, ◌≢◌, ℕ, ◌+◌, ◌*◌
 use Rattle.std.proofs.lemmas.List.{with_items_is, length_push}
 use Rattle.layer_candidates.specs.declared.way.Way.{Way}
 use Rattle.layer_candidates.specs.Rows.{row_at}
-use Rattle.layer_candidates.specs.Folds.{fold_of}
+use Rattle.dp_model.specs.Folds.{fold_of}
 use Rattle.layer_candidates.specs.Table.{IsTable}
 use Rattle.layer_candidates.specs.Ways.{all_reached, bettered, AreApart, AreWays, AreJoined}
 use Rattle.layer_candidates.proofs.Joined.{pushed_list, pushed_apart, pushed_ways, bettered_list, bettered_ways, length-bettered, strict}
@@ -16,7 +16,7 @@ returns-then-place-count-clause-joined c = λ dp k j new.
     subst (λ (n : ℕ). (i : ℕ) → i < n → row_at a.rows.now a.words i ≢ row_at a.rows.now a.words n) size (c.find-place.ensures.none c.if-place-count.true) in
     let items : c.push_reserved.new.self.items ≡ a.ways.now.items ++ a.way ∷ [] = search rules in
     let longer : length (a.ways.now.items ++ a.way ∷ []) ≡ length a.ways.now.items + 1 = length_push a.ways.now.items a.way in
-    let folded = c.fold_row-fold.ensures ∙ ap fold_of c.row.ensures in
+    let folded = c.fold-folded.ensures ∙ ap (fold_of 0) c.row.ensures in
     let put = c.insert.ensures.table a.rows.now a.words (subst (λ (n : ℕ). IsTable a.rows.now a.words n a.folds.now a.heads.now a.next.now) (sym size) j.table) (subst (λ (n : ℕ). n * a.words + a.words ≤ length a.rows.now) (sym size) c.requires.room) folded in
     subst (λ l. AreJoined dp k a.rows.now a.words l c.insert.new.folds c.insert.new.heads c.insert.new.next) (sym items) (record {
       table = subst (λ (n : ℕ). IsTable a.rows.now a.words n c.insert.new.folds c.insert.new.heads c.insert.new.next) (ap (λ (n : ℕ). n + 1) size ∙ sym longer) put;

@@ -1,6 +1,6 @@
 use Rattle.std.proofs.Common.{◌≢◌, ℕ, ◌-◌, ◌<◌, length, sym, subst, ◌∙◌}
 use Rattle.layer_candidates.specs.Rows.{row_at}
-use Rattle.layer_candidates.specs.Folds.{slot_of}
+use Rattle.layer_candidates.specs.Table.{slot_of}
 use Rattle.layer_candidates.proofs.Tops.{search_starts, search_steps, search_smaller, true_false}
 use Rattle.layer_candidates.proofs.table.find.Goals as goal
 

@@ -1,5 +1,5 @@
 use Rattle.std.proofs.Common.{ℕ, ◌<◌, length, subst, add-one}
-use Rattle.layer_candidates.specs.Folds.{slot_of}
+use Rattle.layer_candidates.specs.Table.{slot_of}
 use Rattle.layer_candidates.proofs.Tops.{inserted}
 use Rattle.layer_candidates.proofs.table.insert.Goals as goal
 
