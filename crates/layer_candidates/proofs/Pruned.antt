@@ -33,7 +33,7 @@ module _ (dp : Dp) (k : ℕ) (rows : List ℤ) (words : ℕ) where
   pub led-keyed : (paths : ℕ → List ℕ) (ways : List Way) (leaders : List Key) (key : Key)
       → dominated dp k (all_keyed paths rows words ways leaders) (keyed paths rows words ways key) ≡ led_by dp k rows words leaders key
   led-keyed paths ways [] key = refl
-  led-keyed paths ways (a ∷ leaders) key = ap (λ b. _ || b) (led-keyed paths ways leaders key)
+  led-keyed paths ways (a ∷ leaders) key = ap (λ b. covers_at (dp.gap k (row_at rows words a.place) (row_at rows words key.place)) a.value key.value || b) (led-keyed paths ways leaders key)
 
   pub led-more : (leaders : List Key) (key : Key) (i : ℕ) (d : Key) → i < length leaders → led_by dp k rows words (drop i leaders) key
       ≡ (covers_at (dp.gap k (row_at rows words (get_or leaders i d).place) (row_at rows words key.place)) (get_or leaders i d).value key.value || led_by dp k rows words (drop (i + 1) leaders) key)
@@ -131,6 +131,9 @@ module _ (dp : Dp) (k : ℕ) (t : Option ℤ) (most : ℕ) (rows : List ℤ) (wo
         most_stay = omega arith;
       }
 
+  abbrev later : (ℕ → List ℕ) → List Way → List Reached
+  later paths ways = undominated dp k (all_keyed paths rows words ways (with_leader leaders key)) (unstruck dp k t (all_keyed paths rows words ways (drop (i + 1) keys)))
+
   -- there is one more than may stay
   pub pruned-full : is_out dp k t rows words leaders key ≡ false → length kept ≡ most → HasPruned dp k t most rows words keys kept true
   pruned-full out full = record {
@@ -147,11 +150,7 @@ module _ (dp : Dp) (k : ℕ) (t : Option ℤ) (most : ℕ) (rows : List ℤ) (wo
     most_stay = h.most_stay;
   }
     where
-      later : (ℕ → List ℕ) → List Way → List Reached
-      later paths ways = undominated dp k (all_keyed paths rows words ways (with_leader leaders key)) (unstruck dp k t (all_keyed paths rows words ways (drop (i + 1) keys)))
-
       whole : (paths : ℕ → List ℕ) (ways : List Way) → pruned dp k t (all_keyed paths rows words ways keys) ≡ all_keyed paths rows words ways kept ++ (keyed paths rows words ways key ∷ later paths ways)
-      unfolding later
       whole paths ways = sym (h.list paths ways) ∙ ap (λ l. all_keyed paths rows words ways kept ++ l) (left paths ways out)
 
       front : (f rs : List Reached) → length f ≡ most → take most (f ++ rs) ≡ f
@@ -188,3 +187,6 @@ pruned-end dp k t most rows words keys leaders kept i h end = record {
 
 pub pruned-none : (dp : Dp) (k : ℕ) (t : Option ℤ) (most : ℕ) (rows : List ℤ) (words : ℕ) (keys : List Key) → ArePruned dp k t most rows words keys [] [] 0
 pruned-none dp k t most rows words keys = record { list = λ paths ways. refl; leading = tt; within = tt; few = omega arith; most_stay = omega arith }
+
+pub strictly : (p n : ℕ) → p ≤ n → (p ≡ n → ⊥) → p < n
+strictly p n h k = grind arith
