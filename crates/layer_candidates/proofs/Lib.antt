@@ -4,3 +4,4 @@ pub mod Joined
 pub mod Extended
 pub mod Sorted
 pub mod Pruned
+pub mod Descended

@@ -5,3 +5,4 @@ pub mod Members
 pub mod Extending
 pub mod KeyOrder
 pub mod Pruning
+pub mod Steps
