@@ -93,8 +93,3 @@ length-entered n (k ∷ keys) = let e = length-entered (n + 1) keys in omega ari
 pub entered-within : (n m : ℕ) (keys : List Key) → n + length keys ≤ m → Each (IsReachedWithin m) (entered n keys)
 entered-within n m [] h = tt
 entered-within n m (k ∷ keys) h = (omega arith, entered-within (n + 1) m keys (omega arith))
-
-pub place-each : (n : ℕ) (keys : List Key) (i : ℕ) (d : Key) → Each (λ key. key.place < n) keys → i < length keys → (get_or keys i d).place < n
-place-each n [] i d h less = absurd (omega arith)
-place-each n (k ∷ keys) zero d h less = h.0
-place-each n (k ∷ keys) (suc i) d h less = place-each n keys i d h.1 (omega arith)

@@ -5,3 +5,4 @@ pub mod Extended
 pub mod Sorted
 pub mod Pruned
 pub mod Descended
+pub mod Layered

@@ -16,6 +16,11 @@ use Rattle.layer_candidates.specs.declared.way.Way.{Way}
 use Rattle.layer_candidates.specs.Rows.{row_at}
 use Rattle.layer_candidates.specs.Pruning.{keyed, all_keyed, IsKeyIn, led_by, struck, is_out, with_leader, ArePruned, HasPruned}
 
+pub place-each : (n : ℕ) (keys : List Key) (i : ℕ) (d : Key) → Each (λ key. key.place < n) keys → i < length keys → (get_or keys i d).place < n
+place-each n [] i d h less = absurd (omega arith)
+place-each n (k ∷ keys) zero d h less = h.0
+place-each n (k ∷ keys) (suc i) d h less = place-each n keys i d h.1 (omega arith)
+
 -- One leader.
 
 compared : (g a v : ℤ) → int_le g (a -ℤ v) ≡ int_le (v +ℤ g) a
@@ -101,6 +106,7 @@ module _ (dp : Dp) (k : ℕ) (t : Option ℤ) (most : ℕ) (rows : List ℤ) (wo
             ap (λ l. all_keyed paths rows words ways kept ++ l) (sym (ap (λ l. undominated dp k ls (unstruck dp k t l)) (next paths ways) ∙ gone)) ∙ h.list paths ways);
         leading = h.leading;
         within = h.within;
+        places = h.places;
         few = omega arith;
         most_stay = h.most_stay;
       }
@@ -127,6 +133,7 @@ module _ (dp : Dp) (k : ℕ) (t : Option ℤ) (most : ℕ) (rows : List ℤ) (wo
             ∙ (ap (λ l. all_keyed paths rows words ways kept ++ l) (sym (left paths ways out)) ∙ h.list paths ways)));
         leading = each-led dp k rows words leaders key h.leading one;
         within = Each-append (IsKeyIn dp k rows words) kept (key ∷ []) h.within (one, tt);
+        places = λ n all. Each-append (λ (x : Key). x.place < n) kept (key ∷ []) (h.places n all) (place-each n keys i d all less, tt);
         few = omega arith;
         most_stay = omega arith;
       }
@@ -146,6 +153,7 @@ module _ (dp : Dp) (k : ℕ) (t : Option ℤ) (most : ℕ) (rows : List ℤ) (wo
         let size : length f ≡ most = length-map kept (keyed paths rows words ways) ∙ full in
         sym (ap (λ l. nat_lt most (length l)) (whole paths ways) ∙ more f _ _ size));
     within = h.within;
+    places = h.places;
     few = (let low = h.few in omega arith);
     most_stay = h.most_stay;
   }
@@ -172,6 +180,7 @@ pruned-end dp k t most rows words keys leaders kept i h end = record {
       let size = length-map kept (keyed paths rows words ways) in let few = h.most_stay in
       fewer most (length f) (omega arith) ∙ ap (λ l. nat_lt most (length l)) (whole paths ways));
   within = h.within;
+  places = h.places;
   few = (let low = h.few in omega arith);
   most_stay = h.most_stay;
 }
@@ -186,7 +195,7 @@ pruned-end dp k t most rows words keys leaders kept i h end = record {
     fewer m n le = grind (arith, nat_tests)
 
 pub pruned-none : (dp : Dp) (k : ℕ) (t : Option ℤ) (most : ℕ) (rows : List ℤ) (words : ℕ) (keys : List Key) → ArePruned dp k t most rows words keys [] [] 0
-pruned-none dp k t most rows words keys = record { list = λ paths ways. refl; leading = tt; within = tt; few = omega arith; most_stay = omega arith }
+pruned-none dp k t most rows words keys = record { list = λ paths ways. refl; leading = tt; within = tt; places = λ n all. tt; few = omega arith; most_stay = omega arith }
 
 pub strictly : (p n : ℕ) → p ≤ n → (p ≡ n → ⊥) → p < n
 strictly p n h k = grind arith

@@ -6,3 +6,4 @@ pub mod Extending
 pub mod KeyOrder
 pub mod Pruning
 pub mod Steps
+pub mod Layering

@@ -1,5 +1,5 @@
 -- What is struck or dominated of the keys in order, and what stays.
-use Rattle.std.specs.Prelude.{◌≡◌, ℕ, ◌+◌, ◌*◌, ◌≤◌, nat_le, nat_lt, ℤ, Bool, false, cond, ◌||◌, List, [], ◌∷◌, ◌++◌, length, map, take, drop, Option}
+use Rattle.std.specs.Prelude.{◌≡◌, ℕ, ◌+◌, ◌*◌, ◌<◌, ◌≤◌, nat_le, nat_lt, ℤ, Bool, false, cond, ◌||◌, List, [], ◌∷◌, ◌++◌, length, map, take, drop, Option}
 use Rattle.dp_model.specs.Dp.{Dp}
 use Rattle.dp_model.specs.Gaps.{IsStateOf, covers_at, is_struck_by}
 use Rattle.dp_model.specs.Lists.{Each}
@@ -54,6 +54,7 @@ pub record ArePruned (dp : Dp) (k : ℕ) (t : Option ℤ) (most : ℕ) (rows : L
       ≡ pruned dp k t (all_keyed paths rows words ways keys)
   pub leading : Each (IsKeyIn dp k rows words) leaders
   pub within : Each (IsKeyIn dp k rows words) kept
+  pub places : (n : ℕ) → Each (λ key. key.place < n) keys → Each (λ key. key.place < n) kept
   pub few : length kept ≤ i
   pub most_stay : length kept ≤ most
 
@@ -62,5 +63,6 @@ pub record HasPruned (dp : Dp) (k : ℕ) (t : Option ℤ) (most : ℕ) (rows : L
   pub list : (paths : ℕ → List ℕ) (ways : List Way) → all_keyed paths rows words ways kept ≡ take most (pruned dp k t (all_keyed paths rows words ways keys))
   pub more_stay : (paths : ℕ → List ℕ) (ways : List Way) → more ≡ nat_lt most (length (pruned dp k t (all_keyed paths rows words ways keys)))
   pub within : Each (IsKeyIn dp k rows words) kept
+  pub places : (n : ℕ) → Each (λ key. key.place < n) keys → Each (λ key. key.place < n) kept
   pub few : length kept ≤ length keys
   pub most_stay : length kept ≤ most

@@ -5,6 +5,7 @@
 //! table of folds, and compared cell by cell. No call takes memory.
 #![tactic(auto)]
 
+mod candidates;
 mod descending;
 mod extending;
 mod joining;
@@ -17,11 +18,6 @@ mod step;
 mod table;
 mod way;
 
-pub use descending::descend;
-pub use extending::extend_layer;
-pub use key::Key;
+pub use candidates::Candidates;
 pub use member::Member;
-pub use ordering::put_in_order;
-pub use pruning::prune;
 pub use step::Step;
-pub use way::Way;
