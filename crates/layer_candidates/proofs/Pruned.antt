@@ -10,7 +10,7 @@ use Rattle.dp_model.specs.Lists.{Each}
 use Rattle.dp_model.specs.Reached.{Reached}
 use Rattle.dp_model.proofs.Members.{Each-append}
 use Rattle.dp_laws.specs.Restricted.Beam.{pruned}
-use Rattle.dp_laws.specs.Restricted.Leaders.{unstruck, dominated, led, undominated}
+use Rattle.dp_laws.specs.Restricted.Leaders.{unstruck, dominated, leaders_after, undominated}
 use Rattle.layer_candidates.specs.declared.key.Key.{Key}
 use Rattle.layer_candidates.specs.declared.way.Way.{Way}
 use Rattle.layer_candidates.specs.Rows.{row_at}
