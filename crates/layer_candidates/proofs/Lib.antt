@@ -6,3 +6,4 @@ pub mod Sorted
 pub mod Pruned
 pub mod Descended
 pub mod Layered
+pub mod Built

@@ -7,3 +7,4 @@ pub mod KeyOrder
 pub mod Pruning
 pub mod Steps
 pub mod Layering
+pub mod Beaming

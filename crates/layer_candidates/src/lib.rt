@@ -5,6 +5,7 @@
 //! table of folds, and compared cell by cell. No call takes memory.
 #![tactic(auto)]
 
+mod beam;
 mod candidates;
 mod descending;
 mod extending;
@@ -18,6 +19,7 @@ mod step;
 mod table;
 mod way;
 
+pub use beam::Beam;
 pub use candidates::Candidates;
 pub use member::Member;
 pub use step::Step;

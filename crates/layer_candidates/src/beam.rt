@@ -1,0 +1,107 @@
+ghost use Rattle.std.specs.Prelude.{◌≡◌, ◌+◌, ◌-◌, ◌*◌, ◌^◌, ◌<◌, ◌≤◌, length, nat_lt, false, vec_len, vec_capacity};
+ghost use Rattle.dp_model.specs.Lists.{Each};
+ghost use Rattle.dp_model.specs.Laws.{IsLawful};
+ghost use Rattle.dp_model.specs.Prefixes.{IsPrefix};
+ghost use Rattle.layer_candidates.specs.Beaming.{HasLayers, IsBuilt, IsNext, most_at, is_between};
+ghost use Rattle.layer_candidates.specs.Layering.{HasMemory};
+ghost use Rattle.layer_candidates.specs.Members.{IsMemberOf};
+ghost use Rattle.layer_candidates.specs.Steps.{IsReachedWithin};
+
+use crate::candidates::Candidates;
+use crate::member::Member;
+use crate::step::Step;
+use dp_model::DpModel;
+
+/// The newest layer of a restricted diagram, with the steps by which its members are reached.
+#[derive(Debug, Drop)]
+pub struct Beam {
+    words: usize,
+    // the rows of the layer that is made, and those of the newest one
+    rows: Vec<i64>,
+    above: Vec<i64>,
+    candidates: Candidates,
+    members: Vec<Member>,
+    steps: Vec<Step>,
+}
+
+/// Whether a layer that is made from the one at depth `k` is reduced to the width.
+fn is_between(k: usize, first: usize, vars: usize) -> bool
+    requires { k < vars }
+    ensures { result ≡ is_between k first vars }
+{
+    first < k && k + 1 < vars
+}
+
+/// How many members a layer keeps that is made from the one at depth `k`: of the last one only the first is wanted.
+fn most_at<M: DpModel>(model: &M, k: usize, first: usize, width: usize) -> usize
+    requires layer { k < (M.meaning (M.numbers model.now)).vars }
+    ensures { result ≡ most_at (M.meaning (M.numbers model.now)) k first width }
+{
+    if k + 1 == model.vars() {
+        1
+    } else if k == first {
+        model.choices(k) as usize
+    } else {
+        width
+    }
+}
+
+impl Beam {
+    /// Makes the layer below the one at depth `k`, as many of its first members as `most`.
+    fn descend<M: DpModel>(
+        &mut self,
+        model: &M,
+        k: usize,
+        threshold: Option<i64>,
+        most: usize,
+    ) -> bool
+        requires layer { k < (M.meaning (M.numbers model.now)).vars }
+        requires members { Each (IsMemberOf (M.meaning (M.numbers model.now)) k self.old.above.items self.old.words) self.old.members.items }
+        requires reached { Each (IsReachedWithin (length self.old.steps.items)) self.old.members.items }
+        requires words { self.old.words ≡ (M.meaning (M.numbers model.now)).words }
+        requires memory { HasMemory (length self.old.members.items * (M.meaning (M.numbers model.now)).choices k) self.old.candidates }
+        requires rows_room { length self.old.members.items * (M.meaning (M.numbers model.now)).choices k * self.old.words ≤ vec_len self.old.rows }
+        requires members_room { most ≤ vec_capacity self.old.members }
+        requires steps_room { length self.old.steps.items + most ≤ vec_capacity self.old.steps }
+        requires small { length self.old.steps.items + most < 2 ^ 32 }
+        ensures { IsNext (M.meaning (M.numbers model.now)) k threshold most self.old self.new result }
+    {
+        let more = self.candidates.next_layer(
+            model,
+            k,
+            threshold,
+            most,
+            self.above.as_slice(),
+            self.words,
+            self.rows.as_mut_slice(),
+            &mut self.members,
+            &mut self.steps,
+        );
+        std::mem::swap(&mut self.rows, &mut self.above);
+        more
+    }
+
+    /// Makes all layers below the prefix, whose own one stands there. Answers whether the width took something from one.
+    /// It takes no memory.
+    pub fn compile<M: DpModel>(
+        &mut self,
+        model: &M,
+        prefix: &[u32],
+        width: usize,
+        threshold: Option<i64>,
+    ) -> bool
+        requires prefix { IsPrefix (M.meaning (M.numbers model.now)) prefix.now }
+        requires start { IsBuilt (M.meaning (M.numbers model.now)) prefix.now width threshold (length prefix.now) self.old false }
+        ensures { IsBuilt (M.meaning (M.numbers model.now)) prefix.now width threshold (M.meaning (M.numbers model.now)).vars self.new result }
+    {
+        let first = prefix.len();
+        let vars = model.vars();
+        let mut reduced = false;
+        'layers: for k in first..vars {
+            let most = most_at(model, k, first, width);
+            let more = self.descend(model, k, threshold, most);
+            reduced = reduced || (more && is_between(k, first, vars));
+        }
+        reduced
+    }
+}
