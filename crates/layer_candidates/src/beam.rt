@@ -1,4 +1,4 @@
-ghost use Rattle.std.specs.Prelude.{◌≡◌, ◌+◌, ◌-◌, ◌*◌, ◌^◌, ◌<◌, ◌≤◌, length, nat_lt, false, vec_len, vec_capacity};
+ghost use Rattle.std.specs.Prelude.{◌≡◌, ◌&&◌, ◌||◌, ◌+◌, ◌-◌, ◌*◌, ◌^◌, ◌<◌, ◌≤◌, length, nat_lt, false, vec_len, vec_capacity};
 ghost use Rattle.dp_model.specs.Lists.{Each};
 ghost use Rattle.dp_model.specs.Laws.{IsLawful};
 ghost use Rattle.dp_model.specs.Prefixes.{IsPrefix};
@@ -30,6 +30,13 @@ fn is_between(k: usize, first: usize, vars: usize) -> bool
     ensures { result ≡ is_between k first vars }
 {
     first < k && k + 1 < vars
+}
+
+/// Whether the first holds, or the two others.
+fn or_both(first: bool, second: bool, third: bool) -> bool
+    ensures { result ≡ (first || (second && third)) }
+{
+    first || (second && third)
 }
 
 /// How many members a layer keeps that is made from the one at depth `k`: of the last one only the first is wanted.
@@ -91,6 +98,7 @@ impl Beam {
         threshold: Option<i64>,
     ) -> bool
         requires prefix { IsPrefix (M.meaning (M.numbers model.now)) prefix.now }
+        requires shorter { length prefix.now < (M.meaning (M.numbers model.now)).vars }
         requires start { IsBuilt (M.meaning (M.numbers model.now)) prefix.now width threshold (length prefix.now) self.old false }
         ensures { IsBuilt (M.meaning (M.numbers model.now)) prefix.now width threshold (M.meaning (M.numbers model.now)).vars self.new result }
     {
@@ -100,7 +108,7 @@ impl Beam {
         'layers: for k in first..vars {
             let most = most_at(model, k, first, width);
             let more = self.descend(model, k, threshold, most);
-            reduced = reduced || (more && is_between(k, first, vars));
+            reduced = or_both(reduced, more, is_between(k, first, vars));
         }
         reduced
     }
