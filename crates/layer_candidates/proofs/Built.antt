@@ -266,6 +266,7 @@ module _ (dp : Dp) (laws : IsLawful dp) (p : List ℕ) (w : ℕ) (t : Option ℤ
         list = listed ∙ ap (λ j. kept_at dp (k + 1) (layer_below dp (reached dp p) w t j)) (sym next);
         entered = n.entered;
         reached_by = n.reached_by;
+        backward = n.backward h.backward;
         one = λ e. absurd (omega arith);
         none = λ e. absurd (omega arith);
         second = λ e. (let small = choice.small (omega arith) in omega arith);

@@ -39,7 +39,10 @@ module _ (prefix : List ℕ) where
       let size = length-paths (prefix ∷ []) steps in
       ap (λ (l : List (List ℕ)). get_or l i []) (paths-both (prefix ∷ []) steps more) ∙ paths-stay (paths_after (prefix ∷ []) steps) more i (omega arith)
 
-  path-new : (steps : List Step) (s : Step) → path_at prefix (steps ++ s ∷ []) (length steps + 1) ≡ path_at prefix steps s.before ++ s.decision ∷ []
+  pub path-first : (steps : List Step) → path_at prefix steps 0 ≡ prefix
+  path-first steps = paths-stay (prefix ∷ []) steps 0 (omega arith)
+
+  pub path-new : (steps : List Step) (s : Step) → path_at prefix (steps ++ s ∷ []) (length steps + 1) ≡ path_at prefix steps s.before ++ s.decision ∷ []
   path-new steps s =
       let old = paths_after (prefix ∷ []) steps in
       let p = get_or old s.before [] ++ s.decision ∷ [] in

@@ -1,6 +1,8 @@
 -- A layer made from the one above it.
-use Rattle.std.proofs.Common.{◌≡◌, ◌≢◌, ℕ, zero, suc, ◌+◌, ◌*◌, ◌<◌, ◌≤◌, nat_le, ℤ, Bool, true, false, cond, List, [], ◌∷◌, ◌++◌, length, map, take, filter, Option, IsPermutation, IsSortedBy, inl, inr, mul-le-mul_right, refl, sym, ap, ap₂, subst, ◌∙◌, arith}
+use Rattle.std.proofs.Common.{◌≡◌, ◌≢◌, ℕ, zero, suc, ◌+◌, ◌*◌, ◌<◌, ◌≤◌, nat_le, ℤ, Bool, true, false, cond, List, [], ◌∷◌, ◌++◌, length, map, take, filter, Option, IsPermutation, IsSortedBy, append_assoc, ◌⊎◌, inl, inr, mul-le-mul_right, refl, sym, ap, ap₂, subst, ◌∙◌, arith}
 use Rattle.std.proofs.lemmas.Bool.Decides.{nat_tests}
+use Rattle.std.proofs.lemmas.List.{append-nil, length_push, get_or_append_left}
+use Rattle.std.proofs.Math.Seq.{get_or-append_seam}
 use Rattle.dp_model.specs.Decisions.{below}
 use Rattle.dp_model.specs.Dp.{Dp}
 use Rattle.dp_model.specs.Lists.{Each}
@@ -19,7 +21,7 @@ use Rattle.layer_candidates.specs.Layering.{IsEntered}
 use Rattle.layer_candidates.specs.Members.{member_as, members_as}
 use Rattle.layer_candidates.specs.Pruning.{keyed, all_keyed, IsKeyIn, HasPruned}
 use Rattle.layer_candidates.specs.Rows.{row_at}
-use Rattle.layer_candidates.specs.Steps.{path_at, step_of, entered, IsReachedWithin}
+use Rattle.layer_candidates.specs.Steps.{path_at, step_of, step_at, entered, AreBackward, IsReachedWithin}
 use Rattle.layer_candidates.specs.Table.{IsTable}
 use Rattle.layer_candidates.specs.Ways.{table, way_at, reached_at, all_reached, IsNearly, IsWay, AreWays, AreJoined}
 use Rattle.layer_candidates.proofs.Blocks.{row_before}
@@ -124,3 +126,23 @@ module _ (dp : Dp) (k : ℕ) (t : Option ℤ) (most : ℕ) (above : List ℤ) (w
       let parents = Each-then (λ (key : Key). key.place < length ways) (λ (key : Key). (way_at ways key.place).parent ≤ length steps) kept
       (λ key low. parents-within dp k (length steps) above words members rows ways reached list key.place low) kept-places in
       descended prefix rows words ways steps kept parents ∙ (done.list (paths_of prefix) ways ∙ ap (take most) (whole prefix))
+
+  parents-low : Each (λ key. (way_at ways key.place).parent ≤ length steps) kept
+  parents-low = Each-then (λ (key : Key). key.place < length ways) (λ (key : Key). (way_at ways key.place).parent ≤ length steps) kept
+      (λ key low. parents-within dp k (length steps) above words members rows ways reached list key.place low) kept-places
+
+  pub next-backward : AreBackward steps → AreBackward (steps ++ map (step_of ways) kept)
+  next-backward back = behind steps kept parents-low back
+    where
+      behind : (before : List Step) (keys : List Key) → Each (λ key. (way_at ways key.place).parent ≤ length before) keys → AreBackward before → AreBackward (before ++ map (step_of ways) keys)
+      behind before [] low back = subst AreBackward (sym (append-nil before)) back
+      behind before (key ∷ keys) low back =
+          let s = step_of ways key in
+          let longer : length (before ++ s ∷ []) ≡ length before + 1 = length_push before s in
+          subst AreBackward (append_assoc before (s ∷ []) (map (step_of ways) keys))
+          (behind (before ++ s ∷ []) keys (Each-then (λ (key : Key). (way_at ways key.place).parent ≤ length before) (λ (key : Key). (way_at ways key.place).parent ≤ length (before ++ s ∷ [])) keys (λ key le. omega arith) low.1)
+          (λ j less. one before s low.0 back j (last_or j (length before) (omega arith))))
+        where
+          one : (before : List Step) (s : Step) → s.before ≤ length before → AreBackward before → (j : ℕ) → (j ≡ length before) ⊎ (j < length before) → (step_at (before ++ s ∷ []) j).before ≤ j
+          one before s le back j (inl e) = subst (λ (i : ℕ). (step_at (before ++ s ∷ []) i).before ≤ i) (sym e) (subst (λ (x : Step). x.before ≤ length before) (sym (get_or-append_seam before s [] _)) le)
+          one before s le back j (inr less) = subst (λ (x : Step). x.before ≤ j) (sym (get_or_append_left before (s ∷ []) _ j less)) (back j less)

@@ -7,3 +7,4 @@ pub mod Pruned
 pub mod Descended
 pub mod Layered
 pub mod Built
+pub mod Walked

@@ -1,5 +1,5 @@
 -- A beam in memory, layer by layer.
-use Rattle.std.specs.Prelude.{◌≡◌, ℕ, zero, suc, ◌+◌, ◌-◌, ◌*◌, ◌^◌, ◌<◌, ◌≤◌, nat_lt, nat_eq, ℤ, Bool, ◌&&◌, cond, List, [], ◌∷◌, length, take, find, is_some, Option, vec_len, vec_capacity}
+use Rattle.std.specs.Prelude.{◌≡◌, ℕ, zero, suc, ◌+◌, ◌-◌, ◌*◌, ◌^◌, ◌<◌, ◌≤◌, nat_lt, nat_eq, ℤ, Bool, ◌&&◌, cond, List, [], ◌∷◌, length, take, find, is_some, Option, Some, None, vec_len, vec_capacity}
 use Rattle.dp_model.specs.Dp.{Dp}
 use Rattle.dp_model.specs.Decisions.{below}
 use Rattle.dp_model.specs.Lists.{Each}
@@ -8,7 +8,7 @@ use Rattle.dp_laws.specs.Restricted.Beam.{whole_layer, layer_below, is_too_wide}
 use Rattle.layer_candidates.specs.declared.beam.Beam.{Beam}
 use Rattle.layer_candidates.specs.Layering.{HasMemory, IsEntered}
 use Rattle.layer_candidates.specs.Members.{members_as}
-use Rattle.layer_candidates.specs.Steps.{path_at, IsReachedWithin}
+use Rattle.layer_candidates.specs.Steps.{path_at, AreBackward, IsReachedWithin}
 
 -- so many candidates are enough for each layer, and so many members
 pub record AreEnough (dp : Dp) (w room widest : ℕ) : Type 0 where
@@ -50,6 +50,7 @@ pub record IsBuilt (dp : Dp) (p : List ℕ) (w : ℕ) (t : Option ℤ) (k : ℕ)
   pub list : members_as (path_at p b.steps.items) b.above.items b.words b.members.items ≡ kept_at dp k (layer_below dp (reached dp p) w t (k - length p))
   pub entered : Each (IsEntered dp k b.above.items b.words) b.members.items
   pub reached_by : Each (IsReachedWithin (length b.steps.items)) b.members.items
+  pub backward : AreBackward b.steps.items
   pub one : k ≡ length p → length b.members.items ≡ 1
   pub none : k ≡ length p → length b.steps.items ≡ 0
   pub second : k ≡ length p + 1 → length b.members.items ≤ dp.choices (length p)
@@ -74,4 +75,12 @@ pub record IsNext (dp : Dp) (k : ℕ) (t : Option ℤ) (most : ℕ) (old new : B
   pub reached_by : Each (IsReachedWithin (length new.steps.items)) new.members.items
   pub few : length new.members.items ≤ most
   pub steps : length new.steps.items ≡ length old.steps.items + length new.members.items
+  pub backward : AreBackward old.steps.items → AreBackward new.steps.items
   pub has_room : (w : ℕ) → HasLayers dp w old → HasLayers dp w new
+
+-- the first of the members is the value with the decisions, and there is none where there is no member
+abbrev pub IsFirst : Option Reached → Option ℤ → List ℕ → Type 0
+IsFirst None None out = Unit {0}
+IsFirst None (Some v) out = ⊥
+IsFirst (Some r) None out = ⊥
+IsFirst (Some r) (Some v) out = (v ≡ r.value) × (out ≡ r.decisions)

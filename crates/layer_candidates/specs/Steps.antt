@@ -1,5 +1,5 @@
 -- The steps by which members are reached, and the paths that they make.
-use Rattle.std.specs.Prelude.{◌≡◌, ℕ, ◌+◌, ◌≤◌, List, [], ◌∷◌, ◌++◌, length, map, slice_index_or}
+use Rattle.std.specs.Prelude.{◌≡◌, ℕ, ◌+◌, ◌<◌, ◌≤◌, List, [], ◌∷◌, ◌++◌, length, map, slice_index_or}
 use Rattle.layer_candidates.specs.declared.key.Key.{Key}
 use Rattle.layer_candidates.specs.declared.member.Member.{Member}
 use Rattle.layer_candidates.specs.declared.step.Step.{Step}
@@ -27,3 +27,11 @@ entered n (key ∷ keys) = record { value = key.value; rank = key.rank; row = ke
 -- no member is reached by a step after the n-th
 abbrev pub IsReachedWithin : ℕ → Member → Type 0
 IsReachedWithin n m = m.step ≤ n
+
+-- the step at the place
+abbrev pub step_at : List Step → ℕ → Step
+step_at steps j = slice_index_or steps j (record { before = 0; decision = 0 })
+
+-- each step is behind an earlier one, or behind the prefix
+abbrev pub AreBackward : List Step → Type 0
+AreBackward steps = (j : ℕ) → j < length steps → (step_at steps j).before ≤ j

@@ -1,7 +1,7 @@
-ghost use Rattle.std.specs.Prelude.{◌≡◌, ◌&&◌, ◌||◌, ◌+◌, ◌-◌, ◌*◌, ◌^◌, ◌<◌, ◌≤◌, length, nat_lt, false, vec_len, vec_capacity};
+ghost use Rattle.std.specs.Prelude.{◌≡◌, ◌&&◌, ◌||◌, ◌+◌, ◌-◌, ◌*◌, ◌^◌, ◌<◌, ◌≤◌, ℕ, ℤ, Option, length, nat_lt, false, vec_len, vec_capacity};
 ghost use Rattle.dp_model.specs.Lists.{Each};
 ghost use Rattle.dp_model.specs.Laws.{IsLawful};
-ghost use Rattle.dp_model.specs.Prefixes.{IsPrefix};
+ghost use Rattle.dp_model.specs.Prefixes.{IsPrefix, state_of, value_of};
 ghost use Rattle.layer_candidates.specs.Beaming.{HasLayers, IsBuilt, IsNext, most_at, is_between};
 ghost use Rattle.layer_candidates.specs.Layering.{HasMemory};
 ghost use Rattle.layer_candidates.specs.Members.{IsMemberOf};
@@ -111,5 +111,29 @@ impl Beam {
             reduced = or_both(reduced, more, is_between(k, first, vars));
         }
         reduced
+    }
+
+    /// A layer with the prefix alone, whose state and value these are.
+    fn begin<M: DpModel>(&mut self, model: &M, prefix: &[u32], row: &[i64], value: i64)
+        requires prefix { IsPrefix (M.meaning (M.numbers model.now)) prefix.now }
+        requires shorter { length prefix.now < (M.meaning (M.numbers model.now)).vars }
+        requires row { row.now ≡ state_of (M.meaning (M.numbers model.now)) prefix.now }
+        requires value { value ≡ value_of (M.meaning (M.numbers model.now)) prefix.now }
+        requires words { self.old.words ≡ (M.meaning (M.numbers model.now)).words }
+        requires some_row { self.old.words ≤ vec_len self.old.above }
+        requires members_room { 1 ≤ vec_capacity self.old.members }
+        ensures { (w : ℕ) (t : Option ℤ) → HasLayers (M.meaning (M.numbers model.now)) w self.old → IsBuilt (M.meaning (M.numbers model.now)) prefix.now w t (length prefix.now) self.new false }
+    {
+        let words = self.words;
+        self.above[..words].copy_from_slice(row);
+        let rank = model.rank(prefix.len(), row);
+        self.steps.clear();
+        self.members.clear();
+        self.members.push_reserved(Member {
+            value,
+            rank,
+            row: 0,
+            step: 0,
+        });
     }
 }

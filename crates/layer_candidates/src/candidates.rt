@@ -3,7 +3,7 @@ ghost use Rattle.dp_model.specs.Lists.{Each};
 ghost use Rattle.dp_laws.specs.Restricted.Beam.{whole_layer};
 ghost use Rattle.layer_candidates.specs.Layering.{HasMemory, IsEntered};
 ghost use Rattle.layer_candidates.specs.Members.{members_as, IsMemberOf};
-ghost use Rattle.layer_candidates.specs.Steps.{path_at, IsReachedWithin};
+ghost use Rattle.layer_candidates.specs.Steps.{path_at, AreBackward, IsReachedWithin};
 
 use crate::descending::descend;
 use crate::extending::extend_layer;
@@ -76,6 +76,7 @@ impl Candidates {
         ensures reached { Each (IsReachedWithin (length steps.new.items)) members.new.items }
         ensures few { length members.new.items ≤ most }
         ensures steps { length steps.new.items ≡ length steps.old.items + length members.new.items }
+        ensures backward { AreBackward steps.old.items → AreBackward steps.new.items }
         ensures memory { (count : ℕ) → HasMemory count self.old → HasMemory count self.new }
         ensures members_capacity { vec_capacity members.new ≡ vec_capacity members.old }
         ensures steps_capacity { vec_capacity steps.new ≡ vec_capacity steps.old }

@@ -17,6 +17,7 @@ mod pruning;
 mod rows;
 mod step;
 mod table;
+mod walking;
 mod way;
 
 pub use beam::Beam;

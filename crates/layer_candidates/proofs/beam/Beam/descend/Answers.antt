@@ -27,6 +27,7 @@ returns g c =
       reached_by = n.ensures.reached;
       few = n.ensures.few;
       steps = n.ensures.steps;
+      backward = n.ensures.backward;
       has_room = λ w h. record {
         room = h.room;
         widest = h.widest;

@@ -9,9 +9,9 @@ use Rattle.layer_candidates.specs.KeyOrder.{keys_of}
 use Rattle.layer_candidates.specs.Layering.{IsEntered}
 use Rattle.layer_candidates.specs.Members.{members_as}
 use Rattle.layer_candidates.specs.Pruning.{IsKeyIn, HasPruned}
-use Rattle.layer_candidates.specs.Steps.{path_at, step_of, entered, IsReachedWithin}
+use Rattle.layer_candidates.specs.Steps.{path_at, step_of, entered, AreBackward, IsReachedWithin}
 use Rattle.layer_candidates.proofs.Descended.{length-entered, entered-within}
-use Rattle.layer_candidates.proofs.Layered.{key-in, layer-keys, whole, kept-places, next-list, entered-each}
+use Rattle.layer_candidates.proofs.Layered.{key-in, layer-keys, whole, kept-places, next-list, next-backward, entered-each}
 use Rattle.layer_candidates.proofs.Sorted.{keys-are, length-keys}
 use Rattle.layer_candidates.proofs.candidates.Candidates.next_layer.Goals as goal
 
@@ -171,3 +171,21 @@ returns-clause-steps g c =
     let count = ap length steps ∙ length-append a.steps.now.items (map (step_of ways) kept) in
     let same = length-map kept (step_of ways) in
     omega arith
+
+pub returns-clause-backward : goal.returns-clause-backward
+returns-clause-backward g c =
+    let dp = g.M.DpModel.meaning (g.M.DpModel.numbers c.args.model.now) in
+    let a = c.args in
+    let e = c.extend_layer in
+    let ways = e.new.ways.items in
+    let keys = c.put_in_order.new.keys.items in
+    let ways_are : c.as_slice-2.result.now ≡ ways = c.as_slice-2.ensures.value in
+    let keys_are : c.as_slice-3.result.now ≡ keys = c.as_slice-3.ensures.value in
+    let moved : IsPermutation (keys_of ways) keys = subst (λ l. IsPermutation (keys_of l) keys) ways_are c.put_in_order.ensures.all in
+    let kept = c.prune-more.new.kept.items in
+    let list = λ (paths : ℕ → List ℕ). e.ensures.list paths ∙ ap (λ l. all_joined [] (candidates dp a.k (members_as paths a.above.now a.words l))) c.as_slice.ensures.value in
+    let done : HasPruned dp (a.k + 1) a.threshold a.most e.new.rows a.words keys kept c.prune-more.result = subst (λ l. HasPruned dp (a.k + 1) a.threshold a.most e.new.rows a.words l kept c.prune-more.result) keys_are c.prune-more.ensures.pruned in
+    let kept_are : c.as_slice-5.result.now ≡ kept = c.as_slice-5.ensures.value in
+    let members : c.descend.new.members.items ≡ entered (length a.steps.now.items) kept = c.descend.ensures.members ∙ ap (entered (length a.steps.now.items)) kept_are in
+    let steps : c.descend.new.steps.items ≡ a.steps.now.items ++ map (step_of ways) kept = c.descend.ensures.steps ∙ ap₂ (λ (w : List Way) l. a.steps.now.items ++ map (step_of w) l) c.as_slice-4.ensures.value kept_are in
+    λ back. subst AreBackward (sym steps) (next-backward dp a.k a.threshold a.most a.above.now a.words a.members.now.items e.new.rows ways e.new.folds e.new.heads e.new.next keys kept a.steps.now.items c.prune-more.result e.ensures.joined list moved c.put_in_order.ensures.sorted done c.requires.reached back)
