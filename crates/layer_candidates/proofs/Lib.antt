@@ -8,3 +8,4 @@ pub mod Descended
 pub mod Layered
 pub mod Built
 pub mod Walked
+pub mod Started

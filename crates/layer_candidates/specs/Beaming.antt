@@ -84,3 +84,14 @@ IsFirst None None out = Unit {0}
 IsFirst None (Some v) out = ⊥
 IsFirst (Some r) None out = ⊥
 IsFirst (Some r) (Some v) out = (v ≡ r.value) × (out ≡ r.decisions)
+
+-- a beam has memory for so many candidates, members and steps, with rows of so many cells
+pub record HasMade (words room widest steps : ℕ) (b : Beam) : Type 0 where
+  pub words_are : b.words ≡ words
+  pub candidates : HasMemory room b.candidates
+  pub rows : room * b.words ≤ vec_len b.rows
+  pub above : room * b.words ≤ vec_len b.above
+  pub some_row : b.words ≤ vec_len b.above
+  pub other_row : b.words ≤ vec_len b.rows
+  pub members : widest ≤ vec_capacity b.members
+  pub steps_hold : steps ≤ vec_capacity b.steps

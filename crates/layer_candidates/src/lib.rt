@@ -20,7 +20,7 @@ mod table;
 mod walking;
 mod way;
 
-pub use beam::Beam;
+pub use beam::{Beam, Beamed};
 pub use candidates::Candidates;
 pub use member::Member;
 pub use step::Step;
