@@ -1,0 +1,11 @@
+pub mod Tops
+pub mod Blocks
+pub mod Joined
+pub mod Extended
+pub mod Sorted
+pub mod Pruned
+pub mod Descended
+pub mod Layered
+pub mod Built
+pub mod Walked
+pub mod Started

@@ -1,0 +1,151 @@
+-- The last place that passes, and the table.
+use Rattle.std.proofs.Common.{◌≡◌, ◌≢◌, ℕ, zero, suc, ◌+◌, ◌-◌, ◌*◌, ◌<◌, ◌≤◌, nat_eq, ℤ, Bool, true, false, List, length, get_or, set, refl, sym, ap, subst, ◌∙◌, ◌⊎◌, inl, inr, arith}
+use Rattle.std.proofs.Math.Nat.{suc-mul}
+use Rattle.std.proofs.lemmas.Bool.Decides.{nat_tests}
+use Rattle.std.proofs.lemmas.List.{get_or-set_same, get_or-set_other, length-set}
+use Rattle.layer_candidates.specs.Rows.{row_at}
+use Rattle.dp_model.specs.Folds.{fold_of}
+use Rattle.layer_candidates.specs.Table.{slot_of, top, has_slot, IsTable, IsFound, IsSearched}
+
+pub true_false : (b : Bool) → b ≡ true → b ≡ false → ⊥
+true_false b h k = let e : true ≡ false = sym h ∙ k in cc
+
+pub top_within : (p : ℕ → Bool) (n : ℕ) → top p n ≤ n
+top_within p zero = omega arith
+top_within p (suc n) = go (p n) refl (top_within p n)
+  where
+    go : (b : Bool) → p n ≡ b → top p n ≤ n → top p (suc n) ≤ suc n
+    go true e h = rw e (omega arith)
+    go false e h = rw e (omega arith)
+
+pub top_here : (p : ℕ → Bool) (n : ℕ) → 0 < top p n → p (top p n - 1) ≡ true
+top_here p zero h = absurd (omega arith)
+top_here p (suc n) h = go (p n) refl (top_here p n)
+  where
+    go : (b : Bool) → p n ≡ b → (0 < top p n → p (top p n - 1) ≡ true) → p (top p (suc n) - 1) ≡ true
+    go true e again = let one : suc n - 1 ≡ n = omega arith in rw (e, one) e
+    go false e again = let k : 0 < top p n = rw e at h in rw e (again k)
+
+last_or : (k n : ℕ) → k < suc n → (k ≡ n) ⊎ (k < n)
+last_or k n h = grind arith
+
+pub top_past : (p : ℕ → Bool) (n k : ℕ) → top p n ≤ k → k < n → p k ≡ false
+top_past p zero k h l = absurd (omega arith)
+top_past p (suc n) k h l = go (p n) refl (last_or k n l) (λ a b. top_past p n k a b)
+  where
+    go : (b : Bool) → p n ≡ b → (k ≡ n) ⊎ (k < n) → (top p n ≤ k → k < n → p k ≡ false) → p k ≡ false
+    go true e w again = let above : suc n ≤ k = rw e at h in absurd (omega arith)
+    go false e (inl same) again = ap p same ∙ e
+    go false e (inr less) again = again (rw e at h) less
+
+pub top_same : (p q : ℕ → Bool) (n : ℕ) → ((k : ℕ) → k < n → q k ≡ p k) → top q n ≡ top p n
+top_same p q zero same = refl
+top_same p q (suc n) same =
+    let e = same n (omega arith) in
+    let rest = top_same p q n (λ k h. same k (omega arith)) in
+    rw (e, rest) refl
+
+slot_true : (a b : ℕ) → nat_eq a b ≡ true → a ≡ b
+slot_true a b h = grind (arith, nat_tests)
+
+true_slot : (a b : ℕ) → a ≡ b → nat_eq a b ≡ true
+true_slot a b h = grind (arith, nat_tests)
+
+false_slot : (a b : ℕ) → a ≢ b → nat_eq a b ≡ false
+false_slot a b h = grind (arith, nat_tests)
+
+pub search_starts : (rows : List ℤ) (words count fold : ℕ) (folds heads next : List ℕ) → IsTable rows words count folds heads next → slot_of fold (length heads) < length heads
+    → IsSearched rows words count fold folds (length heads) (get_or heads (slot_of fold (length heads)) 0)
+search_starts rows words count fold folds heads next t less =
+    let slot = slot_of fold (length heads) in
+    let p = has_slot folds (length heads) slot in
+    rw (t.heads_are slot less) (record {
+      within = top_within p count;
+      here = top_here p count;
+      past = λ k a b passes same. true_false (p k) passes (top_past p count k a b);
+    })
+
+-- the next one of the chain
+pub next_is : (rows : List ℤ) (words count fold : ℕ) (folds heads next : List ℕ) (i : ℕ) → IsTable rows words count folds heads next → IsSearched rows words count fold folds (length heads) i → 0 < i
+    → get_or next (i - 1) 0 ≡ top (has_slot folds (length heads) (slot_of fold (length heads))) (i - 1)
+next_is rows words count fold folds heads next i t s positive =
+    let w = s.within in
+    let slot = slot_true (slot_of (get_or folds (i - 1) 0) (length heads)) (slot_of fold (length heads)) (s.here positive) in
+    t.next_are (i - 1) (omega arith) ∙ ap (λ (j : ℕ). top (has_slot folds (length heads) j) (i - 1)) slot
+
+either : (a b : ℕ) → (a ≡ b) ⊎ (a ≢ b)
+either a b = grind arith
+
+three : (k i : ℕ) → 0 < i → (k < i - 1) ⊎ ((k ≡ i - 1) ⊎ (i ≤ k))
+three k i h = grind arith
+
+pub search_steps : (rows : List ℤ) (words count fold : ℕ) (folds heads next : List ℕ) (i : ℕ) → IsTable rows words count folds heads next → IsSearched rows words count fold folds (length heads) i → 0 < i → row_at rows words (i - 1) ≢ row_at rows words count
+    → IsSearched rows words count fold folds (length heads) (get_or next (i - 1) 0)
+search_steps rows words count fold folds heads next i t s positive other =
+    let p = has_slot folds (length heads) (slot_of fold (length heads)) in
+    let w = s.within in
+    let few = top_within p (i - 1) in
+    rw (next_is rows words count fold folds heads next i t s positive) (record {
+      within = omega arith;
+      here = top_here p (i - 1);
+      past = λ k a b passes. go k a b passes (three k i positive);
+    })
+  where
+    go : (k : ℕ) → top (has_slot folds (length heads) (slot_of fold (length heads))) (i - 1) ≤ k → k < count → has_slot folds (length heads) (slot_of fold (length heads)) k ≡ true → (k < i - 1) ⊎ ((k ≡ i - 1) ⊎ (i ≤ k)) → row_at rows words k ≢ row_at rows words count
+    go k a b passes (inl less) = absurd (true_false (has_slot folds (length heads) (slot_of fold (length heads)) k) passes (top_past (has_slot folds (length heads) (slot_of fold (length heads))) (i - 1) k a less))
+    go k a b passes (inr (inl same)) = subst (λ (j : ℕ). row_at rows words j ≢ row_at rows words count) (sym same) other
+    go k a b passes (inr (inr above)) = s.past k above b passes
+
+pub search_smaller : (rows : List ℤ) (words count fold : ℕ) (folds heads next : List ℕ) (i : ℕ) → IsTable rows words count folds heads next → IsSearched rows words count fold folds (length heads) i → 0 < i → get_or next (i - 1) 0 < i
+search_smaller rows words count fold folds heads next i t s positive =
+    let e = next_is rows words count fold folds heads next i t s positive in
+    let few = top_within (has_slot folds (length heads) (slot_of fold (length heads))) (i - 1) in
+    omega arith
+
+-- a search that is over found none
+pub search_ends : (rows : List ℤ) (words count fold : ℕ) (folds heads next : List ℕ) → IsTable rows words count folds heads next → fold ≡ fold_of 0 (row_at rows words count) → IsSearched rows words count fold folds (length heads) 0 → IsFound rows words count count
+search_ends rows words count fold folds heads next t is s = record {
+  within = omega arith;
+  same = λ h. absurd (omega arith);
+  none = λ h k less same.
+      let folded : get_or folds k 0 ≡ fold = t.folds_are k less ∙ ap (fold_of 0) same ∙ sym is in
+      s.past k (omega arith) less (true_slot (slot_of (get_or folds k 0) (length heads)) (slot_of fold (length heads)) (ap (λ (j : ℕ). slot_of j (length heads)) folded)) same;
+}
+
+pub inserted : (rows : List ℤ) (words count fold : ℕ) (folds heads next : List ℕ) → IsTable rows words count folds heads next → count * words + words ≤ length rows → count < length folds → count < length next → slot_of fold (length heads) < length heads → fold ≡ fold_of 0 (row_at rows words count)
+    → IsTable rows words (suc count) (set folds count fold) (set heads (slot_of fold (length heads)) (suc count)) (set next count (get_or heads (slot_of fold (length heads)) 0))
+inserted rows words count fold folds heads next t room in_folds in_next less is =
+    let size = length heads in
+    let at = slot_of fold size in
+    let same : length (set heads at (suc count)) ≡ size = length-set heads at (suc count) in
+    record {
+      room = let e = suc-mul count words in omega arith;
+      folds_size = let e = length-set folds count fold in omega arith;
+      next_size = let e = length-set next count (get_or heads at 0) in omega arith;
+      some = let e = t.some in omega arith;
+      folds_are = λ k h. folded k (last_or k count h);
+      heads_are = λ slot h. subst (λ (j : ℕ). get_or (set heads at (suc count)) slot 0 ≡ top (has_slot (set folds count fold) j slot) (suc count)) (sym same) (head slot (subst (λ (j : ℕ). slot < j) same h) (either slot at));
+      next_are = λ k h. subst (λ (j : ℕ). get_or (set next count (get_or heads at 0)) k 0 ≡ top (has_slot (set folds count fold) j (slot_of (get_or (set folds count fold) k 0) j)) k) (sym same) (nexted k (last_or k count h));
+    }
+  where
+    folded : (k : ℕ) → (k ≡ count) ⊎ (k < count) → get_or (set folds count fold) k 0 ≡ fold_of 0 (row_at rows words k)
+    folded k (inl e) = rw e (get_or-set_same folds count fold 0 in_folds ∙ is)
+    folded k (inr l) = get_or-set_other folds count k fold 0 (λ e. omega arith) ∙ t.folds_are k l
+
+    tops2 : (slot n : ℕ) → n ≤ count → top (has_slot (set folds count fold) (length heads) slot) n ≡ top (has_slot folds (length heads) slot) n
+    tops2 slot n le = top_same (has_slot folds (length heads) slot) (has_slot (set folds count fold) (length heads) slot) n (λ k h. ap (λ (f : ℕ). nat_eq (slot_of f (length heads)) slot) (get_or-set_other folds count k fold 0 (λ e. omega arith)))
+
+    head : (slot : ℕ) → slot < length heads → (slot ≡ slot_of fold (length heads)) ⊎ (slot ≢ slot_of fold (length heads)) → get_or (set heads (slot_of fold (length heads)) (suc count)) slot 0 ≡ top (has_slot (set folds count fold) (length heads) slot) (suc count)
+    head slot h (inl e) =
+        let here : has_slot (set folds count fold) (length heads) slot count ≡ true = true_slot (slot_of (get_or (set folds count fold) count 0) (length heads)) slot (ap (λ (f : ℕ). slot_of f (length heads)) (get_or-set_same folds count fold 0 in_folds) ∙ sym e) in
+        rw here (rw e (get_or-set_same heads (slot_of fold (length heads)) (suc count) 0 less))
+    head slot h (inr n) =
+        let here : has_slot (set folds count fold) (length heads) slot count ≡ false = false_slot (slot_of (get_or (set folds count fold) count 0) (length heads)) slot (λ e. n (sym e ∙ ap (λ (f : ℕ). slot_of f (length heads)) (get_or-set_same folds count fold 0 in_folds))) in
+        rw here (get_or-set_other heads (slot_of fold (length heads)) slot (suc count) 0 n ∙ t.heads_are slot h ∙ sym (tops2 slot count (omega arith)))
+
+    nexted : (k : ℕ) → (k ≡ count) ⊎ (k < count) → get_or (set next count (get_or heads (slot_of fold (length heads)) 0)) k 0 ≡ top (has_slot (set folds count fold) (length heads) (slot_of (get_or (set folds count fold) k 0) (length heads))) k
+    nexted k (inl e) =
+        rw (e, get_or-set_same folds count fold 0 in_folds) (get_or-set_same next count (get_or heads (slot_of fold (length heads)) 0) 0 in_next ∙ t.heads_are (slot_of fold (length heads)) less ∙ sym (tops2 (slot_of fold (length heads)) count (omega arith)))
+    nexted k (inr l) =
+        let old : get_or (set folds count fold) k 0 ≡ get_or folds k 0 = get_or-set_other folds count k fold 0 (λ e. omega arith) in
+        rw old (get_or-set_other next count k (get_or heads (slot_of fold (length heads)) 0) 0 (λ e. omega arith) ∙ t.next_are k l ∙ sym (tops2 (slot_of (get_or folds k 0) (length heads)) k (omega arith)))

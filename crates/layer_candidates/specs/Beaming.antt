@@ -1,0 +1,97 @@
+-- A beam in memory, layer by layer.
+use Rattle.std.specs.Prelude.{◌≡◌, ℕ, zero, suc, ◌+◌, ◌-◌, ◌*◌, ◌^◌, ◌<◌, ◌≤◌, nat_lt, nat_eq, ℤ, Bool, ◌&&◌, cond, List, [], ◌∷◌, length, take, find, is_some, Option, Some, None, vec_len, vec_capacity}
+use Rattle.dp_model.specs.Dp.{Dp}
+use Rattle.dp_model.specs.Decisions.{below}
+use Rattle.dp_model.specs.Lists.{Each}
+use Rattle.dp_model.specs.Reached.{Reached, reached}
+use Rattle.dp_laws.specs.Restricted.Beam.{whole_layer, layer_below, is_too_wide}
+use Rattle.layer_candidates.specs.declared.beam.Beam.{Beam}
+use Rattle.layer_candidates.specs.Layering.{HasMemory, IsEntered}
+use Rattle.layer_candidates.specs.Members.{members_as}
+use Rattle.layer_candidates.specs.Steps.{path_at, AreBackward, IsReachedWithin}
+
+-- so many candidates are enough for each layer, and so many members
+pub record AreEnough (dp : Dp) (w room widest : ℕ) : Type 0 where
+  pub first : (k : ℕ) → k < dp.vars → dp.choices k ≤ room
+  pub second : (k : ℕ) → k + 1 < dp.vars → dp.choices k * dp.choices (k + 1) ≤ room
+  pub later : (k : ℕ) → k < dp.vars → w * dp.choices k ≤ room
+  pub one : 1 ≤ widest
+  pub choices : (k : ℕ) → k < dp.vars → dp.choices k ≤ widest
+  pub width : w ≤ widest
+
+-- there is memory for all layers of the width
+pub record HasLayers (dp : Dp) (w : ℕ) (b : Beam) : Type 0 where
+  pub room : ℕ
+  pub widest : ℕ
+  pub enough : AreEnough dp w room widest
+  pub positive : 1 ≤ w
+  pub words : b.words ≡ dp.words
+  pub candidates : HasMemory room b.candidates
+  pub rows : room * b.words ≤ vec_len b.rows
+  pub above : room * b.words ≤ vec_len b.above
+  pub some_row : b.words ≤ vec_len b.above
+  pub other_row : b.words ≤ vec_len b.rows
+  pub members : widest ≤ vec_capacity b.members
+  pub steps : widest + dp.vars * w ≤ vec_capacity b.steps
+  pub small : widest + dp.vars * w < 2 ^ 32
+
+-- the members of the last layer of all are the first one alone
+abbrev pub kept_at : Dp → ℕ → List Reached → List Reached
+kept_at dp k layer = cond (nat_lt k dp.vars) layer (take 1 layer)
+
+-- whether the width took something from the layers so far
+abbrev pub took : Dp → List ℕ → ℕ → Option ℤ → ℕ → Bool
+took dp p w t m = is_some (find (is_too_wide dp (reached dp p) w t) (below (suc m)))
+
+-- the members in memory are those of the layer at depth k below the prefix p, for the width w and the threshold t
+pub record IsBuilt (dp : Dp) (p : List ℕ) (w : ℕ) (t : Option ℤ) (k : ℕ) (b : Beam) (reduced : Bool) : Type 0 where
+  pub has_room : HasLayers dp w b
+  pub deep : length p ≤ k
+  pub list : members_as (path_at p b.steps.items) b.above.items b.words b.members.items ≡ kept_at dp k (layer_below dp (reached dp p) w t (k - length p))
+  pub entered : Each (IsEntered dp k b.above.items b.words) b.members.items
+  pub reached_by : Each (IsReachedWithin (length b.steps.items)) b.members.items
+  pub backward : AreBackward b.steps.items
+  pub one : k ≡ length p → length b.members.items ≡ 1
+  pub none : k ≡ length p → length b.steps.items ≡ 0
+  pub second : k ≡ length p + 1 → length b.members.items ≤ dp.choices (length p)
+  pub later : length p + 1 < k → length b.members.items ≤ w
+  pub few : length p < k → length b.steps.items ≤ dp.choices (length p) + (k - length p) * w
+  pub reduced_is : reduced ≡ took dp p w t (k - length p)
+
+-- how many members a layer keeps that is made from the one at depth k
+abbrev pub most_at : Dp → ℕ → ℕ → ℕ → ℕ
+most_at dp k first w = cond (nat_eq (k + 1) dp.vars) 1 (cond (nat_eq k first) (dp.choices k) w)
+
+-- whether a layer that is made from the one at depth k is reduced to the width
+abbrev pub is_between : ℕ → ℕ → ℕ → Bool
+is_between k first vars = nat_lt first k && nat_lt (k + 1) vars
+
+-- the layer below was made: as many of its first members as `most`
+pub record IsNext (dp : Dp) (k : ℕ) (t : Option ℤ) (most : ℕ) (old new : Beam) (more : Bool) : Type 0 where
+  pub list : (p : List ℕ) → members_as (path_at p new.steps.items) new.above.items new.words new.members.items
+      ≡ take most (whole_layer dp k t (members_as (path_at p old.steps.items) old.above.items old.words old.members.items))
+  pub more_stay : (p : List ℕ) → more ≡ nat_lt most (length (whole_layer dp k t (members_as (path_at p old.steps.items) old.above.items old.words old.members.items)))
+  pub entered : Each (IsEntered dp (k + 1) new.above.items new.words) new.members.items
+  pub reached_by : Each (IsReachedWithin (length new.steps.items)) new.members.items
+  pub few : length new.members.items ≤ most
+  pub steps : length new.steps.items ≡ length old.steps.items + length new.members.items
+  pub backward : AreBackward old.steps.items → AreBackward new.steps.items
+  pub has_room : (w : ℕ) → HasLayers dp w old → HasLayers dp w new
+
+-- the first of the members is the value with the decisions, and there is none where there is no member
+abbrev pub IsFirst : Option Reached → Option ℤ → List ℕ → Type 0
+IsFirst None None out = Unit {0}
+IsFirst None (Some v) out = ⊥
+IsFirst (Some r) None out = ⊥
+IsFirst (Some r) (Some v) out = (v ≡ r.value) × (out ≡ r.decisions)
+
+-- a beam has memory for so many candidates, members and steps, with rows of so many cells
+pub record HasMade (words room widest steps : ℕ) (b : Beam) : Type 0 where
+  pub words_are : b.words ≡ words
+  pub candidates : HasMemory room b.candidates
+  pub rows : room * b.words ≤ vec_len b.rows
+  pub above : room * b.words ≤ vec_len b.above
+  pub some_row : b.words ≤ vec_len b.above
+  pub other_row : b.words ≤ vec_len b.rows
+  pub members : widest ≤ vec_capacity b.members
+  pub steps_hold : steps ≤ vec_capacity b.steps

@@ -1,0 +1,64 @@
+-- The ways to the states of a layer: of each state the best candidate.
+use Rattle.std.specs.Prelude.{◌≡◌, ◌≢◌, ℕ, zero, suc, ◌+◌, ◌^◌, ◌<◌, ◌≤◌, ℤ, pos, ◌≤ℤ◌, int_lt, cond, set, List, [], ◌∷◌, ◌++◌, length, slice_index_or}
+use lib.IntN.{neg_ℤ}
+use Rattle.dp_model.specs.Dp.{Dp}
+use Rattle.dp_model.specs.Gaps.{IsStateOf}
+use Rattle.dp_model.specs.Reached.{Reached}
+use Rattle.layer_candidates.specs.declared.way.Way.{Way}
+use Rattle.layer_candidates.specs.Rows.{row_at}
+use Rattle.layer_candidates.specs.Table.{IsTable}
+
+-- the values of the numbers below n, in order
+abbrev pub table : {X : Type 0} → (ℕ → X) → ℕ → List X
+table f zero = []
+table f (suc n) = table f n ++ f n ∷ []
+
+-- the way at the place
+abbrev pub way_at : List Way → ℕ → Way
+way_at ways i = slice_index_or ways i (record { value = pos 0; rank = pos 0; parent = 0; decision = 0 })
+
+-- the prefix that a way with a row stands for, where the layer above has these paths
+abbrev pub reached_by : (ℕ → List ℕ) → List ℤ → Way → Reached
+reached_by paths row way = record { decisions = paths way.parent ++ way.decision ∷ []; row = row; value = way.value }
+
+-- the prefix that the way at the place stands for
+abbrev pub reached_at : (ℕ → List ℕ) → List ℤ → ℕ → List Way → ℕ → Reached
+reached_at paths rows words ways i = reached_by paths (row_at rows words i) (way_at ways i)
+
+-- all of them
+abbrev pub all_reached : (ℕ → List ℕ) → List ℤ → ℕ → List Way → List Reached
+all_reached paths rows words ways = table (reached_at paths rows words ways) (length ways)
+
+-- the ways with a new one at the place where its value is greater
+abbrev pub bettered : List Way → ℕ → Way → List Way
+bettered ways place way = cond (int_lt (way_at ways place).value way.value) (set ways place way) ways
+
+-- at most 2^61 in size
+pub record IsNear (z : ℤ) : Type 0 where
+  pub low : neg_ℤ (pos (2 ^ 61)) ≤ℤ z
+  pub high : z ≤ℤ pos (2 ^ 61)
+
+-- and by a gain more
+pub record IsNearly (z : ℤ) : Type 0 where
+  pub low : neg_ℤ (pos (2 ^ 61 + 2 ^ 50)) ≤ℤ z
+  pub high : z ≤ℤ pos (2 ^ 61 + 2 ^ 50)
+
+-- a way leads to a state of the layer at depth k, with its rank and a value that leaves room for gaps and rough bounds
+pub record IsWay (dp : Dp) (k : ℕ) (row : List ℤ) (way : Way) : Type 0 where
+  pub state : IsStateOf dp k row
+  pub rank : way.rank ≡ dp.rank k row
+  pub value : IsNearly way.value
+
+-- no two rows are the same
+abbrev pub AreApart : List ℤ → ℕ → ℕ → Type 0
+AreApart rows words count = (j k : ℕ) → j < k → k < count → row_at rows words j ≢ row_at rows words k
+
+-- each way leads to a state of the layer at depth k
+abbrev pub AreWays : Dp → ℕ → List ℤ → ℕ → List Way → Type 0
+AreWays dp k rows words ways = (i : ℕ) → i < length ways → IsWay dp k (row_at rows words i) (way_at ways i)
+
+-- the ways lead to different states, which the table has
+pub record AreJoined (dp : Dp) (k : ℕ) (rows : List ℤ) (words : ℕ) (ways : List Way) (folds heads next : List ℕ) : Type 0 where
+  pub table : IsTable rows words (length ways) folds heads next
+  pub apart : AreApart rows words (length ways)
+  pub good : AreWays dp k rows words ways

@@ -1,0 +1,111 @@
+ghost use Rattle.std.specs.Prelude.{◌≡◌, ℕ, ◌+◌, ◌*◌, ◌<◌, ◌≤◌, ◌^◌, nat_lt, List, IfOk, length, take, vec_capacity};
+ghost use Rattle.dp_model.specs.Lists.{Each};
+ghost use Rattle.dp_laws.specs.Restricted.Beam.{whole_layer};
+ghost use Rattle.layer_candidates.specs.Layering.{HasMemory, IsEntered};
+ghost use Rattle.layer_candidates.specs.Members.{members_as, IsMemberOf};
+ghost use Rattle.layer_candidates.specs.Steps.{path_at, AreBackward, IsReachedWithin};
+
+use crate::descending::descend;
+use crate::extending::extend_layer;
+use crate::key::Key;
+use crate::member::Member;
+use crate::ordering::put_in_order;
+use crate::pruning::{MOST_LEADERS, prune};
+use crate::step::Step;
+use crate::way::Way;
+use dp_model::{DpModel, OutOfMemory};
+use std::alloc::Global;
+
+/// The memory in which a layer is made. All of it is made once and used again.
+#[derive(Debug, Drop)]
+pub struct Candidates {
+    ways: Vec<Way>,
+    folds: Vec<u64>,
+    heads: Vec<u32>,
+    next: Vec<u32>,
+    keys: Vec<Key>,
+    leaders: Vec<Key>,
+    kept: Vec<Key>,
+}
+
+impl Candidates {
+    /// Memory for so many candidates.
+    pub fn prepare(alloc: Global, room: usize) -> Result<Candidates, OutOfMemory>
+        requires { room + 1 < 2 ^ 32 }
+        ensures { IfOk result (λ c. HasMemory room c) }
+    {
+        let slots = (2 * room + 1).next_power_of_two();
+        Ok(Candidates {
+            ways: Vec::with_capacity(alloc, room)?,
+            folds: vec![in alloc; 0u64; room]?,
+            heads: vec![in alloc; 0u32; slots]?,
+            next: vec![in alloc; 0u32; room]?,
+            keys: Vec::with_capacity(alloc, room)?,
+            leaders: Vec::with_capacity(alloc, MOST_LEADERS)?,
+            kept: Vec::with_capacity(alloc, room)?,
+        })
+    }
+
+    /// Makes the layer below the one at depth `k`, as many of its first members as `most`: the members are exchanged, whose
+    /// rows stood in `above` and stand in `rows` now, and each new one has a step of its own. Answers whether there are more.
+    /// It takes no memory.
+    pub fn next_layer<M: DpModel>(
+        &mut self,
+        model: &M,
+        k: usize,
+        threshold: Option<i64>,
+        most: usize,
+        above: &[i64],
+        words: usize,
+        rows: &mut [i64],
+        members: &mut Vec<Member>,
+        steps: &mut Vec<Step>,
+    ) -> bool
+        requires layer { k < (M.meaning (M.numbers model.now)).vars }
+        requires words { words ≡ (M.meaning (M.numbers model.now)).words }
+        requires members { Each (IsMemberOf (M.meaning (M.numbers model.now)) k above.now words) members.old.items }
+        requires reached { Each (IsReachedWithin (length steps.old.items)) members.old.items }
+        requires memory { HasMemory (length members.old.items * (M.meaning (M.numbers model.now)).choices k) self.old }
+        requires rows_room { length members.old.items * (M.meaning (M.numbers model.now)).choices k * words ≤ length rows.old }
+        requires members_room { most ≤ vec_capacity members.old }
+        requires steps_room { length steps.old.items + most ≤ vec_capacity steps.old }
+        requires small { length steps.old.items + most < 2 ^ 32 }
+        ensures list { (prefix : List ℕ) → members_as (path_at prefix steps.new.items) rows.new words members.new.items ≡ take most (whole_layer (M.meaning (M.numbers model.now)) k threshold (members_as (path_at prefix steps.old.items) above.now words members.old.items)) }
+        ensures more { (prefix : List ℕ) → result ≡ nat_lt most (length (whole_layer (M.meaning (M.numbers model.now)) k threshold (members_as (path_at prefix steps.old.items) above.now words members.old.items))) }
+        ensures entered { Each (IsEntered (M.meaning (M.numbers model.now)) (k + 1) rows.new words) members.new.items }
+        ensures reached { Each (IsReachedWithin (length steps.new.items)) members.new.items }
+        ensures few { length members.new.items ≤ most }
+        ensures steps { length steps.new.items ≡ length steps.old.items + length members.new.items }
+        ensures backward { AreBackward steps.old.items → AreBackward steps.new.items }
+        ensures memory { (count : ℕ) → HasMemory count self.old → HasMemory count self.new }
+        ensures members_capacity { vec_capacity members.new ≡ vec_capacity members.old }
+        ensures steps_capacity { vec_capacity steps.new ≡ vec_capacity steps.old }
+    {
+        extend_layer(
+            model,
+            k,
+            members.as_slice(),
+            above,
+            words,
+            rows,
+            &mut self.ways,
+            self.folds.as_mut_slice(),
+            self.heads.as_mut_slice(),
+            self.next.as_mut_slice(),
+        );
+        put_in_order(rows, words, self.ways.as_slice(), &mut self.keys);
+        let more = prune(
+            model,
+            k + 1,
+            threshold,
+            most,
+            rows,
+            words,
+            self.keys.as_slice(),
+            &mut self.leaders,
+            &mut self.kept,
+        );
+        descend(self.ways.as_slice(), self.kept.as_slice(), members, steps);
+        more
+    }
+}

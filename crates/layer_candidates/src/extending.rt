@@ -1,0 +1,156 @@
+//! The members of a layer are extended by each allowed decision, and of each state the best way is kept.
+
+ghost use Rattle.std.specs.Prelude.{◌≡◌, ℕ, ◌+◌, ◌*◌, ◌<◌, ◌≤◌, ◌+ℤ◌, [], List, length, vec_capacity, IsTrue};
+ghost use Rattle.dp_model.specs.Dp.{IsAllowed};
+ghost use Rattle.dp_model.specs.Gaps.{IsStateOf};
+ghost use Rattle.dp_model.specs.Lists.{Each};
+ghost use Rattle.dp_model.specs.Numbers.{IsSmall};
+ghost use Rattle.dp_laws.specs.Restricted.Extensions.{extended, candidates, joined, all_joined};
+ghost use Rattle.layer_candidates.specs.Rows.{row_at, with_row};
+ghost use Rattle.layer_candidates.specs.Ways.{all_reached, IsNear, IsNearly, AreJoined};
+ghost use Rattle.layer_candidates.specs.Members.{members_as, IsMemberOf};
+ghost use Rattle.layer_candidates.specs.Extending.{HasRoom, parent_as, HasExtended};
+
+use crate::joining::take_in;
+use crate::member::Member;
+use crate::rows::row;
+use crate::table::reset;
+use crate::way::Way;
+use dp_model::{DpModel, Extended};
+
+/// Writes the state that an allowed decision makes, from the place of its first cell on.
+fn write_state<M: DpModel>(
+    model: &M,
+    k: usize,
+    s: &[i64],
+    rank: i64,
+    decision: u32,
+    rows: &mut [i64],
+    at: usize,
+) -> Extended
+    requires cells { length s.now ≡ (M.meaning (M.numbers model.now)).words }
+    requires state { IsTrue ((M.meaning (M.numbers model.now)).is_state k s.now) }
+    requires rank { rank ≡ (M.meaning (M.numbers model.now)).rank k s.now }
+    requires allowed { IsAllowed (M.meaning (M.numbers model.now)) k s.now decision }
+    requires room { at + length s.now ≤ length rows.old }
+    ensures rows { rows.new ≡ with_row rows.old at ((M.meaning (M.numbers model.now)).step k s.now decision) }
+    ensures gain { result.gain ≡ (M.meaning (M.numbers model.now)).gain k s.now decision }
+    ensures rank { result.rank ≡ (M.meaning (M.numbers model.now)).rank (k + 1) ((M.meaning (M.numbers model.now)).step k s.now decision) }
+{
+    let words = s.len();
+    model.extend(k, s, rank, decision, &mut rows[at..at + words])
+}
+
+/// The way from a parent by a decision.
+fn way_of(parent: Member, gained: Extended, decision: u32) -> Way
+    requires near { IsNear parent.value }
+    requires small { IsSmall gained.gain }
+    ensures value { result.value ≡ (parent.value +ℤ gained.gain) }
+    ensures rank { result.rank ≡ gained.rank }
+    ensures parent { result.parent ≡ parent.step }
+    ensures decision { result.decision ≡ decision }
+{
+    Way {
+        value: parent.value + gained.gain,
+        rank: gained.rank,
+        parent: parent.step,
+        decision,
+    }
+}
+
+/// Takes in the way by an allowed decision.
+fn extend_by<M: DpModel>(
+    model: &M,
+    k: usize,
+    parent: Member,
+    s: &[i64],
+    decision: u32,
+    rows: &mut [i64],
+    ways: &mut Vec<Way>,
+    folds: &mut [u64],
+    heads: &mut [u32],
+    next: &mut [u32],
+)
+    requires state { IsTrue ((M.meaning (M.numbers model.now)).is_state k s.now) }
+    requires cells { length s.now ≡ (M.meaning (M.numbers model.now)).words }
+    requires value { IsNear parent.value }
+    requires rank { parent.rank ≡ (M.meaning (M.numbers model.now)).rank k s.now }
+    requires allowed { IsAllowed (M.meaning (M.numbers model.now)) k s.now decision }
+    requires joined { AreJoined (M.meaning (M.numbers model.now)) (k + 1) rows.old (length s.now) ways.old.items folds.old heads.old next.old }
+    requires room { HasRoom (length s.now) (length ways.old.items + 1) rows.old (vec_capacity ways.old) folds.old next.old }
+    ensures joined { AreJoined (M.meaning (M.numbers model.now)) (k + 1) rows.new (length s.now) ways.new.items folds.new heads.new next.new }
+    ensures list { (paths : ℕ → List ℕ) → all_reached paths rows.new (length s.now) ways.new.items ≡ joined (all_reached paths rows.old (length s.now) ways.old.items) (extended (M.meaning (M.numbers model.now)) k (parent_as paths parent.step s.now parent.value) decision) }
+    ensures few { length ways.new.items ≤ length ways.old.items + 1 }
+    ensures size { length rows.new ≡ length rows.old }
+    ensures capacity { vec_capacity ways.new ≡ vec_capacity ways.old }
+{
+    let words = s.len();
+    let count = ways.len();
+    let gained = write_state(model, k, s, parent.rank, decision, rows, count * words);
+    let way = way_of(parent, gained, decision);
+    take_in(rows, words, way, ways, folds, heads, next);
+}
+
+/// Takes in the ways by all allowed decisions, the lesser first.
+fn extend_member<M: DpModel>(
+    model: &M,
+    k: usize,
+    parent: Member,
+    s: &[i64],
+    rows: &mut [i64],
+    ways: &mut Vec<Way>,
+    folds: &mut [u64],
+    heads: &mut [u32],
+    next: &mut [u32],
+)
+    requires layer { k < (M.meaning (M.numbers model.now)).vars }
+    requires state { IsTrue ((M.meaning (M.numbers model.now)).is_state k s.now) }
+    requires cells { length s.now ≡ (M.meaning (M.numbers model.now)).words }
+    requires value { IsNear parent.value }
+    requires rank { parent.rank ≡ (M.meaning (M.numbers model.now)).rank k s.now }
+    requires joined { AreJoined (M.meaning (M.numbers model.now)) (k + 1) rows.old (length s.now) ways.old.items folds.old heads.old next.old }
+    requires room { HasRoom (length s.now) (length ways.old.items + (M.meaning (M.numbers model.now)).choices k) rows.old (vec_capacity ways.old) folds.old next.old }
+    ensures extended { HasExtended (M.meaning (M.numbers model.now)) k parent.step s.now parent.value ((M.meaning (M.numbers model.now)).choices k) (length s.now) rows.old ways.old.items rows.new ways.new.items folds.new heads.new next.new }
+    ensures capacity { vec_capacity ways.new ≡ vec_capacity ways.old }
+{
+    'decisions: for decision in 0..model.choices(k) {
+        if model.allowed(k, s, decision) {
+            extend_by(
+                model, k, parent, s, decision, rows, ways, folds, heads, next,
+            );
+        }
+    }
+}
+
+/// Extends the members of the layer at depth `k`, whose rows stand in `above`, by each allowed decision: of each state the first
+/// way of greatest value is kept, whatever the paths to the members are. The rows of the states are written to `rows`.
+pub fn extend_layer<M: DpModel>(
+    model: &M,
+    k: usize,
+    members: &[Member],
+    above: &[i64],
+    words: usize,
+    rows: &mut [i64],
+    ways: &mut Vec<Way>,
+    folds: &mut [u64],
+    heads: &mut [u32],
+    next: &mut [u32],
+)
+    requires layer { k < (M.meaning (M.numbers model.now)).vars }
+    requires words { words ≡ (M.meaning (M.numbers model.now)).words }
+    requires members { Each (IsMemberOf (M.meaning (M.numbers model.now)) k above.now words) members.now }
+    requires slots { 0 < length heads.old }
+    requires room { HasRoom words (length members.now * (M.meaning (M.numbers model.now)).choices k) rows.old (vec_capacity ways.old) folds.old next.old }
+    ensures joined { AreJoined (M.meaning (M.numbers model.now)) (k + 1) rows.new words ways.new.items folds.new heads.new next.new }
+    ensures list { (paths : ℕ → List ℕ) → all_reached paths rows.new words ways.new.items ≡ all_joined [] (candidates (M.meaning (M.numbers model.now)) k (members_as paths above.now words members.now)) }
+    ensures few { length ways.new.items ≤ length members.now * (M.meaning (M.numbers model.now)).choices k }
+    ensures capacity { vec_capacity ways.new ≡ vec_capacity ways.old }
+{
+    reset(heads);
+    ways.clear();
+    'members: for i in 0..members.len() {
+        let parent = members[i];
+        let s = row(above, words, parent.row as usize);
+        extend_member(model, k, parent, s, rows, ways, folds, heads, next);
+    }
+}

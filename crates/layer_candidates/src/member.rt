@@ -1,0 +1,12 @@
+/// A member of a layer: a prefix by its last step, with its state and value.
+#[derive(Clone, Copy, Debug)]
+pub struct Member {
+    /// The value of the prefix.
+    pub value: i64,
+    /// The rank of the state in its layer.
+    pub rank: i64,
+    /// The place of the state's row.
+    pub row: u32,
+    /// The step by which the prefix is reached.
+    pub step: u32,
+}

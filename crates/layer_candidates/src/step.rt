@@ -1,0 +1,8 @@
+/// A step: a decision behind an earlier step, or behind the prefix where that is 0. The steps are numbered from 1 on.
+#[derive(Clone, Copy, Debug)]
+pub struct Step {
+    /// The step before.
+    pub before: u32,
+    /// The decision.
+    pub decision: u32,
+}

@@ -1,0 +1,77 @@
+//! The table of the rows that are kept.
+
+ghost use Rattle.std.specs.Prelude.{◌≡◌, ◌≢◌, ℕ, ◌+◌, ◌*◌, ◌^◌, ◌<◌, ◌≤◌, ℤ, List, ◌↔◌, length, replicate, slice_index_or, IsTrue};
+ghost use Rattle.layer_candidates.specs.Rows.{row_at};
+ghost use Rattle.dp_model.specs.Folds.{fold_of};
+ghost use Rattle.layer_candidates.specs.Table.{slot_of, IsTable, IsFound};
+
+use crate::rows::{row, same_row};
+
+/// The slot of a fold among so many.
+fn slot(fold: u64, size: usize) -> usize
+    requires { 0 < size }
+    ensures slot { result ≡ slot_of fold size }
+    ensures within { result < size }
+{
+    fold as usize & (size - 1)
+}
+
+/// Takes all rows out.
+pub fn reset(heads: &mut [u32])
+    ensures { heads.new ≡ replicate (length heads.old) 0 }
+{
+    heads.fill(0);
+}
+
+/// Whether the row at the place is the new one.
+fn is_at(rows: &[i64], words: usize, place: usize, new: &[i64], fold: u64, folds: &[u64]) -> bool
+    requires within { place < length folds.now }
+    requires room { place * words + words ≤ length rows.now }
+    requires folds { slice_index_or folds.now place 0 ≡ fold_of 0 (row_at rows.now words place) }
+    requires fold { fold ≡ fold_of 0 new.now }
+    ensures { IsTrue result ↔ (row_at rows.now words place ≡ new.now) }
+{
+    folds[place] == fold && same_row(row(rows, words, place), new)
+}
+
+/// The place below `count` at which the row at `count` is kept, or `count`.
+pub fn find(
+    rows: &[i64],
+    words: usize,
+    count: usize,
+    fold: u64,
+    folds: &[u64],
+    heads: &[u32],
+    next: &[u32],
+) -> usize
+    requires table { IsTable rows.now words count folds.now heads.now next.now }
+    requires room { count * words + words ≤ length rows.now }
+    requires fold { fold ≡ fold_of 0 (row_at rows.now words count) }
+    ensures { IsFound rows.now words count result }
+{
+    let new = row(rows, words, count);
+    let mut i = heads[slot(fold, heads.len())] as usize;
+    'chain: while i > 0 {
+        let k = i - 1;
+        if is_at(rows, words, k, new, fold, folds) {
+            return k;
+        }
+        i = next[k] as usize;
+    }
+    count
+}
+
+/// Puts the row at `count` in, with its fold.
+pub fn insert(count: usize, fold: u64, folds: &mut [u64], heads: &mut [u32], next: &mut [u32])
+    requires small { count + 1 < 2 ^ 32 }
+    requires folds { count < length folds.old }
+    requires next { count < length next.old }
+    requires heads { 0 < length heads.old }
+    ensures table { (rows : List ℤ) (words : ℕ) → IsTable rows words count folds.old heads.old next.old → count * words + words ≤ length rows → fold ≡ fold_of 0 (row_at rows words count) → IsTable rows words (count + 1) folds.new heads.new next.new }
+    ensures heads_len { length heads.new ≡ length heads.old }
+{
+    let at = slot(fold, heads.len());
+    folds[count] = fold;
+    next[count] = heads[at];
+    heads[at] = count as u32 + 1;
+}
