@@ -49,13 +49,13 @@ pub record IsInfeasible (dp : Dp) (own : List ℕ → Option ℤ) : Type 0 where
   pub no_solution : (x : List ℕ) → IsSolution dp x → ⊥
   pub no_own : (x : List ℕ) → own x ≡ None
 
--- why the board at the end is not explored: the budget is taken up and no cause is held, or want of memory is held
+-- why a board is not explored: the budget is taken up and no cause is held, or want of memory is held
 abbrev pub StopHolds : BoardState → Stop → Type 0
 StopHolds b Budget = IsTrue (is_budget_up b) × (b.cause ≡ None)
 StopHolds b Memory = b.cause ≡ Some causes.Memory
 
--- the search ended on a good board with something open: for the budget only where it is less than the number of prefixes, or these
--- are more than 2^63
+-- there is a good board with something open that has this incumbent and this bound; for the budget only where it is less than the
+-- number of prefixes, or these are more than 2^63
 pub record IsStopped (dp : Dp) (own : List ℕ → Option ℤ) (budget : ℕ) (stop : Stop) (incumbent : Option Solution) (bound : ℤ) : Type 0 where
   pub board : BoardState
   pub good : IsGood dp board
