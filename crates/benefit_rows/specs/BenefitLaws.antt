@@ -3,7 +3,7 @@ use Rattle.std.specs.Prelude.{◌≡◌, ℕ, zero, suc, ℤ, pos, ◌+ℤ◌, �
 use Rattle.std.specs.Int.{int_max, int_min}
 use Rattle.std.proofs.Common.{arith}
 use Rattle.std.proofs.lemmas.Int.{ints, clamps}
-use Rattle.benefit_rows.specs.Benefits.{size_of, gain_of, gains_of, rank_of, gap_between, gap_of, benefit_merged, merged_of, differences}
+use Rattle.benefit_rows.specs.Benefits.{size_of, gain_of, gains_of, rank_of, gap_between, gap_of, benefit_merged, merged_of, differences, sums_of}
 
 -- One benefit.
 
@@ -145,3 +145,14 @@ pub length-merged_of : (as_ ss : List ℤ) → length as_ ≡ length ss → leng
 length-merged_of [] ss p = refl
 length-merged_of (a ∷ as_) [] p = absurd (omega arith)
 length-merged_of (a ∷ as_) (s ∷ ss) p = omega (arith, length-merged_of as_ ss (omega arith))
+
+pub length-sums_of : (ss ps : List ℤ) → length ss ≡ length ps → length (sums_of ss ps) ≡ length ss
+length-sums_of [] ps e = refl
+length-sums_of (s ∷ ss) [] e = absurd (omega arith)
+length-sums_of (s ∷ ss) (p ∷ ps) e = omega (arith, length-sums_of ss ps (omega arith))
+
+-- the sums are no larger than the rows together
+pub rank_of-sums_of : (ss as_ : List ℤ) → rank_of (sums_of ss as_) ≤ℤ (rank_of ss +ℤ rank_of as_)
+rank_of-sums_of [] as_ = omega (arith, ints, rank_of-positive as_)
+rank_of-sums_of (s ∷ ss) [] = omega (arith, ints, rank_of-positive (s ∷ ss))
+rank_of-sums_of (s ∷ ss) (a ∷ as_) = omega (arith, ints, size_of-add s a, rank_of-sums_of ss as_)

@@ -58,6 +58,12 @@ differences [] ss = []
 differences (a ∷ rest) [] = []
 differences (a ∷ rest) (s ∷ ss) = (s -ℤ a) ∷ differences rest ss
 
+-- the component-wise sums of two rows
+abbrev pub sums_of : List ℤ → List ℤ → List ℤ
+sums_of [] as_ = []
+sums_of (s ∷ ss) [] = []
+sums_of (s ∷ ss) (a ∷ as_) = (s +ℤ a) ∷ sums_of ss as_
+
 -- the number where it is at most another one
 abbrev pub where_at_most : ℤ → ℤ → Option ℤ
 where_at_most most z = if int_le z most then Some z else None

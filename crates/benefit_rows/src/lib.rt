@@ -9,7 +9,9 @@
 
 mod row;
 
-pub use row::{above_zero, below_zero, doubled_gap, gap, gap_within, merge_into, rank, size};
+pub use row::{
+    above_zero, below_zero, doubled_gap, gap, gap_within, merge_into, rank, size, write_sums,
+};
 
 #[cfg(test)]
 mod tests;

@@ -1,7 +1,7 @@
 //! One pass over rows of signed benefits.
 
 ghost use Rattle.std.specs.Prelude.{◌≡◌, ◌^◌, ◌+◌, ◌*◌, ◌≤◌, pos, ◌+ℤ◌, ◌≤ℤ◌, length, take, drop};
-ghost use Rattle.benefit_rows.specs.Benefits.{above_zero, below_zero, benefit_merged, differences, gap_between, gap_of, merged_of, rank_of, size_of, where_at_most};
+ghost use Rattle.benefit_rows.specs.Benefits.{above_zero, below_zero, benefit_merged, differences, gap_between, gap_of, merged_of, rank_of, size_of, sums_of, where_at_most};
 
 // How many differences are added up before their sum is tested.
 const BLOCK: usize = 8;
@@ -129,6 +129,24 @@ fn distance(from: &[i64], to: &[i64]) -> i64
     let mut total = 0;
     for i in 0..from.len() {
         total += size(to[i] - from[i]);
+    }
+    total
+}
+
+/// Writes the sums of two rows of the same length, and answers their rank. It needs ranks of at most `2^60`.
+pub fn write_sums(out: &mut [i64], row: &[i64], added: &[i64]) -> i64
+    requires cells { length out.old ≡ length row.now }
+    requires lengths { length row.now ≡ length added.now }
+    requires row_size { rank_of row.now ≤ℤ pos (2 ^ 60) }
+    requires added_size { rank_of added.now ≤ℤ pos (2 ^ 60) }
+    ensures row { out.new ≡ sums_of row.now added.now }
+    ensures rank { result ≡ rank_of (sums_of row.now added.now) }
+{
+    let mut total = 0;
+    for i in 0..out.len() {
+        let sum = row[i] + added[i];
+        out[i] = sum;
+        total += size(sum);
     }
     total
 }

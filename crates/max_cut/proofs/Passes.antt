@@ -1,25 +1,16 @@
 -- One component more of a pass over rows.
-use Rattle.std.proofs.Common.{◌≡◌, ℕ, zero, suc, ◌+◌, ◌^◌, ◌<◌, ℤ, pos, ◌+ℤ◌, ◌≤ℤ◌, FitsSigned, to_z, of_z, w64, List, [], ◌∷◌, ◌++◌, length, get_or, set, take, drop, arith, ap, ◌∙◌, sym, refl}
+use Rattle.std.proofs.Common.{◌≡◌, ℕ, zero, suc, ◌+◌, ◌^◌, ◌<◌, ℤ, pos, ◌+ℤ◌, ◌≤ℤ◌, FitsSigned, to_z, of_z, w64, List, [], ◌∷◌, length, get_or, drop, arith, ap, ◌∙◌, sym, refl}
 use Rattle.std.specs.Int.{int_min}
 use Rattle.std.proofs.lemmas.Int.{ints}
-use Rattle.std.proofs.lemmas.List.{drop_more, take_more_set, append_assoc}
+use Rattle.std.proofs.lemmas.List.{drop_more}
 use Rattle.benefit_rows.specs.Benefits.{size_of, rank_of}
-use Rattle.benefit_rows.specs.BenefitLaws.{size_of-add, rank_of-positive}
+use Rattle.benefit_rows.specs.BenefitLaws.{size_of-add}
+use Rattle.benefit_rows.proofs.Sums.{sums_of-at}
 use Rattle.benefit_rows.proofs.Steps.{fits_by_size, read_at, read_by_size, size_of-at}
 use Rattle.max_cut.specs.Graph.{negatives_of}
 use Rattle.max_cut.specs.PullLaws.{length-pulls, size_of-pull}
-use Rattle.max_cut.specs.Program.{sums_of, pull_of, pulls_of}
-
-pub sums_of-drop_more : (ss ps : List ℤ) (i : ℕ) (d : ℤ) → i < length ss → length ss ≡ length ps
-    → sums_of (drop i ss) (drop i ps) ≡ (get_or ss i d +ℤ get_or ps i d) ∷ sums_of (drop (i + 1) ss) (drop (i + 1) ps)
-sums_of-drop_more ss ps i d h e =
-    let h2 : i < length ps = omega arith in rw (drop_more ss i d h, drop_more ps i d h2)
-
-pub sums_of-at : (ss ps : List ℤ) (i : ℕ) → i < length ss → i < length ps → get_or (sums_of ss ps) i (pos 0) ≡ get_or ss i (pos 0) +ℤ get_or ps i (pos 0)
-sums_of-at [] ps i h k = absurd (omega arith)
-sums_of-at (s ∷ ss) [] i h k = absurd (omega arith)
-sums_of-at (s ∷ ss) (p ∷ ps) zero h k = refl
-sums_of-at (s ∷ ss) (p ∷ ps) (suc i) h k = sums_of-at ss ps i (omega arith) (omega arith)
+use Rattle.max_cut.specs.Program.{pull_of, pulls_of}
+use Rattle.benefit_rows.specs.Benefits.{sums_of}
 
 pub pulls_of-at : (d : ℕ) (ws : List ℤ) (i : ℕ) → i < length ws → get_or (pulls_of d ws) i (pos 0) ≡ pull_of d (get_or ws i (pos 0))
 pulls_of-at d [] i h = absurd (omega arith)
@@ -28,24 +19,6 @@ pulls_of-at d (w ∷ ws) (suc i) h = pulls_of-at d ws i (omega arith)
 
 pub negatives_of-drop_more : (ws : List ℤ) (i : ℕ) (d : ℤ) → i < length ws → negatives_of (drop i ws) ≡ int_min (get_or ws i d) (pos 0) +ℤ negatives_of (drop (i + 1) ws)
 negatives_of-drop_more ws i d h = ap negatives_of (drop_more ws i d h)
-
--- the sums are no larger than the rows together
-pub rank_of-sums_of : (ss ps : List ℤ) → rank_of (sums_of ss ps) ≤ℤ (rank_of ss +ℤ rank_of ps)
-rank_of-sums_of [] ps = omega (arith, ints, rank_of-positive ps)
-rank_of-sums_of (s ∷ ss) [] = omega (arith, ints, rank_of-positive (s ∷ ss))
-rank_of-sums_of (s ∷ ss) (p ∷ ps) = omega (arith, ints, size_of-add s p, rank_of-sums_of ss ps)
-
--- one sum more is written
-pub sums_written : (out ss ps total : List ℤ) (i : ℕ) (v : ℤ) → i < length out → length out ≡ length ss → length ss ≡ length ps
-    → v ≡ get_or (sums_of ss ps) i (pos 0)
-    → take i out ++ sums_of (drop i ss) (drop i ps) ≡ total
-    → take (i + 1) (set out i v) ++ sums_of (drop (i + 1) ss) (drop (i + 1) ps) ≡ total
-sums_written out ss ps total i v h e f is so_far =
-    let under : i < length ss = omega arith in
-    let more : sums_of (drop i ss) (drop i ps) ≡ v ∷ sums_of (drop (i + 1) ss) (drop (i + 1) ps) = sums_of-drop_more ss ps i (pos 0) under f ∙ ap (λ z. z ∷ sums_of (drop (i + 1) ss) (drop (i + 1) ps)) (sym (is ∙ sums_of-at ss ps i under (omega arith))) in
-    ap (λ zs. zs ++ sums_of (drop (i + 1) ss) (drop (i + 1) ps)) (take_more_set out i v h)
-    ∙ (append_assoc (take i out) (v ∷ []) (sums_of (drop (i + 1) ss) (drop (i + 1) ps))
-    ∙ (ap (λ zs. take i out ++ zs) (sym more) ∙ so_far))
 
 -- a benefit and a pull, as they are read and added
 pub record PulledAt (d : ℕ) (ss ws : List ℤ) (i : ℕ) (got : ℤ) : Type 0 where

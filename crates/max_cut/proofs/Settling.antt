@@ -6,8 +6,10 @@ use Rattle.std.proofs.lemmas.List.{length-drop}
 use Rattle.benefit_rows.specs.Benefits.{size_of, gain_of, rank_of, differences}
 use Rattle.benefit_rows.specs.BenefitLaws.{rank_of-positive, rank_of-drop, size_of-positive, gain_of-positive, gain_of-most, gap_of-by_sizes}
 use Rattle.benefit_rows.proofs.Steps.{rank_of-drop_more, read_at}
-use Rattle.max_cut.specs.Program.{sums_of, pulls_of, settled_of}
-use Rattle.max_cut.specs.PullLaws.{length-pulls, length-sums_of, rank_of-pulls, settled_of-is_gap, settled_of-positive}
+use Rattle.max_cut.specs.Program.{pulls_of, settled_of}
+use Rattle.benefit_rows.specs.Benefits.{sums_of}
+use Rattle.max_cut.specs.PullLaws.{length-pulls, rank_of-pulls, settled_of-is_gap, settled_of-positive}
+use Rattle.benefit_rows.specs.BenefitLaws.{length-sums_of}
 
 size_of-back : (s p : ℤ) → size_of (s -ℤ (s +ℤ p)) ≡ size_of p
 size_of-back s p = omega (arith, ints, clamps)

@@ -11,7 +11,8 @@ use Rattle.dp_model.specs.Gaps.{IsStateOf}
 use Rattle.max_cut.specs.declared.model.MaxCut.{MaxCut}
 use Rattle.max_cut.specs.Graph.{Graph, IsGraph, row_of, weights_from}
 use Rattle.max_cut.specs.GraphLaws.{length-row_of, rank_of-split, rank_of-most, rank_of-weights_from}
-use Rattle.max_cut.specs.Program.{zeros, sums_of, pulls_of, grown_by, is_within, limits_of, words_of, stepped}
+use Rattle.max_cut.specs.Program.{zeros, pulls_of, grown_by, is_within, limits_of, words_of, stepped}
+use Rattle.benefit_rows.specs.Benefits.{sums_of}
 use Rattle.max_cut.specs.PullLaws.{rank_of-zeros}
 use Rattle.max_cut.specs.Shown.{instance_in, program_in}
 use Rattle.max_cut.specs.StateLaws.{length-state, rank_of-state, words_of-some}

@@ -2,19 +2,13 @@
 -- later vertex the net benefit of putting it on T, and zero for each vertex that has its side.
 use Rattle.std.specs.Prelude.{ℕ, zero, suc, ◌+◌, ℤ, pos, neg_ℤ, ◌+ℤ◌, int_le, List, [], ◌∷◌, ◌++◌, drop, map, replicate, slice_index_or, Bool, true, false, ◌&&◌, ◌||◌, ◌==◌, if◌then◌else◌, Some}
 use Rattle.std.specs.Int.{int_min}
-use Rattle.benefit_rows.specs.Benefits.{size_of, gain_of, rank_of, gap_of, merged_of}
+use Rattle.benefit_rows.specs.Benefits.{size_of, gain_of, rank_of, gap_of, merged_of, sums_of}
 use Rattle.dp_model.specs.Dp.{Dp}
 use Rattle.max_cut.specs.Graph.{Graph, instance_of, row_of, weights_from, negatives_of}
 
 -- so many zeros
 abbrev pub zeros : ℕ → List ℤ
 zeros n = replicate n (pos 0)
-
--- the component-wise sums of two rows
-abbrev pub sums_of : List ℤ → List ℤ → List ℤ
-sums_of [] ps = []
-sums_of (s ∷ ss) [] = []
-sums_of (s ∷ ss) (p ∷ ps) = (s +ℤ p) ∷ sums_of ss ps
 
 -- what a side of a vertex adds to the benefit of a later one: the weight between them on S, the negated weight on T
 abbrev pub pull_of : ℕ → ℤ → ℤ

@@ -15,7 +15,8 @@ use Rattle.dp_model.specs.NumberLaws.{each_small, small_between, small_gap, smal
 use Rattle.dp_model.specs.Prefixes.{IsPath, gain_of as path_gain}
 use Rattle.max_cut.specs.Graph.{Graph, IsGraph, row_of, weights_from, negatives_of}
 use Rattle.max_cut.specs.GraphLaws.{negatives_of-bounds, length-row_of, rank_of-split, rank_of-most, weights_from-none}
-use Rattle.max_cut.specs.Program.{zeros, sums_of, pulls_of, settled_of, is_within, words_of, limits_of, stepped, program_of}
+use Rattle.max_cut.specs.Program.{zeros, pulls_of, settled_of, is_within, words_of, limits_of, stepped, program_of}
+use Rattle.benefit_rows.specs.Benefits.{sums_of}
 use Rattle.max_cut.specs.PullLaws.{settled_of-gains, settled_of-positive, settled_of-most, rank_of-pulls, length-pulls, rank_of-zeros}
 use Rattle.max_cut.specs.StateLaws.{is_within-zeros, is_within-merged, is_within-rank, drop-stepped, stepped-state, length-state, rank_of-state, words_of-some}
 

@@ -5,7 +5,8 @@ use Rattle.std.proofs.lemmas.Int.{ints, clamps}
 use Rattle.std.proofs.lemmas.List.{length-map}
 use Rattle.benefit_rows.specs.Benefits.{above_zero, below_zero, size_of, gain_of, gains_of, rank_of, gap_between, gap_of}
 use Rattle.benefit_rows.specs.BenefitLaws.{rank_of-positive, gap_of-positive}
-use Rattle.max_cut.specs.Program.{zeros, sums_of, pull_of, pulls_of, settled, settled_of}
+use Rattle.max_cut.specs.Program.{zeros, pull_of, pulls_of, settled, settled_of}
+use Rattle.benefit_rows.specs.Benefits.{sums_of}
 
 -- what is settled now and what the sum gains later is what the two gain
 pub settled-gains : (s p : ℤ) (d : ℕ) → settled s p +ℤ gain_of (s +ℤ p) d ≡ gain_of s d +ℤ gain_of p d
@@ -20,11 +21,6 @@ pub settled-is_gap : (s p : ℤ) → settled s p ≡ gap_between (s +ℤ p) s
 settled-is_gap s p = omega (arith, ints, clamps, settled-gains s p 0, settled-gains s p 1)
 
 -- Rows of them.
-
-pub length-sums_of : (ss ps : List ℤ) → length ss ≡ length ps → length (sums_of ss ps) ≡ length ss
-length-sums_of [] ps e = refl
-length-sums_of (s ∷ ss) [] e = absurd (omega arith)
-length-sums_of (s ∷ ss) (p ∷ ps) e = omega (arith, length-sums_of ss ps (omega arith))
 
 -- what is settled now and what the sums gain later is what the two rows gain, where the choices reach to their end
 pub settled_of-gains : (ss ps : List ℤ) (ds : List ℕ) → length ss ≡ length ps → length ss ≤ length ds

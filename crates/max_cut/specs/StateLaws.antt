@@ -11,7 +11,8 @@ use Rattle.dp_model.specs.NumberLaws.{int_le-is, int_le-from}
 use Rattle.max_cut.specs.Graph.{Graph, IsGraph, row_of, weights_from}
 use Rattle.max_cut.specs.GraphLaws.{length-row_of, rank_of-split}
 use Rattle.max_cut.specs.PullLaws.{size_of-pull, rank_of-zeros}
-use Rattle.max_cut.specs.Program.{zeros, sums_of, pulls_of, grown_by, is_within, words_of, limits_of, stepped}
+use Rattle.max_cut.specs.Program.{zeros, pulls_of, grown_by, is_within, words_of, limits_of, stepped}
+use Rattle.benefit_rows.specs.Benefits.{sums_of}
 
 pub is_within-length : (ss rs : List ℤ) → is_within ss rs ≡ true → length ss ≡ length rs
 is_within-length [] [] h = refl

@@ -3,7 +3,8 @@
 ghost use Rattle.std.specs.Prelude.{◌≡◌, ◌+◌, ◌*◌, ◌-◌, ◌^◌, ◌<◌, ◌≤◌, ◌++◌, drop, length, slice_index_or, pos, ◌+ℤ◌, ◌≤ℤ◌};
 ghost use Rattle.benefit_rows.specs.Benefits.{gain_of, rank_of, size_of};
 ghost use Rattle.max_cut.specs.Graph.{IsGraph, negatives_of, pairs_of, row_of, row_start};
-ghost use Rattle.max_cut.specs.Program.{pull_of, pulls_of, settled_of, sums_of, zeros};
+ghost use Rattle.max_cut.specs.Program.{pull_of, pulls_of, settled_of, zeros};
+ghost use Rattle.benefit_rows.specs.Benefits.{sums_of};
 
 use benefit_rows::{above_zero, below_zero, doubled_gap, size};
 use dp_model::Extended;

@@ -1,6 +1,7 @@
 use Rattle.std.proofs.Common.{◌≡◌, pos, ◌+ℤ◌, ◌≤ℤ◌, drop}
 use Rattle.benefit_rows.specs.Benefits.{gap_of}
-use Rattle.max_cut.specs.Program.{sums_of, pulls_of}
+use Rattle.max_cut.specs.Program.{pulls_of}
+use Rattle.benefit_rows.specs.Benefits.{sums_of}
 use Rattle.max_cut.proofs.layers.settled_by.Given as goal
 
 -- twice the gap so far and twice the gap of the rest make twice the gap from the sums to the benefits

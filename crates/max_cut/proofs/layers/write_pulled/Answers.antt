@@ -3,9 +3,12 @@ use Rattle.std.proofs.lemmas.Int.{ints}
 use Rattle.std.proofs.lemmas.List.{drop_all}
 use Rattle.benefit_rows.specs.Benefits.{rank_of}
 use Rattle.benefit_rows.proofs.Steps.{RankMore, rank_more, read_by_size}
-use Rattle.max_cut.specs.PullLaws.{length-pulls, length-sums_of, rank_of-pulls}
-use Rattle.max_cut.specs.Program.{sums_of, pulls_of}
-use Rattle.max_cut.proofs.Passes.{sums_written, rank_of-sums_of}
+use Rattle.max_cut.specs.PullLaws.{length-pulls, rank_of-pulls}
+use Rattle.benefit_rows.specs.BenefitLaws.{length-sums_of}
+use Rattle.max_cut.specs.Program.{pulls_of}
+use Rattle.benefit_rows.specs.Benefits.{sums_of}
+use Rattle.benefit_rows.proofs.Sums.{sums_written}
+use Rattle.benefit_rows.specs.BenefitLaws.{rank_of-sums_of}
 use Rattle.max_cut.proofs.layers.write_pulled.Given.{Over}
 use Rattle.max_cut.proofs.layers.write_pulled.Goals as goal
 

@@ -1,6 +1,7 @@
 use Rattle.std.proofs.Common.{◌≡◌, ◌++◌, pos, ◌+ℤ◌, ◌≤ℤ◌, take, drop}
 use Rattle.benefit_rows.specs.Benefits.{rank_of}
-use Rattle.max_cut.specs.Program.{sums_of, pulls_of}
+use Rattle.max_cut.specs.Program.{pulls_of}
+use Rattle.benefit_rows.specs.Benefits.{sums_of}
 use Rattle.max_cut.proofs.layers.write_pulled.Given as goal
 
 -- the sums so far and those of the rest make the sums, and so do their sizes

@@ -2,7 +2,8 @@ use Rattle.std.proofs.Common.{◌+◌, length, drop, w64, ap, sym, ◌∙◌}
 use Rattle.std.proofs.lemmas.Int.{to_z-of_z}
 use Rattle.benefit_rows.specs.Benefits.{rank_of}
 use Rattle.max_cut.specs.Graph.{row_of}
-use Rattle.max_cut.specs.Program.{pulls_of, sums_of}
+use Rattle.max_cut.specs.Program.{pulls_of}
+use Rattle.benefit_rows.specs.Benefits.{sums_of}
 use Rattle.max_cut.specs.Shown.{instance_in}
 use Rattle.max_cut.proofs.StateFacts.{step_facts, rank_of-later, rank_of-stepped, read_rank}
 use Rattle.max_cut.proofs.model.MaxCutDpModel.extend.Goals as goal
