@@ -12,3 +12,4 @@ pub mod Expansions
 pub mod Leaders
 pub mod Pruned
 pub mod Firsts
+pub mod Rooms

@@ -7,3 +7,4 @@ pub mod Expanding
 pub mod Bench
 pub mod Striking
 pub mod Keeping
+pub mod Space

@@ -24,9 +24,11 @@ mod striking;
 #[cfg(test)]
 mod tests;
 mod width;
+mod workspace;
 mod writing;
 
 pub use bench::Bench;
 pub use candidate::Candidate;
 pub use node::Node;
 pub use width::greatest_width;
+pub use workspace::{PrepareError, Workspace};
