@@ -2,14 +2,14 @@
 use Rattle.std.specs.Prelude.{◌≡◌, ◌⊎◌, ◌-◌, ℕ, List, Bool, Option, Some, None, Contains}
 use Rattle.std.specs.declared.snapshot.Snapshot.{Snapshot}
 use Rattle.dd_io.specs.Counts.{next_count}
-use Rattle.dd_disk.specs.Content.{ContentData}
+use Rattle.dd_disk.specs.Content.{ContentView}
 use Rattle.dd_disk.specs.Disk.{FirstSync}
 
 -- The file and the contents that it has had, the first sync since the attaching, whether the file is attached, the numbers
 -- of the calls that fail, how many calls were made, how many pass before each one fails, and how many have failed.
-pub record DiskData : Type 0 where
-  pub content : ContentData
-  pub past : List (Snapshot ContentData)
+pub record MemDiskView : Type 0 where
+  pub content : ContentView
+  pub past : List (Snapshot ContentView)
   pub start : Option FirstSync
   pub is_attached : Bool
   pub failing : List ℕ
@@ -22,7 +22,7 @@ abbrev pub Fails : List ℕ → ℕ → Option ℕ → Type 0
 Fails failing call fuse = Contains failing call ⊎ (fuse ≡ Some 0)
 
 -- the next call is to fail
-abbrev pub IsToFail : DiskData → Type 0
+abbrev pub IsToFail : MemDiskView → Type 0
 IsToFail d = Fails d.failing d.calls d.fuse
 
 -- one call fewer passes
@@ -31,9 +31,9 @@ fewer None = None
 fewer (Some n) = Some (n - 1)
 
 -- one call more was made
-abbrev pub called : DiskData → DiskData
+abbrev pub called : MemDiskView → MemDiskView
 called d = record d { calls = next_count d.calls; fuse = fewer d.fuse }
 
 -- one call more was made, and failed
-abbrev pub failed : DiskData → DiskData
+abbrev pub failed : MemDiskView → MemDiskView
 failed d = record (called d) { faults = next_count d.faults }

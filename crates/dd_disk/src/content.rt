@@ -25,10 +25,10 @@ pub(crate) struct Content {
 }
 
 impl Model for Content {
-    ghost use Rattle.dd_disk.specs.Content.{ContentData};
+    ghost use Rattle.dd_disk.specs.Content.{ContentView};
     ghost use Rattle.dd_disk.specs.Synced.{synced_or};
 
-    ghost Value = { ContentData };
+    ghost Value = { ContentView };
 
     ghost view = { λ c. record {
       bytes = c.bytes.items;

@@ -24,9 +24,9 @@ pub struct FileDisk<R> {
 
 impl<R> Model for FileDisk<R> {
     ghost use Rattle.std.specs.Prelude.{is_some};
-    ghost use Rattle.dd_disk.specs.Outside.{FileDiskData};
+    ghost use Rattle.dd_disk.specs.Outside.{FileDiskView};
 
-    ghost Value = { FileDiskData R };
+    ghost Value = { FileDiskView R };
 
     ghost view = { λ d. record { runtime = d.rt; is_attached = is_some d.file; is_synced = d.synced; faults = d.faults } };
 }

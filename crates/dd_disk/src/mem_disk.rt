@@ -29,10 +29,10 @@ pub struct MemDisk {
 }
 
 impl Model for MemDisk {
-    ghost use Rattle.dd_disk.specs.Memory.{DiskData};
+    ghost use Rattle.dd_disk.specs.Memory.{MemDiskView};
     ghost use Rattle.dd_disk.specs.FirstSyncs.{noted};
 
-    ghost Value = { DiskData };
+    ghost Value = { MemDiskView };
 
     ghost view = { λ d. record {
       content = d.content;

@@ -1,6 +1,6 @@
 use Rattle.std.proofs.Common.{get_or, subst, sym, arith}
 use Rattle.std.proofs.lemmas.List.{drop_more}
-use Rattle.dd_disk.specs.Content.{ContentData, Leaves, Reaches}
+use Rattle.dd_disk.specs.Content.{ContentView, Leaves, Reaches}
 use Rattle.dd_disk.specs.declared.content.Write.{Write}
 use Rattle.dd_disk.specs.Synced.{synced_or}
 use Rattle.dd_disk.proofs.Moments.{reaches_none, reaches_step}
@@ -10,13 +10,13 @@ pub returns-in_default-clause-image : goal.returns-in_default-clause-image
 returns-in_default-clause-image c =
     let bytes = c.self.inside.bytes.items in
     let pending = c.self.inside.pending.items in
-    subst (λ (d : ContentData). Leaves d bytes) c.self.view_is (subst (λ s. Reaches (synced_or s bytes) pending bytes) (sym c.in_default.is) (reaches_none bytes pending))
+    subst (λ (d : ContentView). Leaves d bytes) c.self.view_is (subst (λ s. Reaches (synced_or s bytes) pending bytes) (sym c.in_default.is) (reaches_none bytes pending))
 
 pub returns-then-is_empty-clause-image : goal.returns-then-is_empty-clause-image
 returns-then-is_empty-clause-image c =
     let image = c.in-Some.image.items in
     let pending = c.self.inside.pending.items in
-    subst (λ (d : ContentData). Leaves d image) c.self.view_is (subst (λ s. Reaches (synced_or s c.self.inside.bytes.items) pending image) (sym c.in-Some.is) (reaches_none image pending))
+    subst (λ (d : ContentView). Leaves d image) c.self.view_is (subst (λ s. Reaches (synced_or s c.self.inside.bytes.items) pending image) (sym c.in-Some.is) (reaches_none image pending))
 
 pub loop-write-preserved : goal.loop-write-preserved
 loop-write-preserved c =

@@ -1,7 +1,7 @@
 use Rattle.std.proofs.Common.{length, subst}
 use Rattle.dd_disk.specs.Content.{Leaves, LeftSince}
 use Rattle.dd_disk.specs.Disk.{Elapses}
-use Rattle.dd_disk.specs.Memory.{DiskData}
+use Rattle.dd_disk.specs.Memory.{MemDiskView}
 use Rattle.dd_disk.proofs.Moments.{elapses}
 use Rattle.dd_disk.proofs.mem_disk.MemDiskDisk.write_at.Goals as goal
 
@@ -9,10 +9,10 @@ pub returns-then-is_err-clause-time : goal.returns-then-is_err-clause-time
 returns-then-is_err-clause-time c =
     let now = c.write-written.new.self in
     let later = c.write-written.new.past.items in
-    subst (λ (d : DiskData). Elapses (length d.past) (length later) (LeftSince d.past d.content) (LeftSince later now) (Leaves now)) c.self.view_is (elapses c.self.inside.past.items later c.self.inside.content now c.write-written.ensures.past)
+    subst (λ (d : MemDiskView). Elapses (length d.past) (length later) (LeftSince d.past d.content) (LeftSince later now) (Leaves now)) c.self.view_is (elapses c.self.inside.past.items later c.self.inside.content now c.write-written.ensures.past)
 
 pub returns-clause-time : goal.returns-clause-time
 returns-clause-time c =
     let now = c.write-written.new.self in
     let later = c.write-written.new.past.items in
-    subst (λ (d : DiskData). Elapses (length d.past) (length later) (LeftSince d.past d.content) (LeftSince later now) (Leaves now)) c.self.view_is (elapses c.self.inside.past.items later c.self.inside.content now c.write-written.ensures.past)
+    subst (λ (d : MemDiskView). Elapses (length d.past) (length later) (LeftSince d.past d.content) (LeftSince later now) (Leaves now)) c.self.view_is (elapses c.self.inside.past.items later c.self.inside.content now c.write-written.ensures.past)

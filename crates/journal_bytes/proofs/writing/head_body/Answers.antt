@@ -1,0 +1,12 @@
+use Rattle.std.proofs.Common.{rules, ◌≡◌}
+use Rattle.journal_bytes.specs.Journal.{head_view}
+use Rattle.journal_bytes.specs.Spelling.{head_bytes}
+use Rattle.journal_bytes.proofs.Again.{head_written}
+use Rattle.journal_bytes.proofs.writing.head_body.Goals as goal
+
+pub returns-clause-reads : goal.returns-clause-reads
+unfolding head_bytes
+returns-clause-reads c =
+    let h = head_view c.args.head.now in
+    let bytes : c.extend_from_slice-3.new.self.items ≡ head_bytes h = search rules in
+    head_written c.extend_from_slice-3.new.self.items h bytes c.requires

@@ -1,0 +1,65 @@
+-- The bodies of records: their fields from left to right, each as a value and the bytes behind it. Where a field is not
+-- there, there is none.
+use Rattle.std.specs.Prelude.{◌≡◌, ℕ, zero, suc, ◌-◌, ◌^◌, ℤ, nat_lt, nat_le, ◌&&◌, ◌==◌, if◌then◌else◌, List, [], ◌∷◌, length, take, drop, Option, Some, None, Result, Ok, Err}
+use Rattle.std.specs.Int.{Width, w32, w64, byte_len, from_be_bytes, cast_signed}
+use Rattle.journal_bytes.specs.Frames.{Frame}
+
+infixl 10 ◌>>=◌
+abbrev pub ◌>>=◌ : {A B : Type 0} → Option A → (A → Option B) → Option B
+(Some x) >>= f = f x
+None >>= f = None
+
+-- a child that entered or replaced, with the ticket that it replaced
+pub record ChildView : Type 0 where
+  pub replaced : Option ℕ
+  pub bound : ℤ
+  pub decisions : List ℕ
+
+pub data RecordView : Type 0 where
+  Improve : ℤ → List ℕ → RecordView
+  Finish : ℕ → List ChildView → RecordView
+
+abbrev pub number_at : Width → List ℕ → Option (ℕ × List ℕ)
+number_at w bytes = if nat_lt (length bytes) (byte_len w) then None else Some (from_be_bytes w (take (byte_len w) bytes), drop (byte_len w) bytes)
+
+-- so many items, one behind the other
+unfoldable pub many : {A : Type 0} → (List ℕ → Option (A × List ℕ)) → ℕ → List ℕ → Option (List A × List ℕ)
+many item zero bytes = Some ([], bytes)
+many item (suc n) bytes = do
+  first ← item bytes
+  others ← many item n first.1
+  Some (first.0 ∷ others.0, others.1)
+
+-- a count, and so many decisions
+unfoldable pub decisions_at : List ℕ → Option (List ℕ × List ℕ)
+decisions_at bytes = do
+  count ← number_at w32 bytes
+  many (number_at w32) count.0 count.1
+
+abbrev pub ticket_of : ℕ → Option ℕ
+ticket_of n = if n == 2 ^ 64 - 1 then None else Some n
+
+unfoldable pub child_at : List ℕ → Option (ChildView × List ℕ)
+child_at bytes = do
+  replaced ← number_at w64 bytes
+  bound ← number_at w64 replaced.1
+  decisions ← decisions_at bound.1
+  Some (record { replaced = ticket_of replaced.0; bound = cast_signed w64 bound.0; decisions = decisions.0 }, decisions.1)
+
+-- all of the body
+unfoldable pub improve_of : List ℕ → Option RecordView
+improve_of body = do
+  value ← number_at w64 body
+  decisions ← decisions_at value.1
+  if length decisions.1 == 0 then Some (Improve (cast_signed w64 value.0) decisions.0) else None
+
+unfoldable pub finish_of : List ℕ → Option RecordView
+finish_of body = do
+  ticket ← number_at w64 body
+  count ← number_at w32 ticket.1
+  children ← many child_at count.0 count.1
+  if length children.1 == 0 then Some (Finish ticket.0 children.0) else None
+
+-- the record of a frame behind the head
+unfoldable pub record_of : Frame → Option RecordView
+record_of f = if f.kind == 2 then improve_of f.body else (if f.kind == 3 then finish_of f.body else None)

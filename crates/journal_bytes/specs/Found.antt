@@ -1,0 +1,11 @@
+-- What a reading has found, without where it lies in memory.
+use Rattle.std.specs.Prelude.{ℕ, List, map, Bool}
+use Rattle.journal_bytes.specs.declared.frames.Frame.{Frame as Kept}
+use Rattle.journal_bytes.specs.declared.frames.Found.{Found}
+use Rattle.journal_bytes.specs.Frames.{Frame, Reading}
+
+abbrev pub frame : Kept → Frame
+frame f = record { kind = f.kind; body = f.body.items }
+
+abbrev pub found : Found → Reading
+found r = record { frames = map frame r.frames.items; digest = r.digest; end = r.end; is_whole = r.is_whole }

@@ -1,0 +1,24 @@
+-- Records without where they lie in memory, and what a reader gives.
+use Rattle.std.specs.Prelude.{◌≡◌, ℕ, List, map, Option, Some, None, Result, Ok, Err}
+use Rattle.journal_bytes.specs.declared.record.Child.{Child}
+use Rattle.journal_bytes.specs.declared.record.Record.{Record}
+use Rattle.journal_bytes.specs.declared.record.Record.TheVariants as records
+use Rattle.journal_bytes.specs.declared.body.BodyError.{BodyError}
+use Rattle.journal_bytes.specs.declared.body.BodyError.TheVariants as errors
+use Rattle.journal_bytes.specs.Bodies.{ChildView, RecordView, Improve, Finish}
+
+abbrev pub child_view : Child → ChildView
+child_view c = record { replaced = c.replaced; bound = c.bound; decisions = c.decisions.items }
+
+abbrev pub record_view : Record → RecordView
+record_view (records.Improve value decisions) = Improve value decisions.items
+record_view (records.Finish ticket children) = Finish ticket (map child_view children.items)
+
+-- what a reader gives is what stands there, unless memory ran out
+abbrev pub Fails : {Y : Type 0} → BodyError → Option Y → Type 0
+Fails errors.OutOfMemory read = Unit {0}
+Fails errors.Malformed read = read ≡ None
+
+abbrev pub Gives : {X Y : Type 0} → (X → Y) → Result X BodyError → Option Y → Type 0
+Gives view (Ok x) read = read ≡ Some (view x)
+Gives view (Err e) read = Fails e read

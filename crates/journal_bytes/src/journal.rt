@@ -1,0 +1,142 @@
+ghost use Rattle.std.specs.Prelude.{◌≡◌, ◌≤◌, ◌<◌, ◌+◌, List, map, length, IsTrue, IfOk};
+ghost use Rattle.journal_bytes.specs.Frames.{frames_of};
+ghost use Rattle.journal_bytes.specs.Found.{found, frame};
+ghost use Rattle.journal_bytes.specs.Ends.{EndsAt};
+ghost use Rattle.journal_bytes.specs.Views.{record_view};
+ghost use Rattle.journal_bytes.specs.Journal.{placed_at, head_of, head_view, model_at, text_of, or_malformed, records_from, journal_in, journal_of, journal_view, Gives};
+
+use crate::body::{BodyError, record_of, u32_at};
+use crate::frames::{Found, Frame, read_frames};
+use crate::{Head, Record, Records, Refusal, Tail};
+use problem_names::ModelName;
+use std::alloc::Global;
+
+/// The refusal of a body at an offset.
+fn placed(error: BodyError, offset: u64) -> Refusal
+    ensures { result ≡ placed_at error offset }
+{
+    match error {
+        BodyError::Malformed => Refusal::Malformed { offset },
+        BodyError::OutOfMemory => Refusal::OutOfMemory,
+    }
+}
+
+/// The problem of a head, and what stands behind it.
+#[tactic(auto, unfolding(crate::specs::Journal::model_at))]
+fn model_in(bytes: &[u8]) -> Result<(ModelName, &[u8]), Refusal>
+    ensures { Gives (λ x. (x.0, x.1.now)) result (or_malformed 0 (model_at bytes.now)) }
+{
+    let malformed = Refusal::Malformed { offset: 0 };
+    match bytes {
+        [] => Err(malformed),
+        [1, rest @ ..] => Ok((ModelName::Knapsack, rest)),
+        [2, rest @ ..] => Ok((ModelName::MaxCut, rest)),
+        [3, rest @ ..] => Ok((ModelName::MaxTwoSat, rest)),
+        [4, rest @ ..] => Ok((ModelName::TspWindows, rest)),
+        _ => Err(malformed),
+    }
+}
+
+/// The text of a head, which ends its body.
+#[tactic(auto, unfolding(crate::specs::Journal::text_of))]
+fn text_in(alloc: Global, bytes: &[u8]) -> Result<Vec<u8>, Refusal>
+    ensures { Gives (λ v. v.items) result (or_malformed 0 (text_of bytes.now)) }
+{
+    let (count, rest) = match u32_at(bytes) {
+        Ok(x) => x,
+        Err(e) => return Err(placed(e, 0)),
+    };
+    if rest.len() != count as usize {
+        return Err(Refusal::Malformed { offset: 0 });
+    }
+    Ok(Vec::from_slice(alloc, rest)?)
+}
+
+/// The head of a first record.
+#[tactic(auto, unfolding(crate::specs::Journal::head_of))]
+fn head_in(alloc: Global, first: &Frame) -> Result<Head, Refusal>
+    ensures { Gives head_view result (head_of (frame first.now)) }
+{
+    if first.kind != 1 {
+        return Err(Refusal::Malformed { offset: 0 });
+    }
+    let (version, rest) = match u32_at(&first.body) {
+        Ok(x) => x,
+        Err(e) => return Err(placed(e, 0)),
+    };
+    if version != 1 {
+        return Err(Refusal::Version { found: version });
+    }
+    let (model, rest) = model_in(rest)?;
+    Ok(Head {
+        model,
+        text: text_in(alloc, rest)?,
+    })
+}
+
+/// The records of the frames from an offset on.
+fn records_in(alloc: Global, start: u64, frames: &[Frame]) -> Result<Vec<Record>, Refusal>
+    ensures { Gives (λ v. map record_view v.items) result (records_from start (map frame frames.now)) }
+{
+    let mut records = Vec::new(alloc);
+    let mut at = start;
+    for one in frames {
+        match record_of(alloc, one.kind, &one.body) {
+            Ok(record) => records.push(record)?,
+            Err(e) => return Err(placed(e, at)),
+        }
+        let Some(next) = at.checked_add(38 + one.body.len() as u64) else {
+            return Err(Refusal::OutOfMemory);
+        };
+        at = next;
+    }
+    Ok(records)
+}
+
+/// The journal of what was found in a file of at least two bytes.
+#[tactic(auto, unfolding(crate::specs::Journal::journal_in))]
+fn journal_from(alloc: Global, read: Found) -> Result<(Head, Records, Tail), Refusal>
+    ensures exact { Gives journal_view result (journal_in (found read)) }
+    ensures tail { IfOk result (λ r. (r.2.end ≡ read.end) × (r.2.digest ≡ read.digest) × IsTrue read.is_whole) }
+{
+    let Found {
+        frames,
+        digest,
+        end,
+        is_whole,
+    } = read;
+    let Some((first, rest)) = frames.split_first() else {
+        if is_whole {
+            return Err(Refusal::NotBegun);
+        }
+        return Err(Refusal::Damaged { offset: end as u64 });
+    };
+    let head = head_in(alloc, first)?;
+    let records = records_in(alloc, 38 + first.body.len() as u64, rest)?;
+    if !is_whole {
+        return Err(Refusal::Damaged { offset: end as u64 });
+    }
+    let tail = Tail {
+        end: end as u64,
+        digest,
+    };
+    Ok((head, Records::new(records), tail))
+}
+
+/// The journal that a file's bytes spell, up to the first closed gate, or the first cause for which they are refused.
+///
+/// # Errors
+///
+/// Each `Refusal` exactly where it says.
+pub fn read_journal(alloc: Global, file: &[u8]) -> Result<(Head, Records, Tail), Refusal>
+    ensures exact { Gives journal_view result (journal_of file.now) }
+
+    // What was read is spelled so, and the tail is at its closed gate.
+    ensures ends { IfOk result (λ r. EndsAt file.now r.2 (frames_of file.now)) }
+{
+    if file.len() <= 1 {
+        return Err(Refusal::NotBegun);
+    }
+    let read = read_frames(alloc, file)?;
+    journal_from(alloc, read)
+}

@@ -1,0 +1,98 @@
+-- How a journal begins.
+use Rattle.std.proofs.Common.{◌≡◌, ◌≢◌, ◌⊎◌, inl, inr, ⊎_elim, ℕ, zero, suc, ◌+◌, ◌-◌, ◌^◌, ◌<◌, ◌≤◌, Bool, true, false, List, [], ◌∷◌, ◌++◌, length, get_or, take, drop, max, Option, Some, None, Err, refl, sym, ◌∙◌, ap, subst, arith}
+use Rattle.std.specs.Prelude.{IsSome, IfSome}
+use Rattle.std.specs.List.{AllByRecursion}
+use Rattle.std.proofs.lemmas.Bool.{cases_lt}
+use Rattle.std.proofs.lemmas.List.{length-take-le, drop_all}
+use Rattle.dd_disk.specs.Disk.{FirstSync, Holds, Torn, Only, LeavesOnly}
+use Rattle.journal_bytes.specs.declared.refusal.Refusal.TheVariants.{NotBegun}
+use Rattle.journal_bytes.specs.declared.tail.Tail.{Tail}
+use Rattle.journal_bytes.specs.Frames.{Frame, Fits, no_digest, frames_of, reading_of, ReadsAs, IsBeforeOrAfter}
+use Rattle.journal_file.specs.Settled.{IsSettled, IsOpen}
+use Rattle.journal_bytes.specs.Journal.{HeadView, journal_in, journal_of, HasRecords}
+use Rattle.journal_bytes.specs.Spelling.{head_frame}
+use Rattle.journal_file.specs.Beginning.{IsProbed, BeganAt, MayBegin, IsBegun}
+use Rattle.dd_disk.proofs.Runs.{then, weaker}
+use Rattle.journal_bytes.proofs.Found.{reading_shut}
+use Rattle.journal_bytes.proofs.Journals.{only_head}
+use Rattle.journal_bytes.proofs.Ended.{short_file, long_file}
+use Rattle.journal_file.proofs.Appending.{settled, settled_reads}
+
+pub closed_not_begun : (file : List ℕ) → get_or file 0 0 ≡ 0 → journal_of file ≡ Err NotBegun
+unfolding journal_in
+closed_not_begun file closed = elim (cases_lt 1 (length file)) [
+  | inl long ↦
+      let shut : get_or file 0 0 ≢ 1 = λ one. absurd (omega arith) in
+      let k : length file ≡ suc (length file - 1) = omega arith in
+      long_file file long ∙ ap journal_in (reading_shut (length file) (length file - 1) no_digest 0 file k shut)
+  | inr short ↦ short_file file short
+]
+
+pub probed_not_begun : (gate : Bool) (file : List ℕ) → IsProbed gate file → journal_of file ≡ Err NotBegun
+probed_not_begun true file probed = closed_not_begun file probed.1
+probed_not_begun false file probed = short_file file probed
+
+pub begins : (file : List ℕ) → MayBegin file → journal_of file ≡ Err NotBegun
+begins file (inl probed) = probed_not_begun true file probed
+begins file (inr probed) = probed_not_begun false file probed
+
+-- the byte 0 written at the front of a file of at most one byte
+pub torn_first : (file c : List ℕ) → length file ≤ 1 → Torn 0 1 file c → journal_of c ≡ Err NotBegun
+torn_first file c short torn = short_file c (omega (arith, torn.no_longer))
+
+pub written_first : (file new : List ℕ) → length file ≤ 1 → Holds file 0 (0 ∷ []) new → new ≡ 0 ∷ []
+written_first file new short holds = holds ∙ ap (λ (l : List ℕ). 0 ∷ l) (drop_all 1 file short)
+
+-- no record, or the head
+pub first_record : (h : HeadView) (c : List ℕ) → length h.text < 2 ^ 32 → IsBeforeOrAfter [] (head_frame h) c → IsBegun h c
+unfolding journal_in
+first_record h c fits (inl none) = elim (cases_lt 1 (length c)) [
+  | inl long ↦ inl (long_file c long ∙ ap journal_in none)
+  | inr short ↦ inl (short_file c short)
+]
+first_record h c fits (inr one) = inr (only_head h c fits one)
+
+-- a file that begins with a closed gate is a journal with no record, and no head
+pub closed_settled : (file : List ℕ) (may_leave : List ℕ → Type 0) (tail : Tail) → 0 < length file → get_or file 0 0 ≡ 0 → tail.end ≡ 0 → tail.digest ≡ no_digest → Only file may_leave → IsSettled file may_leave tail (frames_of file) × (frames_of file ≡ [])
+closed_settled [] may_leave tail some closed end digest only = absurd (omega arith)
+closed_settled (a ∷ file) may_leave tail some closed end digest only = settled (a ∷ file) may_leave tail [] file tt (λ i. closed i ∷ file) end digest only
+
+pub since_start : {A : Type 0} (mid new : Option A) (P Q : A → Type 0) → IsSome mid → ((s : A) → mid ≡ Some s → new ≡ Some s) → IfSome mid P → ((s : A) → P s → Q s) → IfSome new Q
+since_start None new P Q some stays has then = absurd cc
+since_start (Some s) new P Q some stays has then = subst (λ o. IfSome o Q) (sym (stays s refl)) (then s has)
+
+pub if_some_map : {A : Type 0} (o : Option A) (P Q : A → Type 0) → IfSome o P → ((s : A) → P s → Q s) → IfSome o Q
+if_some_map None P Q has then = tt
+if_some_map (Some s) P Q has then = then s has
+
+module _ {D : Type 0} (moment : D → ℕ) (left_since : D → ℕ → List ℕ → Type 0) (h : HeadView) where
+  abbrev pub NotYet : List ℕ → Type 0
+  NotYet = λ c. journal_of c ≡ Err NotBegun
+
+  -- the closed gate was written, and then the head
+  pub runs : (mid between new : D) (g : Frame) (fs : List Frame) → length h.text < 2 ^ 32 → g ≡ head_frame h → fs ≡ [] → LeavesOnly moment left_since mid between NotYet → LeavesOnly moment left_since between new (IsBeforeOrAfter fs g) → LeavesOnly moment left_since mid new (IsBegun h)
+  runs mid between new g fs fits same none first second =
+      then moment left_since mid between new NotYet (IsBeforeOrAfter fs g) (IsBegun h) first second (λ c not_yet. inl not_yet)
+      (λ c has. first_record h c fits (subst (λ (x : Frame). IsBeforeOrAfter [] x c) same (subst (λ (xs : List Frame). IsBeforeOrAfter xs g c) none has)))
+
+  pub closes : (mid between : D) → LeavesOnly moment left_since mid between NotYet → LeavesOnly moment left_since mid between (IsBegun h)
+  closes mid between first = weaker moment left_since mid between NotYet (IsBegun h) first (λ c not_yet. inl not_yet)
+
+  module _ (file : List ℕ) where
+    -- since the first sync
+    abbrev pub Begun : D → FirstSync → Type 0
+    Begun disk s = MayBegin s.content → (c : List ℕ) → left_since disk s.moment c → IsBegun h c
+
+    pub at_probe : (mid : D) (s : FirstSync) → BeganAt moment left_since s mid file → Begun mid s
+    at_probe mid s b may c left = inl (ap journal_of (b.only c left) ∙ begins file (subst MayBegin b.content may))
+
+    -- and after more calls
+    pub after : (mid new : D) (s : FirstSync) → LeavesOnly moment left_since mid new (IsBegun h) → BeganAt moment left_since s mid file → Begun new s
+    after mid new s run b may c left = ⊎_elim (λ before. at_probe mid s b may c before) (λ now. now) (run.before s.moment c b.earlier left)
+
+-- the head was added
+pub head_open : (file : List ℕ) (may_leave : List ℕ → Type 0) (tail : Tail) (h : HeadView) (g : Frame) (fs : List Frame) → length h.text < 2 ^ 32 → g ≡ head_frame h → fs ≡ [] → IsSettled file may_leave tail (frames_of file) × (frames_of file ≡ fs ++ g ∷ []) → IsOpen file may_leave tail × HasRecords h [] file
+head_open file may_leave tail h g fs fits same none done =
+    let frames : frames_of file ≡ head_frame h ∷ [] = done.1 ∙ (λ i. none i ++ same i ∷ []) in
+    let reads = only_head h file fits (subst (λ (xs : List Frame). ReadsAs xs file) frames (settled_reads file may_leave tail (frames_of file) done.0)) in
+    (record { settled = done.0; head = h; records = []; reads = reads }, reads)

@@ -1,0 +1,5 @@
+mod Appending
+mod Begun
+mod Images
+mod Opened
+mod Recording

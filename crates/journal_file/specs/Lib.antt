@@ -1,0 +1,10 @@
+pub mod Beginning
+pub mod Refusing
+pub mod Settled
+pub use Rattle.dd_disk.specs.Disk
+pub use Rattle.journal_bytes.specs.Bodies
+pub use Rattle.journal_bytes.specs.Ends
+pub use Rattle.journal_bytes.specs.Frames
+pub use Rattle.journal_bytes.specs.Journal
+pub use Rattle.journal_bytes.specs.Spelling
+pub use Rattle.journal_bytes.specs.Views

@@ -1,0 +1,41 @@
+-- Why a journal is not opened.
+use Rattle.std.specs.Prelude.{◌≡◌, List, Result, Ok, Err}
+use Rattle.journal_bytes.specs.declared.head.Head.{Head}
+use Rattle.journal_bytes.specs.declared.refusal.Refusal.{Refusal}
+use Rattle.journal_bytes.specs.declared.refusal.Refusal.TheVariants as bytes
+use Rattle.journal_bytes.specs.declared.tail.Tail.{Tail}
+use Rattle.journal_bytes.specs.Bodies.{RecordView}
+use Rattle.journal_bytes.specs.Journal.{JournalView, journal_view}
+use Rattle.journal_file.specs.declared.append_error.AppendError.{AppendError}
+use Rattle.journal_file.specs.declared.append_error.AppendError.TheVariants as appending
+use Rattle.journal_file.specs.declared.error.JournalError.{JournalError}
+use Rattle.journal_file.specs.declared.error.JournalError.TheVariants as errors
+
+-- the error for bytes that are refused
+abbrev pub error_of : Refusal → JournalError
+error_of bytes.NotBegun = errors.NotBegun
+error_of (bytes.Damaged offset) = errors.Damaged offset
+error_of (bytes.Malformed offset) = errors.Malformed offset
+error_of (bytes.Version found) = errors.Version found
+error_of bytes.OutOfMemory = errors.OutOfMemory
+
+-- the error where a head was not added
+abbrev pub error_of_append : AppendError → JournalError
+error_of_append appending.Disk = errors.Disk
+error_of_append appending.OutOfMemory = errors.OutOfMemory
+
+-- the error is what these bytes are refused for, unless the disk failed or memory ran out
+abbrev pub IsCause : JournalError → Result JournalView Refusal → Type 0
+IsCause errors.Disk read = Unit {0}
+IsCause errors.NotBegun read = read ≡ Err bytes.NotBegun
+IsCause errors.Exists read = ⊥
+IsCause (errors.Damaged offset) read = read ≡ Err (bytes.Damaged offset)
+IsCause (errors.Malformed offset) read = read ≡ Err (bytes.Malformed offset)
+IsCause (errors.Version found) read = read ≡ Err (bytes.Version found)
+IsCause (errors.NoSolution offset) read = ⊥
+IsCause errors.OutOfMemory read = Unit {0}
+
+-- a journal that was opened is what the bytes read as, and each error their first cause
+abbrev pub Opens : Result (Head × List RecordView × Tail) JournalError → Result JournalView Refusal → Type 0
+Opens (Ok journal) read = read ≡ Ok (journal_view journal)
+Opens (Err e) read = IsCause e read

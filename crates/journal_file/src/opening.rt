@@ -1,0 +1,48 @@
+ghost use Rattle.std.specs.Prelude.{◌≡◌, ◌⊎◌, ◌≤◌, None, IsSome, IfSome, IsTrue, IfOk, OnOk, IsErrOf};
+ghost use Rattle.dd_disk.specs.Counts.{Rose};
+ghost use Rattle.dd_disk.specs.Disk.{Only, Keeps, LeavesOnly};
+ghost use Rattle.journal_bytes.specs.Journal.{journal_of};
+ghost use Rattle.journal_file.specs.Beginning.{BeganAt};
+ghost use Rattle.journal_file.specs.Refusing.{Opens};
+ghost use Rattle.journal_file.specs.Settled.{IsOpen};
+
+use crate::JournalError;
+use crate::steps::fetch;
+use dd_disk::Disk;
+use journal_bytes::{Head, Records, Tail, read_journal};
+use std::alloc::Global;
+
+/// Opens a journal: syncs, reads its head and records, and finds where it goes on. It writes nothing.
+///
+/// # Errors
+///
+/// `Disk` only where a call of the disk failed. `NotBegun`, `Damaged`, `Malformed` and `Version` exactly where they say, for
+/// the bytes that were read and the first record of which one is true. No other but `OutOfMemory`.
+pub fn reopen<D: Disk>(alloc: Global, disk: &mut D) -> Result<(Head, Records, Tail), JournalError>
+    requires { IsTrue (D.attached disk.old) }
+
+    // What is read, or the first cause for which it is refused.
+    ensures exact { IsTrue (D.tells disk.old) → Opens result (journal_of (D.seen disk.old)) }
+
+    // A record may be added.
+    ensures ready { IfOk result (λ r. IsTrue (D.tells disk.old) →
+        IsOpen (D.seen disk.new) (D.may_leave disk.new) r.2) }
+    ensures seen { D.seen disk.new ≡ D.seen disk.old }
+    ensures durable { OnOk result (IsTrue (D.tells disk.old) → Only (D.seen disk.new) (D.may_leave disk.new)) }
+
+    // A crash at any moment leaves what it would have left before, or what was read.
+    ensures any_moment { IsTrue (D.tells disk.old) → LeavesOnly D.moment D.left_since disk.old disk.new
+        (λ c. D.may_leave disk.old c ⊎ (c ≡ D.seen disk.old)) }
+
+    // From its sync on a crash leaves what was read.
+    ensures start { IsTrue (D.tells disk.old) → D.start disk.old ≡ None →
+        IfSome (D.start disk.new) (λ s. BeganAt D.moment D.left_since s disk.new (D.seen disk.old)) }
+    ensures began { OnOk result (D.start disk.old ≡ None → IsSome (D.start disk.new)) }
+    ensures disk { IsErrOf result JournalError.Disk → Rose (D.faults disk.old) (D.faults disk.new) }
+    ensures faults { D.faults disk.old ≤ D.faults disk.new }
+    ensures keeps { Keeps D.attached D.tells disk.old disk.new }
+{
+    let file = fetch(alloc, disk)?;
+    let journal = read_journal(alloc, &file)?;
+    Ok(journal)
+}
