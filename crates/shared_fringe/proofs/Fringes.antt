@@ -1,44 +1,34 @@
--- What a fringe keeps.
-use Rattle.std.proofs.Common.{◌≡◌, ◌≢◌, ℕ, ◌<◌, List, length, filter, Bool, true, false, not, cond, int_le, nat_eq, Option, Some, None, refl, subst}
-use Rattle.std.specs.List.{slice_get, remove}
+-- What the open ones are, by what the slots keep.
+use Rattle.std.proofs.Common.{◌≡◌, ◌≢◌, ℕ, ◌<◌, List, [], ◌∷◌, length, Bool, true, false, Option, Some, inl, inr, refl, sym, ◌∙◌, ap, subst, arith}
 use Rattle.dp_model.specs.Lists.{Each}
-use Rattle.dp_laws.proofs.Lists.{each-filter, two-filter}
-use Rattle.shared_fringe.proofs.Tickets.{each-by_ticket, tickets-by_ticket, two-by_ticket, without-removed}
-use Rattle.shared_fringe.specs.Tickets.{Ticketed, by_ticket, without}
-use Rattle.shared_fringe.specs.Fringe.{IsFringe, AreDifferent, same_open}
-use Rattle.shared_fringe.specs.Pushing.{pushed_beside, after_push}
-use Rattle.shared_fringe.proofs.Rows.{different-turned, same-none, same-others}
+use Rattle.dp_model.proofs.Members.{Has, each-has, each-of-all}
+use Rattle.dp_laws.specs.Pairs.{EachTwo}
+use Rattle.shared_fringe.specs.Fringe.{AreDifferent, IsFringe, is_same}
+use Rattle.shared_fringe.specs.Tickets.{Ticketed, HasTickets}
+use Rattle.shared_fringe.specs.Slots.{IsOpen, in_slot, opened}
+use Rattle.shared_fringe.proofs.Openeds.{opened_has, opened_tickets}
 
-pub kept-filter : (words : ℕ) (p : Ticketed → Bool) (os : List Ticketed) → IsFringe words os → IsFringe words (filter p os)
-kept-filter words p os h = record {
-  tickets = two-filter (λ a b. a.ticket < b.ticket) p os h.tickets;
-  different = two-filter AreDifferent p os h.different;
-  cells = each-filter (λ o. length o.subproblem.row ≡ words) p os h.cells;
+two_of : (R : Ticketed → Ticketed → Type 0) (os : List Ticketed) → HasTickets os → ((a b : Ticketed) → Has a os → Has b os → a.ticket < b.ticket → R a b) → EachTwo R os
+two_of R [] h f = tt
+two_of R (x ∷ os) h f = (
+  each-of-all (R x) os (λ b k. f x b (inl refl) (inr k) (each-has (λ (y : Ticketed). x.ticket < y.ticket) os b h.0 k)),
+  two_of R os h.1 (λ a b ka kb l. f a b (inr ka) (inr kb) l),
+)
+
+pub opened_fringe : (words : ℕ) (slots : List (Option Ticketed)) → IsOpen words slots → IsFringe words (opened slots)
+opened_fringe words slots held = record {
+  tickets = opened_tickets slots held.apart;
+  different = two_of AreDifferent (opened slots) (opened_tickets slots held.apart)
+      (λ a b ha hb less. let r = opened_has slots a ha in let q = opened_has slots b hb in
+      let turn : (t : Bool) → is_same (length a.subproblem.decisions) a.subproblem.row b ≡ t → t ≡ false =
+      λ t. elim t as (λ t. is_same (length a.subproblem.decisions) a.subproblem.row b ≡ t → t ≡ false) [
+        | true ↦ λ e. absurd (
+            let s : r.0 ≡ q.0 = held.different r.0 q.0 a b r.1 q.1 e in
+            let there : in_slot slots r.0 ≡ Some b = subst (λ n. in_slot slots n ≡ Some b) (sym s) q.1 in
+            let at = r.1 in
+            let same : a ≡ b = cc in
+            let ticket : a.ticket ≡ b.ticket = ap (λ (y : Ticketed). y.ticket) same in omega arith)
+        | false ↦ λ e. refl
+      ] in turn (is_same (length a.subproblem.decisions) a.subproblem.row b) refl);
+  cells = each-of-all (λ (o : Ticketed). length o.subproblem.row ≡ words) (opened slots) (λ o h. let r = opened_has slots o h in held.cells r.0 o r.1);
 }
-
--- one more that differs from each
-kept-by_ticket : (words : ℕ) (o : Ticketed) (os : List Ticketed) → IsFringe words os → Each (λ x. x.ticket ≢ o.ticket) os → length o.subproblem.row ≡ words
-    → Each (AreDifferent o) os → IsFringe words (by_ticket o os)
-kept-by_ticket words o os h new cells differ = record {
-  tickets = tickets-by_ticket o os new h.tickets;
-  different = two-by_ticket AreDifferent different-turned o os differ h.different;
-  cells = each-by_ticket (λ o. length o.subproblem.row ≡ words) o os cells h.cells;
-}
-
-pub kept-push : (words : ℕ) (o : Ticketed) (os : List Ticketed) → IsFringe words os → Each (λ x. x.ticket ≢ o.ticket) os → length o.subproblem.row ≡ words → IsFringe words (after_push o os)
-kept-push words o os h new cells =
-    let go : (s : Option Ticketed) → same_open o.subproblem os ≡ s → IsFringe words (pushed_beside o os s) =
-    λ s. elim s as (λ s. same_open o.subproblem os ≡ s → IsFringe words (pushed_beside o os s)) [
-      | None ↦ λ e. kept-by_ticket words o os h new cells (same-none (length o.subproblem.decisions) o.subproblem.row os e)
-      | Some other ↦ λ e. elim (int_le o.subproblem.value other.subproblem.value) as (λ b. IsFringe words (cond b os (by_ticket o (without other.ticket os)))) [
-        | true ↦ h
-        | false ↦ kept-by_ticket words o (without other.ticket os) (kept-filter words (λ x. not (nat_eq x.ticket other.ticket)) os h)
-            (each-filter (λ x. x.ticket ≢ o.ticket) (λ x. not (nat_eq x.ticket other.ticket)) os new) cells
-            (same-others (length o.subproblem.decisions) o.subproblem.row os other e h.tickets h.different)
-      ]
-    ] in go (same_open o.subproblem os) refl
-
--- without one of a place
-pub kept-removed : (words : ℕ) (os : List Ticketed) (place : ℕ) (o : Ticketed) → slice_get os place ≡ Some o → IsFringe words os → IsFringe words (remove os place)
-kept-removed words os place o at h =
-    subst (λ (l : List Ticketed). IsFringe words l) (without-removed os place o at h.tickets) (kept-filter words (λ x. not (nat_eq x.ticket o.ticket)) os h)

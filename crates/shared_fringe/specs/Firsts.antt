@@ -1,5 +1,6 @@
 -- Which open subproblem is taken first.
-use Rattle.std.specs.Prelude.{Bool, cond, ◌&&◌, ◌||◌, List, [], ◌∷◌, nat_lt, int_lt, int_le, Option, Some, None}
+use Rattle.std.specs.Prelude.{◌≡◌, Bool, false, cond, ◌&&◌, ◌||◌, List, [], ◌∷◌, nat_lt, int_lt, int_le, Option, Some, None}
+use Rattle.dp_model.specs.Lists.{Each, OneOf}
 use Rattle.shared_fringe.specs.Tickets.{Ticketed}
 
 -- a is taken rather than b: the greater bound, then the greater value, then the lesser ticket
@@ -17,3 +18,8 @@ first_from first (o ∷ os) = first_from (cond (is_taken_before o first) o first
 abbrev pub first_taken : List Ticketed → Option Ticketed
 first_taken [] = None
 first_taken (o ∷ os) = Some (first_from o os)
+
+-- it is one of the list, and none of the list is taken before it
+pub record IsFirst (os : List Ticketed) (o : Ticketed) : Type 0 where
+  pub one : OneOf (λ a. a ≡ o) os
+  pub first : Each (λ a. is_taken_before a o ≡ false) os

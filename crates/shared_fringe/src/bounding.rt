@@ -1,7 +1,9 @@
 //! The greatest of bounds, and what stays above one.
 
-ghost use Rattle.std.specs.Prelude.{◌≡◌, ◌≤◌, vec_len, vec_capacity};
+ghost use Rattle.std.specs.Prelude.{◌≡◌, ◌≤◌, map, vec_len, vec_capacity};
+ghost use Rattle.dp_model.specs.Numbers.{greatest};
 ghost use Rattle.shared_fringe.specs.Bounds.{raised, raised_by};
+ghost use Rattle.shared_fringe.specs.Slots.{opened, raised_one};
 ghost use Rattle.shared_fringe.specs.Tickets.{above_value};
 
 use crate::listed::Listed;
@@ -34,4 +36,25 @@ pub fn keep_above(listed: &mut Vec<Listed>, value: i64)
     ensures capacity { vec_capacity listed.new ≡ vec_capacity listed.old }
 {
     listed.retain(|one| one.sub.bound > value);
+}
+
+/// The greater of the most so far and the bound of the one in a slot.
+fn raised_one(most: Option<i64>, one: &Option<Listed>) -> Option<i64>
+    ensures { result ≡ raised_one most one.now }
+{
+    match one {
+        Some(one) => raised(most, one.sub.bound),
+        None => most,
+    }
+}
+
+/// The greatest bound of an open one, or `None` exactly where there is none.
+pub fn best_of(slots: &[Option<Listed>]) -> Option<i64>
+    ensures { result ≡ greatest (map (λ o. o.subproblem.bound) (opened slots.now)) }
+{
+    let mut most = None;
+    for one in slots {
+        most = raised_one(most, one);
+    }
+    most
 }

@@ -1,43 +1,48 @@
-ghost use Rattle.std.specs.Prelude.{◌≡◌, ◌≢◌, ◌+◌, ◌<◌, ◌≤◌, [], map, length, nat_eq, Some, option_map, IfOk, OnOk, OnErr, OnSome};
+ghost use Rattle.std.specs.Prelude.{◌≡◌, ◌≢◌, ◌+◌, ◌<◌, ◌≤◌, [], map, length, nat_eq, Some, option_map, IfSome, OnOk, OnErr, OnSome};
 ghost use Rattle.dp_model.specs.Lists.{Each};
 ghost use Rattle.dp_model.specs.Numbers.{greatest};
-ghost use Rattle.shared_fringe.specs.Firsts.{first_taken};
+ghost use Rattle.shared_fringe.specs.Firsts.{first_taken, IsFirst};
 ghost use Rattle.shared_fringe.specs.Fringe.{IsFringe, same_at};
 ghost use Rattle.shared_fringe.specs.Popping.{after_pop};
 ghost use Rattle.shared_fringe.specs.Pushing.{push_gives, after_push};
 ghost use Rattle.shared_fringe.specs.Tickets.{above_value};
 
-use crate::bounding::{keep_above, raised_by};
+use crate::bounding::best_of;
+use crate::dropping::drop_up_to;
 use crate::fate::FringeFate;
+use crate::growing::make_room;
+use crate::index::Index;
 use crate::listed::Listed;
-use crate::placing::place_of_same;
-use crate::pushing::push_among;
+use crate::pushing::{find_same, push_in};
+use crate::ranks::Ranks;
 use crate::same::Same;
-use crate::taking::first_place;
+use crate::store::{Store, take_first};
 use dp_model::{OutOfMemory, Sub};
+use row_region::Region;
 use std::alloc::Global;
 use std::marker::Model;
 
-/// Open subproblems with tickets, in order of ticket, no two of one depth and state, and room for `spare` more.
+/// Open subproblems with tickets, no two of one depth and state, and room for `spare` more.
 #[derive(Debug, Drop)]
 pub struct Fringe {
-    words: usize,
-    listed: Vec<Listed>,
+    alloc: Global,
+    store: Store,
 }
 
 impl Model for Fringe {
-    ghost use Rattle.std.specs.Prelude.{◌-◌, vec_len, vec_capacity};
-    ghost use Rattle.shared_fringe.specs.Fringe.{FringeView, IsFringe};
+    ghost use Rattle.shared_fringe.specs.Fringe.{FringeView};
+    ghost use Rattle.shared_fringe.specs.Slots.{opened};
+    ghost use Rattle.shared_fringe.specs.Stored.{IsStored};
 
     ghost Value = { FringeView };
 
     ghost view = { λ f. record {
-      open_ones = f.listed.items;
-      words = f.words;
-      spare = vec_capacity f.listed - vec_len f.listed;
+      open_ones = opened f.store.slots.items;
+      words = f.store.words;
+      spare = f.store.spare;
     } };
 
-    ghost invariant = { λ f. IsFringe f.words f.listed.items };
+    ghost invariant = { λ f. IsStored f.store.words f.store.spare f.store.slots.items f.store.keys f.store.ranks f.store.index };
 }
 
 impl Fringe {
@@ -46,10 +51,15 @@ impl Fringe {
         requires { 1 ≤ words }
         ensures { result ≡ record { open_ones = []; words = words; spare = 0 } }
     {
-        Fringe {
+        let store = Store {
             words,
-            listed: Vec::new(alloc),
-        }
+            spare: 0,
+            slots: Vec::new(alloc),
+            keys: Region::empty(alloc, words),
+            ranks: Ranks::new(alloc),
+            index: Index::new(alloc),
+        };
+        Fringe { alloc, store }
     }
 
     /// Makes `spare` at least `count`: there is room for so many more. A refusal changes nothing.
@@ -59,7 +69,7 @@ impl Fringe {
         ensures ok { OnOk result (count ≤ self.new.spare) }
         ensures err { OnErr result (self.new ≡ self.old) }
     {
-        self.listed.reserve(count)
+        make_room(self.alloc, &mut self.store, count)
     }
 
     /// Pushes a subproblem under a ticket. Where an open one of its depth and state has no less value, the new one is dropped
@@ -76,7 +86,7 @@ impl Fringe {
         ensures words { self.new.words ≡ self.old.words }
         ensures spare { self.old.spare ≤ self.new.spare + 1 }
     {
-        push_among(&mut self.listed, Listed { ticket, sub })
+        push_in(&mut self.store, Listed { ticket, sub })
     }
 
     /// The ticket and the value of the open one of the depth and state, or `None` exactly where there is none.
@@ -86,28 +96,21 @@ impl Fringe {
         requires { length row.now ≡ self.now.words }
         ensures { result ≡ option_map (λ o. record { ticket = o.ticket; value = o.subproblem.value }) (same_at depth row.now self.now.open_ones) }
     {
-        let place = place_of_same(self.listed.as_slice(), depth, row)?;
-        let one = &self.listed[place];
-        Some(Same {
-            ticket: one.ticket,
-            value: one.sub.value,
-        })
+        let (_slot, same) = find_same(&self.store, depth, row)?;
+        Some(same)
     }
 
     /// Takes out the open one with the greatest bound, then the greatest value, then the least ticket; `None` exactly where
     /// nothing is open. Where it gives one, `spare` rises by one at least.
     pub fn pop_best(&mut self) -> Option<(u64, Sub)>
+        ensures first { IfSome result (λ p. IsFirst self.old.open_ones (record { ticket = p.0; subproblem = p.1.subproblem })) }
         ensures best { option_map (λ p. record { ticket = p.0; subproblem = p.1.subproblem }) result ≡ first_taken self.old.open_ones }
         ensures step { self.new.open_ones ≡ after_pop self.old.open_ones }
         ensures words { self.new.words ≡ self.old.words }
         ensures spare { self.old.spare ≤ self.new.spare }
         ensures more { OnSome result (self.old.spare + 1 ≤ self.new.spare) }
     {
-        if self.listed.is_empty() {
-            return None;
-        }
-        let place = first_place(self.listed.as_slice());
-        let Listed { ticket, sub } = self.listed.remove(place);
+        let Listed { ticket, sub } = take_first(&mut self.store)?;
         Some((ticket, sub))
     }
 
@@ -117,50 +120,42 @@ impl Fringe {
         ensures words { self.new.words ≡ self.old.words }
         ensures spare { self.old.spare ≤ self.new.spare }
     {
-        keep_above(&mut self.listed, value);
+        drop_up_to(&mut self.store, value);
     }
 
     /// The greatest bound of an open one, or `None` exactly where nothing is open.
-    #[tactic(auto, using(crate::proofs::Bounds::raised_greatest))]
     pub fn best_bound(&self) -> Option<i64>
         ensures { result ≡ greatest (map (λ o. o.subproblem.bound) self.now.open_ones) }
     {
-        raised_by(None, self.listed.as_slice())
-    }
-
-    /// The open ones in order of ticket: no two have one depth and state, and each row has `words` cells.
-    pub fn listed(&self) -> &[Listed]
-        ensures listed { result.now ≡ self.now.open_ones }
-        ensures kept { IsFringe self.now.words self.now.open_ones }
-    {
-        self.listed.as_slice()
+        best_of(self.store.slots.as_slice())
     }
 
     /// How many are open.
     pub fn len(&self) -> usize
         ensures { result ≡ length self.now.open_ones }
     {
-        self.listed.len()
+        self.store.slots.len() - self.store.keys.spare()
     }
 
     /// Whether nothing is open.
     pub fn is_empty(&self) -> bool
         ensures { result ≡ nat_eq (length self.now.open_ones) 0 }
     {
-        self.listed.is_empty()
+        self.len() == 0
     }
 
-    /// For how many more there is room.
+    /// For how many more there is room. No two open ones have one depth and state, and each row has `words` cells.
     pub fn spare(&self) -> usize
-        ensures { result ≡ self.now.spare }
+        ensures spare { result ≡ self.now.spare }
+        ensures kept { IsFringe self.now.words self.now.open_ones }
     {
-        self.listed.capacity() - self.listed.len()
+        self.store.spare
     }
 
     /// How many cells a row has.
     pub fn words(&self) -> usize
         ensures { result ≡ self.now.words }
     {
-        self.words
+        self.store.words
     }
 }

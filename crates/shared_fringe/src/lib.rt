@@ -13,12 +13,24 @@
 #![tactic(auto)]
 
 mod bounding;
+mod dropping;
 mod fate;
+mod finding;
+
+mod fold;
 mod fringe;
+mod growing;
+mod index;
 mod listed;
 mod placing;
+mod popping;
 mod pushing;
+mod rank;
+mod ranks;
+mod reindexing;
 mod same;
+mod slots;
+mod store;
 mod taking;
 #[cfg(test)]
 mod tests;

@@ -1,36 +1,63 @@
-//! What a push does to the list.
+//! What a push does to what is stored.
 
-ghost use Rattle.std.specs.Prelude.{◌≡◌, ◌+◌, ◌-◌, ◌<◌, ◌≤◌, vec_len, vec_capacity};
-ghost use Rattle.shared_fringe.specs.Tickets.{Ticketed, HasTickets};
+ghost use Rattle.std.specs.Prelude.{◌≡◌, ◌≢◌, ◌+◌, ◌<◌, ◌≤◌, length, MatchOption};
+ghost use Rattle.dp_model.specs.Lists.{Each};
 ghost use Rattle.shared_fringe.specs.Pushing.{push_gives, after_push};
+ghost use Rattle.shared_fringe.specs.Slots.{opened};
+ghost use Rattle.shared_fringe.specs.Stored.{IsStored, HasSame, HasNone};
 
 use crate::fate::FringeFate;
+use crate::finding::slot_of_same;
 use crate::listed::Listed;
-use crate::placing::{place_of_same, put_by_ticket};
+use crate::same::Same;
+use crate::slots::in_slot;
+use crate::store::{Store, put_in, take_out};
 
-/// Pushes one more to the list, in which tickets rise.
-pub fn push_among(listed: &mut Vec<Listed>, one: Listed) -> FringeFate
-    requires room { vec_len listed.old < vec_capacity listed.old }
-    requires tickets { HasTickets listed.old.items }
-    ensures answer { result ≡ push_gives one listed.old.items }
-    ensures step { listed.new.items ≡ after_push one listed.old.items }
-    ensures len { vec_len listed.new ≤ vec_len listed.old + 1 }
-    ensures capacity { vec_capacity listed.old ≤ vec_capacity listed.new }
+/// Its ticket and value.
+fn same_of(one: &Listed) -> Same
+    ensures ticket { result.ticket ≡ one.now.ticket }
+    ensures value { result.value ≡ one.now.subproblem.value }
 {
-    let same = place_of_same(
-        listed.as_slice(),
-        one.sub.decisions.len(),
-        one.sub.row.as_slice(),
-    );
-    let Some(place) = same else {
-        put_by_ticket(listed, one);
+    Same {
+        ticket: one.ticket,
+        value: one.sub.value,
+    }
+}
+
+/// The slot of the one of the depth and state, with its ticket and value.
+pub fn find_same(store: &Store, depth: usize, row: &[i64]) -> Option<(u32, Same)>
+    requires { IsStored store.now.words store.now.spare store.now.slots.items store.now.keys store.now.ranks store.now.index }
+    ensures { MatchOption result (HasNone store.now.slots.items depth row.now) (λ r. HasSame store.now.slots.items depth row.now r.0 r.1.ticket r.1.value) }
+{
+    let slots = store.slots.as_slice();
+    let slot = slot_of_same(slots, &store.keys, &store.index, depth, row)?;
+    let Some(one) = in_slot(slots, slot) else {
+        unreachable!();
+    };
+    Some((slot, same_of(one)))
+}
+
+/// Pushes one.
+pub fn push_in(store: &mut Store, one: Listed) -> FringeFate
+    requires stored { IsStored store.old.words store.old.spare store.old.slots.items store.old.keys store.old.ranks store.old.index }
+    requires room { 0 < store.old.spare }
+    requires fresh { Each (λ o. o.ticket ≢ one.ticket) (opened store.old.slots.items) }
+    requires cells { length one.subproblem.row ≡ store.old.words }
+    ensures answer { result ≡ push_gives one (opened store.old.slots.items) }
+    ensures step { opened store.new.slots.items ≡ after_push one (opened store.old.slots.items) }
+    ensures stored { IsStored store.new.words store.new.spare store.new.slots.items store.new.keys store.new.ranks store.new.index }
+    ensures words { store.new.words ≡ store.old.words }
+    ensures spare { store.old.spare ≤ store.new.spare + 1 }
+{
+    let found = find_same(store, one.sub.decisions.len(), one.sub.row.as_slice());
+    let Some((slot, same)) = found else {
+        put_in(store, one);
         return FringeFate::Entered;
     };
-    if one.sub.value <= listed[place].sub.value {
-        let by = listed[place].ticket;
-        return FringeFate::Kept { by };
+    if one.sub.value <= same.value {
+        return FringeFate::Kept { by: same.ticket };
     }
-    let old = listed.remove(place).ticket;
-    put_by_ticket(listed, one);
+    let old = take_out(store, slot).ticket;
+    put_in(store, one);
     FringeFate::Replaced { old }
 }

@@ -1,0 +1,31 @@
+use Rattle.std.proofs.Common.{rules, ◌≡◌, ◌+◌, ◌-◌, ◌∙◌, arith, sym, ap, length, List, Option, ℤ, slice_get}
+use Rattle.row_region.specs.Region.{HasTaken}
+use Rattle.row_region.proofs.Callers.{taken_live}
+use Rattle.shared_fringe.specs.Slots.{key_of}
+use Rattle.shared_fringe.proofs.Keys.{key_free, keyed_more, set_of}
+use Rattle.shared_fringe.proofs.Openeds.{opened_entered}
+use Rattle.shared_fringe.proofs.Stores.{stored_more}
+use Rattle.shared_fringe.proofs.store.put_in.Goals as goal
+
+pub row_mut-requires : goal.row_mut-requires
+row_mut-requires c = taken_live c.args.store.now.keys c.take.new.self c.in-Some.key.place c.in-Some.ensures.taken
+
+pub returns-clause-stored : goal.returns-clause-stored
+returns-clause-stored c =
+    let s = c.args.store.now in
+    let has : HasTaken s.keys c.in-Some.key.place c.take.new.self = c.in-Some.ensures.taken in
+    let h = c.requires.stored in
+    stored_more s.words s.spare (s.spare - 1) s.slots.items s.keys c.take.new.self _ s.ranks c.push.new.self s.index c.ready_index.new.index c.enter.new.self c.in-Some.key.place c.fold_of_one.result c.args.one
+    h (let a = c.requires.room in omega arith)
+    has (keyed_more s.slots.items s.keys c.take.new.self c.in-Some.key.place c.args.one c.copy_from_slice.new.self h.keyed has (c.requires.cells ∙ sym h.width) (search rules)) (search rules) (search rules)
+    (search rules) c.ready_index.ensures.room
+    c.enter.ensures.entered c.fold_of_one.ensures c.enter.ensures.room
+    (search rules) c.push.ensures.len c.push.ensures.room
+    c.requires.fresh c.requires.alone c.requires.cells
+
+pub returns-clause-listed : goal.returns-clause-listed
+returns-clause-listed c =
+    let s = c.args.store.now in
+    let has : HasTaken s.keys c.in-Some.key.place c.take.new.self = c.in-Some.ensures.taken in
+    let free = key_free s.slots.items c.in-Some.key.place (ap (λ (rows : List (Option (List ℤ))). slice_get rows c.in-Some.key.place) (sym c.requires.stored.keyed) ∙ has.was_free) in
+    opened_entered s.slots.items _ c.in-Some.key.place c.args.one (set_of s.slots.items c.in-Some.key.place _ free.0) free.1 c.requires.stored.held.apart c.requires.fresh

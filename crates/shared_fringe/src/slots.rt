@@ -1,0 +1,65 @@
+//! What a slot has.
+
+ghost use Rattle.std.specs.Prelude.{◌≡◌, option_copied, map};
+ghost use Rattle.dp_model.specs.Rows.{row_same};
+ghost use Rattle.shared_fringe.specs.Fringe.{is_same};
+ghost use Rattle.shared_fringe.specs.Slots.{in_slot, is_low, has_rank, is_same_in, key_of};
+
+use crate::listed::Listed;
+use crate::rank::Rank;
+use row_region::{Region, RowId};
+
+/// The open one in the slot, where it has one.
+pub fn in_slot(slots: &[Option<Listed>], slot: u32) -> Option<&Listed>
+    ensures { option_copied result ≡ in_slot slots.now slot }
+{
+    slots.get(slot as usize)?.as_ref()
+}
+
+/// Whether the slot of the rank has the one of that rank.
+pub fn has_rank(slots: &[Option<Listed>], rank: &Rank) -> bool
+    ensures { result ≡ has_rank rank.now (in_slot slots.now rank.now.slot) }
+{
+    match in_slot(slots, rank.slot) {
+        Some(one) => {
+            one.ticket == rank.ticket && one.sub.value == rank.value && one.sub.bound == rank.bound
+        }
+        None => false,
+    }
+}
+
+/// Whether the slot has one whose bound is at most the value.
+pub fn is_low(slots: &[Option<Listed>], slot: u32, value: i64) -> bool
+    ensures { result ≡ is_low value (in_slot slots.now slot) }
+{
+    match in_slot(slots, slot) {
+        Some(one) => one.sub.bound <= value,
+        None => false,
+    }
+}
+
+/// Whether two rows are the same.
+fn row_same(one: &[i64], other: &[i64]) -> bool
+    ensures { result ≡ row_same one.now other.now }
+{
+    one == other
+}
+
+/// Whether it is the one of the depth and state. The key is its row.
+fn is_same(one: &Listed, key: &[i64], depth: usize, row: &[i64]) -> bool
+    requires { key.now ≡ one.now.subproblem.row }
+    ensures { result ≡ is_same depth row.now one.now }
+{
+    one.sub.decisions.len() == depth && row_same(key, row)
+}
+
+/// Whether the slot has the one of the depth and state. The keys are the rows of the open ones.
+pub fn is_same_in(slots: &[Option<Listed>], keys: &Region, slot: u32, depth: usize, row: &[i64]) -> bool
+    requires { keys.now.rows ≡ map key_of slots.now }
+    ensures { result ≡ is_same_in depth row.now (in_slot slots.now slot) }
+{
+    match in_slot(slots, slot) {
+        Some(one) => is_same(one, keys.row(RowId { place: slot }), depth, row),
+        None => false,
+    }
+}
