@@ -1,10 +1,9 @@
 -- One entry of a row, and the rows from an entry on.
-use Rattle.std.proofs.Common.{◌≡◌, ℕ, zero, suc, ◌+◌, ◌^◌, ◌<◌, ◌≤◌, ℤ, pos, ◌+ℤ◌, ◌-ℤ◌, ◌≤ℤ◌, List, [], ◌∷◌, ◌++◌, length, take, drop, get_or, refl, arith, ap, sym, ◌∙◌, append_assoc, to_z, of_z, w64, set, add-one}
+use Rattle.std.proofs.Common.{◌≡◌, ℕ, zero, suc, ◌+◌, ◌^◌, ◌<◌, ◌≤◌, ℤ, pos, ◌+ℤ◌, ◌-ℤ◌, ◌≤ℤ◌, List, ◌∷◌, length, drop, get_or, refl, arith, ap, ◌∙◌, to_z, of_z, w64}
 use Rattle.std.specs.Prelude.{IsTrue}
 use Rattle.std.specs.Int.{int_min}
-use Rattle.std.proofs.Math.Seq.{take-suc-set}
 use Rattle.std.proofs.lemmas.Int.{ints, clamps}
-use Rattle.std.proofs.lemmas.List.{drop_more, drop_all, take_all, append-nil}
+use Rattle.std.proofs.lemmas.List.{drop_more, drop_all}
 use Rattle.benefit_rows.specs.Benefits.{above_zero, below_zero, gain_of, size_of, rank_of}
 use Rattle.benefit_rows.specs.BenefitLaws.{size_of-positive, rank_of-positive, gain_of-positive, gain_of-most}
 use Rattle.benefit_rows.proofs.Steps.{size_of-at, read_by_size}
@@ -13,7 +12,7 @@ use Rattle.max_two_sat.specs.declared.weights.UnitWeights.{UnitWeights}
 use Rattle.max_two_sat.specs.Instance.{pair_total, pairs_total, unit_total, units_total, no_pair, no_unit}
 use Rattle.max_two_sat.specs.Kept.{PairIsPositive, pair_is_positive, pairs_are_positive, pair-positive, UnitIsPositive, unit_is_positive, units_are_positive, unit-positive}
 use Rattle.max_two_sat.specs.Fitting.{FitsBenefits, FitsState}
-use Rattle.max_two_sat.specs.Program.{settled, open_true, open_false, cell_part, grown, row_gain, shared_gain, lesser_units}
+use Rattle.max_two_sat.specs.Program.{settled, open_true, open_false, cell_part, row_gain, shared_gain, lesser_units}
 use Rattle.max_two_sat.specs.SizeLaws.{cell_part-positive, shared_gain-positive, shared_gain-most, lesser_units-positive, lesser_units-most}
 use Rattle.max_two_sat.specs.Totals.{all-at, all-drop, pair_total-low, total_by-at, unit_total-low}
 use Rattle.max_two_sat.proofs.RunningSums.{PartsAdd, SumGrows, parts-add, sum-grows, sum-done}
@@ -37,51 +36,11 @@ pub pair_total-at : (ps : List PairWeights) (i : ℕ) (p : PairWeights) → i < 
 pair_total-at ps i p h g = total_by-at pair_total pair_is_positive pair_total-low ps i p h g
 
 -- one entry more of a pass
-pub grown-more : (ps : List PairWeights) (ts : List ℤ) (d i : ℕ) (p : PairWeights) → i < length ps → length ps ≡ length ts →
-    grown (drop i ps) (drop i ts) d ≡
-    (get_or ts i (pos 0) +ℤ (open_true (get_or ps i p) d -ℤ open_false (get_or ps i p) d)) ∷ grown (drop (i + 1) ps) (drop (i + 1) ts) d
-grown-more ps ts d i p h e =
-    let below : i < length ts = omega arith in
-    rw (drop_more ps i p h, drop_more ts i (pos 0) below) refl
-
 pub shared_gain-more : (ps : List PairWeights) (ts : List ℤ) (d i : ℕ) (p : PairWeights) → i < length ps → length ps ≡ length ts →
     shared_gain (drop i ps) (drop i ts) d ≡ cell_part (get_or ps i p) (get_or ts i (pos 0)) d +ℤ shared_gain (drop (i + 1) ps) (drop (i + 1) ts) d
 shared_gain-more ps ts d i p h e =
     let below : i < length ts = omega arith in
     rw (drop_more ps i p h, drop_more ts i (pos 0) below) refl
-
--- what a benefit grows to stays small
-grown-size : (ps : List PairWeights) (ts : List ℤ) (d i : ℕ) (p : PairWeights) → i < length ps → FitsBenefits ps ts →
-    size_of (get_or ts i (pos 0) +ℤ (open_true (get_or ps i p) d -ℤ open_false (get_or ps i p) d)) ≤ℤ pos (2 ^ 62)
-grown-size ps ts d i p h fits =
-    let split = parts (get_or ps i p) d (pair-at ps i p h fits.positive) in
-    let total = pair_total-at ps i p h fits.positive in
-    let small = size_of-at ts i (pos 0) (omega arith) in
-    omega (arith, ints, clamps)
-
--- one more benefit is written
-pub grown-written : (row : List PairWeights) (ts out whole : List ℤ) (d i : ℕ) (cell : ℤ) → i < length row → length out ≡ length row → FitsBenefits row ts →
-    cell ≡ to_z w64 (of_z w64 (get_or ts i (pos 0))) +ℤ (open_true (get_or row i no_pair) d -ℤ open_false (get_or row i no_pair) d) →
-    take i out ++ grown (drop i row) (drop i ts) d ≡ whole →
-    take (i + 1) (set out i (to_z w64 (of_z w64 cell))) ++ grown (drop (i + 1) row) (drop (i + 1) ts) d ≡ whole
-grown-written row ts out whole d i cell h f fits is before =
-    let small = size_of-at ts i (pos 0) (omega arith) in
-    let read : to_z w64 (of_z w64 (get_or ts i (pos 0))) ≡ get_or ts i (pos 0) = read_by_size (get_or ts i (pos 0)) (omega (arith, ints)) in
-    let value : cell ≡ get_or ts i (pos 0) +ℤ (open_true (get_or row i no_pair) d -ℤ open_false (get_or row i no_pair) d) = rw read at is in
-    let small_cell = grown-size row ts d i no_pair h fits in
-    let written : to_z w64 (of_z w64 cell) ≡ cell = read_by_size cell (rw value small_cell) in
-    let inside : i < length out = omega arith in
-    let front : take (i + 1) (set out i cell) ≡ take i out ++ cell ∷ [] = rw add-one (take-suc-set out i cell inside) in
-    let more : take i out ++ (cell ∷ grown (drop (i + 1) row) (drop (i + 1) ts) d) ≡ whole = rw value (rw (grown-more row ts d i no_pair h fits.entries) at before) in
-    rw (written, front, append_assoc) more
-
--- all benefits are written
-pub grown-done : (row : List PairWeights) (ts out whole : List ℤ) (d i : ℕ) → length row ≤ i → length out ≡ length row →
-    take i out ++ grown (drop i row) (drop i ts) d ≡ whole → out ≡ whole
-grown-done row ts out whole d i h e before =
-    let all : take i out ≡ out = take_all i out (omega arith) in
-    let none : drop i row ≡ [] = drop_all i row h in
-    sym (append-nil out) ∙ rw (all, none) at before
 
 -- the gain so far, and one cell more
 pub gain-grows : (row : List PairWeights) (ts : List ℤ) (d i : ℕ) (total cell : ℤ) → i < length row → FitsBenefits row ts →

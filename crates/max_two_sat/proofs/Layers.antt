@@ -17,7 +17,7 @@ use Rattle.max_two_sat.specs.Rows.{length-rows_of, length-row_at, drop-rows, wor
 use Rattle.max_two_sat.specs.SizeLaws.{lesser_units-positive, lesser_units-most, rank-most, later-positive, rank_of-state}
 use Rattle.max_two_sat.specs.StateLaws.{state-is}
 use Rattle.max_two_sat.specs.Table.{later_totals, later_totals-at, length-later_totals}
-use Rattle.max_two_sat.specs.Totals.{units_total-positive, positive-rows_of, positive-row_at, rows_total-rows_of, rows_total-drop, pairs_total-positive}
+use Rattle.max_two_sat.specs.Totals.{units_total-positive, positive-rows_of, positive-row_at, rows_total-rows_of, rows_total-drop, pairs_total-positive, rank_of-zero}
 
 -- a state of the layer, by the instance itself
 pub record LayerHas (i : Instance) (k : ℕ) (s : List ℤ) : Type 0 where
@@ -78,6 +78,18 @@ row-fits i k s d kept test allowed =
     let has = layer-has i k s kept (same-test i k s (omega arith) test) in
     let row = row-has i k (length s) kept layer has.cells in
     record { entries = row.entries; positive = row.positive; weight = row.weight; rank = has.rank }
+
+-- a row with the words of a state is as long as a state of a layer
+pub same-cells : (i : Instance) (k : ℕ) (s out : List ℤ) → IsKept i → IsTrue ((program_of (instance_of (numbers_of i))).is_state k s) → k < length i.units
+    → length out ≡ (program_of (instance_of (numbers_of i))).words → length out ≡ length s
+same-cells i k s out kept test layer cells =
+    let has = layer-has i k s kept (same-test i k s (omega arith) test) in
+    let words : length out ≡ words_of (length i.units) = rw instance_of-numbers_of at cells in
+    words ∙ sym has.cells
+
+-- the layers before that of a state have no benefit
+pub empty-front : (i : Instance) (k : ℕ) (s : List ℤ) → IsStateOf (program_of i) k s → rank_of (take k s) ≡ pos 0
+empty-front i k s state = rank_of-zero (take k s) (state-is i k s state.test).before
 
 -- all weights of units are within the total
 pub units-most : (i : Instance) → IsKept i → units_total i.units ≤ℤ pos (2 ^ 48)

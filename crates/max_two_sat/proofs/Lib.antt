@@ -1,5 +1,6 @@
 pub mod RunningSums
 pub mod Cells
+pub mod Shifting
 pub mod Writing
 pub mod ZeroRows
 pub mod Layers

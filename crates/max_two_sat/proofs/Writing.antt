@@ -13,15 +13,18 @@ use Rattle.benefit_rows.proofs.Steps.{read_by_size}
 use Rattle.max_two_sat.specs.Instance.{units_total, no_unit}
 use Rattle.max_two_sat.specs.Fitting.{FitsBenefits, FitsState}
 use Rattle.max_two_sat.specs.Kept.{units_are_positive}
-use Rattle.max_two_sat.specs.Program.{grown, row_step, root_of, words_of}
+use Rattle.max_two_sat.specs.Program.{row_step, root_of, words_of}
+use Rattle.benefit_rows.specs.Benefits.{sums_of}
+use Rattle.max_two_sat.specs.Shifts.{shifts_of}
 use Rattle.max_two_sat.proofs.Cells.{benefit-small}
+use Rattle.max_two_sat.proofs.Shifting.{grown-shifts}
 
 -- a slice to the end
 pub tail-is : {X : Type 0} (k : ℕ) (s : List X) → take (length s - k) (drop k s) ≡ drop k s
 tail-is k s = take_all (length s - k) (drop k s) (omega (arith, length-drop k s))
 
 -- what stands behind the first benefit has no greater rank
-rank_of-tail : (k : ℕ) (s : List ℤ) → k < length s → rank_of (drop (k + 1) s) ≤ℤ rank_of (drop k s)
+pub rank_of-tail : (k : ℕ) (s : List ℤ) → k < length s → rank_of (drop (k + 1) s) ≤ℤ rank_of (drop k s)
 rank_of-tail k s h =
     let cut = ap rank_of (drop_more s k (pos 0) h) in
     omega (arith, ints, size_of-positive (get_or s k (pos 0)))
@@ -36,18 +39,22 @@ later-fits row k s fits = record {
 }
 
 -- the front, a zero and the later benefits make the next state
-pub step-written : (row : List PairWeights) (s old front later : List ℤ) (k d : ℕ) → k < length s → length old ≡ length s → front ≡ take k s →
-    later ≡ grown row (drop (k + 1) s) d → length later ≡ length s - (k + 1) →
-    put_mid (k + 1) (length (set (front ++ drop k old) k (pos 0)) - (k + 1)) (set (front ++ drop k old) k (pos 0)) later ≡ take k s ++ row_step row (drop k s) d
-step-written row s old front later k d h e is grows count =
+pub step-written : (s old front later : List ℤ) (k : ℕ) → k < length s → length old ≡ length s → front ≡ take k s → length later ≡ length s - (k + 1) →
+    put_mid (k + 1) (length (set (front ++ drop k old) k (pos 0)) - (k + 1)) (set (front ++ drop k old) k (pos 0)) later ≡ take k s ++ pos 0 ∷ later
+step-written s old front later k h e is count =
     let written : List ℤ = set (front ++ drop k old) k (pos 0) in
     let short : length front ≡ k = ap length is ∙ length-take-le k s (omega arith) in
     let cells : length written ≡ length s = omega (arith, length-set {A = ℤ} (front ++ drop k old) k (pos 0), length-append front (drop k old), length-drop k old) in
     let inside : k < length (front ++ drop k old) = omega (arith, length-append front (drop k old), length-drop k old) in
     let begins : take (k + 1) written ≡ front ++ pos 0 ∷ [] = rw add-one (take-suc-set (front ++ drop k old) k (pos 0) inside ∙ ap (λ xs. xs ++ pos 0 ∷ []) (take_at front (drop k old) k short)) in
     let ends : post_of (k + 1) (length written - (k + 1)) written ≡ [] = drop_all (length written - (k + 1)) (drop (k + 1) written) (omega (arith, length-drop (k + 1) written)) in
+    rw (begins, ends, append-nil, append_assoc, is) refl
+
+-- the state behind a decision, by its shifts
+pub step-shifts : (row : List PairWeights) (s : List ℤ) (k d : ℕ) → k < length s → take k s ++ pos 0 ∷ sums_of (drop (k + 1) s) (shifts_of d row) ≡ take k s ++ row_step row (drop k s) d
+step-shifts row s k d h =
     let cut : drop k s ≡ get_or s k (pos 0) ∷ drop (k + 1) s = drop_more s k (pos 0) h in
-    rw (begins, ends, append-nil, append_assoc, is, grows, cut) refl
+    rw cut (ap (λ us. take k s ++ pos 0 ∷ us) (sym (grown-shifts row (drop (k + 1) s) d)))
 
 -- the root
 

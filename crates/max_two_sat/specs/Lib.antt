@@ -12,6 +12,7 @@ pub mod SizeLaws
 pub mod Solutions
 pub mod InstanceNumbers
 pub mod Table
+pub mod Shifts
 pub mod Model
 pub mod Clauses
 pub mod Lines

@@ -24,6 +24,7 @@ mod program;
 mod reading;
 mod reading_clauses;
 mod row;
+mod shifts;
 mod sums;
 mod value;
 mod weights;

@@ -1,9 +1,11 @@
-ghost use Rattle.std.specs.Prelude.{◌≡◌, ◌<◌, ◌≤◌, length};
+ghost use Rattle.std.specs.Prelude.{◌≡◌, suc, ◌-◌, ◌<◌, ◌≤◌, length, take, drop};
 ghost use Rattle.max_two_sat.specs.Instance.{pair_count, row_at, rows_of};
 ghost use Rattle.max_two_sat.specs.Kept.{IsKept};
+ghost use Rattle.max_two_sat.specs.Shifts.{AreShifts, shifts_of, stakes_of};
 ghost use Rattle.max_two_sat.specs.Table.{entries_before, later_totals};
 
 use crate::draft::Draft;
+use crate::shifts::Shifts;
 use crate::sums::sums_from;
 use crate::weights::{PairWeights, UnitWeights};
 use std::alloc::{AllocError, Global};
@@ -19,8 +21,13 @@ pub struct MaxTwoSat {
     pub(crate) pairs: Vec<PairWeights>,
     /// For each layer, and for the end, the weight of the clauses on two variables from it on.
     pub(crate) later: Vec<i64>,
+    /// What the decision for false does, and what that for true does.
+    pub(crate) on_false: Shifts,
+    pub(crate) on_true: Shifts,
     ghost kept: { IsKept (record { tautologies = tautologies; units = units.items; pairs = pairs.items }) },
     ghost summed: { later.items ≡ later_totals (rows_of (length units.items) pairs.items) },
+    ghost false_shifts: { AreShifts 0 (length units.items) pairs.items on_false.cells.items on_false.stakes.items },
+    ghost true_shifts: { AreShifts 1 (length units.items) pairs.items on_true.cells.items on_true.stakes.items },
 }
 
 impl MaxTwoSat {
@@ -42,12 +49,17 @@ impl MaxTwoSat {
             total: _,
             clauses: _,
         } = draft;
-        let later = sums_from(alloc, units.as_slice().len(), pairs.as_slice())?;
+        let variables = units.as_slice().len();
+        let later = sums_from(alloc, variables, pairs.as_slice())?;
+        let on_false = Shifts::of_decision(alloc, variables, pairs.as_slice(), 0)?;
+        let on_true = Shifts::of_decision(alloc, variables, pairs.as_slice(), 1)?;
         Ok(MaxTwoSat {
             tautologies,
             units,
             pairs,
             later,
+            on_false,
+            on_true,
         })
     }
 
@@ -58,6 +70,32 @@ impl MaxTwoSat {
     {
         row_of(self.pairs.as_slice(), self.units.len(), k)
     }
+
+    /// How far a decision of variable `k` shifts the benefit of each later one.
+    pub(crate) fn shifts(&self, k: usize, d: u32) -> &[i64]
+        requires variable { k < length self.now.units.items }
+        requires decision { d < 2 }
+        ensures { result.now ≡ shifts_of d (row_at (rows_of (length self.now.units.items) self.now.pairs.items) k) }
+    {
+        if d == 0 {
+            part_of_row(self.on_false.cells.as_slice(), self.units.len(), k)
+        } else {
+            part_of_row(self.on_true.cells.as_slice(), self.units.len(), k)
+        }
+    }
+
+    /// The weight of the clauses on variable `k` and a later one, with what the decision satisfies counted twice.
+    pub(crate) fn stakes(&self, k: usize, d: u32) -> i64
+        requires variable { k < length self.now.units.items }
+        requires decision { d < 2 }
+        ensures { result ≡ stakes_of d (row_at (rows_of (length self.now.units.items) self.now.pairs.items) k) }
+    {
+        if d == 0 {
+            self.on_false.stakes[k]
+        } else {
+            self.on_true.stakes[k]
+        }
+    }
 }
 
 /// The entries of variable `k` with each later one, among those of all pairs.
@@ -67,9 +105,19 @@ pub(crate) fn row_of(pairs: &[PairWeights], variables: usize, k: usize) -> &[Pai
     requires variable { k < variables }
     ensures { result.now ≡ row_at (rows_of variables pairs.now) k }
 {
+    part_of_row(pairs, variables, k)
+}
+
+/// What belongs to variable `k` with each later one, among what belongs to all pairs.
+pub(crate) fn part_of_row<T>(entries: &[T], variables: usize, k: usize) -> &[T]
+    requires few { variables ≤ 1024 }
+    requires whole { length entries.now ≡ pair_count variables }
+    requires variable { k < variables }
+    ensures { result.now ≡ take (variables - suc k) (drop (entries_before variables k) entries.now) }
+{
     let start = start_of_row(variables, k);
     let end = start + (variables - k - 1);
-    &pairs[start..end]
+    &entries[start..end]
 }
 
 /// How many entries stand before the row of variable `k`.

@@ -2,9 +2,9 @@ ghost use Rattle.std.specs.Prelude.{◌≡◌, length};
 
 use crate::limits::are_within_limits;
 use crate::problem::MaxTwoSat;
-use crate::row::{is_zero_row, lesser_sum, step_gain, write_root, write_step};
-use benefit_rows::{gap, merge_into, rank};
-use dp_model::DpModel;
+use crate::row::{extend_row, is_zero_row, lesser_sum, step_gain, write_root, write_step};
+use benefit_rows::{gap, gap_within, merge_into, rank};
+use dp_model::{DpModel, Extended};
 
 #[tactic(auto, using(crate::specs::InstanceNumbers::reads_numbers))]
 impl DpModel for MaxTwoSat {
@@ -51,7 +51,7 @@ impl DpModel for MaxTwoSat {
     }
 
     fn step(&self, k: usize, s: &[i64], d: u32, out: &mut [i64]) {
-        write_step(self.row(k), k, s, d, out)
+        let _ = write_step(self.shifts(k, d), k, s, out);
     }
 
     fn gain(&self, k: usize, s: &[i64], d: u32) -> i64 {
@@ -72,6 +72,26 @@ impl DpModel for MaxTwoSat {
 
     fn rank(&self, _k: usize, s: &[i64]) -> i64 {
         rank(s)
+    }
+
+    fn covers_within(
+        &self,
+        k: usize,
+        a: &[i64],
+        rank_a: i64,
+        s: &[i64],
+        rank_s: i64,
+        most: i64,
+    ) -> Option<i64> {
+        gap_within(&a[k..], rank_a, &s[k..], rank_s, most)
+    }
+
+    fn extend(&self, k: usize, s: &[i64], rank: i64, d: u32, out: &mut [i64]) -> Extended {
+        extend_row(self.shifts(k, d), self.stakes(k, d), k, s, rank, d, out)
+    }
+
+    fn first_live(&self, k: usize) -> usize {
+        k
     }
 
     fn bucket(&self, _k: usize, _s: &[i64]) -> u64 {

@@ -1,13 +1,15 @@
-ghost use Rattle.std.specs.Prelude.{◌≡◌, ◌^◌, pos, ◌+ℤ◌, ◌-ℤ◌, ◌≤ℤ◌, ◌++◌, length, take, drop, IsTrue};
+ghost use Rattle.std.specs.Prelude.{◌≡◌, suc, ◌+◌, ◌^◌, pos, ◌+ℤ◌, ◌-ℤ◌, ◌≤ℤ◌, ◌++◌, ◌∷◌, length, slice_index_or, take, drop, IsTrue};
 ghost use Rattle.std.specs.Int.{int_min};
-ghost use Rattle.benefit_rows.specs.Benefits.{above_zero, below_zero, gain_of, size_of};
+ghost use Rattle.benefit_rows.specs.Benefits.{above_zero, below_zero, gain_of, rank_of, size_of, sums_of};
+ghost use Rattle.max_two_sat.specs.Shifts.{half_lost};
 ghost use Rattle.max_two_sat.specs.Instance.{pair_total, unit_total, units_total};
 ghost use Rattle.max_two_sat.specs.Fitting.{FitsBenefits, FitsState};
 ghost use Rattle.max_two_sat.specs.Kept.{PairIsPositive, UnitIsPositive, units_are_positive};
 ghost use Rattle.max_two_sat.specs.Program.{all_zero, cell_part, grown, is_within, lesser_units, open_false, open_true, root_of, row_gain, row_step, settled, shared_gain, words_of};
 
 use crate::weights::{PairWeights, UnitWeights};
-use benefit_rows::{above_zero, below_zero};
+use benefit_rows::{above_zero, below_zero, size, write_sums};
+use dp_model::Extended;
 
 /// Writes the root state: the benefit of each variable by its clauses with one literal.
 pub(crate) fn write_root(units: &[UnitWeights], out: &mut [i64])
@@ -47,37 +49,49 @@ pub(crate) fn lesser_sum(units: &[UnitWeights]) -> i64
     total
 }
 
-/// Writes the state behind a decision.
-pub(crate) fn write_step(row: &[PairWeights], k: usize, s: &[i64], d: u32, out: &mut [i64])
+/// Writes the state behind a decision, by how far this shifts the later benefits. Answers its rank.
+pub(crate) fn write_step(shifts: &[i64], k: usize, s: &[i64], out: &mut [i64]) -> i64
     requires cells { length out.old ≡ length s.now }
-    requires fits { FitsState row.now k s.now }
-    ensures { out.new ≡ take k s.now ++ row_step row.now (drop k s.now) d }
+    requires entries { length shifts.now + suc k ≡ length s.now }
+    requires sizes { rank_of shifts.now ≤ℤ pos (2 ^ 48) }
+    requires benefits { rank_of (drop k s.now) ≤ℤ pos (2 ^ 48) }
+    ensures row { out.new ≡ take k s.now ++ pos 0 ∷ sums_of (drop (k + 1) s.now) shifts.now }
+    ensures rank { result ≡ rank_of (sums_of (drop (k + 1) s.now) shifts.now) }
 {
     out[..k].copy_from_slice(&s[..k]);
     out[k] = 0;
-    grow(row, &s[k + 1..], d, &mut out[k + 1..]);
+    write_sums(&mut out[k + 1..], &s[k + 1..], shifts)
 }
 
-/// Writes what the benefits of the later variables grow to.
-fn grow(row: &[PairWeights], benefits: &[i64], d: u32, out: &mut [i64])
-    requires cells { length out.old ≡ length row.now }
-    requires fits { FitsBenefits row.now benefits.now }
-    ensures { out.new ≡ grown row.now benefits.now d }
+/// Writes the state behind a decision. Answers its gain and its rank, by the rank of the state and the stakes of the
+/// decision: with the later variables it gains half of the stakes and of what their benefits lose in size.
+pub(crate) fn extend_row(
+    shifts: &[i64],
+    stakes: i64,
+    k: usize,
+    s: &[i64],
+    rank: i64,
+    d: u32,
+    out: &mut [i64],
+) -> Extended
+    requires cells { length out.old ≡ length s.now }
+    requires entries { length shifts.now + suc k ≡ length s.now }
+    requires sizes { rank_of shifts.now ≤ℤ pos (2 ^ 48) }
+    requires benefits { rank_of (drop k s.now) ≤ℤ pos (2 ^ 48) }
+    requires rank { rank ≡ rank_of (drop k s.now) }
+    requires stakes_low { pos 0 ≤ℤ stakes }
+    requires stakes_high { stakes ≤ℤ pos (2 ^ 49) }
+    ensures row { out.new ≡ take k s.now ++ pos 0 ∷ sums_of (drop (k + 1) s.now) shifts.now }
+    ensures gain { result.gain ≡ gain_of (slice_index_or s.now k (pos 0)) d +ℤ half_lost stakes (drop (k + 1) s.now) shifts.now }
+    ensures rank { result.rank ≡ rank_of (sums_of (drop (k + 1) s.now) shifts.now) }
 {
-    for i in 0..row.len() {
-        out[i] = grown_benefit(row[i], benefits[i], d);
+    let benefit = s[k];
+    let next = write_step(shifts, k, s, out);
+    let shared = (rank - size(benefit) + stakes - next) / 2;
+    Extended {
+        gain: side_gain(benefit, d) + shared,
+        rank: next,
     }
-}
-
-/// What the benefit of one later variable grows to.
-fn grown_benefit(pair: PairWeights, benefit: i64, d: u32) -> i64
-    requires positive { PairIsPositive pair }
-    requires weight { pair_total pair ≤ℤ pos (2 ^ 48) }
-    requires size { size_of benefit ≤ℤ pos (2 ^ 48) }
-    ensures { result ≡ benefit +ℤ (open_true pair d -ℤ open_false pair d) }
-{
-    let (on_true, on_false) = open_weights(pair, d);
-    benefit + (on_true - on_false)
 }
 
 /// What a decision satisfies with the later variables, and the lesser of what each of them then has on its two sides.
@@ -142,7 +156,7 @@ fn lesser_of(a: i64, b: i64) -> i64
 }
 
 /// The weight of the clauses on two variables that the first one's value satisfies.
-fn settled_weight(pair: PairWeights, d: u32) -> i64
+pub(crate) fn settled_weight(pair: PairWeights, d: u32) -> i64
     requires positive { PairIsPositive pair }
     requires weight { pair_total pair ≤ℤ pos (2 ^ 48) }
     ensures { result ≡ settled pair d }
@@ -155,7 +169,7 @@ fn settled_weight(pair: PairWeights, d: u32) -> i64
 }
 
 /// Of the others, the weights of those with a positive and with a negative literal of the second variable.
-fn open_weights(pair: PairWeights, d: u32) -> (i64, i64)
+pub(crate) fn open_weights(pair: PairWeights, d: u32) -> (i64, i64)
     ensures on_true { result.0 ≡ open_true pair d }
     ensures on_false { result.1 ≡ open_false pair d }
 {

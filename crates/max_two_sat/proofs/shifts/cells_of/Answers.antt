@@ -1,0 +1,14 @@
+use Rattle.std.proofs.Common.{arith, w64, ◌∙◌}
+use Rattle.std.proofs.lemmas.Int.{ints, to_z-of_z}
+use Rattle.max_two_sat.specs.Instance.{no_pair}
+use Rattle.max_two_sat.proofs.Cells.{pair_total-at}
+use Rattle.max_two_sat.proofs.Shifting.{shifts-more}
+use Rattle.max_two_sat.proofs.shifts.cells_of.Goals as goal
+
+pub shift-requires-clause-weight : goal.shift-requires-clause-weight
+shift-requires-clause-weight c = omega (arith, ints, pair_total-at c.args.pairs.now c.loop-i.i no_pair c.loop-i-test.true c.requires.positive, c.requires.weight)
+
+pub loop-i-preserved : goal.loop-i-preserved
+loop-i-preserved c =
+    rw c.in_ok-push.ensures.items
+    (shifts-more c.args.pairs.now c.args.d c.loop-i.i c.loop-i.cells.items _ c.loop-i-test.true (to_z-of_z w64 c.shift.result (record { sfits = c.shift.type_inv }) ∙ c.shift.ensures) c.loop-i.invariant)
