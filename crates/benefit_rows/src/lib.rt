@@ -12,6 +12,3 @@ mod row;
 pub use row::{
     above_zero, below_zero, doubled_gap, gap, gap_within, merge_into, rank, size, write_sums,
 };
-
-#[cfg(test)]
-mod tests;

@@ -9,21 +9,8 @@ use Rattle.dd_text.specs.declared.read_model_error.ReadModelError.TheVariants as
 pub number_then_ok : {B : Type 0} (least greatest z : ℤ) (s : TextState) (more : ℤ → TextState → Result B InstanceError) → Ok z ≡ number_at least greatest s → number_then least greatest s more ≡ more z (after_token s)
 number_then_ok least greatest z s more e = rw (← e) refl
 
--- at a fault the chain ends
-pub number_then_err : {B : Type 0} (least greatest : ℤ) (fault : TextError) (s : TextState) (more : ℤ → TextState → Result B InstanceError) → Err fault ≡ number_at least greatest s → number_then least greatest s more ≡ Err (of_text fault)
-number_then_err least greatest fault s more e = rw (← e) refl
-
-pub word_then_ok : {B : Type 0} (word : List ℕ) (s : TextState) (more : List ℕ → TextState → Result B InstanceError) → word_at s ≡ Ok word → word_then s more ≡ more word (after_token s)
-word_then_ok word s more e = rw e refl
-
-pub word_then_err : {B : Type 0} (fault : TextError) (s : TextState) (more : List ℕ → TextState → Result B InstanceError) → word_at s ≡ Err fault → word_then s more ≡ Err (of_text fault)
-word_then_err fault s more e = rw e refl
-
 pub end_then_ok : {B : Type 0} (s : TextState) (outcome : Result B InstanceError) → Ok tt ≡ finish_at s → end_then s outcome ≡ outcome
 end_then_ok s outcome e = rw (← e) refl
-
-pub end_then_err : {B : Type 0} (fault : TextError) (s : TextState) (outcome : Result B InstanceError) → Err fault ≡ finish_at s → end_then s outcome ≡ Err (of_text fault)
-end_then_err fault s outcome e = rw (← e) refl
 
 -- of count times, the one after i is read
 pub times_more : {A : Type 0} (step : A → TextState → Result (A × TextState) InstanceError) (count i : ℕ) (made next : A) (s t : TextState) → i < count → step made s ≡ Ok (next, t) → times step (count - i) made s ≡ times step (count - (i + 1)) next t

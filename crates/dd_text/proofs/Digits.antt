@@ -73,7 +73,3 @@ printed_digits (d ∷ ds) some h =
 pub is_printed : (z : ℤ) → nat_abs z < 2 ^ 64 → IsPrinted (decimal_of z)
 is_printed (pos n) h = printed_digits (decimal n) (decimal_nonempty n h) (digits_decimal own n h)
 is_printed (negsuc n) h = record { first = 45; others = decimal (suc n); printed_is = refl; solid = solid_digits (decimal (suc n)) (digits_decimal own (suc n) h); ascii = lit< tt; plain = λ comment. plain_digit comment 45 (lit≤ tt) (lit≤ tt) }
-
--- printed digits have no blank
-pub solid-decimal_of : (z : ℤ) → nat_abs z < 2 ^ 64 → list_all is_solid (decimal_of z) ≡ true
-solid-decimal_of z h = let p : IsPrinted (decimal_of z) = is_printed z h in rw p.printed_is p.solid

@@ -90,10 +90,6 @@ next_is w ws b more s solid plain blank before =
 pub before_start : (comment : Comment) (bytes : List ℕ) → IsBefore bytes (text_start comment bytes)
 before_start comment bytes = record { blanks = []; are_blank = refl; rest_is = refl }
 
--- a state whose bytes they are
-pub before_rest : (bytes : List ℕ) (s : TextState) → s.rest ≡ bytes → IsBefore bytes s
-before_rest bytes s e = record { blanks = []; are_blank = refl; rest_is = e }
-
 -- behind one blank
 pub before_behind : (b : ℕ) (bytes : List ℕ) (s : TextState) → is_blank b ≡ true → s.rest ≡ b ∷ bytes → IsBefore bytes s
 before_behind b bytes s blank e = record { blanks = b ∷ []; are_blank = rw blank refl; rest_is = e }

@@ -3,4 +3,3 @@ pub mod Decimal
 pub mod Grammar
 pub mod Naturals
 pub mod Printed
-pub mod Example

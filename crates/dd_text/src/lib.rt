@@ -30,6 +30,3 @@ pub use read_model_error::ReadModelError;
 pub use std::alloc::AllocError as OutOfMemory;
 pub use text_error::TextError;
 pub use tokens::Tokens;
-
-#[cfg(test)]
-mod tests;

@@ -33,21 +33,3 @@ fn spread(n: u64) -> u64
 {
     n.wrapping_mul(FACTOR)
 }
-
-#[cfg(test)]
-mod tests {
-    use super::*;
-    use std::test::Fail;
-
-    #[test]
-    fn each_row_has_its_fold(rt: HostRuntime) -> Result<(), Fail> {
-        assert_eq!(rt; fold(0, &[]), 0);
-        assert_eq!(rt; fold(1, &[]), 0x7f4a_7c15_9e37_79b9);
-        assert_eq!(rt; fold(0, &[1]), 0xce48_59b9_df44_2d22);
-        assert_eq!(rt;
-            fold(3, &[5, -7, 1_099_511_627_776, 0]),
-            0x441d_e1ed_4116_16c7
-        );
-        Ok(())
-    }
-}

@@ -56,25 +56,3 @@ impl Sub {
         self.bound = other.bound;
     }
 }
-
-#[cfg(test)]
-mod tests {
-    use super::*;
-    use std::test::Fail;
-
-    #[test]
-    fn a_copy_has_its_own_memory(rt: HostRuntime) -> Result<(), Fail> {
-        let mut copy = Sub::blank(rt.alloc(), 3, 1)?;
-        assert_eq!(rt; copy.row.as_slice(), [0i64].as_slice());
-        let mut source = Sub::blank(rt.alloc(), 3, 1)?;
-        source.decisions.push(1)?;
-        source.value = 60;
-        source.bound = 121;
-        assert!(rt; source.decisions.len() <= 3 && source.row.len() == copy.row.len());
-        copy.copy_from(&source);
-        assert_eq!(rt; copy.decisions.as_slice(), [1u32].as_slice());
-        assert_eq!(rt; copy.value, 60);
-        assert_eq!(rt; copy.bound, 121);
-        Ok(())
-    }
-}

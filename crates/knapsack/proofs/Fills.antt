@@ -67,10 +67,6 @@ takes k ps i d h from =
     ap (kept_from k) (drop_more ps i d h)
     ∙ ap (λ (b : Bool). cond b (kept_from k (drop (i + 1) ps)) ((get_or ps i d).item ∷ kept_from k (drop (i + 1) ps))) (le-ltb _ _ from)
 
--- each of the items is within the limits
-pub small_at : (ps : List Placed) (i : ℕ) (d : Placed) → HasSmallItems ps → i < length ps → IsSmallItem (get_or ps i d).item
-small_at ps i d small h = is_small_item-is _ (All-get_or (λ p. is_small_item p.item ≡ true) ps i d h (AllPass-from_list_all (λ p. is_small_item p.item) ps small.items))
-
 -- what a part of an item within the limits is worth
 pub part_small : (x : Item) (rest : ℕ) → IsSmallItem x → rest < x.copies * x.weight
     → rest / x.weight * x.profit + (rest - rest / x.weight * x.weight) * x.profit / x.weight ≤ 1000000000000

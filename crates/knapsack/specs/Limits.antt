@@ -33,6 +33,3 @@ is_small-is i h =
 pub record AreSmall (items : List Item) : Type 0 where
   pub count : length items ≤ 1000
   pub each : list_all is_small_item items ≡ true
-
-pub AreSmall-is : (i : Instance) → is_small i ≡ true → AreSmall i.items
-AreSmall-is i h = let small = is_small-is i h in record { count = small.count; each = small.items }

@@ -130,9 +130,3 @@ own_words_by g h x false e = λ solution. let cut = cut_of_solution g x solution
 -- the weight across is the value of the feasible solution, and there is none where there is no cut
 pub own_words_solve : (g : Graph) → IsGraph g → (x : List ℕ) → SolutionGives (program_of g) x (cut_value g x)
 own_words_solve g h x = own_words_by g h x (is_cut g x) refl
-
-pub cut_value-some : (g : Graph) (x : List ℕ) → is_cut g x ≡ true → cut_value g x ≡ Some (weight_across g.weights x)
-cut_value-some g x h = ap (λ b. cond b (Some (weight_across g.weights x)) None) h
-
-pub cut_value-none : (g : Graph) (x : List ℕ) → is_cut g x ≡ false → cut_value g x ≡ None
-cut_value-none g x h = ap (λ b. cond b (Some (weight_across g.weights x)) None) h

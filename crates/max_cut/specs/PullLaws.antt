@@ -58,14 +58,6 @@ rank_of-pulls d (w ∷ ws) = omega (arith, ints, size_of-pull d w, rank_of-pulls
 pub length-pulls : (d : ℕ) (ws : List ℤ) → length (pulls_of d ws) ≡ length ws
 length-pulls d ws = length-map ws (pull_of d)
 
--- any side but S is T
-pub pull_of_S : (d : ℕ) (w : ℤ) → d ≡ 0 → pull_of d w ≡ w
-pull_of_S d w h = ap (λ e. pull_of e w) h
-
-pub pull_of_T : (d : ℕ) (w : ℤ) → (d ≡ 0 → ⊥) → pull_of d w ≡ neg_ℤ w
-pull_of_T zero w h = absurd (h refl)
-pull_of_T (suc d) w h = refl
-
 pub pulls_of_T : (d : ℕ) (ws : List ℤ) → (d ≡ 0 → ⊥) → pulls_of d ws ≡ pulls_of 1 ws
 pulls_of_T zero ws h = absurd (h refl)
 pulls_of_T (suc d) ws h = refl

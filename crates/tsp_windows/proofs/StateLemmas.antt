@@ -38,9 +38,6 @@ inside_set n row v set e =
       | inr l ↦ absurd (false≢true (sym (set.within v l) ∙ e))
     ]
 
-pub late_covers : (n : ℕ) (a b : TourState) (x y : ℕ) → x ≡ a.time → y ≡ b.time → y < x → covers n a b ≡ false
-late_covers n a b x y e f l = by_cases (covers n a b) (λ t. let c = covers-gives n a b t in let early = c.time in omega arith)
-
 pub positions_cover : (n w : ℕ) (a s p q : List ℤ) (r : Bool) → p ≡ positions_of w s → q ≡ positions_of w a → IsSet n p → (((v : ℕ) → has p v ≡ true → has q v ≡ true) → r ≡ true) → r ≡ false → covers n (shown w a) (shown w s) ≡ false
 unfolding shown
 positions_cover n w a s p q r e f set from fails =

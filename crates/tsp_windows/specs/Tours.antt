@@ -74,10 +74,6 @@ NoMore-some a None h e = absurd (false≢true e)
 NoMore-some None (Some y) h e = absurd h
 NoMore-some (Some x) (Some y) h e = refl
 
-or_least : (a : Option ℕ) (most : ℕ) → NoMore a (Some most) → unwrap_or a 0 ≤ most
-or_least None most h = absurd h
-or_least (Some x) most h = h
-
 -- the least amount is at most one that passes, and one that passes has it
 pub least_amount-at : (n : ℕ) (p : ℕ → Bool) (f : ℕ → ℕ) (v : ℕ) → v < n → p v ≡ true → NoMore (least_amount n p f) (Some (f v))
 least_amount-at zero p f v l e = absurd (omega arith)

@@ -356,15 +356,3 @@ firsts_after-more cs i j (k ∷ ps) =
       | true ↦ firsts_after-more cs i j ps
       | false ↦ ap (λ l. k ∷ l) (firsts_after-more cs k j ps)
     ]
-
-pub firsts-one : (cs : List Reached) (j : ℕ) → firsts cs (j ∷ []) ≡ j ∷ []
-firsts-one cs j = refl
-
--- a place whose row is that of the last first is none, and another is one
-pub firsts-more : (cs : List Reached) (ps front : List ℕ) (last j : ℕ) → firsts cs ps ≡ front ++ last ∷ []
-    → firsts cs (ps ++ j ∷ []) ≡ firsts cs ps ++ cond (row_same (at cs last).row (at cs j).row) [] (j ∷ [])
-firsts-more cs [] [] last j h = absurd (cc)
-firsts-more cs [] (f ∷ front) last j h = absurd (cc)
-firsts-more cs (i ∷ ps) front last j h =
-    let end = last_place-is i last (firsts_after cs i ps) front h in
-    ap (λ l. i ∷ l) (firsts_after-more cs i j ps) ∙ ap (λ q. i ∷ firsts_after cs i ps ++ cond (row_same (at cs q).row (at cs j).row) [] (j ∷ [])) end

@@ -48,9 +48,6 @@ redirected-gain : (arc : DdArc) (o : Option Redirect) → (redirected_by arc o).
 redirected-gain arc None = refl
 redirected-gain arc (Some l) = refl
 
-redirect-of : List (Option Redirect) → DdArc → Option Redirect
-redirect-of redirects arc = option_and_then (λ i. option_and_then (λ l. l) (slice_get redirects i)) arc.target
-
 decisions-redirected : (redirects : List (Option Redirect)) (arcs : List DdArc) → map (λ (arc : DdArc). arc.decision) (map (redirected redirects) arcs) ≡ map (λ (arc : DdArc). arc.decision) arcs
 decisions-redirected redirects [] = refl
 decisions-redirected redirects (arc ∷ arcs) =

@@ -2,10 +2,10 @@ ghost use Rattle.std.specs.Prelude.{◌≡◌, ◌-◌, ◌^◌, ◌<◌, length
 ghost use Rattle.dd_text.specs.Text.{text_start};
 ghost use Rattle.dd_text.specs.declared.comment.Comment.TheVariants.{Hash};
 ghost use Rattle.dd_text.specs.Grammar.{number_then, end_then, times, Reads};
-ghost use Rattle.dd_text.specs.Example.{digit_at, digits_at};
+ghost use Rattle.base_tests.specs.Digits.{digit_at, digits_at};
 ghost use Rattle.dd_text.specs.declared.comment.Comment.TheVariants.{Never};
 
-use super::*;
+use dd_text::*;
 use std::alloc::Global;
 use std::test::Fail;
 
@@ -24,7 +24,7 @@ fn read_pair(bytes: &[u8]) -> Result<(i64, i64), ReadModelError>
     Ok((count, size))
 }
 
-#[tactic(auto, unfolding(crate::specs::Example::digit_at))]
+#[tactic(auto, unfolding(crate::specs::Digits::digit_at))]
 fn read_digit(tokens: &mut Tokens, digits: &mut Vec<i64>) -> Result<(), ReadModelError>
     ensures { Reads (λ _. (digits.new.items, tokens.new)) result (digit_at digits.old.items tokens.old) }
 {
@@ -33,7 +33,7 @@ fn read_digit(tokens: &mut Tokens, digits: &mut Vec<i64>) -> Result<(), ReadMode
     Ok(())
 }
 
-#[tactic(auto, using(crate::proofs::Chains::times_steps))]
+#[tactic(auto, using(dd_text::proofs::Chains::times_steps))]
 fn read_all(count: u64, tokens: &mut Tokens, digits: &mut Vec<i64>) -> Result<(), ReadModelError>
     ensures { Reads (λ _. (digits.new.items, tokens.new)) result (times digit_at count digits.old.items tokens.old) }
 {
@@ -43,7 +43,7 @@ fn read_all(count: u64, tokens: &mut Tokens, digits: &mut Vec<i64>) -> Result<()
     Ok(())
 }
 
-#[tactic(auto, unfolding(crate::specs::Example::digits_at), using(crate::proofs::Chains::part_fails))]
+#[tactic(auto, unfolding(crate::specs::Digits::digits_at), using(dd_text::proofs::Chains::part_fails))]
 fn read_digits(alloc: Global, bytes: &[u8]) -> Result<Vec<i64>, ReadModelError>
     requires { length bytes.now < 2 ^ 32 - 1 }
     ensures { Reads (λ v. v.items) result (digits_at (text_start Never bytes.now)) }

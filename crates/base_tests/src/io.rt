@@ -1,4 +1,4 @@
-use super::{
+use dd_io::{
     Failed, MemSink, MemSource, ReadError, Sink, Source, StdSink, StdSource, WriteError, read_all,
     write_all,
 };

@@ -1,7 +1,8 @@
 -- An example of a grammar: how many digits stand in the text, and the digits.
 use Rattle.std.specs.Prelude.{List, [], ◌∷◌, ◌++◌, ℤ, pos, nat_abs, Result, Ok}
 use Rattle.dd_text.specs.Text.{TextState}
-use Rattle.dd_text.specs.Grammar.{InstanceError, number_then, end_then, part_then, times}
+use Rattle.dd_text.specs.declared.instance_error.InstanceError.{InstanceError}
+use Rattle.dd_text.specs.Grammar.{number_then, end_then, part_then, times}
 
 -- one digit behind others
 unfoldable pub digit_at : List ℤ → TextState → Result (List ℤ × TextState) InstanceError

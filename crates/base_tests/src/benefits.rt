@@ -1,4 +1,4 @@
-use crate::{above_zero, below_zero, doubled_gap, gap, gap_within, merge_into, rank, size};
+use benefit_rows::{above_zero, below_zero, doubled_gap, gap, gap_within, merge_into, rank, size};
 use std::test::Fail;
 
 #[test]
