@@ -1,12 +1,9 @@
 -- The greatest rank is that of the one to take.
-use Rattle.std.proofs.Common.{◌≡◌, ◌≢◌, ℕ, ℤ, ◌<◌, List, [], ◌∷◌, length, Bool, true, false, nat_eq, nat_lt, ◌&&◌, ◌||◌, Option, Some, None, ◌⊎◌, inl, inr, refl, sym, ◌∙◌, ap, ap₂, subst, arith, Contains, IsPermutation}
-use Rattle.std.proofs.lemmas.Bool.{and_parts, eqb-true, eq-eqb}
+use Rattle.std.proofs.Common.{◌≡◌, ◌≢◌, ℕ, List, ◌∷◌, true, false, Option, Some, None, inl, inr, refl, sym, ap, subst, arith, Contains, IsPermutation}
 use Rattle.std.proofs.lemmas.Bool.Decides.{nat_tests}
 use Rattle.std.proofs.lemmas.Int.{ints}
 use Rattle.std.proofs.lemmas.List.Elements.{All-contains, All-from_recursion}
 use Rattle.std.proofs.lemmas.List.Sorted.{Contains-permutation}
-use Rattle.std.specs.Prelude.{int_lt, int_le}
-use Rattle.std.specs.Ordering.{int_eq, is_lt, int_cmp, nat_cmp}
 use Rattle.std.specs.BinaryHeap.{IsUpperBound, lt_by_cmp}
 use Rattle.shared_fringe.proofs.Filters.{Contains-cons_cases}
 use Rattle.shared_fringe.specs.Tickets.{Ticketed}

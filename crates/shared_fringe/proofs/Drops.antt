@@ -1,5 +1,5 @@
 -- Those that stay are those whose bound is greater.
-use Rattle.std.proofs.Common.{◌≡◌, ℕ, zero, suc, ◌<◌, ℤ, List, [], ◌∷◌, length, Bool, true, false, int_lt, int_le, Option, Some, None, IsTrue, arith}
+use Rattle.std.proofs.Common.{◌≡◌, ℕ, zero, suc, ◌<◌, ℤ, List, [], ◌∷◌, length, true, false, int_lt, Option, Some, arith}
 use Rattle.std.proofs.lemmas.Int.{ints}
 use Rattle.dp_model.proofs.Members.{Has-filter, Has-filter-from}
 use Rattle.dp_laws.proofs.Lists.{two-filter}

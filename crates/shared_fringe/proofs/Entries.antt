@@ -1,7 +1,7 @@
 -- One more entry.
-use Rattle.std.proofs.Common.{◌≡◌, ℕ, ◌+◌, ◌<◌, List, [], ◌∷◌, length, refl, sym, ◌∙◌, ap, subst, arith}
+use Rattle.std.proofs.Common.{ℕ, List, length, ◌∙◌, ap, arith}
 use Rattle.shared_fringe.specs.declared.index.Node.{Node}
-use Rattle.shared_fringe.specs.Index.{HasEntered, fold_at, slot_at}
+use Rattle.shared_fringe.specs.Index.{HasEntered}
 use Rattle.shared_fringe.specs.Slots.{IsEntered}
 
 pub entered_more : (old new : List Node) (fold slot s h : ℕ) → HasEntered old new fold slot → IsEntered old s h → IsEntered new s h

@@ -1,5 +1,5 @@
 -- The members of a list with one more in front, and of what a filter keeps.
-use Rattle.std.proofs.Common.{◌≡◌, ℕ, zero, suc, ◌<◌, List, [], ◌∷◌, length, get_or, filter, Bool, true, false, cond, ◌⊎◌, inl, inr, refl, sym, ◌∙◌, ap, subst, arith, Contains}
+use Rattle.std.proofs.Common.{◌≡◌, ℕ, zero, suc, ◌<◌, List, [], ◌∷◌, length, get_or, filter, Bool, true, false, cond, ◌⊎◌, inl, inr, sym, ◌∙◌, ap, subst, arith, Contains}
 
 pub Contains-cons : {X : Type 0} (head x : X) (rest : List X) → Contains rest x → Contains (head ∷ rest) x
 Contains-cons head x rest p = (suc p.0, omega (arith, p.1), p.2)

@@ -1,6 +1,5 @@
 -- What the open ones are, by what the slots keep.
-use Rattle.std.proofs.Common.{◌≡◌, ◌≢◌, ℕ, ◌<◌, List, [], ◌∷◌, length, Bool, true, false, Option, Some, inl, inr, refl, sym, ◌∙◌, ap, subst, arith}
-use Rattle.dp_model.specs.Lists.{Each}
+use Rattle.std.proofs.Common.{◌≡◌, ℕ, ◌<◌, List, [], ◌∷◌, length, Bool, true, false, Option, Some, inl, inr, refl, sym, ap, subst, arith}
 use Rattle.dp_model.proofs.Members.{Has, each-has, each-of-all}
 use Rattle.dp_laws.specs.Pairs.{EachTwo}
 use Rattle.shared_fringe.specs.Fringe.{AreDifferent, IsFringe, is_same}

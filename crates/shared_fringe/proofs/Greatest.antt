@@ -1,5 +1,5 @@
 -- The greatest bound, over slots in any order.
-use Rattle.std.proofs.Common.{◌≡◌, ℕ, zero, suc, ◌≤◌, ℤ, List, [], ◌∷◌, length, map, drop, Bool, true, false, cond, int_lt, nat_lt, Option, Some, None, refl, sym, ◌∙◌, ap, arith}
+use Rattle.std.proofs.Common.{◌≡◌, ℕ, zero, suc, ◌≤◌, ℤ, List, [], ◌∷◌, length, map, drop, true, false, cond, int_lt, nat_lt, Option, Some, None, refl, sym, ◌∙◌, ap, arith}
 use Rattle.std.proofs.lemmas.Int.{ints}
 use Rattle.dp_model.specs.Numbers.{greatest}
 use Rattle.shared_fringe.specs.Bounds.{raised, raised_by}

@@ -1,6 +1,6 @@
 -- The rows of the open ones at the places of their slots.
-use Rattle.std.proofs.Common.{◌≡◌, ◌≢◌, ℕ, zero, suc, ◌+◌, ◌<◌, ℤ, pos, List, [], ◌∷◌, ◌++◌, length, map, set, get_or, drop, replicate, slice_get, count_by, is_none, IsSome, Option, Some, None, refl, sym, ◌∙◌, ap, arith, add-one, append_assoc}
-use Rattle.std.proofs.lemmas.List.{map-set, map-append, get_or-set_same, get_or-set_other, take_at, replicate_more, length_push}
+use Rattle.std.proofs.Common.{◌≡◌, ℕ, zero, suc, ◌+◌, ◌<◌, ℤ, pos, List, [], ◌∷◌, ◌++◌, length, map, set, get_or, drop, replicate, slice_get, IsSome, Option, Some, None, refl, sym, ◌∙◌, ap, arith, append_assoc}
+use Rattle.std.proofs.lemmas.List.{map-set, map-append, get_or-set_same, get_or-set_other, take_at, replicate_more}
 use Rattle.row_region.specs.Region.{RegionView, IsRow, IsLive, HasTaken, with_row, refilled, row_or}
 use Rattle.shared_fringe.specs.Tickets.{Ticketed, by_ticket}
 use Rattle.shared_fringe.specs.Slots.{IsSet, in_slot, key_of, opened}

@@ -1,5 +1,5 @@
 -- How many are open.
-use Rattle.std.proofs.Common.{◌≡◌, ℕ, ℤ, suc, ◌+◌, ◌-◌, ◌≤◌, List, [], ◌∷◌, length, map, Bool, true, false, cond, nat_lt, count_by, is_none, Option, Some, None, refl, sym, ◌∙◌, ap, arith}
+use Rattle.std.proofs.Common.{◌≡◌, ℤ, suc, ◌+◌, List, [], ◌∷◌, length, map, true, false, cond, nat_lt, count_by, is_none, Option, Some, None, refl, ap, arith}
 use Rattle.std.proofs.lemmas.List.Sums.{sum_by-cons}
 use Rattle.shared_fringe.specs.Tickets.{Ticketed, by_ticket}
 use Rattle.shared_fringe.specs.Slots.{key_of, opened}

@@ -1,8 +1,7 @@
 -- The open ones in order of ticket, by what the slots have.
-use Rattle.std.proofs.Common.{◌≡◌, ◌≢◌, ℕ, zero, suc, ◌<◌, ℤ, List, [], ◌∷◌, length, filter, find, Bool, true, false, cond, not, nat_eq, nat_lt, Option, Some, None, ◌⊎◌, inl, inr, refl, sym, ◌∙◌, ap, ap₂, subst, arith, IsTrue}
+use Rattle.std.proofs.Common.{◌≡◌, ◌≢◌, ℕ, zero, suc, ◌<◌, List, [], ◌∷◌, Bool, true, false, cond, not, nat_eq, nat_lt, Option, Some, None, ◌⊎◌, inl, inr, refl, sym, ◌∙◌, ap, ap₂, subst, arith, IsTrue}
 use Rattle.std.proofs.lemmas.Bool.Decides.{nat_tests}
-use Rattle.std.proofs.lemmas.Bool.{eq-eqb, eqb-true, cases_eq}
-use Rattle.dp_model.specs.Lists.{Each, OneOf}
+use Rattle.std.proofs.lemmas.Bool.{cases_eq}
 use Rattle.dp_model.proofs.Members.{Has, each-has, each-of-all, Has-filter, Has-filter-from}
 use Rattle.shared_fringe.specs.Tickets.{Ticketed, HasTickets, by_ticket, without}
 use Rattle.shared_fringe.proofs.Tickets.{tickets-by_ticket}

@@ -1,5 +1,5 @@
 -- The best slot has the first of the open ones.
-use Rattle.std.proofs.Common.{◌≡◌, ℕ, List, [], Option, Some, None, refl, sym, ◌∙◌, ap}
+use Rattle.std.proofs.Common.{◌≡◌, ℕ, List, Option, Some, None, sym, ◌∙◌, ap}
 use Rattle.shared_fringe.specs.Firsts.{first_taken}
 use Rattle.shared_fringe.specs.Popping.{after_pop, taken_out}
 use Rattle.shared_fringe.specs.Tickets.{Ticketed}

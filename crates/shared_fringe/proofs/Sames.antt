@@ -1,5 +1,5 @@
 -- Where no entry of a fold has the one of a depth and state, no slot has it.
-use Rattle.std.proofs.Common.{◌≡◌, ℕ, ℤ, ◌<◌, List, length, Bool, true, false, Option, Some, None, refl, sym, ◌∙◌, ap, ap₂, subst}
+use Rattle.std.proofs.Common.{◌≡◌, ℕ, ℤ, ◌<◌, List, length, Bool, true, false, Option, Some, None, refl, sym, ◌∙◌, ap₂, subst}
 use Rattle.shared_fringe.specs.Tickets.{Ticketed}
 use Rattle.shared_fringe.specs.Fringe.{is_same}
 use Rattle.shared_fringe.proofs.Rows.{same-depth, same-row}

@@ -1,5 +1,5 @@
 -- What is stored, after one more, after one less and with more slots.
-use Rattle.std.proofs.Common.{◌≡◌, ◌≢◌, ℕ, ◌+◌, ◌<◌, ◌≤◌, ℤ, List, [], ◌∷◌, ◌++◌, length, map, set, slice_get, replicate, Bool, true, false, Option, Some, None, ◌⊎◌, inl, inr, refl, sym, ◌∙◌, ap, ap₂, subst, arith, Contains, IsPermutation}
+use Rattle.std.proofs.Common.{◌≡◌, ◌≢◌, ℕ, ◌+◌, ◌<◌, ◌≤◌, ℤ, List, ◌∷◌, ◌++◌, length, map, set, slice_get, replicate, true, false, Option, Some, None, inl, inr, refl, sym, ◌∙◌, ap, ap₂, subst, arith, Contains, IsPermutation}
 use Rattle.std.proofs.lemmas.Bool.{cases_eq}
 use Rattle.std.proofs.lemmas.List.{length-set}
 use Rattle.std.proofs.lemmas.List.Sorted.{Contains-permutation}
@@ -11,7 +11,7 @@ use Rattle.shared_fringe.specs.declared.rank.Rank.{Rank}
 use Rattle.shared_fringe.specs.Folds.{fold_of}
 use Rattle.shared_fringe.specs.Index.{IndexView, HasEntered}
 use Rattle.shared_fringe.specs.Ranks.{RanksView}
-use Rattle.shared_fringe.specs.Slots.{IsOpen, IsSet, AreRanked, AreEntered, IsEntered, in_slot, rank_of, is_same_in, key_of}
+use Rattle.shared_fringe.specs.Slots.{IsOpen, IsSet, AreEntered, IsEntered, in_slot, rank_of, is_same_in, key_of}
 use Rattle.shared_fringe.specs.Stored.{IsStored}
 use Rattle.shared_fringe.proofs.Entries.{entered_more, entered_here}
 use Rattle.shared_fringe.proofs.Filters.{Contains-cons}

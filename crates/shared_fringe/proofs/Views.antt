@@ -1,9 +1,8 @@
 -- What the list in order of ticket says of the slots.
-use Rattle.std.proofs.Common.{◌≡◌, ◌≢◌, ℕ, zero, suc, ◌<◌, ℤ, List, [], ◌∷◌, length, find, Bool, true, false, cond, nat_eq, nat_lt, Option, Some, None, ◌⊎◌, inl, inr, refl, sym, ◌∙◌, ap, ap₂, subst, arith}
+use Rattle.std.proofs.Common.{◌≡◌, ℕ, zero, suc, ◌<◌, ℤ, List, [], ◌∷◌, length, find, Bool, true, false, cond, Option, Some, None, inl, inr, refl, sym, ◌∙◌, ap, ap₂, subst, arith}
 use Rattle.std.proofs.lemmas.Bool.Decides.{nat_tests}
 use Rattle.std.proofs.lemmas.Int.{ints}
-use Rattle.dp_model.specs.Lists.{Each}
-use Rattle.dp_model.proofs.Members.{Has, each-has, each-of-all}
+use Rattle.dp_model.proofs.Members.{Has, each-has}
 use Rattle.shared_fringe.specs.Tickets.{Ticketed, HasTickets}
 use Rattle.shared_fringe.specs.Firsts.{is_taken_before, first_taken, first_from}
 use Rattle.shared_fringe.specs.Fringe.{is_same, same_at}

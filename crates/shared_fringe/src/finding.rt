@@ -10,7 +10,13 @@ use crate::slots::is_same_in;
 use row_region::Region;
 
 /// The slot of the one of the depth and state, or `None` exactly where there is none.
-pub fn slot_of_same(slots: &[Option<Listed>], keys: &Region, index: &Index, depth: usize, row: &[i64]) -> Option<u32>
+pub fn slot_of_same(
+    slots: &[Option<Listed>],
+    keys: &Region,
+    index: &Index,
+    depth: usize,
+    row: &[i64],
+) -> Option<u32>
     requires keyed { keys.now.rows ≡ map key_of slots.now }
     requires entered { AreEntered slots.now index.now.nodes }
     ensures { MatchOption result ((s : ℕ) → is_same_in depth row.now (in_slot slots.now s) ≡ false) (λ s. is_same_in depth row.now (in_slot slots.now s) ≡ true) }

@@ -35,7 +35,10 @@ fn more_slots(alloc: Global, store: &mut Store, count: usize) -> Result<(), Allo
 {
     let rows = store.keys.rows();
     let more = count.max(rows);
-    let room = rows.saturating_add(more).saturating_add(1).saturating_mul(2);
+    let room = rows
+        .saturating_add(more)
+        .saturating_add(1)
+        .saturating_mul(2);
     store.slots.reserve(more)?;
     let index = index_for(alloc, store.slots.as_slice(), room)?;
     store.keys.grow(more)?;

@@ -1,22 +1,26 @@
 //! The open subproblems of a search, each with its ticket, no two of one depth and state.
 //!
-//! It stands on `dp_model` and on the list facts of `dp_laws`. A fringe is seen as the list of its open ones in order of ticket,
-//! whatever holds them, and the number `spare`. Promised, each in the contract of its call: `push` drops the new one where an
-//! open one of its depth and state has no less value, and else puts it in that one's place (`Replaced`) or beside the others
-//! (`Entered`), by ticket; `pop_best` takes out the one with the greatest bound, then the greatest value, then the least
-//! ticket; `drop_up_to` drops exactly those whose bound is at most the value; `same` and `best_bound` read. No call but
-//! `reserve` takes memory: a push lowers `spare` by one at most, a pop that gives one raises it by one at least, and no other
-//! call lowers it. `reserve` fails only for want of memory, and then changes nothing.
+//! It stands on `dp_model`, on the list facts of `dp_laws`, on `row_region` and on the kit's `indexmap`. A fringe is seen as the
+//! list of its open ones in order of ticket, whatever holds them, and the number `spare`. Promised, each in the contract of its
+//! call: `push` drops the new one where an open one of its depth and state has no less value, and else puts it in that one's
+//! place (`Replaced`) or beside the others (`Entered`), by ticket; `pop_best` takes out the one with the greatest bound, then the
+//! greatest value, then the least ticket; `drop_up_to` drops exactly those whose bound is at most the value; `same` and
+//! `best_bound` read. No call but `reserve` takes memory: a push lowers `spare` by one at most, a pop that gives one raises it by
+//! one at least, and no other call lowers it. `reserve` fails only for want of memory, and then changes nothing.
 //!
-//! The functions on lists that a fringe is made of serve whoever keeps such a list: `first_place`, `put_by_ticket`,
-//! `keep_above`, `raised` and `raised_by`.
+//! The open ones stand in slots, and the row of each in a region at the place of its slot: a slot is free where the region's row
+//! is. A heap has the rank of each, and an index from folds of depth and state the slots that were entered under a fold, in a
+//! chain; rows are compared cell by cell, so the answers are exact. Heap and index may also name some that are gone: these are
+//! skipped as they come up, and dropped before they outnumber the others by more than a constant factor.
+//!
+//! The functions on lists that serve whoever keeps a list with tickets: `first_place`, `put_by_ticket`, `keep_above`, `raised`
+//! and `raised_by`.
 #![tactic(auto)]
 
 mod bounding;
 mod dropping;
 mod fate;
 mod finding;
-
 mod fold;
 mod fringe;
 mod growing;

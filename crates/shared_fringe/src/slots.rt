@@ -54,7 +54,13 @@ fn is_same(one: &Listed, key: &[i64], depth: usize, row: &[i64]) -> bool
 }
 
 /// Whether the slot has the one of the depth and state. The keys are the rows of the open ones.
-pub fn is_same_in(slots: &[Option<Listed>], keys: &Region, slot: u32, depth: usize, row: &[i64]) -> bool
+pub fn is_same_in(
+    slots: &[Option<Listed>],
+    keys: &Region,
+    slot: u32,
+    depth: usize,
+    row: &[i64],
+) -> bool
     requires { keys.now.rows ≡ map key_of slots.now }
     ensures { result ≡ is_same_in depth row.now (in_slot slots.now slot) }
 {

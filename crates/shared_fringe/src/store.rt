@@ -7,9 +7,9 @@ ghost use Rattle.shared_fringe.specs.Tickets.{Ticketed, by_ticket, without};
 ghost use Rattle.shared_fringe.specs.Slots.{in_slot, is_same_in, key_of, opened, rank_of, IsSet};
 ghost use Rattle.shared_fringe.specs.Stored.{IsStored};
 
-use crate::popping::first_slot;
 use crate::index::Index;
 use crate::listed::Listed;
+use crate::popping::first_slot;
 use crate::rank::Rank;
 use crate::ranks::Ranks;
 use crate::reindexing::{fold_of_one, ready_index};
@@ -43,7 +43,10 @@ pub fn put_in(store: &mut Store, one: Listed)
     let Some(key) = store.keys.take() else {
         unreachable!();
     };
-    store.keys.row_mut(key).copy_from_slice(one.sub.row.as_slice());
+    store
+        .keys
+        .row_mut(key)
+        .copy_from_slice(one.sub.row.as_slice());
     ready_index(store.slots.as_slice(), &mut store.index);
     store.index.enter(fold_of_one(&one), key.place);
     store.ranks.push(rank_of(&one, key.place));

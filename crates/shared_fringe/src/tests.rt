@@ -32,6 +32,23 @@ fn push_later(fringe: &mut Fringe, ticket: u64, sub: Sub) -> Result<FringeFate, 
     Ok(fringe.push(ticket, sub))
 }
 
+/// Pushes subproblems of these states, values and bounds under the tickets from 0 on.
+fn push_all(
+    alloc: Global,
+    fringe: &mut Fringe,
+    subs: &[(i64, i64, i64)],
+) -> Result<Vec<FringeFate>, AllocError>
+    requires { Each (λ o. o.ticket < 0) fringe.old.open_ones }
+{
+    let mut fates = Vec::new(alloc);
+    for place in 0..subs.len() {
+        let (state, value, bound) = subs[place];
+        let one = sub(alloc, state, value, bound)?;
+        fates.push(push_later(fringe, place as u64, one)?)?;
+    }
+    Ok(fates)
+}
+
 /// The ticket of what is popped.
 fn popped(fringe: &mut Fringe) -> Option<u64> {
     let (ticket, _sub) = fringe.pop_best()?;
@@ -43,25 +60,25 @@ fn pushes_of_one_state(rt: HostRuntime) -> Result<(), Fail> {
     let mut fringe = Fringe::new(rt.alloc(), 1);
     assert_eq!(rt; fringe.spare(), 0);
     assert_eq!(rt; fringe.best_bound(), None);
-    // value and fate of the tickets from 1 on
-    let pushes = [
-        (60i64, FringeFate::Entered),
-        (50, FringeFate::Kept { by: 1 }),
-        (70, FringeFate::Replaced { old: 1 }),
+    let subs = [(9i64, 0i64, 3i64), (5, 60, 121), (5, 50, 121), (5, 70, 121)];
+    let fates = push_all(rt.alloc(), &mut fringe, subs.as_slice())?;
+    let expected = [
+        FringeFate::Entered,
+        FringeFate::Entered,
+        FringeFate::Kept { by: 1 },
+        FringeFate::Replaced { old: 1 },
     ];
-    for place in 0..pushes.len() {
-        let (value, fate) = pushes[place];
-        let one = sub(rt.alloc(), 5, value, 121)?;
-        assert_eq!(rt; push_later(&mut fringe, place as u64 + 1, one)?, fate);
-    }
+    assert_eq!(rt; fates.as_slice(), expected.as_slice());
     let same = Same {
         ticket: 3,
         value: 70,
     };
+    assert!(rt; fringe.words() == 1);
     assert_eq!(rt; fringe.same(1, &[5]), Some(same));
     assert_eq!(rt; fringe.same(2, &[5]), None);
     assert_eq!(rt; fringe.same(1, &[4]), None);
     assert_eq!(rt; popped(&mut fringe), Some(3));
+    assert_eq!(rt; popped(&mut fringe), Some(0));
     assert_eq!(rt; popped(&mut fringe), None);
     Ok(())
 }
@@ -69,13 +86,15 @@ fn pushes_of_one_state(rt: HostRuntime) -> Result<(), Fail> {
 #[test]
 fn pops_in_order(rt: HostRuntime) -> Result<(), Fail> {
     let mut fringe = Fringe::new(rt.alloc(), 1);
-    // value and bound of the tickets from 0 on
-    let pushes = [(5i64, 12i64), (5, 10), (5, 9), (7, 12), (5, 12)];
-    for place in 0..pushes.len() {
-        let (value, bound) = pushes[place];
-        let one = sub(rt.alloc(), place as i64, value, bound)?;
-        assert_eq!(rt; push_later(&mut fringe, place as u64, one)?, FringeFate::Entered);
-    }
+    let subs = [
+        (1i64, 5i64, 12i64),
+        (2, 5, 10),
+        (3, 5, 9),
+        (4, 7, 12),
+        (5, 5, 12),
+    ];
+    let fates = push_all(rt.alloc(), &mut fringe, subs.as_slice())?;
+    assert_eq!(rt; fates.as_slice(), [FringeFate::Entered; 5].as_slice());
     assert_eq!(rt; fringe.len(), 5);
     fringe.drop_up_to(9);
     assert_eq!(rt; fringe.best_bound(), Some(12));
@@ -86,30 +105,45 @@ fn pops_in_order(rt: HostRuntime) -> Result<(), Fail> {
     Ok(())
 }
 
-/// So many that a list would need minutes for them.
-const MANY: u64 = 300_000;
+/// A number below 2^24 that is far from that of the next one.
+fn scattered(number: u64) -> i64 {
+    (number.wrapping_mul(0x9e37_79b9_7f4a_7c15) >> 40) as i64
+}
 
-/// A number below 2^24 that differs from its neighbours.
-fn scattered(ticket: u64) -> i64 {
-    (ticket.wrapping_mul(0x9e37_79b9_7f4a_7c15) >> 40) as i64
+/// Pushes so many subproblems of different states with scattered bounds. Whether each entered.
+fn push_many(alloc: Global, fringe: &mut Fringe, count: u32) -> Result<bool, AllocError>
+    requires { Each (λ o. o.ticket < 0) fringe.old.open_ones }
+{
+    let mut all = true;
+    for number in 0..count {
+        let ticket = u64::from(number);
+        let bound = scattered(ticket);
+        let one = sub(alloc, i64::from(number), bound % 100, bound)?;
+        let fate = push_later(fringe, ticket, one)?;
+        all = all && fate == FringeFate::Entered;
+    }
+    Ok(all)
+}
+
+/// Pops so many. Whether no bound is greater than the one before it.
+fn pop_many(fringe: &mut Fringe, count: u32) -> bool {
+    let mut last = i64::MAX;
+    for _ in 0..count {
+        match fringe.pop_best() {
+            Some((_ticket, sub)) if sub.bound <= last => last = sub.bound,
+            _ => return false,
+        }
+    }
+    true
 }
 
 #[test]
 fn many_are_pushed_and_popped(rt: HostRuntime) -> Result<(), Fail> {
+    // a list would need minutes for them
+    let many = 200_000;
     let mut fringe = Fringe::new(rt.alloc(), 1);
-    for ticket in 0..MANY {
-        let bound = scattered(ticket);
-        let one = sub(rt.alloc(), ticket as i64, bound % 100, bound)?;
-        assert_eq!(rt; push_later(&mut fringe, ticket, one)?, FringeFate::Entered);
-    }
-    let mut last = i64::MAX;
-    for _ in 0..MANY {
-        let Some((_ticket, sub)) = fringe.pop_best() else {
-            return Err(Fail::from("one is gone"));
-        };
-        assert!(rt; sub.bound <= last);
-        last = sub.bound;
-    }
+    assert!(rt; push_many(rt.alloc(), &mut fringe, many)?);
+    assert!(rt; pop_many(&mut fringe, many));
     assert!(rt; fringe.is_empty());
     Ok(())
 }

@@ -1,4 +1,4 @@
-use Rattle.std.proofs.Common.{rules, arith, ◌≡◌, ◌<◌, length, ap, subst}
+use Rattle.std.proofs.Common.{rules, arith, ◌≡◌, length, ap, subst}
 use Rattle.std.proofs.lemmas.List.{length-map}
 use Rattle.shared_fringe.specs.Tickets.{above_value}
 use Rattle.shared_fringe.specs.Slots.{key_of, opened}

@@ -1,4 +1,4 @@
-use Rattle.std.proofs.Common.{◌≡◌, ℕ, ◌<◌, ◌≤◌, false, Some, length}
+use Rattle.std.proofs.Common.{◌≡◌, ℕ, ◌<◌, false, Some, length}
 use Rattle.shared_fringe.specs.Tickets.{Ticketed}
 use Rattle.shared_fringe.specs.Slots.{in_slot, is_low}
 use Rattle.shared_fringe.specs.Stored.{IsStored}

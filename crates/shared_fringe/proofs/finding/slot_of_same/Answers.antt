@@ -1,4 +1,4 @@
-use Rattle.std.proofs.Common.{arith, rules, sym, ◌∙◌}
+use Rattle.std.proofs.Common.{arith, rules}
 use Rattle.shared_fringe.proofs.Sames.{none_same}
 use Rattle.shared_fringe.proofs.finding.slot_of_same.Goals as goal
 

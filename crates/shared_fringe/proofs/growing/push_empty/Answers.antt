@@ -1,4 +1,4 @@
-use Rattle.std.proofs.Common.{◌≡◌, ◌+◌, ◌∙◌, arith, sym, ap, length, map, List, Option}
+use Rattle.std.proofs.Common.{◌∙◌, arith, ap, length, map, List, Option}
 use Rattle.std.proofs.lemmas.List.{length_push}
 use Rattle.shared_fringe.specs.Slots.{in_slot, key_of, opened}
 use Rattle.shared_fringe.specs.Tickets.{Ticketed}

@@ -1,4 +1,4 @@
-use Rattle.std.proofs.Common.{arith, rules, sym, ◌∙◌}
+use Rattle.std.proofs.Common.{rules}
 use Rattle.shared_fringe.proofs.Bests.{best_of, ranked_others, ranked_stale}
 use Rattle.shared_fringe.proofs.popping.first_slot.Goals as goal
 

@@ -1,4 +1,4 @@
-use Rattle.std.proofs.Common.{rules, ◌∙◌, ap}
+use Rattle.std.proofs.Common.{◌∙◌, ap}
 use Rattle.row_region.specs.Region.{RegionView}
 use Rattle.shared_fringe.proofs.Keys.{some_of, live_of, keyed_less}
 use Rattle.shared_fringe.proofs.store.clear_slot.Goals as goal

@@ -1,7 +1,6 @@
-use Rattle.std.proofs.Common.{rules, ◌≡◌, ◌+◌, ◌-◌, ◌∙◌, arith, sym, ap, length, List, Option, ℤ, slice_get}
+use Rattle.std.proofs.Common.{rules, ◌-◌, ◌∙◌, arith, sym, ap, List, Option, ℤ, slice_get}
 use Rattle.row_region.specs.Region.{HasTaken}
 use Rattle.row_region.proofs.Callers.{taken_live}
-use Rattle.shared_fringe.specs.Slots.{key_of}
 use Rattle.shared_fringe.proofs.Keys.{key_free, keyed_more, set_of}
 use Rattle.shared_fringe.proofs.Openeds.{opened_entered}
 use Rattle.shared_fringe.proofs.Stores.{stored_more}

@@ -1,4 +1,4 @@
-use Rattle.std.proofs.Common.{◌≡◌, ◌+◌, ◌-◌, ◌∙◌, arith, sym, ap, length, map, is_none, count_by, List, Option, ℤ}
+use Rattle.std.proofs.Common.{◌≡◌, ◌∙◌, arith, ap, length, map, is_none, count_by, List, Option, ℤ}
 use Rattle.shared_fringe.specs.Fringe.{FringeView}
 use Rattle.shared_fringe.specs.Slots.{key_of, opened}
 use Rattle.shared_fringe.proofs.Lengths.{opened_count}
