@@ -6,4 +6,4 @@
 
 mod compiling;
 
-pub use compiling::restricted;
+pub use compiling::{Compiled, compile, restricted};
