@@ -11,5 +11,6 @@ pub mod ProgramLaws
 pub mod ModelLaws
 pub mod Placed
 pub mod Shown
+pub mod Generating
 pub mod Reading
 pub mod Printing

@@ -14,6 +14,7 @@
 #![tactic(auto)]
 
 mod filling;
+mod generating;
 mod item;
 mod model;
 mod ordering;
@@ -23,6 +24,7 @@ mod printing;
 mod problem;
 mod reading;
 
+pub use generating::generate;
 pub use item::Item;
 pub use packing::value_of;
 pub use printing::print;

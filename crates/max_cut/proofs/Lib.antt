@@ -7,3 +7,4 @@ pub mod Rereading
 pub mod TextLengths
 pub mod Settling
 pub mod StateFacts
+pub mod DrawnWeights

@@ -4,6 +4,7 @@ pub mod Cuts
 pub mod Edges
 pub mod EdgeLines
 pub mod Shown
+pub mod Generating
 pub mod GraphLaws
 pub mod PullLaws
 pub mod StateLaws

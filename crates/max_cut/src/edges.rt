@@ -15,7 +15,7 @@ use std::alloc::Global;
 const GREATEST_WEIGHT: i64 = 500_000_000;
 
 /// How many pairs so many vertices make.
-fn count_of_pairs(vertices: usize) -> usize
+pub(crate) fn count_of_pairs(vertices: usize) -> usize
     requires { vertices ≤ 1024 }
     ensures { result ≡ pairs_of vertices }
 {

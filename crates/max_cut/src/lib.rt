@@ -14,6 +14,7 @@
 
 mod cut;
 mod edges;
+mod generating;
 mod layers;
 mod limits;
 mod lines;
@@ -25,6 +26,7 @@ mod rests;
 mod sides;
 
 pub use cut::value_of;
+pub use generating::generate;
 pub use model::MaxCut;
 pub use printing::print;
 pub use reading::read;

@@ -14,3 +14,4 @@ pub mod Folding
 pub mod Standing
 pub mod ReadsBack
 pub mod TextLengths
+pub mod DrawnClauses

@@ -18,5 +18,6 @@ pub mod Clauses
 pub mod Lines
 pub mod Texts
 pub mod Room
+pub mod Generating
 pub mod Drafted
 pub mod Printed

@@ -15,6 +15,7 @@
 mod clause;
 mod draft;
 mod first_line;
+mod generating;
 mod header;
 mod limits;
 mod lines;
@@ -29,6 +30,7 @@ mod sums;
 mod value;
 mod weights;
 
+pub use generating::generate;
 pub use printing::print;
 pub use problem::MaxTwoSat;
 pub use reading::read;

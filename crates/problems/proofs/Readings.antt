@@ -1,5 +1,5 @@
--- What is read as an instance is read as its numbers.
-use Rattle.std.proofs.Common.{ℤ, List, ap}
+-- What is read or drawn as an instance is read or drawn as its numbers.
+use Rattle.std.proofs.Common.{◌≡◌, ℤ, List, ap, IfOk}
 use Rattle.std.specs.Prelude.{Result, Ok, Err}
 use Rattle.dd_text.specs.Grammar.{Reads}
 use Rattle.dd_text.specs.declared.instance_error.InstanceError.{InstanceError}
@@ -12,3 +12,8 @@ pub reads_numbers : {M X : Type 0} (view : M → X) (numbers : X → List ℤ) (
 reads_numbers view numbers (Ok m) read h = ap (with_numbers numbers) h
 reads_numbers view numbers (Err (errors.Text e)) read h = ap (with_numbers numbers) h
 reads_numbers view numbers (Err errors.OutOfMemory) read h = tt
+
+pub drawn_numbers : {M X E : Type 0} (view : M → X) (numbers : X → List ℤ) (outcome : Result M E) (drawn : X) → IfOk outcome (λ m. view m ≡ drawn)
+    → IfOk outcome (λ m. numbers (view m) ≡ numbers drawn)
+drawn_numbers view numbers (Ok m) drawn h = ap numbers h
+drawn_numbers view numbers (Err e) drawn h = tt

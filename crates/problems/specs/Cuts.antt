@@ -5,6 +5,7 @@ use Rattle.max_cut.specs.EdgeLines.{text_of}
 use Rattle.max_cut.specs.Edges.{instance_text}
 use Rattle.max_cut.specs.Graph.{Graph, IsGraph, instance_of, numbers_of}
 use Rattle.max_cut.specs.Program.{program}
+use Rattle.max_cut.specs.Generating.{generated}
 use Rattle.problems.specs.Theory.{Theory, Agrees, with_numbers}
 
 abbrev pub cut_theory : Theory
@@ -13,6 +14,9 @@ cut_theory = record {
   program = program;
   canonical = λ numbers. text_of (instance_of numbers);
   own_value = λ numbers x. cut_value (instance_of numbers) x;
+  drawn = λ n seed. numbers_of (generated n seed);
+  least_size = 0;
+  most_size = 1024;
 }
 
 -- its own words and its program speak of the same solutions

@@ -7,6 +7,7 @@ use Rattle.knapsack.specs.Printing.{text_of}
 use Rattle.knapsack.specs.Program.{program, program_of}
 use Rattle.knapsack.specs.ProgramLaws.{instance_of-numbers_of, own_words_solve}
 use Rattle.knapsack.specs.Reading.{instance_text}
+use Rattle.knapsack.specs.Generating.{generated}
 use Rattle.problems.specs.Theory.{Theory, Agrees, with_numbers}
 
 abbrev pub knapsack_theory : Theory
@@ -15,6 +16,9 @@ knapsack_theory = record {
   program = program;
   canonical = λ numbers. text_of (instance_of numbers);
   own_value = λ numbers x. packed_value (instance_of numbers) x;
+  drawn = λ n seed. numbers_of (generated n seed);
+  least_size = 0;
+  most_size = 1000;
 }
 
 -- its own words and its program speak of the same solutions

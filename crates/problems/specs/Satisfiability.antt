@@ -11,6 +11,7 @@ use Rattle.max_two_sat.specs.Printed.{text_of}
 use Rattle.max_two_sat.specs.Program.{program_of}
 use Rattle.max_two_sat.specs.Solutions.{own_value-agrees}
 use Rattle.max_two_sat.specs.Texts.{instance_at}
+use Rattle.max_two_sat.specs.Generating.{generated}
 use Rattle.problems.specs.Theory.{Theory, Agrees, with_numbers}
 
 abbrev pub sat_theory : Theory
@@ -19,6 +20,9 @@ sat_theory = record {
   program = λ numbers. program_of (instance_of numbers);
   canonical = λ numbers. text_of (instance_of numbers);
   own_value = λ numbers x. own_value (instance_of numbers) x;
+  drawn = λ n seed. numbers_of (generated n seed);
+  least_size = 0;
+  most_size = 1024;
 }
 
 -- an instance's numbers are read back as the instance

@@ -8,6 +8,7 @@ use Rattle.tsp_windows.specs.OwnWords.{tour_value}
 use Rattle.tsp_windows.specs.OwnWordsLaws.{solution_gives}
 use Rattle.tsp_windows.specs.Program.{program, program_of}
 use Rattle.tsp_windows.specs.Texts.{spelled, printed}
+use Rattle.tsp_windows.specs.Generating.{generated}
 use Rattle.problems.specs.Theory.{Theory, Agrees, with_numbers}
 
 abbrev pub tour_theory : Theory
@@ -16,6 +17,9 @@ tour_theory = record {
   program = program;
   canonical = λ numbers. printed (instance_of numbers);
   own_value = λ numbers x. tour_value (instance_of numbers) x;
+  drawn = λ n seed. numbers_of (generated n seed);
+  least_size = 1;
+  most_size = 300;
 }
 
 -- its own words and its program speak of the same solutions

@@ -4,7 +4,7 @@ use dp_model::OutOfMemory;
 use max_cut::MaxCut;
 use std::alloc::Global;
 
-#[tactic(auto, using(crate::proofs::Readings::reads_numbers))]
+#[tactic(auto, using(crate::proofs::Readings::reads_numbers, crate::proofs::Readings::drawn_numbers))]
 impl Problem for MaxCut {
     ghost use Rattle.std.specs.Prelude.{refl};
     ghost use Rattle.problems.specs.Cuts.{cut_theory, cut_agrees};
@@ -25,5 +25,9 @@ impl Problem for MaxCut {
 
     fn value_of(model: &MaxCut, decisions: &[u32]) -> Option<i64> {
         max_cut::value_of(model, decisions)
+    }
+
+    fn generate(alloc: Global, n: u32, seed: u32) -> Result<MaxCut, OutOfMemory> {
+        max_cut::generate(alloc, n, seed)
     }
 }

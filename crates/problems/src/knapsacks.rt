@@ -4,7 +4,7 @@ use dp_model::OutOfMemory;
 use knapsack::Knapsack;
 use std::alloc::Global;
 
-#[tactic(auto, using(crate::proofs::Readings::reads_numbers, knapsack::specs::ProgramLaws::round_trip))]
+#[tactic(auto, using(crate::proofs::Readings::reads_numbers, crate::proofs::Readings::drawn_numbers, knapsack::specs::ProgramLaws::round_trip))]
 impl Problem for Knapsack {
     ghost use Rattle.std.specs.Prelude.{refl};
     ghost use Rattle.knapsack.specs.Shown.{instance_in};
@@ -26,5 +26,9 @@ impl Problem for Knapsack {
 
     fn value_of(model: &Knapsack, decisions: &[u32]) -> Option<i64> {
         knapsack::value_of(model, decisions)
+    }
+
+    fn generate(alloc: Global, n: u32, seed: u32) -> Result<Knapsack, OutOfMemory> {
+        knapsack::generate(alloc, n, seed)
     }
 }

@@ -1,5 +1,5 @@
-//! The problems that the program solves, behind one interface: reading an instance, printing it, and what a solution is
-//! in the problem's own words.
+//! The problems that the program solves, behind one interface: reading an instance, printing it, drawing it from a seed, and what a
+//! solution is in the problem's own words.
 //!
 //! It stands on `dp_model`, `dd_text` and the crates of the problems. To add a problem, give it a theory with a
 //! line in `theory_of`, and an `impl Problem`.

@@ -1,4 +1,4 @@
-ghost use Rattle.std.specs.Prelude.{◌≡◌, ℕ, ◌^◌, ◌-◌, ◌<◌, ℤ, List, length, IfOk};
+ghost use Rattle.std.specs.Prelude.{◌≡◌, ℕ, ◌^◌, ◌-◌, ◌<◌, ◌≤◌, ℤ, List, length, IfOk};
 ghost use Rattle.dd_text.specs.Grammar.{Reads};
 ghost use Rattle.problems.specs.Theory.{Theory, Agrees};
 
@@ -8,7 +8,7 @@ use std::alloc::Global;
 
 /// A problem with texts for its instances, and with words of its own for its solutions.
 pub trait Problem: DpModel {
-    /// What the problem is: the texts of its instances, the program of an instance, and its own words.
+    /// What the problem is: the texts of its instances, the program of an instance, its own words, and the instances that are drawn.
     ghost theory: { Theory };
 
     /// Reads an instance.
@@ -27,6 +27,13 @@ pub trait Problem: DpModel {
     /// The value of the decisions in the problem's own words, and `None` exactly where they are no solution.
     fn value_of(model: &Self, decisions: &[u32]) -> Option<i64>
         ensures { result ≡ theory.own_value (Self.numbers model.now) decisions.now };
+
+    /// Draws an instance of size `n` from a seed below 2^31: the same one at each call. Fails only for want of memory.
+    fn generate(alloc: Global, n: u32, seed: u32) -> Result<Self, OutOfMemory>
+        requires least { theory.least_size ≤ n }
+        requires most { n ≤ theory.most_size }
+        requires seed { seed < 2 ^ 31 }
+        ensures { IfOk result (λ m. Self.numbers m ≡ theory.drawn n seed) };
 
     /// The program of the interface is that of the theory.
     ghost same_program: { (numbers : List ℤ) → Self.meaning numbers ≡ theory.program numbers };

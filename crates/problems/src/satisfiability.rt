@@ -4,7 +4,7 @@ use dp_model::OutOfMemory;
 use max_two_sat::MaxTwoSat;
 use std::alloc::Global;
 
-#[tactic(auto, using(crate::proofs::Readings::reads_numbers, crate::specs::Satisfiability::round_trip))]
+#[tactic(auto, using(crate::proofs::Readings::reads_numbers, crate::proofs::Readings::drawn_numbers, crate::specs::Satisfiability::round_trip))]
 impl Problem for MaxTwoSat {
     ghost use Rattle.std.specs.Prelude.{refl};
     ghost use Rattle.max_two_sat.specs.Model.{instance_in};
@@ -26,5 +26,9 @@ impl Problem for MaxTwoSat {
 
     fn value_of(model: &MaxTwoSat, decisions: &[u32]) -> Option<i64> {
         max_two_sat::value_of(model, decisions)
+    }
+
+    fn generate(alloc: Global, n: u32, seed: u32) -> Result<MaxTwoSat, OutOfMemory> {
+        max_two_sat::generate(alloc, n, seed)
     }
 }

@@ -4,7 +4,7 @@ use dp_model::OutOfMemory;
 use std::alloc::Global;
 use tsp_windows::TspWindows;
 
-#[tactic(auto, using(crate::proofs::Readings::reads_numbers))]
+#[tactic(auto, using(crate::proofs::Readings::reads_numbers, crate::proofs::Readings::drawn_numbers))]
 impl Problem for TspWindows {
     ghost use Rattle.std.specs.Prelude.{refl};
     ghost use Rattle.tsp_windows.specs.Shown.{instance_in};
@@ -26,5 +26,9 @@ impl Problem for TspWindows {
 
     fn value_of(model: &TspWindows, decisions: &[u32]) -> Option<i64> {
         tsp_windows::value_of(model, decisions)
+    }
+
+    fn generate(alloc: Global, n: u32, seed: u32) -> Result<TspWindows, OutOfMemory> {
+        tsp_windows::generate(alloc, n, seed)
     }
 }

@@ -1,14 +1,18 @@
 -- How a run of the program ends.
-use Rattle.std.specs.Prelude.{◌≡◌, ℕ, ◌+◌, ◌^◌, ◌≤◌, ◌==◌, if◌then◌else◌, List, length, Option, Some, None, IsSome, ◌⊎◌}
+use Rattle.std.specs.Prelude.{◌≡◌, ℕ, ◌+◌, ◌^◌, ◌≤◌, ◌==◌, if◌then◌else◌, List, length, Option, IfSome, Ok, Err, ◌⊎◌}
 use Rattle.std.specs.Io.KnownBytes.{append_known}
 use Rattle.dd_io.specs.Counts.{Rose}
 use Rattle.dd_io.specs.Told.{IsAllOf, Ends, Skips, TakesSome}
-use Rattle.solver_words.specs.Words.{job_of}
-use Rattle.solver_words.specs.declared.job.Job.{Job}
+use Rattle.problems.specs.Theories.{theory_of}
+use Rattle.solver_words.specs.Words.{refusal_of}
 use Rattle.solver_report.specs.declared.answer.Answer.{Answer}
 use Rattle.solver_report.specs.declared.answer.Answer.TheVariants as answers
 use Rattle.solver_report.specs.Report.{report, status_of}
-use Rattle.solver_jobs.specs.Answers.{IsReply}
+use Rattle.solver_jobs.specs.Answers.{IsReply, Draws}
+use Rattle.solver_jobs.specs.declared.text_job.TextJob.{TextJob}
+use Rattle.solver_cli.specs.declared.offering.Task.{Task}
+use Rattle.solver_cli.specs.declared.offering.Task.TheVariants.{OnInput, Draw}
+use Rattle.solver_cli.specs.Offered.{asked}
 
 -- the source as the run found it and left it: the bytes that are left, where they are told, and how many calls have failed
 pub record Readings : Type 0 where
@@ -61,20 +65,33 @@ pub record HasFailed (r : Readings) : Type 0 where
   pub short : count ≤ input_limit
   pub gone : Skips r.before r.now count
 
--- the words ask for the job, and the bytes that were read get this answer
-pub record Answers (words : List (List ℕ)) (r : Readings) (answer : Answer) : Type 0 where
-  pub job : Job
-  pub asked : job_of words ≡ Some job
+-- the bytes that were read get this answer
+pub record RepliesTo (job : TextJob) (r : Readings) (answer : Answer) : Type 0 where
   pub bytes : List ℕ
   pub read : WasRead r bytes
   pub replies : IsReply job bytes answer
 
--- when an answer is right; want of memory may come at any time once the words are read, but no fault is hidden by it
+-- what a job on the input may answer; want of memory may come at any time, but no fault is hidden by it
+abbrev pub IsInputAnswer : TextJob → Readings → Answer → Type 0
+IsInputAnswer job r answers.ReadFault = HasFailed r
+IsInputAnswer job r answers.TooLong = WasTooLong r
+IsInputAnswer job r answers.OutOfMemory = r.faults_now ≡ r.faults_before
+IsInputAnswer job r answer = RepliesTo job r answer
+
+-- what a task may answer; nothing is read for an instance that is drawn
+abbrev pub IsTaskAnswer : Task → Readings → Answer → Type 0
+IsTaskAnswer (OnInput job) r answer = IsInputAnswer job r answer
+IsTaskAnswer (Draw problem n seed solved) r answer = IsUntouched r × Draws (theory_of problem) n seed solved answer
+
+-- the words ask for a task, which may answer this
+pub record Answers (words : List (List ℕ)) (r : Readings) (answer : Answer) : Type 0 where
+  pub task : Task
+  pub is_asked : asked words ≡ Ok task
+  pub right : IsTaskAnswer task r answer
+
+-- when an answer is right: words are refused for their reason, or memory ran out for reading them, and then nothing was read
 abbrev pub IsRight : List (List ℕ) → Readings → Answer → Type 0
-IsRight words r answers.Usage = (job_of words ≡ None) × IsUntouched r
-IsRight words r answers.ReadFault = IsSome (job_of words) × HasFailed r
-IsRight words r answers.TooLong = IsSome (job_of words) × WasTooLong r
-IsRight words r answers.OutOfMemory = IsSome (job_of words) × (r.faults_now ≡ r.faults_before)
+IsRight words r (answers.Words e) = IfSome (refusal_of e) (λ why. asked words ≡ Err why) × IsUntouched r
 IsRight words r answer = Answers words r answer
 
 -- the text was taken whole, no call failed, and none took nothing

@@ -1,22 +1,37 @@
 ghost use Rattle.std.specs.Prelude.{map, string_bytes};
-ghost use Rattle.solver_cli.specs.Ended.{IsRight, readings};
+ghost use Rattle.solver_cli.specs.Ended.{IsRight, IsInputAnswer, readings};
 
+use crate::offering::{Task, asked};
 use dd_io::{ReadError, Source, read_all};
-use solver_jobs::reply;
+use solver_jobs::{TextJob, generate, reply};
 use solver_report::Answer;
-use solver_words::read_words;
 use std::alloc::Global;
 
 /// How many bytes an input has at most.
 const INPUT_LIMIT: usize = 1 << 26;
 
-/// The answer to the words and the input.
+/// The answer to the words and the input, which is read only where the words ask for a job on it.
 pub fn answer<S: Source>(alloc: Global, words: &[String], input: &mut S) -> Answer
     ensures { IsRight (map string_bytes words.now) (readings S.left S.faults input.old input.new) result }
 {
-    let Some(job) = read_words(words) else {
-        return Answer::Usage;
-    };
+    match asked(alloc, words) {
+        Ok(Task::OnInput(job)) => answer_input(alloc, job, input),
+        Ok(
+            Task::Draw {
+                problem,
+                n,
+                seed,
+                solved,
+            },
+        ) => generate(alloc, problem, n, seed, solved),
+        Err(error) => Answer::Words(error),
+    }
+}
+
+/// The answer of a job on the input.
+fn answer_input<S: Source>(alloc: Global, job: TextJob, input: &mut S) -> Answer
+    ensures { IsInputAnswer job (readings S.left S.faults input.old input.new) result }
+{
     match read_all(alloc, input, INPUT_LIMIT) {
         Ok(text) => reply(alloc, job, text.as_slice()),
         Err(ReadError::Fault) => Answer::ReadFault,

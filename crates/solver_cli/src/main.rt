@@ -7,6 +7,7 @@
 #![tactic(auto)]
 
 mod answering;
+mod offering;
 mod run;
 mod saying;
 #[cfg(test)]

@@ -6,6 +6,12 @@ use std::test::Fail;
 
 const THREE_ITEMS: &str = "3 10\n60 5\n50 4\n70 6\n";
 
+/// The clauses that are drawn on two variables from seed 0.
+const DRAWN_CLAUSES: &str = "p wcnf 2 4\n10 1 -1 0\n10 2 0\n2 1 2 0\n7 -1 -2 0\n";
+
+/// The distances and windows that are drawn for three nodes from seed 0.
+const DRAWN_TOURS: &str = "3\n0 10 35\n35 0 28\n23 45 0\n0 101\n0 50\n0 78\n";
+
 /// The words of a line.
 fn words_of(alloc: Global, line: &str) -> Result<Vec<String>, AllocError> {
     let mut words = Vec::new(alloc);
@@ -82,6 +88,12 @@ fn prints_what_it_must(rt: HostRuntime) -> Result<(), Fail> {
             2,
         ),
         (
+            "solve --stats knapsack --budget=0",
+            THREE_ITEMS,
+            "stopped budget\nvalue none\nbound 121\ntaken 0\nfinished 0\n",
+            2,
+        ),
+        (
             "solve maxcut",
             "3 3\n1 2 3\n2 3 1\n1 3 2\n",
             "proved\nvalue 5\nassignment 0 1 1\n",
@@ -141,6 +153,10 @@ fn prints_what_it_must(rt: HostRuntime) -> Result<(), Fail> {
             "proved\nvalue 0\nassignment 0\n",
             0,
         ),
+        ("generate knapsack 2 0", "", "2 68\n1 19 2\n18 49 2\n", 0),
+        ("generate maxcut 2 0", "", "2 1\n1 2 -4\n", 0),
+        ("generate max2sat 2 0", "", DRAWN_CLAUSES, 0),
+        ("generate tsptw 3 0", "", DRAWN_TOURS, 0),
     ];
     prints(&rt, rt.alloc(), &cases)
 }
@@ -193,30 +209,50 @@ fn refuses_at_the_place(rt: HostRuntime) -> Result<(), Fail> {
         ("solve max2sat", "h 1 0\n", "instance word 1 1\n", 3),
         ("", THREE_ITEMS, "words usage\n", 4),
         ("solve", THREE_ITEMS, "words usage\n", 4),
-        ("solve knapsak", THREE_ITEMS, "words usage\n", 4),
-        ("solve knapsack knapsack", THREE_ITEMS, "words usage\n", 4),
-        ("solve knapsack --budget", THREE_ITEMS, "words usage\n", 4),
+        ("solve knapsak", THREE_ITEMS, "words model\n", 4),
         (
-            "solve knapsack --budget 1 --budget 2",
+            "solve knapsack --width 0",
+            THREE_ITEMS,
+            "words number width\n",
+            4,
+        ),
+        (
+            "solve knapsack --width 3 --width 4",
             THREE_ITEMS,
             "words usage\n",
+            4,
+        ),
+        (
+            "solve knapsack --cutset x",
+            THREE_ITEMS,
+            "words cutset\n",
             4,
         ),
         (
             "solve knapsack --budget 18446744073709551616",
             THREE_ITEMS,
-            "words usage\n",
+            "words number budget\n",
             4,
         ),
+        ("generate knapsack 1001 0", "", "words number n\n", 4),
+        ("check", THREE_ITEMS, "words usage\n", 4),
         (
-            "digest knapsack --budget 1",
+            "solve knapsack --workers 2",
             THREE_ITEMS,
             "words usage\n",
             4,
         ),
-        ("solve --budget 1 knapsack", THREE_ITEMS, "words usage\n", 4),
     ];
     prints(&rt, rt.alloc(), &cases)
+}
+
+#[test]
+fn solves_what_it_draws(rt: HostRuntime) -> Result<(), Fail> {
+    let printed = run_line(rt.alloc(), "generate knapsack 2 0 --solve", "", &[0], &[])?;
+    let report = b"proved\nvalue 19\nassignment 1 1\ntaken ";
+    assert!(rt; printed.text.taken().starts_with(report));
+    assert_eq!(rt; printed.status, 0);
+    Ok(())
 }
 
 #[test]

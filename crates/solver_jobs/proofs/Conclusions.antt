@@ -94,12 +94,8 @@ bound_there dp budget b over left h =
 -- a search that is over with something open is stopped, for the reason that holds
 pub is_stopped : (dp : Dp) (own : List ℕ → Option ℤ) → Agrees dp own → (budget : ℕ) (b : BoardState) (stop : Stop) (found : Option Solution) (bound : ℤ)
     → IsGood dp b → IsOver dp budget b → is_explored b ≡ false → found ≡ b.incumbent → bound_of b ≡ Some bound → ((x : List ℕ) → IsSolution dp x → AtMost (value_of dp x) (Some bound))
-    → StopHolds b stop → (stop ≡ Budget → tree dp ≤ budget → tree dp ≤ 2 ^ 63 → ⊥) → IsStopped dp own budget stop found bound
+    → StopHolds b stop → (stop ≡ Budget → tree dp ≤ budget → tree dp ≤ 2 ^ 63 → ⊥) → IsStopped dp own budget b stop found bound
 is_stopped dp own agrees budget b stop found bound good over left same bound_is most holds incomplete = record {
-  board = b;
-  good = good;
-  within = over.within;
-  nothing_out = over.idle;
   something_open = open_left b.open_ones (full_slots b.slots) over.idle left;
   holds = holds;
   held = sym same;

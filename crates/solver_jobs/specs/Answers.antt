@@ -1,5 +1,5 @@
 -- When what a job answers for an instance is right.
-use Rattle.std.specs.Prelude.{◌≡◌, ◌≢◌, ℕ, ◌^◌, ◌≤◌, ℤ, ◌≤ℤ◌, List, [], Option, Some, None, MatchResult, IsTrue}
+use Rattle.std.specs.Prelude.{◌≡◌, ◌≢◌, ℕ, ◌-◌, ◌^◌, ◌≤◌, Bool, true, false, ℤ, ◌≤ℤ◌, List, [], Option, Some, None, MatchResult, IsTrue}
 use Rattle.dd_text.specs.declared.instance_error.InstanceError.{InstanceError}
 use Rattle.dp_model.specs.Solution.{Solution}
 use Rattle.dp_model.specs.Best.{best}
@@ -16,12 +16,15 @@ use Rattle.search_core.specs.GoodBoard.{IsGood}
 use Rattle.search_core.specs.Taking.{is_budget_up}
 use Rattle.search_core.specs.declared.cause.Cause.TheVariants as causes
 use Rattle.sha2.specs.Sha256.{sha256}
-use Rattle.solver_words.specs.declared.job.Job.{Job}
-use Rattle.solver_words.specs.declared.job.Job.TheVariants.{Solve, Digest}
 use Rattle.solver_report.specs.declared.answer.Stop.{Stop}
 use Rattle.solver_report.specs.declared.answer.Stop.TheVariants.{Budget, Memory}
+use Rattle.solver_report.specs.declared.answer.Counts.{Counts}
+use Rattle.solver_report.specs.declared.answer.Outcome.{Outcome}
+use Rattle.solver_report.specs.declared.answer.Outcome.TheVariants.{Proved, Infeasible, Stopped}
 use Rattle.solver_report.specs.declared.answer.Answer.{Answer}
 use Rattle.solver_report.specs.declared.answer.Answer.TheVariants as answers
+use Rattle.solver_jobs.specs.declared.text_job.TextJob.{TextJob}
+use Rattle.solver_jobs.specs.declared.text_job.TextJob.TheVariants.{Solve, Digest}
 
 -- a feasible solution with its value, in the states and gains and in the problem's own words
 pub record IsFound (dp : Dp) (own : List ℕ → Option ℤ) (found : Solution) : Type 0 where
@@ -54,13 +57,9 @@ abbrev pub StopHolds : BoardState → Stop → Type 0
 StopHolds b Budget = IsTrue (is_budget_up b) × (b.cause ≡ None)
 StopHolds b Memory = b.cause ≡ Some causes.Memory
 
--- there is a good board with something open that has this incumbent and this bound; for the budget only where it is less than the
--- number of prefixes, or these are more than 2^63
-pub record IsStopped (dp : Dp) (own : List ℕ → Option ℤ) (budget : ℕ) (stop : Stop) (incumbent : Option Solution) (bound : ℤ) : Type 0 where
-  pub board : BoardState
-  pub good : IsGood dp board
-  pub within : board.budget ≡ budget
-  pub nothing_out : full_slots board.slots ≡ []
+-- the board has something open, this incumbent and this bound; for the budget only where it is less than the number of prefixes, or these
+-- are more than 2^63
+pub record IsStopped (dp : Dp) (own : List ℕ → Option ℤ) (budget : ℕ) (board : BoardState) (stop : Stop) (incumbent : Option Solution) (bound : ℤ) : Type 0 where
   pub something_open : board.open_ones ≢ []
   pub holds : StopHolds board stop
   pub held : board.incumbent ≡ incumbent
@@ -70,13 +69,40 @@ pub record IsStopped (dp : Dp) (own : List ℕ → Option ℤ) (budget : ℕ) (s
   pub own_most : NoneIsWorthMore own bound
   pub incomplete : stop ≡ Budget → tree dp ≤ budget → tree dp ≤ 2 ^ 63 → ⊥
 
+-- what may be told of a search with this board
+abbrev pub Ends : Dp → (List ℕ → Option ℤ) → ℕ → BoardState → Outcome → Type 0
+Ends dp own budget board (Proved found) = IsProved dp own found
+Ends dp own budget board Infeasible = IsInfeasible dp own
+Ends dp own budget board (Stopped stop incumbent bound) = IsStopped dp own budget board stop incumbent bound
+
+-- the counts of a board: no more finished than taken, no more taken than the budget, and no more finished than there are prefixes
+pub record AreCounts (dp : Dp) (board : BoardState) (counts : Counts) : Type 0 where
+  pub taken : counts.taken ≡ board.taken
+  pub finished : counts.finished ≡ board.finished
+  pub in_order : counts.finished ≤ counts.taken
+  pub within : counts.taken ≤ board.budget
+  pub few : counts.finished ≤ tree dp
+
+-- they are told exactly where they are asked for
+abbrev pub IsCounted : Dp → BoardState → Bool → Option Counts → Type 0
+IsCounted dp board true (Some counts) = AreCounts dp board counts
+IsCounted dp board false None = Unit {0}
+IsCounted dp board _ _ = ⊥
+
+-- there is a good board of that budget with nothing out, of which this outcome and these counts are told
+pub record HasSearched (dp : Dp) (own : List ℕ → Option ℤ) (budget : ℕ) (stats : Bool) (outcome : Outcome) (counts : Option Counts) : Type 0 where
+  pub board : BoardState
+  pub good : IsGood dp board
+  pub within : board.budget ≡ budget
+  pub nothing_out : full_slots board.slots ≡ []
+  pub ends : Ends dp own budget board outcome
+  pub counted : IsCounted dp board stats counts
+
 -- what a search of an instance may answer
-abbrev pub Solves : Dp → (List ℕ → Option ℤ) → ℕ → Answer → Type 0
-Solves dp own budget (answers.Proved found) = IsProved dp own found
-Solves dp own budget answers.Infeasible = IsInfeasible dp own
-Solves dp own budget (answers.Stopped stop incumbent bound) = IsStopped dp own budget stop incumbent bound
-Solves dp own budget answers.OutOfMemory = Unit {0}
-Solves dp own budget _ = ⊥
+abbrev pub Solves : Dp → (List ℕ → Option ℤ) → ℕ → Bool → Answer → Type 0
+Solves dp own budget stats (answers.Searched outcome counts) = HasSearched dp own budget stats outcome counts
+Solves dp own budget stats answers.OutOfMemory = Unit {0}
+Solves dp own budget stats _ = ⊥
 
 -- what a digest may answer
 abbrev pub Digests : List ℕ → Answer → Type 0
@@ -84,14 +110,26 @@ Digests canonical (answers.Digest digest) = digest ≡ sha256 canonical
 Digests canonical answers.OutOfMemory = Unit {0}
 Digests canonical _ = ⊥
 
+-- what a printed instance may answer
+abbrev pub Prints : List ℕ → Answer → Type 0
+Prints canonical (answers.Drawn text) = text.items ≡ canonical
+Prints canonical answers.OutOfMemory = Unit {0}
+Prints canonical _ = ⊥
+
+-- what may be answered for an instance that is drawn: its canonical text, or where it is to be solved how a search of it ends, with the
+-- greatest budget and with its counts
+abbrev pub Draws : Theory → ℕ → ℕ → Bool → Answer → Type 0
+Draws t n seed false answer = Prints (t.canonical (t.drawn n seed)) answer
+Draws t n seed true answer = Solves (t.program (t.drawn n seed)) (t.own_value (t.drawn n seed)) (2 ^ 64 - 1) true answer
+
 -- the problem that a job is for
-abbrev pub model_in : Job → ModelName
-model_in (Solve model budget) = model
+abbrev pub model_in : TextJob → ModelName
+model_in (Solve model budget stats) = model
 model_in (Digest model) = model
 
 -- what the job may answer for an instance
-abbrev pub Does : Theory → Job → List ℤ → Answer → Type 0
-Does t (Solve model budget) numbers answer = Solves (t.program numbers) (t.own_value numbers) budget answer
+abbrev pub Does : Theory → TextJob → List ℤ → Answer → Type 0
+Does t (Solve model budget stats) numbers answer = Solves (t.program numbers) (t.own_value numbers) budget stats answer
 Does t (Digest model) numbers answer = Digests (t.canonical numbers) answer
 
 -- the first fault is answered, or want of memory
@@ -101,9 +139,9 @@ Refuses e answers.OutOfMemory = Unit {0}
 Refuses e _ = ⊥
 
 -- what the job may answer for a text: for the instance that it spells, or its first fault
-abbrev pub Replies : Theory → Job → List ℕ → Answer → Type 0
+abbrev pub Replies : Theory → TextJob → List ℕ → Answer → Type 0
 Replies t job bytes answer = MatchResult (t.spelled bytes) (λ numbers. Does t job numbers answer) (λ e. Refuses e answer)
 
 -- what the job may answer for a text of its problem
-abbrev pub IsReply : Job → List ℕ → Answer → Type 0
+abbrev pub IsReply : TextJob → List ℕ → Answer → Type 0
 IsReply job bytes answer = Replies (theory_of (model_in job)) job bytes answer

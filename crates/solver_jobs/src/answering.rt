@@ -3,19 +3,19 @@ ghost use Rattle.solver_jobs.specs.Answers.{Replies, IsReply};
 
 use crate::digesting::digest;
 use crate::solving::solve;
+use crate::text_job::TextJob;
 use dd_text::ReadModelError;
 use problem_names::ModelName;
 use problems::{Knapsack, MaxCut, MaxTwoSat, Problem, TspWindows};
 use solver_report::Answer;
-use solver_words::Job;
 use std::alloc::Global;
 
 /// The answer of the job for the instance that the text spells, or its first fault. The job names the problem.
-pub fn reply(alloc: Global, job: Job, text: &[u8]) -> Answer
+pub fn reply(alloc: Global, job: TextJob, text: &[u8]) -> Answer
     requires { length text.now < 2 ^ 32 - 1 }
     ensures { IsReply job text.now result }
 {
-    let (Job::Solve { model, budget: _ } | Job::Digest { model }) = job;
+    let (TextJob::Solve { model, .. } | TextJob::Digest { model }) = job;
     match model {
         ModelName::Knapsack => answer_text::<Knapsack>(alloc, job, text),
         ModelName::MaxCut => answer_text::<MaxCut>(alloc, job, text),
@@ -25,14 +25,18 @@ pub fn reply(alloc: Global, job: Job, text: &[u8]) -> Answer
 }
 
 /// The answer of the job for a text of this problem.
-fn answer_text<P: Problem>(alloc: Global, job: Job, text: &[u8]) -> Answer
+fn answer_text<P: Problem>(alloc: Global, job: TextJob, text: &[u8]) -> Answer
     requires { length text.now < 2 ^ 32 - 1 }
     ensures { Replies P.theory job text.now result }
 {
     match P::read(alloc, text) {
         Ok(model) => match job {
-            Job::Solve { model: _, budget } => solve(alloc, model, budget),
-            Job::Digest { model: _ } => digest(alloc, &model),
+            TextJob::Solve {
+                model: _,
+                budget,
+                stats,
+            } => solve(alloc, model, budget, stats),
+            TextJob::Digest { model: _ } => digest(alloc, &model),
         },
         Err(ReadModelError::Text(error)) => Answer::Refused(error),
         Err(ReadModelError::OutOfMemory) => Answer::OutOfMemory,

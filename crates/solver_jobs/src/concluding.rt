@@ -1,30 +1,31 @@
 ghost use Rattle.std.specs.Prelude.{◌≡◌, ℕ, true, false, IfOk};
 ghost use Rattle.search_core.specs.Board.{is_explored};
-ghost use Rattle.solver_jobs.specs.Answers.{Solves};
+ghost use Rattle.search_core.specs.GoodBoard.{IsGood};
+ghost use Rattle.solver_jobs.specs.Answers.{Solves, Ends, IsCounted};
 ghost use Rattle.solver_jobs.specs.Over.{IsOver};
 
 use dp_model::{DpModel, OutOfMemory};
 use problems::Problem;
 use search_core::Board;
-use solver_report::{Answer, Solution, Stop};
+use solver_report::{Answer, Counts, Outcome, Solution, Stop};
 use std::alloc::Global;
 
-/// The answer of a search that is over. Fails only for want of memory.
+/// The answer of a search that is over, with its counts where they are asked for. Fails only for want of memory.
 pub fn conclude<P: Problem>(
     alloc: Global,
     board: &Board<P>,
     model: &P,
     budget: u64,
+    stats: bool,
 ) -> Result<Answer, OutOfMemory>
     requires numbers { board.now.numbers ≡ P.numbers model.now }
     requires over { IsOver (P.meaning (P.numbers model.now)) budget board.now.board }
-    ensures { IfOk result (Solves (P.meaning (P.numbers model.now)) (P.theory.own_value (P.numbers model.now)) budget) }
+    ensures { IfOk result (Solves (P.meaning (P.numbers model.now)) (P.theory.own_value (P.numbers model.now)) budget stats) }
 {
     let found = held_solution(alloc, board)?;
-    if board.is_explored() {
-        return Ok(explored(board, model, found));
-    }
-    Ok(stopped(board, model, found, budget))
+    let outcome = outcome_of(board, model, found, budget);
+    let counts = counts_of(board, stats);
+    Ok(Answer::Searched(outcome, counts))
 }
 
 /// A copy of the incumbent. Fails only for want of memory.
@@ -40,29 +41,68 @@ fn held_solution<M: DpModel>(
     }
 }
 
-/// The answer of a search with nothing open or out: the incumbent is best, or there is no feasible solution.
-fn explored<P: Problem>(board: &Board<P>, model: &P, found: Option<Solution>) -> Answer
+/// The counts of a search, where they are asked for.
+fn counts_of<M: DpModel>(board: &Board<M>, stats: bool) -> Option<Counts>
+    ensures counts { IsCounted (M.meaning board.now.numbers) board.now.board stats result }
+    ensures good { IsGood (M.meaning board.now.numbers) board.now.board }
+{
+    // What the board keeps of its counts.
+    let _ = board.incumbent_value();
+    if !stats {
+        return None;
+    }
+    Some(Counts {
+        taken: board.taken(),
+        finished: board.finished(),
+    })
+}
+
+/// How a search that is over ended.
+fn outcome_of<P: Problem>(
+    board: &Board<P>,
+    model: &P,
+    found: Option<Solution>,
+    budget: u64,
+) -> Outcome
+    requires numbers { board.now.numbers ≡ P.numbers model.now }
+    requires over { IsOver (P.meaning (P.numbers model.now)) budget board.now.board }
+    requires copied { found ≡ board.now.board.incumbent }
+    ensures { Ends (P.meaning (P.numbers model.now)) (P.theory.own_value (P.numbers model.now)) budget board.now.board result }
+{
+    if board.is_explored() {
+        return explored(board, model, found);
+    }
+    stopped(board, model, found, budget)
+}
+
+/// How a search with nothing open or out ended: the incumbent is best, or there is no feasible solution.
+fn explored<P: Problem>(board: &Board<P>, model: &P, found: Option<Solution>) -> Outcome
     requires numbers { board.now.numbers ≡ P.numbers model.now }
     requires nothing_left { is_explored board.now.board ≡ true }
     requires copied { found ≡ board.now.board.incumbent }
-    ensures { (budget : ℕ) → Solves (P.meaning (P.numbers model.now)) (P.theory.own_value (P.numbers model.now)) budget result }
+    ensures { (budget : ℕ) → Ends (P.meaning (P.numbers model.now)) (P.theory.own_value (P.numbers model.now)) budget board.now.board result }
 {
     // What the board keeps of its incumbent, and that it is best.
     let _ = board.incumbent_value();
     let _ = board.is_explored();
     match found {
-        Some(best) => Answer::Proved(best),
-        None => Answer::Infeasible,
+        Some(best) => Outcome::Proved(best),
+        None => Outcome::Infeasible,
     }
 }
 
-/// The answer of a search that ended while something was open.
-fn stopped<P: Problem>(board: &Board<P>, model: &P, found: Option<Solution>, budget: u64) -> Answer
+/// How a search ended while something was open.
+fn stopped<P: Problem>(
+    board: &Board<P>,
+    model: &P,
+    found: Option<Solution>,
+    budget: u64,
+) -> Outcome
     requires numbers { board.now.numbers ≡ P.numbers model.now }
     requires over { IsOver (P.meaning (P.numbers model.now)) budget board.now.board }
     requires left { is_explored board.now.board ≡ false }
     requires copied { found ≡ board.now.board.incumbent }
-    ensures { Solves (P.meaning (P.numbers model.now)) (P.theory.own_value (P.numbers model.now)) budget result }
+    ensures { Ends (P.meaning (P.numbers model.now)) (P.theory.own_value (P.numbers model.now)) budget board.now.board result }
 {
     // What the board keeps of its incumbent.
     let _ = board.incumbent_value();
@@ -70,7 +110,7 @@ fn stopped<P: Problem>(board: &Board<P>, model: &P, found: Option<Solution>, bud
         unreachable!();
     };
     match board.cause() {
-        None => Answer::Stopped(Stop::Budget, found, bound),
-        Some(_) => Answer::Stopped(Stop::Memory, found, bound),
+        None => Outcome::Stopped(Stop::Budget, found, bound),
+        Some(_) => Outcome::Stopped(Stop::Memory, found, bound),
     }
 }

@@ -9,6 +9,10 @@
 mod answering;
 mod concluding;
 mod digesting;
+mod drawing;
 mod solving;
+mod text_job;
 
 pub use answering::reply;
+pub use drawing::generate;
+pub use text_job::TextJob;

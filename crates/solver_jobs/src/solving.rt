@@ -10,19 +10,24 @@ use solver_report::Answer;
 use std::alloc::Global;
 use std::sync::Arc;
 
-/// Searches the instance, taking at most so many subproblems.
-pub fn solve<P: Problem>(alloc: Global, model: P, budget: u64) -> Answer
-    ensures { Solves (P.meaning (P.numbers model)) (P.theory.own_value (P.numbers model)) budget result }
+/// Searches the instance, taking at most so many subproblems, and tells the counts where they are asked for.
+pub fn solve<P: Problem>(alloc: Global, model: P, budget: u64, stats: bool) -> Answer
+    ensures { Solves (P.meaning (P.numbers model)) (P.theory.own_value (P.numbers model)) budget stats result }
 {
-    match search(alloc, model, budget) {
+    match search(alloc, model, budget, stats) {
         Ok(answer) => answer,
         Err(_) => Answer::OutOfMemory,
     }
 }
 
 /// The search, which fails only for want of memory before it begins or for its answer.
-fn search<P: Problem>(alloc: Global, model: P, budget: u64) -> Result<Answer, OutOfMemory>
-    ensures { IfOk result (Solves (P.meaning (P.numbers model)) (P.theory.own_value (P.numbers model)) budget) }
+fn search<P: Problem>(
+    alloc: Global,
+    model: P,
+    budget: u64,
+    stats: bool,
+) -> Result<Answer, OutOfMemory>
+    ensures { IfOk result (Solves (P.meaning (P.numbers model)) (P.theory.own_value (P.numbers model)) budget stats) }
 {
     let model = Arc::new(alloc, model)?;
     let shared = Arc::try_clone(&model)?;
@@ -30,5 +35,5 @@ fn search<P: Problem>(alloc: Global, model: P, budget: u64) -> Result<Answer, Ou
     let mut desk = Desk::prepare(alloc, &*model)?;
     let mut board = Board::begin(alloc, shared, settings)?;
     explore(alloc, &mut board, &mut desk, &*model);
-    conclude(alloc, &board, &*model, budget)
+    conclude(alloc, &board, &*model, budget, stats)
 }

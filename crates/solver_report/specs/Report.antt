@@ -1,6 +1,7 @@
 -- The printed texts.
 use Rattle.std.specs.Prelude.{ℕ, ℤ, pos, codes, List, [], ◌∷◌, ◌++◌, Option, Some, None}
 use Rattle.std.specs.List.{flat_map}
+use Rattle.std.specs.Fmt.{decimal}
 use Rattle.dd_text.specs.Decimal.{decimal_of}
 use Rattle.dd_text.specs.declared.instance_error.InstanceError.{InstanceError}
 use Rattle.dd_text.specs.declared.instance_error.InstanceFault.{InstanceFault}
@@ -10,6 +11,11 @@ use Rattle.dp_model.specs.Solution.{Solution}
 use Rattle.hex.specs.Hex.{encode_lower}
 use Rattle.solver_report.specs.declared.answer.Stop.{Stop}
 use Rattle.solver_report.specs.declared.answer.Stop.TheVariants.{Budget, Memory}
+use Rattle.solver_words.specs.declared.words_error.WordsError.{WordsError}
+use Rattle.solver_words.specs.declared.words_error.WordsError.TheVariants as errors
+use Rattle.solver_report.specs.declared.answer.Outcome.{Outcome}
+use Rattle.solver_report.specs.declared.answer.Outcome.TheVariants.{Proved, Infeasible, Stopped}
+use Rattle.solver_report.specs.declared.answer.Counts.{Counts}
 use Rattle.solver_report.specs.declared.answer.Answer.{Answer}
 use Rattle.solver_report.specs.declared.answer.Answer.TheVariants as answers
 
@@ -58,26 +64,54 @@ place_words p = decimal_of (pos p.line) ++ 32 ∷ decimal_of (pos p.column)
 abbrev pub fault_line : InstanceError → List ℕ
 fault_line e = line (codes "instance " ++ fault_word e.fault ++ 32 ∷ place_words e.place)
 
+abbrev pub outcome_lines : Outcome → List ℕ
+outcome_lines (Proved best) = line (codes "proved") ++ solution_lines best
+outcome_lines Infeasible = line (codes "infeasible")
+outcome_lines (Stopped stop incumbent bound) = stop_line stop ++ incumbent_lines incumbent ++ number_line (codes "bound") bound
+
+-- a word and a count on a line
+abbrev pub count_line : List ℕ → ℕ → List ℕ
+count_line word n = line (word ++ 32 ∷ decimal n)
+
+-- the counts, where they are asked for
+abbrev pub count_lines : Option Counts → List ℕ
+count_lines None = []
+count_lines (Some counts) = count_line (codes "taken") counts.taken ++ count_line (codes "finished") counts.finished
+
+abbrev pub words_line : WordsError → List ℕ
+words_line errors.Usage = line (codes "words usage")
+words_line errors.Model = line (codes "words model")
+words_line (errors.Number option) = line (codes "words number " ++ option.now)
+words_line errors.Cutset = line (codes "words cutset")
+words_line errors.OutOfMemory = line (codes "out of memory")
+
 -- the text of an answer
 abbrev pub report : Answer → List ℕ
-report (answers.Proved best) = line (codes "proved") ++ solution_lines best
-report answers.Infeasible = line (codes "infeasible")
-report (answers.Stopped stop incumbent bound) = stop_line stop ++ incumbent_lines incumbent ++ number_line (codes "bound") bound
+report (answers.Searched outcome counts) = outcome_lines outcome ++ count_lines counts
 report (answers.Digest digest) = line (encode_lower digest)
+report (answers.Drawn text) = text.items
 report (answers.Refused e) = fault_line e
 report answers.TooLong = line (codes "input too-long")
-report answers.Usage = line (codes "words usage")
+report (answers.Words e) = words_line e
 report answers.ReadFault = line (codes "read fault")
 report answers.OutOfMemory = line (codes "out of memory")
 
+abbrev pub outcome_status : Outcome → ℕ
+outcome_status (Proved best) = 0
+outcome_status Infeasible = 1
+outcome_status (Stopped stop incumbent bound) = 2
+
+abbrev pub words_status : WordsError → ℕ
+words_status errors.OutOfMemory = 8
+words_status _ = 4
+
 -- the status that goes with an answer
 abbrev pub status_of : Answer → ℕ
-status_of (answers.Proved best) = 0
-status_of answers.Infeasible = 1
-status_of (answers.Stopped stop incumbent bound) = 2
+status_of (answers.Searched outcome counts) = outcome_status outcome
 status_of (answers.Digest digest) = 0
+status_of (answers.Drawn text) = 0
 status_of (answers.Refused e) = 3
 status_of answers.TooLong = 3
-status_of answers.Usage = 4
+status_of (answers.Words e) = words_status e
 status_of answers.ReadFault = 6
 status_of answers.OutOfMemory = 8

@@ -2,6 +2,7 @@ ghost use Rattle.std.specs.Prelude.{◌≡◌, IfOk};
 
 use dd_text::InstanceError;
 use dp_model::{Found, OutOfMemory};
+use solver_words::WordsError;
 use std::alloc::Global;
 use std::marker::Model;
 
@@ -56,23 +57,41 @@ pub enum Stop {
     Memory,
 }
 
-/// What the program answers.
+/// How a search ended.
 #[derive(Debug, Drop)]
-pub enum Answer {
+pub enum Outcome {
     /// A best solution.
     Proved(Solution),
     /// There is no feasible solution.
     Infeasible,
     /// The search ended early, with the incumbent and the bound that it has reached.
     Stopped(Stop, Option<Solution>, i64),
+}
+
+/// The counts of a search.
+#[derive(Clone, Copy, Debug, PartialEq, Eq)]
+pub struct Counts {
+    /// How many subproblems were taken.
+    pub taken: u64,
+    /// How many of them were finished.
+    pub finished: u64,
+}
+
+/// What the program answers.
+#[derive(Debug, Drop)]
+pub enum Answer {
+    /// How the search ended, and its counts where they are asked for.
+    Searched(Outcome, Option<Counts>),
     /// The SHA-256 of the canonical text.
     Digest([u8; 32]),
+    /// The canonical text of an instance that was drawn.
+    Drawn(Vec<u8>),
     /// The input spells no instance.
     Refused(InstanceError),
     /// The input is longer than the limit.
     TooLong,
-    /// The words are outside the grammar.
-    Usage,
+    /// The words are refused, or memory ran out for reading them.
+    Words(WordsError),
     /// The input could not be read.
     ReadFault,
     /// Memory ran out before the search or in printing.

@@ -1,11 +1,12 @@
 //! What the program answers, and the text and status of each answer.
 //!
-//! It stands on `dp_model` for solutions, on `dd_text` for numbers and faults of texts, and on the crate `hex`.
+//! It stands on `dp_model` for solutions, on `dd_text` for numbers and faults of texts, on `solver_words` for why words are refused, and on
+//! the crate `hex`.
 //! `report_text` gives exactly the text of an answer, and `status` its status.
 #![tactic(auto)]
 
 mod answer;
 mod report;
 
-pub use answer::{Answer, Solution, Stop};
+pub use answer::{Answer, Counts, Outcome, Solution, Stop};
 pub use report::{report_text, status};

@@ -1,10 +1,13 @@
 ghost use Rattle.std.specs.Prelude.{◌≡◌, ◌∷◌, [], ◌++◌, pos, IfOk, OnOk, codes, option_map};
+ghost use Rattle.std.specs.Fmt.{decimal};
 ghost use Rattle.hex.specs.Hex.{encode_lower};
-ghost use Rattle.solver_report.specs.Report.{report, status_of, line, number_line, spaced, assignment_line, solution_lines, incumbent_lines, stop_line, fault_word, fault_line};
+ghost use Rattle.solver_report.specs.Report.{report, status_of, outcome_status, words_status, line, number_line, spaced, assignment_line, solution_lines, outcome_lines, count_line, count_lines, words_line, incumbent_lines, stop_line, fault_word, fault_line};
 
-use crate::answer::{Answer, Solution, Stop};
+use crate::answer::{Answer, Counts, Outcome, Solution, Stop};
 use dd_text::{InstanceError, InstanceFault, push_number, push_text};
 use dp_model::OutOfMemory;
+use itoa::Buffer;
+use solver_words::WordsError;
 use std::alloc::Global;
 
 /// The exit status that goes with an answer.
@@ -12,15 +15,33 @@ pub fn status(answer: &Answer) -> u8
     ensures { result ≡ status_of answer.now }
 {
     match answer {
-        Answer::Proved(_) => 0,
-        Answer::Infeasible => 1,
-        Answer::Stopped(_, _, _) => 2,
-        Answer::Digest(_) => 0,
-        Answer::Refused(_) => 3,
-        Answer::TooLong => 3,
-        Answer::Usage => 4,
+        Answer::Searched(outcome, _) => outcome_status(outcome),
+        Answer::Digest(_) | Answer::Drawn(_) => 0,
+        Answer::Refused(_) | Answer::TooLong => 3,
+        Answer::Words(error) => words_status(*error),
         Answer::ReadFault => 6,
         Answer::OutOfMemory => 8,
+    }
+}
+
+/// The exit status of a search.
+fn outcome_status(outcome: &Outcome) -> u8
+    ensures { result ≡ outcome_status outcome.now }
+{
+    match outcome {
+        Outcome::Proved(_) => 0,
+        Outcome::Infeasible => 1,
+        Outcome::Stopped(_, _, _) => 2,
+    }
+}
+
+/// The exit status of words that are refused, or that there was no memory for.
+fn words_status(error: WordsError) -> u8
+    ensures { result ≡ words_status error }
+{
+    match error {
+        WordsError::Usage | WordsError::Model | WordsError::Number { .. } | WordsError::Cutset => 4,
+        WordsError::OutOfMemory => 8,
     }
 }
 
@@ -30,19 +51,89 @@ pub fn report_text(alloc: Global, answer: &Answer) -> Result<Vec<u8>, OutOfMemor
 {
     let mut out = Vec::new(alloc);
     match answer {
-        Answer::Proved(found) => push_proved(&mut out, found)?,
-        Answer::Infeasible => push_line(&mut out, "infeasible")?,
-        Answer::Stopped(stop, incumbent, bound) => {
-            push_stopped(&mut out, *stop, incumbent, *bound)?
-        }
+        Answer::Searched(outcome, counts) => push_search(&mut out, outcome, *counts)?,
         Answer::Digest(digest) => push_digest(&mut out, alloc, digest)?,
+        Answer::Drawn(text) => out.extend_from_slice(text.as_slice())?,
         Answer::Refused(error) => push_fault(&mut out, error)?,
         Answer::TooLong => push_line(&mut out, "input too-long")?,
-        Answer::Usage => push_line(&mut out, "words usage")?,
+        Answer::Words(error) => push_words(&mut out, *error)?,
         Answer::ReadFault => push_line(&mut out, "read fault")?,
         Answer::OutOfMemory => push_line(&mut out, "out of memory")?,
     }
     Ok(out)
+}
+
+/// Appends the report of a search.
+fn push_search(
+    out: &mut Vec<u8>,
+    outcome: &Outcome,
+    counts: Option<Counts>,
+) -> Result<(), OutOfMemory>
+    ensures { OnOk result (out.new.items ≡ out.old.items ++ (outcome_lines outcome.now ++ count_lines counts)) }
+{
+    push_outcome(out, outcome)?;
+    push_counts(out, counts)
+}
+
+/// Appends how a search ended.
+fn push_outcome(out: &mut Vec<u8>, outcome: &Outcome) -> Result<(), OutOfMemory>
+    ensures { OnOk result (out.new.items ≡ out.old.items ++ outcome_lines outcome.now) }
+{
+    match outcome {
+        Outcome::Proved(found) => push_proved(out, found),
+        Outcome::Infeasible => push_line(out, "infeasible"),
+        Outcome::Stopped(stop, incumbent, bound) => push_stopped(out, *stop, incumbent, *bound),
+    }
+}
+
+/// Appends the counts of a search, where they are asked for.
+fn push_counts(out: &mut Vec<u8>, counts: Option<Counts>) -> Result<(), OutOfMemory>
+    ensures { OnOk result (out.new.items ≡ out.old.items ++ count_lines counts) }
+{
+    let Some(counts) = counts else {
+        return Ok(());
+    };
+    push_count_line(out, "taken", counts.taken)?;
+    push_count_line(out, "finished", counts.finished)
+}
+
+/// Appends a line of a word and a count.
+fn push_count_line(out: &mut Vec<u8>, word: &str, count: u64) -> Result<(), OutOfMemory>
+    ensures { OnOk result (out.new.items ≡ out.old.items ++ count_line word.now count) }
+{
+    push_text(out, word)?;
+    push_text(out, " ")?;
+    push_count(out, count)?;
+    push_text(out, "\n")
+}
+
+/// Appends a count in decimal.
+fn push_count(out: &mut Vec<u8>, count: u64) -> Result<(), OutOfMemory>
+    ensures { OnOk result (out.new.items ≡ out.old.items ++ decimal count) }
+{
+    let mut buffer = Buffer::new();
+    out.extend_from_slice(buffer.format(count).as_bytes())
+}
+
+/// Appends why words are refused, or that there was no memory for them.
+fn push_words(out: &mut Vec<u8>, error: WordsError) -> Result<(), OutOfMemory>
+    ensures { OnOk result (out.new.items ≡ out.old.items ++ words_line error) }
+{
+    match error {
+        WordsError::Usage => push_line(out, "words usage"),
+        WordsError::Model => push_line(out, "words model"),
+        WordsError::Number { option } => push_named_number(out, option),
+        WordsError::Cutset => push_line(out, "words cutset"),
+        WordsError::OutOfMemory => push_line(out, "out of memory"),
+    }
+}
+
+/// Appends that the number of that name is refused.
+fn push_named_number(out: &mut Vec<u8>, name: &str) -> Result<(), OutOfMemory>
+    ensures { OnOk result (out.new.items ≡ out.old.items ++ line (codes "words number " ++ name.now)) }
+{
+    push_text(out, "words number ")?;
+    push_line(out, name)
 }
 
 /// Appends a line.

@@ -1,43 +1,241 @@
--- The words of a command.
-use Rattle.std.specs.Prelude.{ℕ, ◌-◌, ◌^◌, nat_le, cond, codes, List, [], ◌∷◌, length, Option, Some, None, option_map, option_and_then}
+-- The commands, and what their lines ask for.
+use Rattle.std.specs.Prelude.{◌≤◌, ◌<◌, ◌≡◌, ◌-◌, ◌^◌, ◌&&◌, ◌==◌, ℕ, Bool, true, false, nat_le, cond, codes, List, [], ◌∷◌, length, Option, Some, None, IfSome, option_map, option_and_then, slice_get, Result, Ok, Err, string_bytes}
+use Rattle.std.specs.List.{list_any}
+use Rattle.std.specs.Str.{bytes_eq}
 use Rattle.dd_text.specs.Text.{natural_of}
 use Rattle.problem_names.specs.declared.ModelName.{ModelName}
-use Rattle.problem_names.specs.ModelNames.{word_same, model_named}
+use Rattle.problem_names.specs.declared.ModelName.TheVariants.{Knapsack, MaxCut, MaxTwoSat, TspWindows}
+use Rattle.dp_model.specs.declared.cut_kind.CutKind.{CutKind}
+use Rattle.dp_model.specs.declared.cut_kind.CutKind.TheVariants.{LastExactLayer}
+use Rattle.problem_names.specs.ModelNames.{model_named}
+use Rattle.solver_words.specs.Grammar.{Syntax, Argument, Text, has_flag, line_of, setting_of, words_of}
 use Rattle.solver_words.specs.declared.job.Job.{Job}
-use Rattle.solver_words.specs.declared.job.Job.TheVariants.{Solve, Digest}
+use Rattle.solver_words.specs.declared.job.Job.TheVariants.{Solve, Resume, Check, Digest, Generate}
+use Rattle.solver_words.specs.declared.job.JobSettings.{JobSettings}
+use Rattle.solver_words.specs.declared.words_error.WordsError.{WordsError}
+use Rattle.solver_words.specs.declared.words_error.WordsError.TheVariants.{Usage, Model, Number, Cutset, OutOfMemory}
+
+-- ---- the commands
+
+abbrev pub solve_syntax : Syntax
+solve_syntax = record {
+  positional = codes "model" ∷ [];
+  valued = codes "width" ∷ codes "workers" ∷ codes "budget" ∷ codes "cutset" ∷ codes "journal" ∷ codes "cover-words" ∷ [];
+  flags = codes "cover" ∷ codes "stats" ∷ [];
+}
+
+abbrev pub resume_syntax : Syntax
+resume_syntax = record {
+  positional = codes "path" ∷ [];
+  valued = codes "width" ∷ codes "workers" ∷ codes "budget" ∷ codes "cutset" ∷ [];
+  flags = codes "stats" ∷ [];
+}
+
+abbrev pub check_syntax : Syntax
+check_syntax = record { positional = []; valued = []; flags = [] }
+
+abbrev pub digest_syntax : Syntax
+digest_syntax = record { positional = codes "model" ∷ []; valued = []; flags = [] }
+
+abbrev pub generate_syntax : Syntax
+generate_syntax = record { positional = codes "model" ∷ codes "n" ∷ codes "seed" ∷ []; valued = []; flags = codes "solve" ∷ [] }
+
+-- ---- what words ask for, and why they are refused
+
+pub data JobView : Type 0 where
+  solve : ModelName → JobSettings → Option Text → Option ℕ → JobView
+  resume : Text → JobSettings → JobView
+  check : JobView
+  digest : ModelName → JobView
+  generate : ModelName → ℕ → ℕ → Bool → JobView
+
+pub data Refusal : Type 0 where
+  usage : Refusal
+  model : Refusal
+  number : Text → Refusal
+  cutset : Refusal
+
+-- a job without what its texts hold of memory
+abbrev pub job_view : Job → JobView
+job_view (Solve name settings journal words) = solve name settings (option_map string_bytes journal) words
+job_view (Resume path settings) = resume (string_bytes path) settings
+job_view Check = check
+job_view (Digest name) = digest name
+job_view (Generate name n seed solved) = generate name n seed solved
+
+-- why, where it is not for want of memory
+abbrev pub refusal_of : WordsError → Option Refusal
+refusal_of Usage = Some usage
+refusal_of Model = Some model
+refusal_of (Number option) = Some (number option.now)
+refusal_of Cutset = Some cutset
+refusal_of OutOfMemory = None
+
+-- the answer is this one, but for want of memory
+abbrev pub IsAnswer : {X Y : Type 0} → (X → Y) → Result Y Refusal → Result X WordsError → Type 0
+IsAnswer shown answer (Ok x) = answer ≡ Ok (shown x)
+IsAnswer shown answer (Err e) = IfSome (refusal_of e) (λ why. answer ≡ Err why)
+
+-- ---- values
+
+-- an answer, and then what is made of it
+abbrev pub and_then : {X Y : Type 0} → (X → Result Y Refusal) → Result X Refusal → Result Y Refusal
+and_then next (Ok x) = next x
+and_then next (Err why) = Err why
 
 abbrev pub greatest_budget : ℕ
 greatest_budget = 2 ^ 64 - 1
 
--- a number that fits
-abbrev pub within_budget : ℕ → Option ℕ
-within_budget n = cond (nat_le n greatest_budget) (Some n) None
+-- a number that 64 bits hold
+abbrev pub in_64_bits : ℕ → Option ℕ
+in_64_bits n = cond (nat_le n greatest_budget) (Some n) None
 
--- a budget: 1 to 20 digits, at most 2^64 - 1
-abbrev pub budget_of : List ℕ → Option ℕ
-budget_of word = cond (nat_le (length word) 20) (option_and_then within_budget (natural_of word)) None
+abbrev pub natural_in_64_bits : Text → Option ℕ
+natural_in_64_bits word = cond (nat_le (length word) 20) (option_and_then in_64_bits (natural_of word)) None
 
--- the options of a search
-abbrev pub options_of : List (List ℕ) → Option ℕ
-options_of [] = Some greatest_budget
-options_of (option ∷ value ∷ []) = cond (word_same option (codes "--budget")) (budget_of value) None
-options_of _ = None
+-- a number of 1 to 20 digits in a range
+abbrev pub ranged : ℕ → ℕ → Text → Option ℕ
+ranged least most word =
+    option_and_then (λ n. cond (nat_le least n && nat_le n most) (Some n) None) (cond (nat_le (length word) 20) (natural_of word) None)
 
--- the job of a search, where the word names a problem and the options give a budget
-abbrev pub solve_job_of : List ℕ → List (List ℕ) → Option Job
-solve_job_of word options = option_and_then (λ model. option_map (λ budget. Solve model budget) (options_of options)) (model_named word)
+abbrev pub or_number : Text → Option ℕ → Result ℕ Refusal
+or_number name (Some n) = Ok n
+or_number name None = Err (number name)
 
-abbrev pub digest_job : ModelName → List (List ℕ) → Option Job
-digest_job model [] = Some (Digest model)
-digest_job model (option ∷ more) = None
+-- the number of an option, where it is given
+abbrev pub optional : Text → ℕ → ℕ → Option Text → Result (Option ℕ) Refusal
+optional name least most None = Ok None
+optional name least most (Some word) = and_then (λ n. Ok (Some n)) (or_number name (ranged least most word))
 
--- the job of a digest, which has no options
-abbrev pub digest_job_of : List ℕ → List (List ℕ) → Option Job
-digest_job_of word options = option_and_then (λ model. digest_job model options) (model_named word)
+abbrev pub or_default : ℕ → Option ℕ → ℕ
+or_default n None = n
+or_default n (Some m) = m
 
--- the job that words ask for, and none where they are outside the grammar: `solve MODEL`, with `--budget NUMBER` or not, and `digest MODEL`
-abbrev pub job_of : List (List ℕ) → Option Job
-job_of (command ∷ model ∷ options) =
-    cond (word_same command (codes "solve")) (solve_job_of model options)
-    (cond (word_same command (codes "digest")) (digest_job_of model options) None)
-job_of _ = None
+abbrev pub cut_named : Text → Result CutKind Refusal
+cut_named word = cond (bytes_eq word (codes "lel")) (Ok LastExactLayer) (Err cutset)
+
+abbrev pub cut_of : Option Text → Result CutKind Refusal
+cut_of None = Ok LastExactLayer
+cut_of (Some word) = cut_named word
+
+-- the settings, by the values of the options in the order of their tests
+abbrev pub settings_of : (Text → Option Text) → Bool → Result JobSettings Refusal
+settings_of value stats =
+    and_then (λ width.
+    and_then (λ workers.
+    and_then (λ budget.
+    and_then (λ cutset. Ok (record {
+      width = width;
+      workers = or_default 1 workers;
+      budget = or_default greatest_budget budget;
+      cutset = cutset;
+      stats = stats;
+    }))
+    (cut_of (value (codes "cutset"))))
+    (optional (codes "budget") 0 greatest_budget (value (codes "budget"))))
+    (optional (codes "workers") 1 16 (value (codes "workers"))))
+    (optional (codes "width") 1 16777216 (value (codes "width")))
+
+abbrev pub or_model : Option ModelName → Result ModelName Refusal
+or_model (Some name) = Ok name
+or_model None = Err model
+
+-- the problem of the first positional word
+abbrev pub model_of : Option Text → Result ModelName Refusal
+model_of None = Err model
+model_of (Some word) = or_model (model_named word)
+
+-- how many words a cover may have, where one is wanted
+abbrev pub cover_of : Bool → Option ℕ → Option ℕ
+cover_of false words = None
+cover_of true words = Some (or_default 67108864 words)
+
+abbrev pub solve_of : Option Text → (Text → Option Text) → (Text → Bool) → Result JobView Refusal
+solve_of name value flag =
+    and_then (λ name.
+    and_then (λ settings.
+    and_then (λ words. Ok (solve name settings (value (codes "journal")) (cover_of (flag (codes "cover")) words)))
+    (optional (codes "cover-words") 0 134217728 (value (codes "cover-words"))))
+    (settings_of value (flag (codes "stats"))))
+    (model_of name)
+
+abbrev pub resume_of : Option Text → (Text → Option Text) → (Text → Bool) → Result JobView Refusal
+resume_of None value flag = Err usage
+resume_of (Some path) value flag = and_then (λ settings. Ok (resume path settings)) (settings_of value (flag (codes "stats")))
+
+abbrev pub digest_of : Option Text → Result JobView Refusal
+digest_of name = and_then (λ name. Ok (digest name)) (model_of name)
+
+-- the sizes that are drawn
+abbrev pub least_size : ModelName → ℕ
+least_size TspWindows = 1
+least_size _ = 0
+
+abbrev pub most_size : ModelName → ℕ
+most_size Knapsack = 1000
+most_size MaxCut = 1024
+most_size MaxTwoSat = 1024
+most_size TspWindows = 300
+
+-- an instance that is to be drawn has a size and a seed that can be drawn
+abbrev pub IsDrawable : Job → Type 0
+IsDrawable (Generate name n seed solved) = (least_size name ≤ n) × (n ≤ most_size name) × (seed < 2 ^ 31)
+IsDrawable _ = Unit {0}
+
+-- the number that a positional word writes
+abbrev pub placed : Text → ℕ → ℕ → Option Text → Result ℕ Refusal
+placed name least most None = Err (number name)
+placed name least most (Some word) = or_number name (ranged least most word)
+
+abbrev pub generate_of : Option Text → Option Text → Option Text → Bool → Result JobView Refusal
+generate_of name n seed solved =
+    and_then (λ name.
+    and_then (λ n.
+    and_then (λ seed. Ok (generate name n seed solved))
+    (placed (codes "seed") 0 2147483647 seed))
+    (placed (codes "n") (least_size name) (most_size name) n))
+    (model_of name)
+
+-- ---- whole lines
+
+abbrev pub solve_line : List Argument → Result JobView Refusal
+solve_line arguments = solve_of (slice_get (words_of arguments) 0) (λ n. setting_of n arguments) (λ n. has_flag n arguments)
+
+abbrev pub resume_line : List Argument → Result JobView Refusal
+resume_line arguments = resume_of (slice_get (words_of arguments) 0) (λ n. setting_of n arguments) (λ n. has_flag n arguments)
+
+abbrev pub check_line : List Argument → Result JobView Refusal
+check_line arguments = Ok check
+
+abbrev pub digest_line : List Argument → Result JobView Refusal
+digest_line arguments = digest_of (slice_get (words_of arguments) 0)
+
+abbrev pub generate_line : List Argument → Result JobView Refusal
+generate_line arguments = generate_of (slice_get (words_of arguments) 0) (slice_get (words_of arguments) 1) (slice_get (words_of arguments) 2) (has_flag (codes "solve") arguments)
+
+-- what the words behind a command ask for
+abbrev pub asked : (List Argument → Result JobView Refusal) → Option (List Argument) → Result JobView Refusal
+asked line None = Err usage
+asked line (Some arguments) = line arguments
+
+abbrev pub by_command : Text → List Text → Result JobView Refusal
+by_command command ws =
+    cond (bytes_eq command (codes "solve")) (asked solve_line (line_of solve_syntax ws))
+    (cond (bytes_eq command (codes "resume")) (asked resume_line (line_of resume_syntax ws))
+    (cond (bytes_eq command (codes "check")) (asked check_line (line_of check_syntax ws))
+    (cond (bytes_eq command (codes "digest")) (asked digest_line (line_of digest_syntax ws))
+    (cond (bytes_eq command (codes "generate")) (asked generate_line (line_of generate_syntax ws)) (Err usage)))))
+
+abbrev pub last_is_equals : ℕ → List ℕ → Bool
+last_is_equals b [] = b == 61
+last_is_equals b (c ∷ cs) = last_is_equals c cs
+
+-- a word that is empty or ends with `=` (61)
+abbrev pub is_refused : Text → Bool
+is_refused [] = true
+is_refused (b ∷ bs) = last_is_equals b bs
+
+-- what the words ask for
+abbrev pub meaning : List Text → Result JobView Refusal
+meaning [] = Err usage
+meaning (command ∷ ws) = cond (list_any is_refused (command ∷ ws)) (Err usage) (by_command command ws)

@@ -1,10 +1,47 @@
+use dp_model::CutKind;
 use problem_names::ModelName;
 
-/// What the words ask for.
+/// How a search is to be done.
 #[derive(Clone, Copy, Debug, PartialEq, Eq)]
+pub struct JobSettings {
+    /// The greatest number of nodes of a layer, where one is given.
+    pub width: Option<u32>,
+    /// The number of workers.
+    pub workers: u32,
+    /// The greatest number of subproblems.
+    pub budget: u64,
+    /// Which nodes become children.
+    pub cutset: CutKind,
+    /// Whether the counts are printed.
+    pub stats: bool,
+}
+
+/// What the words ask for.
+#[derive(Debug, Drop)]
 pub enum Job {
-    /// Search for a best solution, with at most so many subproblems.
-    Solve { model: ModelName, budget: u64 },
+    /// Search for a best solution, with a journal in that file, and with a cover of so many words.
+    Solve {
+        model: ModelName,
+        settings: JobSettings,
+        journal: Option<String>,
+        cover_words: Option<u64>,
+    },
+    /// Go on with the search of a journal.
+    Resume {
+        path: String,
+        settings: JobSettings,
+    },
+    /// Check a report with its cover.
+    Check,
     /// Print the digest of the canonical text.
-    Digest { model: ModelName },
+    Digest {
+        model: ModelName,
+    },
+    /// Print a drawn instance, or solve it.
+    Generate {
+        model: ModelName,
+        n: u32,
+        seed: u32,
+        solve: bool,
+    },
 }

@@ -1,11 +1,20 @@
 //! The words of a command, and the job that they ask for.
 //!
-//! It stands on `problem_names` for the names of the problems and on `dd_text` for what digits write. `read_words` answers
-//! exactly the job that the grammar of words gives, and nothing where the words are outside it. It takes no memory.
+//! It stands on `clap`, which takes the words apart, on `problem_names` and `dp_model` for the names of problems and cutsets, and on
+//! `dd_text` for what digits write. `read_words` answers exactly the job that the words ask for, or exactly why they are refused, but for
+//! want of memory: `specs/Grammar.antt` says what the words of a line are one by one, and `specs/Words.antt` what each command takes and
+//! asks for. A new option or a new command is a name there and in the constants of the commands.
 #![tactic(auto)]
 
+mod command;
+mod command_syntax;
 mod job;
 mod reading;
+#[cfg(test)]
+mod tests;
+mod values;
+mod words_error;
 
-pub use job::Job;
+pub use job::{Job, JobSettings};
 pub use reading::read_words;
+pub use words_error::WordsError;

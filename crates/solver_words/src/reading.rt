@@ -1,74 +1,203 @@
-ghost use Rattle.std.specs.Prelude.{◌≡◌, map, string_bytes};
-ghost use Rattle.solver_words.specs.Words.{job_of, solve_job_of, digest_job_of, options_of, budget_of};
+ghost use Rattle.std.specs.Prelude.{◌≡◌, ◌<◌, ◌≤◌, IfOk, option_map, List, map, drop, length, string_bytes};
+ghost use Rattle.std.specs.List.{list_any};
+ghost use Rattle.clap.specs.Matches.{found_of};
+ghost use Rattle.clap.specs.Walk.{rows_of};
+ghost use Rattle.solver_words.specs.Grammar.{Argument, line_of};
+ghost use Rattle.solver_words.specs.Commands.{Reads};
+ghost use Rattle.solver_words.specs.Words.{IsAnswer, IsDrawable, asked, cover_of, job_view, solve_syntax, solve_line, resume_syntax, resume_line, check_syntax, check_line, digest_syntax, digest_line, generate_syntax, generate_line, is_refused, least_size, most_size, meaning};
 
+use crate::command::parse;
+use crate::command_syntax::{CHECK, DIGEST, GENERATE, RESUME, SOLVE};
 use crate::job::Job;
+use crate::values::{is_given, read_model, read_optional, read_placed, read_settings};
+use crate::words_error::WordsError;
+use clap::ArgMatches;
 use problem_names::ModelName;
+use std::alloc::{AllocError, Global};
 
-/// The job that the words ask for, without the program's name: `solve MODEL`, with `--budget NUMBER` or not, or `digest
-/// MODEL`. `None` exactly where they are outside this grammar.
-pub fn read_words(words: &[String]) -> Option<Job>
-    ensures { result ≡ job_of (map string_bytes words.now) }
+/// What the words ask for. The words are those behind the program's name.
+///
+/// # Errors
+///
+/// `Usage` exactly where the words are outside the grammar. Inside it `Model` exactly where the problem is none of those that are
+/// known; then the first bad value, in the order of the values: `Number` with its name, or `Cutset`. `OutOfMemory` may come at any
+/// words.
+pub fn read_words(alloc: Global, words: &[String]) -> Result<Job, WordsError>
+    ensures answer { IsAnswer job_view (meaning (map string_bytes words.now)) result }
+    ensures drawn { IfOk result IsDrawable }
 {
-    let [command, model, options @ ..] = words else {
-        return None;
+    let [command, ..] = words else {
+        return Err(WordsError::Usage);
     };
-    if command.as_str() == "solve" {
-        return read_solve(model.as_str(), options);
+    if has_refused(words) {
+        return Err(WordsError::Usage);
     }
-    if command.as_str() == "digest" {
-        return read_digest(model.as_str(), options);
+    match command.as_str() {
+        "solve" => read_solve(alloc, words),
+        "resume" => read_resume(alloc, words),
+        "check" => read_check(alloc, words),
+        "digest" => read_digest(alloc, words),
+        "generate" => read_generate(alloc, words),
+        _ => Err(WordsError::Usage),
     }
-    None
 }
 
-/// The words behind `solve`.
-fn read_solve(model: &str, options: &[String]) -> Option<Job>
-    ensures { result ≡ solve_job_of model.now (map string_bytes options.now) }
+/// Whether some word is refused before the parser is asked.
+fn has_refused(words: &[String]) -> bool
+    ensures { result ≡ list_any (λ w. is_refused (string_bytes w)) words.now }
 {
-    let model = ModelName::named(model)?;
-    let budget = read_options(options)?;
-    Some(Job::Solve { model, budget })
+    words.iter().any(|word| refuses(word.as_str()))
 }
 
-/// The words behind `digest`.
-fn read_digest(model: &str, options: &[String]) -> Option<Job>
-    ensures { result ≡ digest_job_of model.now (map string_bytes options.now) }
+/// Whether a word is empty or ends with `=`.
+fn refuses(word: &str) -> bool
+    ensures { result ≡ is_refused word.now }
 {
-    let model = ModelName::named(model)?;
-    if options.is_empty() {
-        Some(Job::Digest { model })
+    match word.as_bytes() {
+        [] => true,
+        [.., last] => *last == b'=',
+    }
+}
+
+fn read_solve(alloc: Global, words: &[String]) -> Result<Job, WordsError>
+    requires { 0 < length words.now }
+    ensures answer { IsAnswer job_view (asked solve_line (line_of solve_syntax (drop 1 (map string_bytes words.now)))) result }
+    ensures drawn { IfOk result IsDrawable }
+{
+    let matches = parse(alloc, &SOLVE, words)?;
+    solve_job(alloc, &matches)
+}
+
+/// The search that the matches ask for.
+fn solve_job(alloc: Global, matches: &ArgMatches) -> Result<Job, WordsError>
+    ensures answer { (arguments : List Argument) → Reads solve_syntax arguments (rows_of (found_of matches.now)) → IsAnswer job_view (solve_line arguments) result }
+    ensures drawn { IfOk result IsDrawable }
+{
+    let model = read_model(matches)?;
+    let settings = read_settings(matches, is_given(matches, "stats"))?;
+    let words = read_optional(matches, "cover-words", 0, 134_217_728)?;
+    let journal = copied(alloc, matches.get_str("journal"))?;
+    Ok(Job::Solve {
+        model,
+        settings,
+        journal,
+        cover_words: cover_words(is_given(matches, "cover"), words),
+    })
+}
+
+/// A text of its own, where there is one.
+fn copied(alloc: Global, text: Option<&str>) -> Result<Option<String>, AllocError>
+    ensures { IfOk result (λ copy. option_map string_bytes copy ≡ option_map (λ t. t.now) text.entry) }
+{
+    match text {
+        Some(text) => Ok(Some(String::from_str(alloc, text)?)),
+        None => Ok(None),
+    }
+}
+
+/// How many words the cover may have, where one is wanted.
+fn cover_words(wanted: bool, words: Option<u64>) -> Option<u64>
+    ensures { result ≡ cover_of wanted words }
+{
+    if wanted {
+        Some(words.unwrap_or(67_108_864))
     } else {
         None
     }
 }
 
-/// The budget of a search, by its options.
-fn read_options(options: &[String]) -> Option<u64>
-    ensures { result ≡ options_of (map string_bytes options.now) }
+fn read_resume(alloc: Global, words: &[String]) -> Result<Job, WordsError>
+    requires { 0 < length words.now }
+    ensures answer { IsAnswer job_view (asked resume_line (line_of resume_syntax (drop 1 (map string_bytes words.now)))) result }
+    ensures drawn { IfOk result IsDrawable }
 {
-    match options {
-        [] => Some(u64::MAX),
-        [option, value] => {
-            if option.as_str() == "--budget" {
-                read_budget(value.as_str())
-            } else {
-                None
-            }
-        }
-        _ => None,
+    let matches = parse(alloc, &RESUME, words)?;
+    resume_job(alloc, &matches)
+}
+
+/// The search that is to go on.
+fn resume_job(alloc: Global, matches: &ArgMatches) -> Result<Job, WordsError>
+    ensures answer { (arguments : List Argument) → Reads resume_syntax arguments (rows_of (found_of matches.now)) → IsAnswer job_view (resume_line arguments) result }
+    ensures drawn { IfOk result IsDrawable }
+{
+    let Some(path) = matches.get_str("path") else {
+        return Err(WordsError::Usage);
+    };
+    let settings = read_settings(matches, is_given(matches, "stats"))?;
+    let path = String::from_str(alloc, path)?;
+    Ok(Job::Resume { path, settings })
+}
+
+fn read_check(alloc: Global, words: &[String]) -> Result<Job, WordsError>
+    requires { 0 < length words.now }
+    ensures answer { IsAnswer job_view (asked check_line (line_of check_syntax (drop 1 (map string_bytes words.now)))) result }
+    ensures drawn { IfOk result IsDrawable }
+{
+    parse(alloc, &CHECK, words)?;
+    Ok(Job::Check)
+}
+
+fn read_digest(alloc: Global, words: &[String]) -> Result<Job, WordsError>
+    requires { 0 < length words.now }
+    ensures answer { IsAnswer job_view (asked digest_line (line_of digest_syntax (drop 1 (map string_bytes words.now)))) result }
+    ensures drawn { IfOk result IsDrawable }
+{
+    let matches = parse(alloc, &DIGEST, words)?;
+    digest_job(&matches)
+}
+
+/// The digest that the matches ask for.
+fn digest_job(matches: &ArgMatches) -> Result<Job, WordsError>
+    ensures answer { (arguments : List Argument) → Reads digest_syntax arguments (rows_of (found_of matches.now)) → IsAnswer job_view (digest_line arguments) result }
+    ensures drawn { IfOk result IsDrawable }
+{
+    let model = read_model(matches)?;
+    Ok(Job::Digest { model })
+}
+
+fn read_generate(alloc: Global, words: &[String]) -> Result<Job, WordsError>
+    requires { 0 < length words.now }
+    ensures answer { IsAnswer job_view (asked generate_line (line_of generate_syntax (drop 1 (map string_bytes words.now)))) result }
+    ensures drawn { IfOk result IsDrawable }
+{
+    let matches = parse(alloc, &GENERATE, words)?;
+    generate_job(&matches)
+}
+
+/// The instance that is to be drawn.
+fn generate_job(matches: &ArgMatches) -> Result<Job, WordsError>
+    ensures answer { (arguments : List Argument) → Reads generate_syntax arguments (rows_of (found_of matches.now)) → IsAnswer job_view (generate_line arguments) result }
+    ensures drawn { IfOk result IsDrawable }
+{
+    let model = read_model(matches)?;
+    let n = read_placed(matches, "n", least_drawn(model), most_drawn(model))?;
+    let seed = read_placed(matches, "seed", 0, 2_147_483_647)?;
+    Ok(Job::Generate {
+        model,
+        n: n as u32,
+        seed: seed as u32,
+        solve: is_given(matches, "solve"),
+    })
+}
+
+/// The least size that is drawn.
+fn least_drawn(model: ModelName) -> u64
+    ensures { result ≡ least_size model }
+{
+    match model {
+        ModelName::Knapsack | ModelName::MaxCut | ModelName::MaxTwoSat => 0,
+        ModelName::TspWindows => 1,
     }
 }
 
-/// The number of 1 to 20 digits, where it is below 2^64.
-#[tactic(auto, using(crate::proofs::Budgets::no_plus, crate::proofs::Budgets::parsed))]
-fn read_budget(word: &str) -> Option<u64>
-    ensures { result ≡ budget_of word.now }
+/// The greatest size that is drawn.
+fn most_drawn(model: ModelName) -> u64
+    ensures same { result ≡ most_size model }
+    ensures bound { result ≤ 1024 }
 {
-    match word.as_bytes() {
-        [] => None,
-        // `parse` takes a plus, which no budget has.
-        [b'+', ..] => None,
-        digits if digits.len() > 20 => None,
-        _ => word.parse().ok(),
+    match model {
+        ModelName::Knapsack => 1000,
+        ModelName::MaxCut | ModelName::MaxTwoSat => 1024,
+        ModelName::TspWindows => 300,
     }
 }

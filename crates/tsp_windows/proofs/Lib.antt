@@ -5,3 +5,5 @@ pub mod Lost
 pub mod Readings
 pub mod Printings
 pub mod TextLengths
+pub mod DrawnDistances
+pub mod Windows

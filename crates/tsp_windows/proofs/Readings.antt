@@ -169,15 +169,19 @@ windows-read (suc count) made ws s t e = go (λ next u. windows-read count next 
 
 -- ---- the instance
 
-pub read_small : (n : ℕ) (d0 ds : List ℕ) (w0 ws : List Window) (s t u v : TextState) → 1 ≤ n → n ≤ 300 → d0 ≡ [] → w0 ≡ [] → times (distance_at n) (n * n) d0 s ≡ Ok (ds, t) → times window_at n w0 u ≡ Ok (ws, v) → is_small (record { nodes = n; distances = ds; windows = ws }) ≡ true
+-- distances and windows that are read or drawn one after another make an instance within the limits
+pub small_from : (n : ℕ) (ds : List ℕ) (ws : List Window) → 1 ≤ n → n ≤ 300 → AreRead n ds → length ds ≡ n * n → length ws ≡ n → list_all is_window ws ≡ true → is_small (record { nodes = n; distances = ds; windows = ws }) ≡ true
 unfolding is_small
-read_small n d0 ds w0 ws s t u v some few de we d w =
-    let distances = distances-read n (n * n) d0 ds s t d in
-    let windows = windows-read n w0 ws u v w in
-    let read = distances.kept (subst (AreRead n) (sym de) (record { short = refl; home = λ k l e. absurd (omega arith) })) in
-    let square : length ds ≡ n * n = distances.longer ∙ ap (λ (l : List ℕ). length l + n * n) de ∙ zero-add (n * n) in
-    let each : length ws ≡ n = windows.longer ∙ ap (λ (l : List Window). length l + n) we ∙ zero-add n in
+small_from n ds ws some few read square each windows =
     and_from (nat_le 1 n) _ (le-leb 1 n some) (and_from (nat_le n 300) _ (le-leb n 300 few) (and_from (nat_eq (length ds) (n * n)) _ (eq-eqb (length ds) (n * n) square) (and_from (list_all (λ d. nat_le d 1000000000) ds) _ read.short
     (and_from (all_below n (λ v. nat_eq (get_or ds (v * n + v) 0) 0)) _ (all_below-from n (λ v. nat_eq (get_or ds (v * n + v) 0) 0) (λ v l. eq-eqb (get_or ds (v * n + v) 0) 0
     (read.home (v * n + v) (subst (λ m. v * n + v < m) (sym square) (mul-add-lt v n v n l l)) (div-mul-add v n v l ∙ sym (mod-mul-add v n v l)))))
-    (and_from (nat_eq (length ws) n) _ (eq-eqb (length ws) n each) (windows.kept (subst (λ l. list_all is_window l ≡ true) (sym we) refl)))))))
+    (and_from (nat_eq (length ws) n) _ (eq-eqb (length ws) n each) windows)))))
+
+pub read_small : (n : ℕ) (d0 ds : List ℕ) (w0 ws : List Window) (s t u v : TextState) → 1 ≤ n → n ≤ 300 → d0 ≡ [] → w0 ≡ [] → times (distance_at n) (n * n) d0 s ≡ Ok (ds, t) → times window_at n w0 u ≡ Ok (ws, v) → is_small (record { nodes = n; distances = ds; windows = ws }) ≡ true
+read_small n d0 ds w0 ws s t u v some few de we d w =
+    let distances = distances-read n (n * n) d0 ds s t d in
+    let windows = windows-read n w0 ws u v w in
+    small_from n ds ws some few (distances.kept (subst (AreRead n) (sym de) (record { short = refl; home = λ k l e. absurd (omega arith) })))
+    (distances.longer ∙ ap (λ (l : List ℕ). length l + n * n) de ∙ zero-add (n * n)) (windows.longer ∙ ap (λ (l : List Window). length l + n) we ∙ zero-add n)
+    (windows.kept (subst (λ l. list_all is_window l ≡ true) (sym we) refl))

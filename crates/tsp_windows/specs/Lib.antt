@@ -10,5 +10,6 @@ pub mod Instances
 pub mod OwnWordsLaws
 pub mod Shown
 pub mod Texts
+pub mod Generating
 pub mod Apart
 pub mod Kept

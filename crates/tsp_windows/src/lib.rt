@@ -11,6 +11,7 @@
 //! of the program, with the same value, and a printed problem is read as it was.
 #![tactic(auto)]
 
+mod generating;
 mod model;
 mod parts;
 mod printing;
@@ -20,6 +21,7 @@ mod touring;
 mod ways;
 mod window;
 
+pub use generating::generate;
 pub use printing::print;
 pub use problem::TspWindows;
 pub use reading::read;

@@ -87,7 +87,7 @@ fn read_windows(
 }
 
 /// The problem of an instance within the limits.
-fn problem_of(
+pub(crate) fn problem_of(
     alloc: Global,
     nodes: usize,
     distances: Vec<u32>,

@@ -26,7 +26,7 @@ returns-in-Some-cause g c =
     subst (λ (o : Option ℤ). (x : List ℕ) → IsSolution dp x → AtMost (value_of dp x) o) c.in-Some.is
     (subst (λ n. (x : List ℕ) → IsSolution (g.P.DpModel.meaning n) x → AtMost (value_of (g.P.DpModel.meaning n) x) c.bound.result) numbers c.bound.ensures.holds) in
     let held = memory_held b.cause c.in-Some-cause.field-0 c.requires.over.cause (sym c.cause.ensures ∙ c.in-Some-cause.is) in
-    let base : IsStopped dp own c.args.budget Memory c.args.found c.in-Some.bound =
+    let base : IsStopped dp own c.args.budget b Memory c.args.found c.in-Some.bound =
     is_stopped dp own (agrees_of g c.args.model.now) c.args.budget b Memory c.args.found c.in-Some.bound good c.requires.over c.requires.left c.requires.copied (sym c.bound.ensures.bound ∙ c.in-Some.is) most held (λ e. absurd (cc)) in
     let read : to_z w64 (of_z w64 c.in-Some.bound) ≡ c.in-Some.bound = search rules in
-    subst (λ z. IsStopped dp own c.args.budget Memory c.args.found z) (sym read) base
+    subst (λ z. IsStopped dp own c.args.budget b Memory c.args.found z) (sym read) base

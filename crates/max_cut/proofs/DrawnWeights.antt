@@ -1,0 +1,40 @@
+-- Weights that are drawn one after another.
+use Rattle.std.proofs.Common.{◌≡◌, ◌∙◌, ℕ, ◌+◌, ◌≤◌, ℤ, List, [], ◌∷◌, ◌++◌, length, sym, ap, subst, arith, length-append, Result, Ok, Err, IfOk}
+use Rattle.std.specs.List.{All}
+use Rattle.std.proofs.lemmas.List.Elements.{All-nil, All-push}
+use Rattle.draws.specs.Draws.{steps}
+use Rattle.draws.proofs.Steps.{steps_more, steps_none}
+use Rattle.max_cut.specs.declared.model.MaxCut.{MaxCut}
+use Rattle.max_cut.specs.Graph.{IsGraph, IsWeight, pairs_of}
+use Rattle.max_cut.specs.Generating.{behind_weight, generated, weight_drawn, with_weight}
+use Rattle.max_cut.specs.Shown.{instance_in}
+
+-- so many weights are drawn from the seed, and these draws are left
+pub record AreDrawn (seed k x : ℕ) (weights : List ℤ) : Type 0 where
+  pub drawn : steps with_weight k [] seed ≡ (weights, x)
+  pub count : length weights ≡ k
+  pub small : All IsWeight weights
+
+pub none_drawn : (seed x : ℕ) (weights : List ℤ) → x ≡ seed → weights ≡ [] → AreDrawn seed 0 x weights
+none_drawn seed x weights from none = record {
+  drawn = steps_none with_weight [] seed ∙ (λ i. (sym none i, sym from i));
+  count = ap length none;
+  small = subst (All IsWeight) (sym none) (All-nil IsWeight);
+}
+
+pub one_more : (seed k x y : ℕ) (weights more : List ℤ) (weight : ℤ) → AreDrawn seed k x weights → weight ≡ weight_drawn x → y ≡ behind_weight x → IsWeight weight
+    → more ≡ weights ++ weight ∷ [] → AreDrawn seed (k + 1) y more
+one_more seed k x y weights more weight d is behind small pushed = record {
+  drawn = steps_more with_weight k [] weights more seed x y d.drawn (λ i. ((ap (λ a. weights ++ a ∷ []) (sym is) ∙ sym pushed) i, sym behind i));
+  count = ap length pushed ∙ (let c = d.count in omega (arith, length-append weights (weight ∷ [])));
+  small = subst (All IsWeight) (sym pushed) (All-push IsWeight weights weight d.small small);
+}
+
+pub is_graph : (n seed x : ℕ) (weights : List ℤ) → n ≤ 1024 → AreDrawn seed (pairs_of n) x weights → IsGraph (record { vertices = n; weights = weights })
+is_graph n seed x weights few d = record { few = few; whole = d.count; small = d.small }
+
+-- the instance of all of them
+pub all_drawn : {E : Type 0} (r : Result MaxCut E) (n seed x : ℕ) (weights : List ℤ) → AreDrawn seed (pairs_of n) x weights
+    → IfOk r (λ m. instance_in m ≡ record { vertices = n; weights = weights }) → IfOk r (λ m. instance_in m ≡ generated n seed)
+all_drawn (Err e) n seed x weights d is = tt
+all_drawn (Ok m) n seed x weights d is = is ∙ ap (λ ws. record { vertices = n; weights = ws }) (sym (ap (λ p. p.0) d.drawn))

@@ -1,0 +1,12 @@
+use Rattle.max_two_sat.specs.Drafted.{gathered_in}
+use Rattle.max_two_sat.proofs.DrawnClauses.{none_drawn, one_more}
+use Rattle.max_two_sat.proofs.generating.generate.Goals as goal
+
+pub loop-init : goal.loop-init
+loop-init c = none_drawn c.args.n c.args.seed c.from_seed-draws.result (gathered_in c.in_ok-draft.draft) c.requires.size c.from_seed-draws.ensures c.in_ok-draft.ensures
+
+pub loop-preserved : goal.loop-preserved
+loop-preserved c =
+    let clause = c.draw_clause.ensures in
+    one_more c.args.n c.args.seed c.loop.counter c.loop.draws c.draw_clause.new.draws (gathered_in c.loop.draft) (gathered_in c.draw_clause.new.draft) c.loop.invariant
+    clause.clause clause.behind clause.drawing clause.count

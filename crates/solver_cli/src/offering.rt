@@ -1,0 +1,72 @@
+ghost use Rattle.std.specs.Prelude.{◌≡◌, IfOk, map, string_bytes, option_map};
+ghost use Rattle.solver_words.specs.Words.{IsAnswer, IsDrawable, job_view};
+ghost use Rattle.solver_cli.specs.Offered.{IsDrawn, is_plain, offered, asked};
+
+use problem_names::ModelName;
+use solver_jobs::TextJob;
+use solver_words::{Job, JobSettings, WordsError, read_words};
+use std::alloc::Global;
+
+/// What the program is to do.
+#[derive(Clone, Copy, Debug, PartialEq, Eq)]
+pub enum Task {
+    /// A job on the instance that the input spells.
+    OnInput(TextJob),
+    /// An instance of that size is drawn from the seed, and printed or solved.
+    Draw {
+        problem: ModelName,
+        n: u32,
+        seed: u32,
+        solved: bool,
+    },
+}
+
+/// What the words ask for, or why they are refused.
+pub fn asked(alloc: Global, words: &[String]) -> Result<Task, WordsError>
+    ensures answer { IsAnswer (λ task. task) (asked (map string_bytes words.now)) result }
+    ensures drawn { IfOk result IsDrawn }
+{
+    let job = read_words(alloc, words)?;
+    offered(&job)
+}
+
+/// The task of a job. This is the one place that tells which words are still to come: a search with a journal, with a cover, by more than
+/// one worker or with a width of its own, and the commands `resume` and `check`. They are answered as words outside the grammar.
+fn offered(job: &Job) -> Result<Task, WordsError>
+    requires { IsDrawable job.now }
+    ensures answer { IsAnswer (λ task. task) (offered (job_view job.now)) result }
+    ensures drawn { IfOk result IsDrawn }
+{
+    match job {
+        Job::Solve {
+            model,
+            settings,
+            journal,
+            cover_words,
+        } if is_plain(*settings, journal, *cover_words) => Ok(Task::OnInput(TextJob::Solve {
+            model: *model,
+            budget: settings.budget,
+            stats: settings.stats,
+        })),
+        Job::Digest { model } => Ok(Task::OnInput(TextJob::Digest { model: *model })),
+        Job::Generate {
+            model,
+            n,
+            seed,
+            solve,
+        } => Ok(Task::Draw {
+            problem: *model,
+            n: *n,
+            seed: *seed,
+            solved: *solve,
+        }),
+        Job::Solve { .. } | Job::Resume { .. } | Job::Check => Err(WordsError::Usage),
+    }
+}
+
+/// Whether a search asks for nothing that is still to come.
+fn is_plain(settings: JobSettings, journal: &Option<String>, cover_words: Option<u64>) -> bool
+    ensures { result ≡ is_plain settings (option_map string_bytes journal.now) cover_words }
+{
+    settings.width.is_none() && settings.workers <= 1 && journal.is_none() && cover_words.is_none()
+}

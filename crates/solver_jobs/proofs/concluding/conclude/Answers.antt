@@ -1,4 +1,0 @@
-use Rattle.solver_jobs.proofs.concluding.conclude.Goals as goal
-
-pub returns-then-is_explored : goal.returns-then-is_explored
-returns-then-is_explored g c = c.explored.ensures c.args.budget

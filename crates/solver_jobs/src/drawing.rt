@@ -1,0 +1,49 @@
+ghost use Rattle.std.specs.Prelude.{◌^◌, ◌<◌, ◌≤◌};
+ghost use Rattle.problems.specs.Theories.{theory_of};
+ghost use Rattle.solver_jobs.specs.Answers.{Prints, Draws};
+
+use crate::solving::solve;
+use problem_names::ModelName;
+use problems::{Knapsack, MaxCut, MaxTwoSat, Problem, TspWindows};
+use solver_report::Answer;
+use std::alloc::Global;
+
+/// Draws an instance of the problem, of size `n` from the seed. Its canonical text is answered, or where `solved` how a search of it ends,
+/// with no budget but the greatest, and with its counts.
+pub fn generate(alloc: Global, problem: ModelName, n: u32, seed: u32, solved: bool) -> Answer
+    requires least { (theory_of problem).least_size ≤ n }
+    requires most { n ≤ (theory_of problem).most_size }
+    requires seed { seed < 2 ^ 31 }
+    ensures { Draws (theory_of problem) n seed solved result }
+{
+    match problem {
+        ModelName::Knapsack => draw::<Knapsack>(alloc, n, seed, solved),
+        ModelName::MaxCut => draw::<MaxCut>(alloc, n, seed, solved),
+        ModelName::MaxTwoSat => draw::<MaxTwoSat>(alloc, n, seed, solved),
+        ModelName::TspWindows => draw::<TspWindows>(alloc, n, seed, solved),
+    }
+}
+
+/// The same for this problem.
+fn draw<P: Problem>(alloc: Global, n: u32, seed: u32, solved: bool) -> Answer
+    requires least { P.theory.least_size ≤ n }
+    requires most { n ≤ P.theory.most_size }
+    requires seed { seed < 2 ^ 31 }
+    ensures { Draws P.theory n seed solved result }
+{
+    match P::generate(alloc, n, seed) {
+        Ok(model) if solved => solve(alloc, model, u64::MAX, true),
+        Ok(model) => printed(alloc, &model),
+        Err(_) => Answer::OutOfMemory,
+    }
+}
+
+/// The canonical text of the instance.
+fn printed<P: Problem>(alloc: Global, model: &P) -> Answer
+    ensures { Prints (P.theory.canonical (P.numbers model.now)) result }
+{
+    match P::print(alloc, model) {
+        Ok(text) => Answer::Drawn(text),
+        Err(_) => Answer::OutOfMemory,
+    }
+}

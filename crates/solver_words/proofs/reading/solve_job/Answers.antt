@@ -1,0 +1,24 @@
+use Rattle.std.proofs.Common.{◌∙◌, Ok, ap, option_map, string_bytes, sym}
+use Rattle.solver_words.specs.Words.{solve}
+use Rattle.solver_words.proofs.Meanings.{solve_all, solve_no_cover, solve_no_model, solve_no_settings}
+use Rattle.solver_words.proofs.reading.solve_job.Goals as goal
+
+pub returns-in_err-model-clause-answer : goal.returns-in_err-model-clause-answer
+returns-in_err-model-clause-answer c = λ arguments reads. solve_no_model c.args.matches.now arguments reads c.from_residual.result c.in_err-model.field-0.0 c.from_residual.ensures.1 c.in_err-model.ensures
+
+pub returns-in_err-settings-clause-answer : goal.returns-in_err-settings-clause-answer
+returns-in_err-settings-clause-answer c = λ arguments reads.
+    solve_no_settings c.args.matches.now arguments reads c.in_ok-model.model c.in_ok-model.ensures c.is_given.result c.is_given.ensures
+    c.from_residual-in_err-settings.result c.in_err-settings.field-0.0 c.from_residual-in_err-settings.ensures.1 c.in_err-settings.ensures
+
+pub returns-in_err-words-clause-answer : goal.returns-in_err-words-clause-answer
+returns-in_err-words-clause-answer c = λ arguments reads.
+    solve_no_cover c.args.matches.now arguments reads c.in_ok-model.model c.in_ok-model.ensures c.is_given.result c.is_given.ensures c.in_ok-settings.settings c.in_ok-settings.ensures
+    c.from_residual-in_err-words.result c.in_err-words.field-0.0 c.from_residual-in_err-words.ensures.1 c.in_err-words.ensures.answer
+
+pub returns-clause-answer : goal.returns-clause-answer
+returns-clause-answer c = λ arguments reads.
+    let journal = option_map string_bytes c.in_ok-journal.journal in
+    solve_all c.args.matches.now arguments reads c.in_ok-model.model c.in_ok-model.ensures c.is_given.result c.is_given.ensures c.in_ok-settings.settings c.in_ok-settings.ensures
+    c.in_ok-words.words journal c.is_given-2.result c.in_ok-words.ensures.answer (c.in_ok-journal.ensures ∙ c.get_str.ensures) c.is_given-2.ensures
+    ∙ ap (λ words. Ok (solve c.in_ok-model.model c.in_ok-settings.settings journal words)) (sym c.cover_words.ensures)

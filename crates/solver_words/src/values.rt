@@ -1,0 +1,126 @@
+ghost use Rattle.std.specs.Prelude.{◌≡◌, ◌≤◌, ◌<◌, ◌^◌, Bool, IfOk, IfSome, Some, cond, codes, option_map};
+ghost use Rattle.clap.specs.Matches.{first_value, found_of, one_text};
+ghost use Rattle.solver_words.specs.Words.{IsAnswer, natural_in_64_bits, ranged, optional, settings_of, cut_named, model_of, placed};
+
+use crate::job::JobSettings;
+use crate::words_error::WordsError;
+use clap::ArgMatches;
+use dp_model::CutKind;
+use problem_names::ModelName;
+
+/// The number of 1 to 20 digits, where it is below 2^64.
+#[tactic(auto, using(crate::proofs::Numbers::no_plus, crate::proofs::Numbers::parsed))]
+fn read_u64(word: &str) -> Option<u64>
+    ensures { result ≡ natural_in_64_bits word.now }
+{
+    match word.as_bytes() {
+        [] => None,
+        // `parse` takes a plus, which no number has.
+        [b'+', ..] => None,
+        digits if digits.len() > 20 => None,
+        _ => word.parse().ok(),
+    }
+}
+
+/// The number of 1 to 20 digits from `least` to `most`.
+#[tactic(auto, using(crate::proofs::Numbers::in_range))]
+pub(crate) fn read_number(word: &str, least: u64, most: u64) -> Option<u64>
+    ensures exact { result ≡ ranged least most word.now }
+    ensures bounds { IfSome result (λ n. (least ≤ n) × (n ≤ most)) }
+{
+    let number = read_u64(word)?;
+    if least <= number && number <= most {
+        Some(number)
+    } else {
+        None
+    }
+}
+
+/// The number of an option, where it is given.
+pub(crate) fn read_optional(
+    matches: &ArgMatches,
+    option: &'static str,
+    least: u64,
+    most: u64,
+) -> Result<Option<u64>, WordsError>
+    ensures answer { IsAnswer (λ n. n) (optional option.entry.now least most (first_value (found_of matches.now) option.entry.now)) result }
+    ensures bound { IfOk result (λ o. IfSome o (λ n. n ≤ most)) }
+{
+    let Some(word) = matches.get_str(option) else {
+        return Ok(None);
+    };
+    match read_number(word, least, most) {
+        Some(number) => Ok(Some(number)),
+        None => Err(WordsError::Number { option }),
+    }
+}
+
+/// The number of a positional word.
+pub(crate) fn read_placed(
+    matches: &ArgMatches,
+    place: &'static str,
+    least: u64,
+    most: u64,
+) -> Result<u64, WordsError>
+    ensures answer { IsAnswer (λ n. n) (placed place.entry.now least most (first_value (found_of matches.now) place.entry.now)) result }
+    ensures bounds { IfOk result (λ n. (least ≤ n) × (n ≤ most)) }
+{
+    let Some(word) = matches.get_str(place) else {
+        return Err(WordsError::Number { option: place });
+    };
+    match read_number(word, least, most) {
+        Some(number) => Ok(number),
+        None => Err(WordsError::Number { option: place }),
+    }
+}
+
+/// The cutset of that name.
+fn read_cut(word: &str) -> Result<CutKind, WordsError>
+    ensures { IsAnswer (λ c. c) (cut_named word.now) result }
+{
+    if word == "lel" {
+        Ok(CutKind::LastExactLayer)
+    } else {
+        Err(WordsError::Cutset)
+    }
+}
+
+/// The settings of a search, by its options.
+pub(crate) fn read_settings(matches: &ArgMatches, stats: bool) -> Result<JobSettings, WordsError>
+    ensures { IsAnswer (λ s. s) (settings_of (first_value (found_of matches.now)) stats) result }
+{
+    let width = read_optional(matches, "width", 1, 16_777_216)?;
+    let workers = read_optional(matches, "workers", 1, 16)?;
+    let budget = read_optional(matches, "budget", 0, u64::MAX)?;
+    let cutset = match matches.get_str("cutset") {
+        Some(word) => read_cut(word)?,
+        None => CutKind::LastExactLayer,
+    };
+    Ok(JobSettings {
+        width: width.map(|w| w as u32),
+        workers: workers.unwrap_or(1) as u32,
+        budget: budget.unwrap_or(u64::MAX),
+        cutset,
+        stats,
+    })
+}
+
+/// The problem that the first positional word names.
+pub(crate) fn read_model(matches: &ArgMatches) -> Result<ModelName, WordsError>
+    ensures { IsAnswer (λ m. m) (model_of (first_value (found_of matches.now) (codes "model"))) result }
+{
+    let Some(word) = matches.get_str("model") else {
+        return Err(WordsError::Model);
+    };
+    match ModelName::named(word) {
+        Some(name) => Ok(name),
+        None => Err(WordsError::Model),
+    }
+}
+
+/// Whether an option without a value was given, where the matches say one of the two.
+pub(crate) fn is_given(matches: &ArgMatches, flag: &str) -> bool
+    ensures { (b : Bool) → one_text (found_of matches.now) flag.now ≡ Some (cond b (codes "true") (codes "false")) → result ≡ b }
+{
+    matches.get_flag(flag)
+}
