@@ -1,4 +1,4 @@
--- Widths that fit into the memory of one worker.
+-- Widths whose layers stay within the cost formula.
 use Rattle.std.proofs.Common.{ℕ, zero, suc, ◌*◌, ◌≤◌, arith}
 use Rattle.dp_model.specs.Dp.{Dp}
 use Rattle.dp_model.specs.Laws.{IsLawful}

@@ -46,7 +46,7 @@ pub fn layers_fit()
     ensures { (dp : Dp) → LayersFit dp }
 {}
 
-/// The greatest width that fits into the memory of one worker is at least 1.
+/// The greatest width whose layers stay within the cost formula is at least 1.
 pub fn widths_fit()
     ensures { (dp : Dp) → IsLawful dp → WidthsFit dp }
 {}

@@ -5,7 +5,7 @@
 //! Promised so far, each in the contract of its call: `Bench::expand` gives a layer its arcs and makes the nodes of the next
 //! layer, of each state the best in the reduction order; `Bench::strike` takes out the nodes that are struck by their rough
 //! bound or dominated by a leader, and `Bench::keep_first` all but the first, as a restricted layer is reduced; the arcs
-//! follow. None of them takes memory. `greatest_width` is the greatest width within the memory of one worker.
+//! follow. None of them takes memory. `greatest_width` is the greatest width whose layers stay within the cost formula.
 #![tactic(auto)]
 
 mod arranging;

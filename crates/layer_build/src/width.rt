@@ -23,7 +23,7 @@ fn cost<M: DpModel>(model: &M) -> u64
     cost
 }
 
-/// The greatest width whose layers are within the memory of one worker.
+/// The greatest width whose layers stay within the cost formula.
 pub fn greatest_width<M: DpModel>(model: &M) -> u32
     ensures { IsGreatestWidth (M.meaning (M.numbers model.now)) result }
 {
