@@ -16,3 +16,4 @@ pub mod Deep
 pub mod Kinds
 pub mod Placed
 pub mod Fits
+pub mod Outer

@@ -3,3 +3,4 @@ pub mod Nodes
 pub mod Seen
 pub mod Cutsets
 pub mod Placed
+pub mod Outer

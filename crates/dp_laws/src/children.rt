@@ -13,6 +13,7 @@ ghost use Rattle.dp_laws.specs.Restricted.Beams.{beam};
 ghost use Rattle.dp_laws.specs.Diagrams.Nodes.{DdNode, DdLayers};
 ghost use Rattle.dp_laws.specs.Diagrams.Seen.{AreLayers, IsBounded, IsDiagram};
 ghost use Rattle.dp_laws.specs.Diagrams.Cutsets.{children_of, found_in};
+ghost use Rattle.dp_laws.specs.Diagrams.Outer.{FrontierIsOuter};
 ghost use Rattle.dp_laws.specs.Diagrams.Placed.{ChildrenArePlaced, ChildrenFit};
 
 /// A continuation from a node gains no more than the node's suffix, or leads to no more than the threshold.
@@ -63,4 +64,9 @@ pub fn children_have_places()
 /// most 2^24 children of either kind, and a record of those of the last exact layer has at most 2^32 - 1 bytes.
 pub fn children_fit()
     ensures { (dp : Dp) (p : List ℕ) (w : ℕ) (t : Option ℤ) (d : DdLayers) → IsLawful dp → length p < dp.vars → IsDiagram dp p w t d → ChildrenFit dp w d }
+{}
+
+/// The children of the frontier are the borders that no other border is a proper prefix of.
+pub fn frontier_is_outer()
+    ensures { (dp : Dp) → FrontierIsOuter dp }
 {}

@@ -20,7 +20,7 @@ mod numbers;
 pub use arc::DdArc;
 pub use children::{
     children_are_sound, children_fit, children_have_places, children_stand_deep, found_is_greatest,
-    sound_children_follow, suffixes_bound, without_reduction_the_beam_is_found,
+    frontier_is_outer, sound_children_follow, suffixes_bound, without_reduction_the_beam_is_found,
 };
 pub use compiling::{
     exact_nodes_are_unstruck, layers_fit, relaxed_children_are_sound, relaxed_children_stand,

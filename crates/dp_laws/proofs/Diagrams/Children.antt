@@ -133,3 +133,6 @@ first-drop d dp (layer ∷ layers) are = borders-are dp d 1 (d.first + 1) (layer
 pub frontier-are : (dp : Dp) (d : DdLayers) → map (child_from d) (frontier_at dp d) ≡ frontier_from dp d.first d.layers
 frontier-are dp d =
     outermost-map (child_from d) path_of [] (all_borders_at dp (d.first + 1) (drop 1 d.layers)) ∙ ap (outermost path_of []) (first-drop d dp d.layers refl)
+
+pub borders-below : (dp : Dp) (d : DdLayers) → map (child_from d) (all_borders_at dp (d.first + 1) (drop 1 d.layers)) ≡ all_borders dp (d.first + 1) (drop 1 d.layers)
+borders-below dp d = first-drop d dp d.layers refl
