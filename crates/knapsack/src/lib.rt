@@ -22,6 +22,7 @@ mod placed;
 mod printing;
 mod problem;
 mod reading;
+mod running;
 
 pub use item::Item;
 pub use packing::value_of;
