@@ -1,5 +1,6 @@
-pub mod Placing
-pub mod Fills
-pub mod RoundTrip
-pub mod TextLengths
 pub mod DrawnItems
+pub mod Fills
+pub mod Placing
+pub mod RoundTrip
+pub mod RunLemmas
+pub mod TextLengths

@@ -10,6 +10,7 @@ pub mod Sizes
 pub mod ProgramLaws
 pub mod ModelLaws
 pub mod Placed
+pub mod Runs
 pub mod Shown
 pub mod Generating
 pub mod Reading

@@ -23,6 +23,7 @@ mod placed;
 mod printing;
 mod problem;
 mod reading;
+mod running;
 
 pub use generating::generate;
 pub use item::Item;

@@ -56,11 +56,12 @@ impl Knapsack {
 
     /// The greedy fill of what a state has left, by the items from the layer on.
     fn fill(&self, k: usize, s: &[i64]) -> u64
-        requires { IsTrue (is_left self.now.capacity s.now) }
+        requires layer { k ≤ length self.now.items.items }
+        requires state { IsTrue (is_left self.now.capacity s.now) }
         ensures value { result ≡ rough_from self.now.items.items k (left s.now) }
         ensures small { result < 2 ^ 63 }
     {
-        filled(&self.order, k, self.left(s))
+        filled(&self.runs[k], self.left(s))
     }
 
     /// Whether a row of one cell is a capacity that may be left.

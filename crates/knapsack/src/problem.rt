@@ -1,10 +1,12 @@
 ghost use Rattle.std.specs.Prelude.{◌≡◌, IsTrue, IfOk};
 ghost use Rattle.knapsack.specs.Instance.{is_small};
 ghost use Rattle.knapsack.specs.Placed.{placed_from};
+ghost use Rattle.knapsack.specs.Runs.{AreLayers};
 
 use crate::item::Item;
 use crate::ordering::ordered;
 use crate::placed::Placed;
+use crate::running::{Run, runs_by_layer};
 use std::alloc::{AllocError, Global};
 
 /// A bounded knapsack within the limits: at most 1,000 items, profits and weights of at most 10^9, at most 1,000 copies of
@@ -14,8 +16,11 @@ pub struct Knapsack {
     pub(crate) capacity: u64,
     pub(crate) items: Vec<Item>,
     pub(crate) order: Vec<Placed>,
+    // For each layer, and for the end, the runs of the items from it on.
+    pub(crate) runs: Vec<Vec<Run>>,
     ghost small: { IsTrue (is_small (record { capacity = capacity; items = items.items })) },
     ghost ordered: { order.items ≡ placed_from 0 items.items },
+    ghost layered: { AreLayers order.items runs.items },
 }
 
 impl Knapsack {
@@ -30,10 +35,12 @@ impl Knapsack {
         ensures items { IfOk result (λ m. m.items.items ≡ items.items) }
     {
         let order = ordered(alloc, &items)?;
+        let runs = runs_by_layer(alloc, &order)?;
         Ok(Knapsack {
             capacity,
             items,
             order,
+            runs,
         })
     }
 }
