@@ -23,12 +23,20 @@ fn cost<M: DpModel>(model: &M) -> u64
     cost
 }
 
-/// The greatest width whose layers stay within the cost formula.
-pub fn greatest_width<M: DpModel>(model: &M) -> u32
+/// The greatest width for the cost of the model.
+fn width_within<M: DpModel>(model: &M) -> u32
     ensures { IsGreatestWidth (M.meaning (M.numbers model.now)) result }
 {
     match MOST.checked_div(cost(model)) {
         Some(width) => width.min(WIDEST) as u32,
         None => WIDEST as u32,
     }
+}
+
+/// The greatest width whose layers stay within the cost formula. It is at least 1.
+pub fn greatest_width<M: DpModel>(model: &M) -> u32
+    ensures greatest { IsGreatestWidth (M.meaning (M.numbers model.now)) result }
+    ensures some { 1 ≤ result }
+{
+    width_within(model)
 }

@@ -1,9 +1,9 @@
 -- A beam is made, layer by layer.
-use Rattle.std.proofs.Common.{◌≡◌, ℕ, zero, suc, ◌+◌, ◌-◌, ◌*◌, ◌^◌, ◌<◌, ◌≤◌, nat_lt, nat_le, nat_eq, ℤ, Bool, true, false, not, cond, ◌&&◌, ◌||◌, List, [], ◌∷◌, ◌++◌, length, map, take, filter, find, is_some, Option, Some, None, vec_len, vec_capacity, mul-le-mul_right, mul-le-mul_left, IsTrue, refl, sym, ap, ap₂, subst, ◌∙◌, ◌⊎◌, inl, inr, add-one, arith}
+use Rattle.std.proofs.Common.{◌≡◌, ℕ, suc, ◌+◌, ◌-◌, ◌*◌, ◌^◌, ◌<◌, ◌≤◌, nat_lt, nat_le, nat_eq, ℤ, Bool, true, false, not, cond, ◌&&◌, ◌||◌, List, [], ◌∷◌, ◌++◌, length, take, filter, find, is_some, Option, Some, None, vec_len, vec_capacity, mul-le-mul_right, refl, sym, ap, ap₂, subst, ◌∙◌, ◌⊎◌, inl, inr, arith}
 use Rattle.std.proofs.lemmas.Int.{ints}
 use Rattle.std.proofs.lemmas.Bool.Decides.{nat_tests}
 use Rattle.std.proofs.Math.Nat.{suc-mul}
-use Rattle.std.proofs.lemmas.List.{take_all, length-map}
+use Rattle.std.proofs.lemmas.List.{take_all}
 use Rattle.dp_model.specs.Decisions.{below}
 use Rattle.dp_model.specs.Dp.{Dp}
 use Rattle.dp_model.specs.Gaps.{is_struck_by}
@@ -13,7 +13,7 @@ use Rattle.dp_model.specs.Prefixes.{IsPrefix, value_of}
 use Rattle.dp_model.specs.Reached.{Reached, reached}
 use Rattle.dp_model.proofs.Paths.{IsPrefix-length}
 use Rattle.dp_model.proofs.Sizes.{value_of-size}
-use Rattle.dp_laws.specs.Restricted.Beam.{layer_below, whole_layer, is_too_wide, is_reduced, reduced_to, pruned, expanded}
+use Rattle.dp_laws.specs.Restricted.Beam.{layer_below, whole_layer, is_too_wide, is_reduced, expanded}
 use Rattle.dp_laws.specs.Restricted.Leaders.{unstruck, dominated, leaders_after, undominated}
 use Rattle.dp_laws.specs.Restricted.Members.{IsMember}
 use Rattle.dp_laws.proofs.Prefixes.{layers-prefixes}
@@ -21,9 +21,9 @@ use Rattle.dp_laws.proofs.Restricted.InOrder.{few-expanded}
 use Rattle.layer_candidates.specs.declared.beam.Beam.{Beam}
 use Rattle.layer_candidates.specs.declared.candidates.Candidates.{Candidates}
 use Rattle.layer_candidates.specs.declared.member.Member.{Member}
-use Rattle.layer_candidates.specs.Beaming.{AreEnough, HasLayers, kept_at, took, IsBuilt, most_at, is_between, IsNext}
+use Rattle.layer_candidates.specs.Beaming.{kept_at, took, IsBuilt, most_at, is_between, IsNext}
 use Rattle.layer_candidates.specs.Layering.{HasMemory, IsEntered}
-use Rattle.layer_candidates.specs.Members.{member_as, members_as, IsMemberOf}
+use Rattle.layer_candidates.specs.Members.{members_as, IsMemberOf}
 use Rattle.layer_candidates.specs.Steps.{path_at}
 use Rattle.layer_candidates.specs.Ways.{IsNear}
 
@@ -39,9 +39,10 @@ near-value dp laws p h =
 members-of : (dp : Dp) → IsLawful dp → (p : List ℕ) (k : ℕ) (paths : ℕ → List ℕ) (above : List ℤ) (words : ℕ) (members : List Member)
     → Each (IsMember dp p k) (members_as paths above words members) → Each (IsEntered dp k above words) members → Each (IsMemberOf dp k above words) members
 members-of dp laws p k paths above words [] h e = tt
-members-of dp laws p k paths above words (m ∷ members) h e =
-    (record { within = e.0.within; state = e.0.state; rank = e.0.rank; value = subst IsNear (sym h.0.value) (near-value dp laws (paths m.step) h.0.prefix) },
-    members-of dp laws p k paths above words members h.1 e.1)
+members-of dp laws p k paths above words (m ∷ members) h e = (
+  record { within = e.0.within; state = e.0.state; rank = e.0.rank; value = subst IsNear (sym h.0.value) (near-value dp laws (paths m.step) h.0.prefix) },
+  members-of dp laws p k paths above words members h.1 e.1,
+)
 
 -- How many there are.
 

@@ -1,6 +1,6 @@
 -- Kept keys become members, whose paths are those of their ways.
-use Rattle.std.proofs.Common.{◌≡◌, ℕ, zero, suc, ◌+◌, ◌<◌, ◌≤◌, ℤ, List, [], ◌∷◌, ◌++◌, length, map, take, get_or, refl, sym, ap, ap₂, subst, ◌∙◌, append_assoc, length-append, arith}
-use Rattle.std.proofs.lemmas.List.{append-nil, length_push, get_or_append_left, map-append, take_more, length-take-le, length-map}
+use Rattle.std.proofs.Common.{◌≡◌, ℕ, ◌+◌, ◌<◌, ◌≤◌, ℤ, List, [], ◌∷◌, ◌++◌, length, map, get_or, refl, sym, ap, ap₂, ◌∙◌, append_assoc, arith}
+use Rattle.std.proofs.lemmas.List.{length_push, get_or_append_left}
 use Rattle.std.proofs.Math.Seq.{get_or-append_seam}
 use Rattle.dp_model.specs.Lists.{Each}
 use Rattle.dp_model.specs.Reached.{Reached}
@@ -9,8 +9,8 @@ use Rattle.layer_candidates.specs.declared.key.Key.{Key}
 use Rattle.layer_candidates.specs.declared.member.Member.{Member}
 use Rattle.layer_candidates.specs.declared.step.Step.{Step}
 use Rattle.layer_candidates.specs.declared.way.Way.{Way}
-use Rattle.layer_candidates.specs.Members.{member_as, members_as}
-use Rattle.layer_candidates.specs.Pruning.{keyed, all_keyed}
+use Rattle.layer_candidates.specs.Members.{members_as}
+use Rattle.layer_candidates.specs.Pruning.{all_keyed}
 use Rattle.layer_candidates.specs.Rows.{row_at}
 use Rattle.layer_candidates.specs.Steps.{paths_after, path_at, step_of, entered, IsReachedWithin}
 use Rattle.layer_candidates.specs.Ways.{way_at}

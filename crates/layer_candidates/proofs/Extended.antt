@@ -1,5 +1,5 @@
 -- A layer is extended, decision by decision and member by member.
-use Rattle.std.proofs.Common.{◌≡◌, ◌≢◌, ℕ, zero, suc, ◌+◌, ◌*◌, ◌<◌, ◌≤◌, ℤ, ◌+ℤ◌, Bool, true, false, cond, List, [], ◌∷◌, ◌++◌, length, map, filter, drop, get_or, replicate, mul-le-mul_right, refl, sym, ap, ap₂, subst, ◌∙◌, arith, add-one, IsTrue}
+use Rattle.std.proofs.Common.{◌≡◌, ℕ, zero, suc, ◌+◌, ◌*◌, ◌<◌, ◌≤◌, ℤ, ◌+ℤ◌, true, false, cond, List, [], ◌∷◌, ◌++◌, length, map, drop, get_or, replicate, mul-le-mul_right, refl, sym, ap, subst, ◌∙◌, arith, add-one, IsTrue}
 use Rattle.std.proofs.lemmas.Int.{ints}
 use Rattle.std.proofs.lemmas.List.{map-append, append-nil, length-replicate, get_or-replicate, length-map, drop_all, drop_more, drop-map}
 use Rattle.std.proofs.lemmas.List.Elements.{filter-append}
@@ -9,16 +9,14 @@ use Rattle.dp_model.specs.Gaps.{IsStateOf}
 use Rattle.dp_model.specs.Laws.{IsLawful}
 use Rattle.dp_model.specs.Lists.{Each}
 use Rattle.dp_model.specs.Numbers.{IsSmall}
-use Rattle.dp_model.specs.Reached.{Reached}
 use Rattle.dp_laws.specs.Restricted.Extensions.{extended, extensions, joined, all_joined, candidates}
 use Rattle.layer_candidates.specs.declared.way.Way.{Way}
 use Rattle.layer_candidates.specs.declared.member.Member.{Member}
 use Rattle.layer_candidates.specs.Rows.{row_at, with_row}
-use Rattle.layer_candidates.specs.Table.{IsTable}
-use Rattle.layer_candidates.specs.Ways.{table, way_at, reached_by, reached_at, all_reached, IsNear, IsNearly, IsWay, AreApart, AreJoined}
+use Rattle.layer_candidates.specs.Ways.{way_at, reached_by, reached_at, all_reached, IsNear, IsNearly, IsWay, AreJoined}
 use Rattle.layer_candidates.specs.Members.{member_as, members_as, IsMemberOf}
 use Rattle.layer_candidates.specs.Extending.{HasRoom, parent_as, allowed_below, HasExtended, AreExtended}
-use Rattle.layer_candidates.proofs.Blocks.{length-with, before-with, here-with, table-with}
+use Rattle.layer_candidates.proofs.Blocks.{before-with, here-with, table-with}
 use Rattle.layer_candidates.proofs.Joined.{table_same, all_joined_push, all_joined_both}
 
 -- A row is written behind the ways.

@@ -1,5 +1,5 @@
 -- Joining a way to those that are kept.
-use Rattle.std.proofs.Common.{◌≡◌, ◌≢◌, ℕ, zero, suc, ◌+◌, ◌<◌, ◌≤◌, ℤ, pos, int_lt, Bool, true, false, cond, List, [], ◌∷◌, ◌++◌, append_assoc, length, get_or, set, refl, sym, ap, ap₂, subst, ◌∙◌, ◌⊎◌, inl, inr, add-one, arith}
+use Rattle.std.proofs.Common.{◌≡◌, ◌≢◌, ℕ, zero, suc, ◌<◌, ◌≤◌, ℤ, int_lt, Bool, true, false, cond, List, [], ◌∷◌, ◌++◌, append_assoc, length, set, refl, sym, ap, ap₂, subst, ◌∙◌, ◌⊎◌, inl, inr, add-one, arith}
 use Rattle.std.proofs.Math.Seq.{get_or-append_seam}
 use Rattle.std.proofs.lemmas.List.{append-nil, set_at, set-append_left, length_push, get_or-set_same, get_or-set_other, length-set, get_or_append_left}
 use Rattle.dp_model.specs.Dp.{Dp}
@@ -9,8 +9,7 @@ use Rattle.dp_model.proofs.RowLemmas.{row_same-self, row_same-is}
 use Rattle.dp_laws.specs.Restricted.Extensions.{better, joined, all_joined}
 use Rattle.layer_candidates.specs.declared.way.Way.{Way}
 use Rattle.layer_candidates.specs.Rows.{row_at}
-use Rattle.layer_candidates.specs.Table.{IsTable, IsFound}
-use Rattle.layer_candidates.specs.Ways.{table, way_at, reached_by, reached_at, all_reached, bettered, IsWay, AreApart, AreWays, AreJoined}
+use Rattle.layer_candidates.specs.Ways.{table, way_at, reached_by, reached_at, all_reached, bettered, IsWay, AreApart, AreWays}
 
 pub same_rows : (a b : List ℤ) → a ≡ b → row_same a b ≡ true
 same_rows a b e = subst (λ x. row_same a x ≡ true) e (row_same-self a)

@@ -1,5 +1,5 @@
 -- A layer made from the one above it.
-use Rattle.std.proofs.Common.{◌≡◌, ◌≢◌, ℕ, zero, suc, ◌+◌, ◌*◌, ◌<◌, ◌≤◌, nat_le, ℤ, Bool, true, false, cond, List, [], ◌∷◌, ◌++◌, length, map, take, filter, Option, IsPermutation, IsSortedBy, append_assoc, ◌⊎◌, inl, inr, mul-le-mul_right, refl, sym, ap, ap₂, subst, ◌∙◌, arith}
+use Rattle.std.proofs.Common.{◌≡◌, ℕ, zero, suc, ◌+◌, ◌*◌, ◌<◌, ◌≤◌, nat_le, ℤ, Bool, true, false, cond, List, [], ◌∷◌, ◌++◌, length, map, take, filter, Option, IsPermutation, IsSortedBy, append_assoc, ◌⊎◌, inl, inr, refl, sym, ap, ap₂, subst, ◌∙◌, arith}
 use Rattle.std.proofs.lemmas.Bool.Decides.{nat_tests}
 use Rattle.std.proofs.lemmas.List.{append-nil, length_push, get_or_append_left}
 use Rattle.std.proofs.Math.Seq.{get_or-append_seam}
@@ -7,7 +7,7 @@ use Rattle.dp_model.specs.Decisions.{below}
 use Rattle.dp_model.specs.Dp.{Dp}
 use Rattle.dp_model.specs.Lists.{Each}
 use Rattle.dp_model.specs.Reached.{Reached}
-use Rattle.dp_model.proofs.Members.{Has, Has-append-left, Has-append-right, each-has, Each-append, Each-map, Each-then}
+use Rattle.dp_model.proofs.Members.{Has, Has-append-left, Has-append-right, each-has, Each-append, Each-then}
 use Rattle.dp_laws.specs.Restricted.Beam.{pruned, whole_layer}
 use Rattle.dp_laws.specs.Restricted.Extensions.{extended, extensions, candidates, all_joined}
 use Rattle.dp_laws.specs.Restricted.ReductionOrder.{in_order}
@@ -16,14 +16,13 @@ use Rattle.layer_candidates.specs.declared.key.Key.{Key}
 use Rattle.layer_candidates.specs.declared.member.Member.{Member}
 use Rattle.layer_candidates.specs.declared.step.Step.{Step}
 use Rattle.layer_candidates.specs.declared.way.Way.{Way}
-use Rattle.layer_candidates.specs.KeyOrder.{key_at, keys_of, goes_before, reached_of, all_of, IsKeyOf}
+use Rattle.layer_candidates.specs.KeyOrder.{keys_of, goes_before, all_of, IsKeyOf}
 use Rattle.layer_candidates.specs.Layering.{IsEntered}
 use Rattle.layer_candidates.specs.Members.{member_as, members_as}
 use Rattle.layer_candidates.specs.Pruning.{keyed, all_keyed, IsKeyIn, HasPruned}
 use Rattle.layer_candidates.specs.Rows.{row_at}
 use Rattle.layer_candidates.specs.Steps.{path_at, step_of, step_at, entered, AreBackward, IsReachedWithin}
-use Rattle.layer_candidates.specs.Table.{IsTable}
-use Rattle.layer_candidates.specs.Ways.{table, way_at, reached_at, all_reached, IsNearly, IsWay, AreWays, AreJoined}
+use Rattle.layer_candidates.specs.Ways.{table, way_at, reached_at, all_reached, IsNearly, AreWays, AreJoined}
 use Rattle.layer_candidates.proofs.Blocks.{row_before}
 use Rattle.layer_candidates.proofs.Descended.{descended}
 use Rattle.layer_candidates.proofs.Joined.{last_or}

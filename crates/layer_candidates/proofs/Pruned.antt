@@ -1,5 +1,5 @@
 -- Keys that are taken out, or stay, one after another.
-use Rattle.std.proofs.Common.{◌≡◌, ℕ, zero, suc, ◌+◌, ◌<◌, ◌≤◌, nat_le, nat_lt, ℤ, ◌+ℤ◌, ◌-ℤ◌, int_le, Bool, true, false, not, cond, ◌||◌, List, [], ◌∷◌, ◌++◌, length, map, take, drop, get_or, filter, Option, Some, None, is_some, refl, sym, ap, ap₂, subst, ◌∙◌, append_assoc, arith, IsTrue}
+use Rattle.std.proofs.Common.{◌≡◌, ℕ, zero, suc, ◌+◌, ◌<◌, ◌≤◌, nat_le, nat_lt, ℤ, ◌+ℤ◌, ◌-ℤ◌, int_le, Bool, true, false, not, cond, ◌||◌, List, [], ◌∷◌, ◌++◌, length, take, drop, get_or, Option, Some, None, is_some, refl, sym, ap, ◌∙◌, append_assoc, arith}
 use Rattle.std.proofs.lemmas.Int.{ints}
 use Rattle.std.proofs.lemmas.Bool.Decides.{nat_tests}
 use Rattle.std.proofs.lemmas.List.{map-append, append-nil, length-map, drop_all, drop_more, length_push, take_all, length-append}
@@ -10,11 +10,11 @@ use Rattle.dp_model.specs.Lists.{Each}
 use Rattle.dp_model.specs.Reached.{Reached}
 use Rattle.dp_model.proofs.Members.{Each-append}
 use Rattle.dp_laws.specs.Restricted.Beam.{pruned}
-use Rattle.dp_laws.specs.Restricted.Leaders.{unstruck, dominated, leaders_after, undominated}
+use Rattle.dp_laws.specs.Restricted.Leaders.{unstruck, dominated, undominated}
 use Rattle.layer_candidates.specs.declared.key.Key.{Key}
 use Rattle.layer_candidates.specs.declared.way.Way.{Way}
 use Rattle.layer_candidates.specs.Rows.{row_at}
-use Rattle.layer_candidates.specs.Pruning.{keyed, all_keyed, IsKeyIn, led_by, struck, is_out, with_leader, ArePruned, HasPruned}
+use Rattle.layer_candidates.specs.Pruning.{keyed, all_keyed, IsKeyIn, led_by, is_out, with_leader, ArePruned, HasPruned}
 
 pub place-each : (n : ℕ) (keys : List Key) (i : ℕ) (d : Key) → Each (λ key. key.place < n) keys → i < length keys → (get_or keys i d).place < n
 place-each n [] i d h less = absurd (omega arith)

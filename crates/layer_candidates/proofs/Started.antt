@@ -1,5 +1,5 @@
 -- A beam at its start and at its end.
-use Rattle.std.proofs.Common.{◌≡◌, ℕ, zero, suc, ◌+◌, ◌-◌, ◌*◌, ◌<◌, ◌≤◌, nat_lt, ℤ, Bool, true, false, cond, List, [], ◌∷◌, ◌++◌, length, map, take, drop, find, is_some, Option, Some, None, option_map, vec_len, vec_capacity, Vec, Global, refl, sym, ap, ap₂, subst, ◌∙◌, add-one, length-append, arith}
+use Rattle.std.proofs.Common.{◌≡◌, ℕ, ◌+◌, ◌-◌, ◌*◌, ◌<◌, ◌≤◌, nat_lt, ℤ, Bool, true, false, cond, List, [], ◌∷◌, ◌++◌, length, take, drop, find, is_some, Option, Some, None, option_map, vec_len, vec_capacity, refl, sym, ap, ap₂, subst, ◌∙◌, add-one, arith}
 use Rattle.std.proofs.lemmas.Bool.Decides.{nat_tests}
 use Rattle.std.proofs.Math.Seq.{take-append_seam}
 use Rattle.dp_model.specs.Decisions.{below}
@@ -17,8 +17,7 @@ use Rattle.dp_laws.proofs.Lists.{each-take}
 use Rattle.dp_laws.proofs.Prefixes.{layers-prefixes}
 use Rattle.layer_candidates.specs.declared.beam.Beam.{Beam}
 use Rattle.layer_candidates.specs.declared.member.Member.{Member}
-use Rattle.layer_candidates.specs.declared.step.Step.{Step}
-use Rattle.layer_candidates.specs.Beaming.{HasLayers, kept_at, took, IsBuilt, IsFirst}
+use Rattle.layer_candidates.specs.Beaming.{HasLayers, kept_at, took, IsBuilt}
 use Rattle.layer_candidates.specs.Layering.{HasMemory, IsEntered}
 use Rattle.layer_candidates.specs.Members.{member_as, members_as}
 use Rattle.layer_candidates.specs.Rows.{row_at}
@@ -69,11 +68,14 @@ built-start dp laws p w t row value rank old new is_prefix shorter row_is value_
       deep = omega arith;
       list = ap (members_as (path_at p new.steps.items) new.above.items new.words) members ∙ (ap (λ (r : Reached). r ∷ []) first
           ∙ sym (ap (λ j. kept_at dp (length p) (layer_below dp (reached dp p) w t j)) zero_is ∙ ap (λ b. cond b (reached dp p ∷ []) (take 1 (reached dp p ∷ []))) inside));
-      entered = subst (Each (IsEntered dp (length p) new.above.items new.words)) (sym members) (record {
+      entered = subst (Each (IsEntered dp (length p) new.above.items new.words)) (sym members) (
+        record {
           within = (let e : 0 * new.words ≡ 0 = omega arith in omega arith);
           state = subst (IsStateOf dp (length p)) (sym (here ∙ row_is)) (prefix-state dp laws p is_prefix);
           rank = rank_is ∙ ap (dp.rank (length p)) (sym here);
-        }, tt);
+        },
+        tt,
+      );
       reached_by = subst (Each (IsReachedWithin (length new.steps.items))) (sym members) (omega arith, tt);
       backward = subst AreBackward (sym steps) (λ j less. absurd (omega arith));
       one = λ e. count;

@@ -1,5 +1,5 @@
 -- A beam in memory, layer by layer.
-use Rattle.std.specs.Prelude.{◌≡◌, ℕ, zero, suc, ◌+◌, ◌-◌, ◌*◌, ◌^◌, ◌<◌, ◌≤◌, nat_lt, nat_eq, ℤ, Bool, ◌&&◌, cond, List, [], ◌∷◌, length, take, find, is_some, Option, Some, None, vec_len, vec_capacity}
+use Rattle.std.specs.Prelude.{◌≡◌, ℕ, suc, ◌+◌, ◌-◌, ◌*◌, ◌^◌, ◌<◌, ◌≤◌, nat_lt, nat_eq, ℤ, Bool, ◌&&◌, cond, List, length, take, find, is_some, Option, Some, None, vec_len, vec_capacity}
 use Rattle.dp_model.specs.Dp.{Dp}
 use Rattle.dp_model.specs.Decisions.{below}
 use Rattle.dp_model.specs.Lists.{Each}

@@ -111,8 +111,7 @@ fn is_out<M: DpModel>(
     requires key { IsKeyIn (M.meaning (M.numbers model.now)) k rows.now words key }
     ensures { result ≡ is_out (M.meaning (M.numbers model.now)) k threshold rows.now words leaders.now key }
 {
-    is_struck(model, k, threshold, rows, words, key)
-        || is_led(model, k, rows, words, leaders, key)
+    is_struck(model, k, threshold, rows, words, key) || is_led(model, k, rows, words, leaders, key)
 }
 
 /// A key that stays becomes a leader while there are fewer than 16.

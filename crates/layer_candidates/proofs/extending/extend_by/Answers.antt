@@ -1,12 +1,10 @@
-use Rattle.std.proofs.Common.{rules, ◌≡◌, ℕ, ◌+◌, ◌*◌, ◌≤◌, ℤ, ◌+ℤ◌, List, length, sym, ap, ap₂, subst, ◌∙◌, arith}
+use Rattle.std.proofs.Common.{rules, ◌≡◌, ◌+◌, ◌+ℤ◌, length, sym, ap, ap₂, subst, ◌∙◌, arith}
 use Rattle.dp_model.specs.Gaps.{IsStateOf}
 use Rattle.dp_model.specs.Laws.{IsLawful}
 use Rattle.dp_model.specs.Numbers.{IsSmall}
 use Rattle.dp_laws.specs.Restricted.Extensions.{joined}
-use Rattle.layer_candidates.specs.Rows.{row_at, with_row}
-use Rattle.layer_candidates.specs.Ways.{all_reached, IsWay, AreJoined}
-use Rattle.layer_candidates.proofs.Blocks.{here-with}
-use Rattle.layer_candidates.proofs.Extended.{Written, written, joined-with, reached-with, is-way, way-reaches}
+use Rattle.layer_candidates.specs.Ways.{IsWay}
+use Rattle.layer_candidates.proofs.Extended.{written, is-way, way-reaches}
 use Rattle.layer_candidates.proofs.extending.extend_by.Given as given
 use Rattle.layer_candidates.proofs.extending.extend_by.Goals as goal
 

@@ -1,6 +1,5 @@
-use Rattle.std.proofs.Common.{rules, ◌≡◌, ◌+◌, ◌*◌, ◌<◌, ◌≤◌, ℤ, List, [], length, vec_capacity, IsTrue, mul-le-mul_right, sym, ap, subst, ◌∙◌, arith}
+use Rattle.std.proofs.Common.{◌≡◌, ◌+◌, ◌*◌, ◌≤◌, [], length, vec_capacity, IsTrue, mul-le-mul_right, sym, ap, subst, ◌∙◌, arith}
 use Rattle.layer_candidates.specs.Members.{member_at}
-use Rattle.layer_candidates.specs.Rows.{row_at}
 use Rattle.layer_candidates.specs.Ways.{AreJoined}
 use Rattle.layer_candidates.specs.Extending.{HasRoom, HasExtended, AreExtended}
 use Rattle.layer_candidates.proofs.Blocks.{length-row}

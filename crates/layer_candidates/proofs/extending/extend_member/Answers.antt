@@ -1,4 +1,4 @@
-use Rattle.std.proofs.Common.{rules, ◌≡◌, ◌+◌, ◌<◌, ◌≤◌, List, length, vec_capacity, Vec, Global, sym, ap, subst, ◌∙◌, arith}
+use Rattle.std.proofs.Common.{◌+◌, length, vec_capacity, Vec, Global, sym, ap, ◌∙◌, arith}
 use Rattle.layer_candidates.specs.declared.way.Way.{Way}
 use Rattle.layer_candidates.proofs.Extended.{room-less, extended-one, extended-none, extended-by}
 use Rattle.layer_candidates.proofs.extending.extend_member.Goals as goal

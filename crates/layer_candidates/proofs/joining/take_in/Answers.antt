@@ -1,10 +1,9 @@
-use Rattle.std.proofs.Common.{rules, ◌≡◌, ◌≢◌, ℕ, ◌+◌, ◌*◌, ◌<◌, ◌≤◌, List, ◌∷◌, ◌++◌, [], length, sym, ap, subst, ◌∙◌, arith, add-one}
+use Rattle.std.proofs.Common.{rules, ◌≡◌, ◌≢◌, ℕ, ◌+◌, ◌*◌, ◌<◌, ◌≤◌, ◌∷◌, ◌++◌, [], length, sym, ap, subst, ◌∙◌, add-one}
 use Rattle.std.proofs.lemmas.List.{with_items_is, length_push}
-use Rattle.layer_candidates.specs.declared.way.Way.{Way}
 use Rattle.layer_candidates.specs.Rows.{row_at}
 use Rattle.dp_model.specs.Folds.{fold_of}
 use Rattle.layer_candidates.specs.Table.{IsTable}
-use Rattle.layer_candidates.specs.Ways.{all_reached, bettered, AreApart, AreWays, AreJoined}
+use Rattle.layer_candidates.specs.Ways.{all_reached, bettered, AreApart, AreJoined}
 use Rattle.layer_candidates.proofs.Joined.{pushed_list, pushed_apart, pushed_ways, bettered_list, bettered_ways, length-bettered, strict}
 use Rattle.layer_candidates.proofs.joining.take_in.Goals as goal
 

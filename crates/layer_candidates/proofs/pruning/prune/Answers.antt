@@ -1,10 +1,9 @@
-use Rattle.std.proofs.Common.{rules, ◌≡◌, ◌+◌, ◌<◌, ◌≤◌, ℤ, pos, List, ◌∷◌, ◌++◌, [], length, get_or, vec_capacity, Vec, Global, true, false, sym, ap, subst, ◌∙◌, arith}
+use Rattle.std.proofs.Common.{rules, ◌≡◌, ◌+◌, ◌<◌, pos, List, length, get_or, vec_capacity, Vec, Global, false, sym, ap, subst, ◌∙◌}
 use Rattle.layer_candidates.specs.declared.key.Key.{Key}
-use Rattle.layer_candidates.specs.Pruning.{is_out, with_leader, ArePruned, HasPruned}
+use Rattle.layer_candidates.specs.Pruning.{is_out, with_leader, ArePruned}
 use Rattle.layer_candidates.proofs.Pruned.{key-each, pruned-out, pruned-stays, pruned-full, strictly}
 use Rattle.layer_candidates.proofs.pruning.prune.Goals as goal
 use Rattle.layer_candidates.proofs.pruning.prune.Goals.{then-not-is_out+else-len-most, else-not-is_out}
-
 
 abbrev none : Key
 none = record { value = pos 0; rank = pos 0; place = 0 }

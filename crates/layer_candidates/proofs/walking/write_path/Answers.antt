@@ -1,4 +1,4 @@
-use Rattle.std.proofs.Common.{rules, ◌≡◌, ◌++◌, length, take, drop, sym, ap, ◌∙◌, arith}
+use Rattle.std.proofs.Common.{◌++◌, drop, ap, ◌∙◌}
 use Rattle.std.proofs.lemmas.List.{length-take-le}
 use Rattle.layer_candidates.proofs.Walked.{walked-end, at-positive, at-within, walked-more}
 use Rattle.layer_candidates.proofs.walking.write_path.Goals as goal

@@ -1,4 +1,4 @@
-use Rattle.std.proofs.Common.{rules, ◌≡◌, length, is_some, sym, ap, subst, ◌∙◌, arith}
+use Rattle.std.proofs.Common.{length, subst}
 use Rattle.layer_candidates.specs.Beaming.{IsFirst}
 use Rattle.layer_candidates.proofs.Started.{beam-is, wide-is, paths-whole}
 use Rattle.layer_candidates.proofs.beam.Beam.beam.Goals as goal

@@ -1,8 +1,7 @@
-use Rattle.std.proofs.Common.{rules, ◌≡◌, ◌≤◌, ◌++◌, ◌∷◌, [], ℤ, List, length, drop, vec_len, vec_capacity, refl, sym, ap, subst, ◌∙◌, arith}
+use Rattle.std.proofs.Common.{rules, ◌≡◌, ◌++◌, length, drop, vec_len, refl, sym, ap, subst, ◌∙◌, arith}
 use Rattle.std.proofs.lemmas.List.{with_items_is}
 use Rattle.dp_model.specs.Gaps.{IsStateOf}
 use Rattle.dp_model.specs.Laws.{IsLawful}
-use Rattle.layer_candidates.specs.declared.member.Member.{Member}
 use Rattle.layer_candidates.proofs.Started.{prefix-state, prefix-cells, built-start}
 use Rattle.layer_candidates.proofs.beam.Beam.begin.Given as given
 use Rattle.layer_candidates.proofs.beam.Beam.begin.Goals as goal

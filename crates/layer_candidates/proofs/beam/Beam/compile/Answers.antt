@@ -1,7 +1,6 @@
-use Rattle.std.proofs.Common.{rules, ◌≡◌, ◌+◌, ◌-◌, ◌*◌, ◌<◌, ◌≤◌, ◌^◌, ℕ, Bool, ◌||◌, ◌&&◌, false, length, vec_len, vec_capacity, sym, ap, subst, ◌∙◌, arith}
+use Rattle.std.proofs.Common.{◌≡◌, ◌+◌, ◌-◌, ◌<◌, ◌≤◌, ◌^◌, ℕ, Bool, ◌||◌, ◌&&◌, length, vec_capacity, sym, ap, subst, ◌∙◌, arith}
 use Rattle.dp_model.specs.Laws.{IsLawful}
 use Rattle.layer_candidates.specs.Beaming.{IsBuilt, IsNext, most_at, is_between}
-use Rattle.layer_candidates.specs.Layering.{HasMemory}
 use Rattle.layer_candidates.proofs.Built.{may-descend, built-next, depth}
 use Rattle.layer_candidates.proofs.beam.Beam.compile.Given as given
 use Rattle.layer_candidates.proofs.beam.Beam.compile.Goals as goal

@@ -1,4 +1,3 @@
-use Rattle.std.proofs.Common.{length}
 use Rattle.layer_candidates.specs.Beaming.{IsBuilt}
 use Rattle.layer_candidates.proofs.beam.Beam.compile.Given as goal
 

@@ -1,8 +1,7 @@
-use Rattle.std.proofs.Common.{rules, ◌≡◌, ◌+◌, ◌*◌, ◌≤◌, ℕ, ℤ, List, length, take, nat_lt, vec_len, vec_capacity, Vec, Global, sym, ap, ap₂, subst, ◌∙◌, arith}
+use Rattle.std.proofs.Common.{rules, ◌≡◌, ◌+◌, ◌*◌, ◌≤◌, ℕ, ℤ, length, take, nat_lt, vec_len, Vec, Global, sym, ap, subst, ◌∙◌}
 use Rattle.std.proofs.lemmas.List.{with_items_is}
 use Rattle.dp_model.specs.Lists.{Each}
 use Rattle.dp_laws.specs.Restricted.Beam.{whole_layer}
-use Rattle.layer_candidates.specs.Beaming.{HasLayers}
 use Rattle.layer_candidates.specs.Layering.{IsEntered}
 use Rattle.layer_candidates.specs.Members.{members_as}
 use Rattle.layer_candidates.specs.Steps.{path_at}

@@ -1,7 +1,6 @@
-use Rattle.std.proofs.Common.{rules, ◌≡◌, ◌+◌, ◌*◌, ◌<◌, ◌≤◌, ℕ, List, [], ◌∷◌, ◌++◌, length, map, take, nat_lt, vec_capacity, IsPermutation, sym, ap, ap₂, subst, ◌∙◌, length-append, arith}
+use Rattle.std.proofs.Common.{◌≡◌, ◌+◌, ◌*◌, ◌<◌, ◌≤◌, ℕ, List, [], ◌++◌, length, map, nat_lt, IsPermutation, sym, ap, ap₂, subst, ◌∙◌, length-append, arith}
 use Rattle.std.proofs.lemmas.List.{length-map}
 use Rattle.dp_model.specs.Lists.{Each}
-use Rattle.dp_laws.specs.Restricted.Beam.{whole_layer}
 use Rattle.dp_laws.specs.Restricted.Extensions.{candidates, all_joined}
 use Rattle.layer_candidates.specs.declared.key.Key.{Key}
 use Rattle.layer_candidates.specs.declared.way.Way.{Way}
@@ -11,7 +10,7 @@ use Rattle.layer_candidates.specs.Members.{members_as}
 use Rattle.layer_candidates.specs.Pruning.{IsKeyIn, HasPruned}
 use Rattle.layer_candidates.specs.Steps.{path_at, step_of, entered, AreBackward, IsReachedWithin}
 use Rattle.layer_candidates.proofs.Descended.{length-entered, entered-within}
-use Rattle.layer_candidates.proofs.Layered.{key-in, layer-keys, whole, kept-places, next-list, next-backward, entered-each}
+use Rattle.layer_candidates.proofs.Layered.{key-in, whole, kept-places, next-list, next-backward, entered-each}
 use Rattle.layer_candidates.proofs.Sorted.{keys-are, length-keys}
 use Rattle.layer_candidates.proofs.candidates.Candidates.next_layer.Goals as goal
 
