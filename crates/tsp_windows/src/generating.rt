@@ -72,11 +72,7 @@ fn home_again(nodes: usize, distances: &[u32]) -> u64
 }
 
 /// The windows round the times at which the nodes are reached on that way.
-fn windows_along(
-    alloc: Global,
-    nodes: usize,
-    distances: &[u32],
-) -> Result<Vec<Window>, AllocError>
+fn windows_along(alloc: Global, nodes: usize, distances: &[u32]) -> Result<Vec<Window>, AllocError>
     requires some { 1 ≤ nodes }
     requires few { nodes ≤ 300 }
     requires distances { AreDistances nodes (nodes * nodes) distances.now }
