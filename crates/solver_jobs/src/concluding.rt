@@ -92,12 +92,7 @@ fn explored<P: Problem>(board: &Board<P>, model: &P, found: Option<Solution>) ->
 }
 
 /// How a search ended while something was open.
-fn stopped<P: Problem>(
-    board: &Board<P>,
-    model: &P,
-    found: Option<Solution>,
-    budget: u64,
-) -> Outcome
+fn stopped<P: Problem>(board: &Board<P>, model: &P, found: Option<Solution>, budget: u64) -> Outcome
     requires numbers { board.now.numbers ≡ P.numbers model.now }
     requires over { IsOver (P.meaning (P.numbers model.now)) budget board.now.board }
     requires left { is_explored board.now.board ≡ false }

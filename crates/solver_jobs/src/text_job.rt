@@ -10,5 +10,7 @@ pub enum TextJob {
         stats: bool,
     },
     /// Digest the canonical text.
-    Digest { model: ModelName },
+    Digest {
+        model: ModelName,
+    },
 }
