@@ -56,17 +56,6 @@ fill-part x xs rest h =
     ap (λ (q : ℕ). cond (ltb q x.copies) (q * x.profit + (rest - q * x.weight) * x.profit / x.weight) (q * x.profit + fill xs (rest - q * x.weight))) (fitting-part x rest h)
     ∙ ap (λ (b : Bool). cond b (q * x.profit + (rest - q * x.weight) * x.profit / x.weight) (q * x.profit + fill xs (rest - q * x.weight))) (lt-ltb q x.copies (few_fit x rest h))
 
--- an item before the layer is passed over, and another one is next
-pub passes : (k : ℕ) (ps : List Placed) (i : ℕ) (d : Placed) → i < length ps → (get_or ps i d).number < k → kept_from k (drop i ps) ≡ kept_from k (drop (i + 1) ps)
-passes k ps i d h before =
-    ap (kept_from k) (drop_more ps i d h)
-    ∙ ap (λ (b : Bool). cond b (kept_from k (drop (i + 1) ps)) ((get_or ps i d).item ∷ kept_from k (drop (i + 1) ps))) (lt-ltb _ _ before)
-
-pub takes : (k : ℕ) (ps : List Placed) (i : ℕ) (d : Placed) → i < length ps → k ≤ (get_or ps i d).number → kept_from k (drop i ps) ≡ (get_or ps i d).item ∷ kept_from k (drop (i + 1) ps)
-takes k ps i d h from =
-    ap (kept_from k) (drop_more ps i d h)
-    ∙ ap (λ (b : Bool). cond b (kept_from k (drop (i + 1) ps)) ((get_or ps i d).item ∷ kept_from k (drop (i + 1) ps))) (le-ltb _ _ from)
-
 -- what a part of an item within the limits is worth
 pub part_small : (x : Item) (rest : ℕ) → IsSmallItem x → rest < x.copies * x.weight
     → rest / x.weight * x.profit + (rest - rest / x.weight * x.weight) * x.profit / x.weight ≤ 1000000000000

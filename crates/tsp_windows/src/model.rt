@@ -9,7 +9,7 @@ ghost use Rattle.tsp_windows.specs.Shown.{instance_in};
 use crate::parts::{parts_of, sets_of};
 use crate::problem::TspWindows;
 use crate::ways::{least_leg, ways_within};
-use dp_model::DpModel;
+use dp_model::{DpModel, Extended};
 use node_sets::{
     clear, contains, count, is_disjoint, is_empty, is_set, is_subset, is_union_subset, join, least,
     union_with, words_for, write_one, write_others, write_without,
@@ -201,12 +201,14 @@ fn write_root(out: &mut [i64], model: &TspWindows)
     time[0] = model.windows[0].opening as i64;
 }
 
-/// Writes the state behind a visit.
-fn write_moved(out: &mut [i64], model: &TspWindows, s: &[i64], to: usize)
+/// Writes the state behind a visit. Answers when the node is left at the earliest.
+fn write_moved(out: &mut [i64], model: &TspWindows, s: &[i64], to: usize) -> u64
     requires cells { length out.old ≡ 3 * sets.words_for model.now.nodes + 1 }
     requires state { IsTrue (is_state_row model.now.nodes s.now) }
     requires inside { to < model.now.nodes }
-    ensures { out.new ≡ row_for (sets.words_for model.now.nodes) (states.moved (instance_in model.now) (shown (sets.words_for model.now.nodes) s.now) to) }
+    ensures row { out.new ≡ row_for (sets.words_for model.now.nodes) (states.moved (instance_in model.now) (shown (sets.words_for model.now.nodes) s.now) to) }
+    ensures departure { result ≡ states.departure (instance_in model.now) (shown (sets.words_for model.now.nodes) s.now) to }
+    ensures small { result < 2 ^ 62 }
 {
     let words = words_for(model.nodes);
     let state = parts_of(model.nodes, s);
@@ -218,6 +220,7 @@ fn write_moved(out: &mut [i64], model: &TspWindows, s: &[i64], to: usize)
     write_without(must, state.must, to);
     write_without(may, state.may, to);
     time[0] = departure as i64;
+    departure
 }
 
 /// Makes a state what it has together with another one.
@@ -280,7 +283,7 @@ impl DpModel for TspWindows {
     }
 
     fn step(&self, _k: usize, s: &[i64], d: u32, out: &mut [i64]) {
-        write_moved(out, self, s, d as usize);
+        let _ = write_moved(out, self, s, d as usize);
     }
 
     fn gain(&self, _k: usize, s: &[i64], d: u32) -> i64 {
@@ -311,6 +314,13 @@ impl DpModel for TspWindows {
 
     fn rank(&self, _k: usize, s: &[i64]) -> i64 {
         count(parts_of(self.nodes, s).must) as i64
+    }
+
+    fn extend(&self, k: usize, s: &[i64], _rank: i64, d: u32, out: &mut [i64]) -> Extended {
+        let departure = write_moved(out, self, s, d as usize);
+        let gain = parts_of(self.nodes, s).time as i64 - departure as i64;
+        let rank = self.rank(k + 1, out);
+        Extended { gain, rank }
     }
 
     fn bucket(&self, _k: usize, s: &[i64]) -> u64 {

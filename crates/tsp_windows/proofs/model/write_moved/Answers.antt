@@ -5,9 +5,9 @@ use Rattle.tsp_windows.specs.Shown.{instance_in}
 use Rattle.tsp_windows.proofs.Assembled.{assembled, time_cell}
 use Rattle.tsp_windows.proofs.model.write_moved.Goals as goal
 
-pub returns : goal.returns
+pub returns-clause-row : goal.returns-clause-row
 unfolding moved shown
-returns c =
+returns-clause-row c =
     assembled (words_for c.args.model.now.nodes) (moved (instance_in c.args.model.now) (shown (words_for c.args.model.now.nodes) c.args.s.now) c.args.to) _ _ _ _ _ _ _ _
     c.write_one.ensures (omega (arith, c.split_at_mut-positions.ensures.front_len, c.words_for-words.ensures))
     (c.write_without.ensures ∙ ap (λ (r : List ℤ). row_of (length c.split_at_mut-must.result.0.now) (λ v. has r v && not (nat_eq v c.args.to))) c.parts_of-state.ensures.must) (omega (arith, c.split_at_mut-must.ensures.front_len, c.words_for-words.ensures))
