@@ -20,18 +20,17 @@ fn instance<P: Problem>(rt: &impl Abort, alloc: Global, text: &[u8]) -> P {
 }
 
 /// Each width and threshold have their beam.
-fn has_beams<P: Problem>(
-    rt: &impl Abort,
-    alloc: Global,
-    text: &[u8],
-    cases: &[Case],
-) {
+fn has_beams<P: Problem>(rt: &impl Abort, alloc: Global, text: &[u8], cases: &[Case]) {
     let model = instance::<P>(rt, alloc, text);
     assert!(rt; model.vars() > 0);
     for (width, threshold, want) in cases.iter().copied() {
         match beam_below_root(alloc, &model, width, threshold) {
             Ok(Some((value, decisions))) => {
-                assert_eq!(rt; Some((value, decisions.as_slice())), want, "at {width} {threshold:?}");
+                assert_eq!(rt;
+                    Some((value, decisions.as_slice())),
+                    want,
+                    "at {width} {threshold:?}"
+                );
             }
             Ok(None) => assert_eq!(rt; None, want, "at {width} {threshold:?}"),
             Err(error) => assert_eq!(rt; Some(error), None, "at {width}"),
