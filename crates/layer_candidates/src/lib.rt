@@ -1,8 +1,11 @@
-//! The candidates for a layer: of each state the first way of greatest value, put into the reduction order, and what is left of
-//! them where some are struck or dominated and only the first ones stay.
+//! Beams in memory: the layers of a restricted diagram, made one after another, and its beam.
 //!
-//! It stands on `dp_model` and `dp_laws`. States stand as rows of one length in a block of cells; equal ones are found by a
-//! table of folds, and compared cell by cell. No call takes memory.
+//! The members of a layer are extended by each allowed decision. Of each state the first way of greatest value is kept: equal
+//! states are found by a table of folds, and compared cell by cell. The ways are put into the reduction order, those that are
+//! struck or dominated go, and the first ones stay.
+//!
+//! It stands on `dp_model` and `dp_laws`, and each layer is proved to be the one that is defined there on plain lists of
+//! prefixes. States stand as rows of one length in a block of cells. No call but `prepare` takes memory.
 #![tactic(auto)]
 
 mod beam;
