@@ -1,0 +1,89 @@
+-- The lines before the instance: the report, perhaps taken and finished, cover MODEL, instance BYTES.
+use Rattle.std.specs.Prelude.{ℕ, ◌-◌, ◌^◌, List, [], ◌∷◌, ◌++◌, length, ℤ, pos, neg_ℤ, Bool, not, ◌&&◌, nat_le, nat_eq, cond, codes, Option, Some, None, Result, Ok, Err}
+use Rattle.std.specs.Str.{all_ascii_digits}
+use Rattle.dd_text.specs.Text.{TextState, text_start, ends_line, place_of}
+use Rattle.dd_text.specs.declared.comment.Comment.TheVariants.{Never}
+use Rattle.problem_names.specs.ModelNames.{word_same, model_named}
+use Rattle.problem_names.specs.declared.ModelName.{ModelName}
+use Rattle.cover_text.specs.declared.head.Claim.{Claim}
+use Rattle.cover_text.specs.declared.head.Size.{Size}
+use Rattle.cover_text.specs.declared.head.Head.{Head}
+use Rattle.cover_text.specs.declared.cover_error.CoverError.TheVariants.{Word}
+use Rattle.cover_text.specs.Grammar.{CoverError, number_then, word_then, end_then, part_then, passed_then, until, fixed_at, small_at}
+
+-- the reported value, none for infeasible, and the assignment
+pub record ClaimView : Type 0 where
+  pub best : Option ℤ
+  pub assignment : List ℕ
+
+pub record HeadView : Type 0 where
+  pub claim : ClaimView
+  pub model : ModelName
+  pub size : Size
+
+abbrev pub claim_in : Claim → ClaimView
+claim_in c = record { best = c.best; assignment = c.assignment.items }
+
+abbrev pub head_in : Head → HeadView
+head_in h = record { claim = claim_in h.claim; model = h.model; size = h.size }
+
+-- a decision behind those before it
+unfoldable pub decision_at : List ℕ → TextState → Result (List ℕ × TextState) CoverError
+decision_at decisions s = part_then (small_at s) (λ d t. Ok (decisions ++ d ∷ [], t))
+
+-- what stands behind proved: the value, and an assignment of at most so many decisions, which ends with its line
+unfoldable pub solution_at : ℕ → TextState → Result (ClaimView × TextState) CoverError
+solution_at most s =
+    passed_then (fixed_at (codes "value") s) (λ t.
+    number_then (neg_ℤ (pos (2 ^ 63))) (pos (2 ^ 63 - 1)) t (λ best u.
+    passed_then (fixed_at (codes "assignment") u) (λ v.
+    part_then (until ends_line decision_at most [] v) (λ decisions w.
+    Ok (record { best = Some best; assignment = decisions }, w)))))
+
+-- the report: proved with a solution, or infeasible
+unfoldable pub claim_at : ℕ → TextState → Result (ClaimView × TextState) CoverError
+claim_at most s = word_then s (λ w t.
+    cond (word_same w (codes "proved")) (solution_at most t)
+    (cond (word_same w (codes "infeasible")) (Ok (record { best = None; assignment = [] }, t)) (Err (Word (place_of s)))))
+
+-- whether a word is 1 to 20 digits
+abbrev pub is_count : List ℕ → Bool
+is_count w = not (nat_eq (length w) 0) && nat_le (length w) 20 && all_ascii_digits w
+
+unfoldable pub count_at : TextState → Result TextState CoverError
+count_at s = word_then s (λ w t. cond (is_count w) (Ok t) (Err (Word (place_of s))))
+
+-- the word cover, perhaps behind the lines taken and finished
+unfoldable pub counts_at : TextState → Result TextState CoverError
+counts_at s = word_then s (λ w t.
+    cond (word_same w (codes "cover")) (Ok t)
+    (cond (word_same w (codes "taken"))
+    (passed_then (count_at t) (λ u.
+    passed_then (fixed_at (codes "finished") u) (λ v.
+    passed_then (count_at v) (λ x.
+    fixed_at (codes "cover") x))))
+    (Err (Word (place_of s)))))
+
+abbrev pub name_or : {A : Type 0} → CoverError → Option A → TextState → Result (A × TextState) CoverError
+name_or fault None t = Err fault
+name_or fault (Some name) t = Ok (name, t)
+
+-- the problem's name
+unfoldable pub name_at : TextState → Result (ModelName × TextState) CoverError
+name_at s = word_then s (λ w t. name_or (Word (place_of s)) (model_named w) t)
+
+-- how many bytes the instance has, the last word of its line
+unfoldable pub size_at : TextState → Result (Size × TextState) CoverError
+size_at s =
+    part_then (small_at s) (λ n t.
+    cond (ends_line t) (Ok (record { bytes = n; line = (place_of s).line }, t)) (end_then t (Ok (record { bytes = n; line = (place_of s).line }, t))))
+
+-- the lines before the instance, in which there are no more decisions than bytes
+unfoldable pub head_at : List ℕ → Result HeadView CoverError
+head_at bytes =
+    part_then (claim_at (length bytes) (text_start Never bytes)) (λ claim t.
+    passed_then (counts_at t) (λ u.
+    part_then (name_at u) (λ model v.
+    passed_then (fixed_at (codes "instance") v) (λ w.
+    part_then (size_at w) (λ size x.
+    Ok (record { claim = claim; model = model; size = size }))))))

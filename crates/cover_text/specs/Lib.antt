@@ -1,0 +1,6 @@
+pub mod Grammar
+pub mod RowLines
+pub mod Sections
+pub mod Heads
+pub mod Instances
+pub mod Texts

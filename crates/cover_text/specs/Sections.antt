@@ -1,0 +1,22 @@
+-- The sections of a cover: layer K ROWS, then so many lines of rows; end.
+use Rattle.std.specs.Prelude.{ℕ, List, [], ◌∷◌, ◌++◌, length, codes, decimal, Result, Ok}
+use Rattle.dd_text.specs.Text.{TextState, text_start}
+use Rattle.dd_text.specs.declared.comment.Comment.TheVariants.{Never}
+use Rattle.bound_cover.specs.Covers.{CoverRow}
+use Rattle.cover_text.specs.Grammar.{CoverError, part_then, passed_then, end_then, until, never, stands, fixed_at, small_at}
+use Rattle.cover_text.specs.RowLines.{row_into}
+
+-- the section of the next layer behind those before it
+unfoldable pub layer_at : ℕ → List (List CoverRow) → TextState → Result (List (List CoverRow) × TextState) CoverError
+layer_at most layers s =
+    passed_then (fixed_at (codes "layer") s) (λ t.
+    passed_then (fixed_at (decimal (length layers)) t) (λ u.
+    part_then (small_at u) (λ rows v.
+    until never (row_into most) rows (layers ++ [] ∷ []) v)))
+
+-- the sections of a text, of which it has no more than bytes, then end and nothing else
+unfoldable pub sections_at : List ℕ → Result (List (List CoverRow)) CoverError
+sections_at bytes =
+    part_then (until (stands (codes "end")) (layer_at (length bytes)) (length bytes) [] (text_start Never bytes)) (λ layers t.
+    passed_then (fixed_at (codes "end") t) (λ u.
+    end_then u (Ok layers)))

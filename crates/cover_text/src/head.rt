@@ -1,0 +1,205 @@
+//! The lines before the instance, read.
+
+ghost use Rattle.std.specs.Prelude.{◌≡◌, ◌<◌, ◌-◌, ◌^◌, length};
+ghost use Rattle.std.specs.Str.{all_ascii_digits};
+ghost use Rattle.problem_names.specs.ModelNames.{model_named};
+ghost use Rattle.dd_text.specs.Text.{ends_line, text_start};
+ghost use Rattle.dd_text.specs.declared.comment.Comment.TheVariants.{Never};
+ghost use Rattle.cover_text.specs.Grammar.{Reads, until};
+ghost use Rattle.cover_text.specs.Heads.{claim_in, claim_at, counts_at, decision_at, head_in, head_at, is_count, count_at, name_at, size_at, solution_at};
+
+use crate::cover_error::CoverError;
+use crate::fixed::{is_word, next_small, pass_word};
+use dd_text::{Comment, Tokens};
+use problem_names::ModelName;
+use std::alloc::Global;
+
+/// The reported value and assignment.
+#[derive(Debug, Drop)]
+pub(crate) struct Claim {
+    pub(crate) best: Option<i64>,
+    pub(crate) assignment: Vec<u32>,
+}
+
+/// How many bytes the instance has, and the line on which this number stands.
+#[derive(Clone, Copy, Debug)]
+pub(crate) struct Size {
+    pub(crate) bytes: u32,
+    pub(crate) line: u32,
+}
+
+/// What stands before the instance.
+#[derive(Debug, Drop)]
+pub(crate) struct Head {
+    pub(crate) claim: Claim,
+    pub(crate) model: ModelName,
+    pub(crate) size: Size,
+}
+
+/// Reads a decision behind those before it.
+#[tactic(auto, unfolding(crate::specs::Heads::decision_at), using(crate::proofs::Chains::part_fails))]
+fn read_decision(tokens: &mut Tokens<'_>, decisions: &mut Vec<u32>) -> Result<(), CoverError>
+    ensures { Reads (λ _. (decisions.new.items, tokens.new)) result (decision_at decisions.old.items tokens.old) }
+{
+    let decision = next_small(tokens)?;
+    decisions.push(decision)?;
+    Ok(())
+}
+
+/// Reads the decisions up to the line's end, at most so many.
+#[tactic(auto, using(crate::proofs::Chains::until_steps))]
+fn read_decisions(
+    tokens: &mut Tokens<'_>,
+    most: usize,
+    decisions: &mut Vec<u32>,
+) -> Result<(), CoverError>
+    ensures { Reads (λ _. (decisions.new.items, tokens.new)) result (until ends_line decision_at most decisions.old.items tokens.old) }
+{
+    for _ in 0..most {
+        if tokens.at_line_end() {
+            return Ok(());
+        }
+        read_decision(tokens, decisions)?;
+    }
+    Ok(())
+}
+
+/// Reads what stands behind the word `proved`.
+#[tactic(auto, unfolding(crate::specs::Heads::solution_at), using(crate::proofs::Chains::part_fails, crate::proofs::Chains::passed_fails))]
+fn read_solution(alloc: Global, tokens: &mut Tokens<'_>, most: usize) -> Result<Claim, CoverError>
+    ensures { Reads (λ c. (claim_in c, tokens.new)) result (solution_at most tokens.old) }
+{
+    pass_word(tokens, b"value")?;
+    let best = tokens.next_number(i64::MIN, i64::MAX)?;
+    pass_word(tokens, b"assignment")?;
+    let mut assignment = Vec::new(alloc);
+    read_decisions(tokens, most, &mut assignment)?;
+    Ok(Claim {
+        best: Some(best),
+        assignment,
+    })
+}
+
+/// Reads the report.
+#[tactic(auto, unfolding(crate::specs::Heads::claim_at), using(crate::proofs::Chains::part_fails))]
+fn read_claim(alloc: Global, tokens: &mut Tokens<'_>, most: usize) -> Result<Claim, CoverError>
+    ensures { Reads (λ c. (claim_in c, tokens.new)) result (claim_at most tokens.old) }
+{
+    let place = tokens.place();
+    let word = tokens.next_word()?;
+    if is_word(word, b"proved") {
+        read_solution(alloc, tokens, most)
+    } else if is_word(word, b"infeasible") {
+        Ok(Claim {
+            best: None,
+            assignment: Vec::new(alloc),
+        })
+    } else {
+        Err(CoverError::Word(place))
+    }
+}
+
+/// Whether there are digits alone.
+fn are_digits(word: &[u8]) -> bool
+    ensures { result ≡ all_ascii_digits word.now }
+{
+    let mut rest = word;
+    while let [digit, after @ ..] = rest {
+        if !digit.is_ascii_digit() {
+            return false;
+        }
+        rest = after;
+    }
+    true
+}
+
+/// Whether a word is 1 to 20 digits.
+fn is_count(word: &[u8]) -> bool
+    ensures { result ≡ is_count word.now }
+{
+    !word.is_empty() && word.len() <= 20 && are_digits(word)
+}
+
+/// Passes over a number of the lines `taken` and `finished`.
+#[tactic(auto, unfolding(crate::specs::Heads::count_at))]
+fn pass_count(tokens: &mut Tokens<'_>) -> Result<(), CoverError>
+    ensures { Reads (λ _. tokens.new) result (count_at tokens.old) }
+{
+    let place = tokens.place();
+    let word = tokens.next_word()?;
+    if is_count(word) {
+        Ok(())
+    } else {
+        Err(CoverError::Word(place))
+    }
+}
+
+/// Passes over the word `cover`, and over the lines `taken` and `finished` where they stand before it.
+#[tactic(auto, unfolding(crate::specs::Heads::counts_at), using(crate::proofs::Chains::passed_fails))]
+fn pass_counts(tokens: &mut Tokens<'_>) -> Result<(), CoverError>
+    ensures { Reads (λ _. tokens.new) result (counts_at tokens.old) }
+{
+    let place = tokens.place();
+    let word = tokens.next_word()?;
+    if is_word(word, b"cover") {
+        return Ok(());
+    }
+    if !is_word(word, b"taken") {
+        return Err(CoverError::Word(place));
+    }
+    pass_count(tokens)?;
+    pass_word(tokens, b"finished")?;
+    pass_count(tokens)?;
+    pass_word(tokens, b"cover")
+}
+
+/// The problem whose word this is, or `None` where it is the word of none.
+fn named(word: &[u8]) -> Option<ModelName>
+    ensures { result ≡ model_named word.now }
+{
+    ModelName::ALL
+        .iter()
+        .copied()
+        .find(|name| word == name.text().as_bytes())
+}
+
+/// Reads the name of the problem.
+#[tactic(auto, unfolding(crate::specs::Heads::name_at))]
+fn read_name(tokens: &mut Tokens<'_>) -> Result<ModelName, CoverError>
+    ensures { Reads (λ name. (name, tokens.new)) result (name_at tokens.old) }
+{
+    let place = tokens.place();
+    let word = tokens.next_word()?;
+    match named(word) {
+        Some(name) => Ok(name),
+        None => Err(CoverError::Word(place)),
+    }
+}
+
+/// Reads how many bytes the instance has, to the line's end.
+#[tactic(auto, unfolding(crate::specs::Heads::size_at), using(crate::proofs::Chains::part_fails))]
+fn read_size(tokens: &mut Tokens<'_>) -> Result<Size, CoverError>
+    ensures { Reads (λ size. (size, tokens.new)) result (size_at tokens.old) }
+{
+    let line = tokens.place().line;
+    let bytes = next_small(tokens)?;
+    if !tokens.at_line_end() {
+        tokens.finish()?;
+    }
+    Ok(Size { bytes, line })
+}
+
+/// Reads the lines before the instance.
+#[tactic(auto, unfolding(crate::specs::Heads::head_at), using(crate::proofs::Chains::part_fails, crate::proofs::Chains::passed_fails))]
+pub(crate) fn read_head(alloc: Global, bytes: &[u8]) -> Result<Head, CoverError>
+    requires { length bytes.now < 2 ^ 32 - 1 }
+    ensures { Reads head_in result (head_at bytes.now) }
+{
+    let mut tokens = Tokens::new(bytes, Comment::Never);
+    let claim = read_claim(alloc, &mut tokens, bytes.len())?;
+    pass_counts(&mut tokens)?;
+    let model = read_name(&mut tokens)?;
+    pass_word(&mut tokens, b"instance")?;
+    let size = read_size(&mut tokens)?;
+    Ok(Head { claim, model, size })
+}

@@ -1,0 +1,86 @@
+//! The sections of layers, read.
+
+ghost use Rattle.std.specs.Prelude.{◌≡◌, ◌<◌, ◌≤◌, ◌-◌, ◌^◌, ◌++◌, [], ◌∷◌, length, codes, OnOk};
+ghost use Rattle.bound_cover.specs.Stored.{last_layer};
+ghost use Rattle.cover_text.specs.Grammar.{Reads, until, never, stands};
+ghost use Rattle.cover_text.specs.RowLines.{row_into};
+ghost use Rattle.cover_text.specs.Sections.{layer_at, sections_at};
+
+use crate::cover_error::CoverError;
+use crate::fixed::{is_word, next_small, pass_word};
+use crate::rows::{RowParts, read_row};
+use bound_cover::Cover;
+use dd_text::{Comment, Tokens};
+use itoa::Buffer;
+use std::alloc::Global;
+
+/// Reads so many rows into the last layer.
+#[tactic(auto, using(crate::proofs::Chains::until_steps))]
+fn read_rows(
+    tokens: &mut Tokens<'_>,
+    most: usize,
+    rows: u32,
+    parts: &mut RowParts,
+    cover: &mut Cover,
+) -> Result<(), CoverError>
+    requires layer { 0 < length cover.old }
+    requires empty { length (last_layer cover.old) ≡ 0 }
+    ensures { Reads (λ _. (cover.new, tokens.new)) result (until never (row_into most) rows cover.old tokens.old) }
+{
+    for _ in 0..rows {
+        read_row(tokens, most, parts, cover)?;
+    }
+    Ok(())
+}
+
+/// Reads the section of the next layer.
+#[tactic(auto, unfolding(crate::specs::Sections::layer_at), using(crate::proofs::LastLayers::last_added, crate::proofs::Chains::part_fails, crate::proofs::Chains::passed_fails))]
+fn read_layer(
+    tokens: &mut Tokens<'_>,
+    most: usize,
+    parts: &mut RowParts,
+    cover: &mut Cover,
+) -> Result<(), CoverError>
+    ensures { Reads (λ _. (cover.new, tokens.new)) result (layer_at most cover.old tokens.old) }
+{
+    pass_word(tokens, b"layer")?;
+    let mut digits = Buffer::new();
+    pass_word(tokens, digits.format(cover.layers()).as_bytes())?;
+    let rows = next_small(tokens)?;
+    cover.add_layer()?;
+    read_rows(tokens, most, rows, parts, cover)
+}
+
+/// Reads the sections up to the word `end`, at most so many.
+#[tactic(auto, using(crate::proofs::Chains::until_steps))]
+fn read_layers(
+    tokens: &mut Tokens<'_>,
+    most: usize,
+    parts: &mut RowParts,
+    cover: &mut Cover,
+) -> Result<(), CoverError>
+    ensures { Reads (λ _. (cover.new, tokens.new)) result (until (stands (codes "end")) (layer_at most) most cover.old tokens.old) }
+{
+    for _ in 0..most {
+        if is_word(tokens.peek_word(), b"end") {
+            return Ok(());
+        }
+        read_layer(tokens, most, parts, cover)?;
+    }
+    Ok(())
+}
+
+/// Reads the sections to the end of the text.
+#[tactic(auto, unfolding(crate::specs::Sections::sections_at), using(crate::proofs::Chains::part_fails, crate::proofs::Chains::passed_fails))]
+pub(crate) fn read_sections(alloc: Global, bytes: &[u8]) -> Result<Cover, CoverError>
+    requires { length bytes.now < 2 ^ 32 - 1 }
+    ensures { Reads (λ c. c) result (sections_at bytes.now) }
+{
+    let mut tokens = Tokens::new(bytes, Comment::Never);
+    let mut parts = RowParts::new(alloc);
+    let mut cover = Cover::new(alloc);
+    read_layers(&mut tokens, bytes.len(), &mut parts, &mut cover)?;
+    pass_word(&mut tokens, b"end")?;
+    tokens.finish()?;
+    Ok(cover)
+}
