@@ -1,5 +1,5 @@
 -- Clauses that are drawn one after another.
-use Rattle.std.proofs.Common.{◌≡◌, ◌∙◌, ℕ, ◌+◌, ◌*◌, ◌%◌, ◌^◌, ◌<◌, ◌≤◌, ℤ, pos, ◌+ℤ◌, ◌≤ℤ◌, length, sym, ap, subst, arith, None, to_z, of_z, w64, Result, Ok, Err, IfOk}
+use Rattle.std.proofs.Common.{◌≡◌, ◌∙◌, ℕ, ◌+◌, ◌*◌, ◌%◌, ◌^◌, ◌<◌, ◌≤◌, ℤ, pos, ◌+ℤ◌, ◌≤ℤ◌, sym, ap, subst, arith, None, to_z, of_z, w64, Result, Ok, Err, IfOk}
 use Rattle.std.proofs.lemmas.Int.{ints}
 use Rattle.draws.specs.Draws.{steps}
 use Rattle.draws.proofs.Steps.{steps_more, steps_none}
@@ -7,10 +7,9 @@ use Rattle.max_two_sat.specs.declared.clause.Literals.{Literals}
 use Rattle.max_two_sat.specs.declared.header.Header.{Header}
 use Rattle.max_two_sat.specs.declared.header.Form.TheVariants.{Weighted}
 use Rattle.max_two_sat.specs.declared.problem.MaxTwoSat.{MaxTwoSat}
-use Rattle.max_two_sat.specs.Instance.{Instance}
 use Rattle.max_two_sat.specs.Clauses.{FitsLiterals, Gathered, gathered_with, nothing_gathered}
 use Rattle.max_two_sat.specs.Model.{instance_in}
-use Rattle.max_two_sat.specs.Room.{HasRoom, IsUnderWay}
+use Rattle.max_two_sat.specs.Room.{HasRoom}
 use Rattle.max_two_sat.specs.Generating.{IsDrawing, behind_clause, clause_drawn, generated, with_clause_drawn}
 use Rattle.max_two_sat.proofs.Gathering.{clause-fits, total-low, way-begins}
 

@@ -1,9 +1,9 @@
 -- The windows round the times of a way.
-use Rattle.std.proofs.Common.{◌≡◌, ◌∙◌, ℕ, zero, suc, ◌+◌, ◌-◌, ◌*◌, ◌<◌, ◌≤◌, ◌&&◌, true, nat_le, List, [], ◌∷◌, ◌++◌, length, map, get_or, refl, sym, ap, subst, arith}
+use Rattle.std.proofs.Common.{◌≡◌, ◌∙◌, ℕ, zero, suc, ◌+◌, ◌-◌, ◌*◌, ◌<◌, ◌≤◌, true, nat_le, List, [], ◌∷◌, ◌++◌, length, map, get_or, refl, sym, ap, arith}
 use Rattle.std.specs.List.{list_all, range_with_len}
 use Rattle.std.proofs.lemmas.Bool.{and_from, le-leb}
 use Rattle.std.proofs.lemmas.List.FromFn.{length-map-range_with_len, map-range_with_len_more}
-use Rattle.tsp_windows.specs.Instance.{Instance, Window, is_small, is_window}
+use Rattle.tsp_windows.specs.Instance.{Window, is_small, is_window}
 use Rattle.tsp_windows.specs.Generating.{AreDistances, home_again, reached, way_on, window_along, windows_along}
 use Rattle.tsp_windows.proofs.Readings.{small_from}
 
