@@ -4,3 +4,4 @@ pub mod Sections
 pub mod Heads
 pub mod Instances
 pub mod Texts
+pub mod Printed

@@ -1,12 +1,12 @@
 //! The text of a cover: the report, the instance, and the rows of each layer.
 //!
-//! It stands on `bound_cover` for covers in memory, on `dd_text` for tokens and places, and on `problem_names`. A text is the lines
+//! It stands on `bound_cover` for covers in memory, on `dd_text` for tokens and places, on `dp_model`, `problem_names` and `itoa`. A text is the lines
 //! of a report of `proved` or `infeasible`, perhaps with the lines `taken` and `finished`; then `cover` with the problem's name,
 //! `instance` with a number of bytes, so many bytes, a section for each layer, and `end`. A row is a line: a bound, the words of a
 //! state, and perhaps arcs.
 //!
-//! Promised: `read_cover` answers exactly what the grammar gives, the first fault with its place included. Only want of memory has
-//! no stated cause.
+//! Promised: `read_cover` answers exactly what the grammar gives, the first fault with its place included, and `push_cover` appends
+//! exactly the sections of a cover. Only want of memory has no stated cause.
 #![tactic(auto)]
 
 mod cover_error;
@@ -15,9 +15,11 @@ mod fixed;
 mod head;
 mod instance;
 mod layers;
+mod printing;
 mod reading;
 mod rows;
 
 pub use cover_error::CoverError;
 pub use cover_text::CoverText;
+pub use printing::push_cover;
 pub use reading::read_cover;

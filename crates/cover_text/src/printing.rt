@@ -1,0 +1,154 @@
+//! The sections of a cover, printed.
+
+ghost use Rattle.std.specs.Prelude.{◌≡◌, ◌<◌, ◌++◌, length, decimal, flat_map, option_map, OnOk};
+ghost use Rattle.bound_cover.specs.Exploring.{layer_of};
+ghost use Rattle.cover_text.specs.Printed.{printed_bound, printed_number, printed_target, printed_arc, printed_arcs, printed_row, printed_layer, printed_layers, printed_cover};
+
+use bound_cover::{Cover, CoverArc};
+use dd_text::{push_number, push_text};
+use dp_model::{DpModel, OutOfMemory};
+use itoa::Buffer;
+
+/// Appends a bound.
+fn push_bound(out: &mut Vec<u8>, bound: Option<i64>) -> Result<(), OutOfMemory>
+    ensures { OnOk result (out.new.items ≡ out.old.items ++ printed_bound bound) }
+{
+    match bound {
+        None => push_text(out, "none"),
+        Some(bound) => push_number(out, bound),
+    }
+}
+
+/// Appends a space and a number.
+fn push_behind(out: &mut Vec<u8>, number: i64) -> Result<(), OutOfMemory>
+    ensures { OnOk result (out.new.items ≡ out.old.items ++ printed_number number) }
+{
+    push_text(out, " ")?;
+    push_number(out, number)
+}
+
+/// Appends the words of a row.
+fn push_words(out: &mut Vec<u8>, words: &[i64]) -> Result<(), OutOfMemory>
+    ensures { OnOk result (out.new.items ≡ out.old.items ++ flat_map printed_number words.now) }
+{
+    for word in words {
+        push_behind(out, *word)?;
+    }
+    Ok(())
+}
+
+/// Appends the target of an arc.
+fn push_target(out: &mut Vec<u8>, target: Option<u32>) -> Result<(), OutOfMemory>
+    ensures { OnOk result (out.new.items ≡ out.old.items ++ printed_target target) }
+{
+    match target {
+        None => push_text(out, " r"),
+        Some(row) => push_behind(out, i64::from(row)),
+    }
+}
+
+/// Appends an arc.
+fn push_arc(out: &mut Vec<u8>, arc: CoverArc) -> Result<(), OutOfMemory>
+    ensures { OnOk result (out.new.items ≡ out.old.items ++ printed_arc arc) }
+{
+    push_behind(out, i64::from(arc.decision))?;
+    push_target(out, arc.target)
+}
+
+/// Appends the arcs of a row.
+fn push_arc_list(out: &mut Vec<u8>, arcs: &[CoverArc]) -> Result<(), OutOfMemory>
+    ensures { OnOk result (out.new.items ≡ out.old.items ++ flat_map printed_arc arcs.now) }
+{
+    for arc in arcs {
+        push_arc(out, *arc)?;
+    }
+    Ok(())
+}
+
+/// Appends the arc part of a row, where it has one.
+fn push_arcs(out: &mut Vec<u8>, arcs: Option<&[CoverArc]>) -> Result<(), OutOfMemory>
+    ensures { OnOk result (out.new.items ≡ out.old.items ++ printed_arcs (option_map (λ a. a.now) arcs.entry)) }
+{
+    match arcs {
+        None => Ok(()),
+        Some(arcs) => {
+            push_text(out, " ;")?;
+            push_arc_list(out, arcs)
+        }
+    }
+}
+
+/// Appends the line of a row.
+fn push_row(
+    out: &mut Vec<u8>,
+    bound: Option<i64>,
+    words: &[i64],
+    arcs: Option<&[CoverArc]>,
+) -> Result<(), OutOfMemory>
+    ensures { OnOk result (out.new.items ≡ out.old.items ++ printed_row (record { bound = bound; words = words.now; arcs = option_map (λ a. a.now) arcs.entry })) }
+{
+    push_bound(out, bound)?;
+    push_text(out, " ;")?;
+    push_words(out, words)?;
+    push_arcs(out, arcs)?;
+    push_text(out, "\n")
+}
+
+/// Appends the lines of a layer's rows.
+fn push_rows(out: &mut Vec<u8>, cover: &Cover, layer: usize) -> Result<(), OutOfMemory>
+    requires { layer < length cover.now }
+    ensures { OnOk result (out.new.items ≡ out.old.items ++ flat_map printed_row (layer_of cover.now layer)) }
+{
+    for row in 0..cover.rows(layer) {
+        push_row(
+            out,
+            cover.bound(layer, row),
+            cover.words(layer, row),
+            cover.arcs(layer, row),
+        )?;
+    }
+    Ok(())
+}
+
+/// Appends a number that counts.
+fn push_count(out: &mut Vec<u8>, count: usize) -> Result<(), OutOfMemory>
+    ensures { OnOk result (out.new.items ≡ out.old.items ++ decimal count) }
+{
+    let mut digits = Buffer::new();
+    out.extend_from_slice(digits.format(count).as_bytes())
+}
+
+/// Appends the section of a layer.
+fn push_layer(out: &mut Vec<u8>, cover: &Cover, layer: usize) -> Result<(), OutOfMemory>
+    requires { layer < length cover.now }
+    ensures { OnOk result (out.new.items ≡ out.old.items ++ printed_layer layer (layer_of cover.now layer)) }
+{
+    push_text(out, "layer ")?;
+    push_count(out, layer)?;
+    push_text(out, " ")?;
+    push_count(out, cover.rows(layer))?;
+    push_text(out, "\n")?;
+    push_rows(out, cover, layer)
+}
+
+/// Appends the sections of the layers.
+fn push_layers(out: &mut Vec<u8>, cover: &Cover) -> Result<(), OutOfMemory>
+    ensures { OnOk result (out.new.items ≡ out.old.items ++ printed_layers 0 cover.now) }
+{
+    for layer in 0..cover.layers() {
+        push_layer(out, cover, layer)?;
+    }
+    Ok(())
+}
+
+/// Appends the sections of a cover, from `layer 0` to `end`. It fails only for want of memory.
+pub fn push_cover<M: DpModel>(
+    out: &mut Vec<u8>,
+    _model: &M,
+    cover: &Cover,
+) -> Result<(), OutOfMemory>
+    ensures { OnOk result (out.new.items ≡ out.old.items ++ printed_cover cover.now) }
+{
+    push_layers(out, cover)?;
+    push_text(out, "end\n")
+}
