@@ -10,7 +10,7 @@ use Rattle.dp_laws.specs.Pairs.{EachTwo}
 use Rattle.dp_laws.proofs.Lists.{each-filter, two-filter}
 use Rattle.board_laws.proofs.Fates.{FatesHold, fates-hold, fates-many, found-one, same-ticket}
 use Rattle.board_laws.proofs.Lists.{two-append}
-use Rattle.board_laws.specs.Children.{DifferInPlace}
+use Rattle.dp_laws.specs.Children.{DifferInPlace}
 use Rattle.board_laws.specs.Entering.{entering, replaced, is_among, staying, put_all}
 use Rattle.board_laws.specs.Fates.{fate_of, fates_by, ticket_after}
 use Rattle.board_laws.specs.Pushes.{push_by, PushesAreFates, PutsAreEntries}

@@ -7,10 +7,11 @@ use Rattle.dp_model.specs.Dp.{Dp}
 use Rattle.dp_model.specs.Laws.{IsLawful}
 use Rattle.dp_model.specs.Numbers.{OptionAtMost, is_above}
 use Rattle.dp_model.specs.Prefixes.{value_of}
+use Rattle.dp_laws.proofs.Reaches.{at-most-raised}
 use Rattle.shared_fringe.specs.Firsts.{first_taken}
 use Rattle.shared_fringe.specs.Tickets.{Ticketed}
 use Rattle.board_laws.specs.Runs.Step.{Take, Improve, Finish, GiveBack, Halt}
-use Rattle.board_laws.proofs.Carrying.{at-most-raised, option-self}
+use Rattle.board_laws.proofs.Carrying.{option-self}
 use Rattle.board_laws.proofs.FinishingBoard.{finish-keeps}
 use Rattle.board_laws.proofs.GivingBack.{give-back-keeps}
 use Rattle.board_laws.proofs.Halting.{halt-keeps}
