@@ -9,7 +9,6 @@ pub mod Fates
 pub mod Pushing
 mod Differing
 -- what each step keeps
-mod Carrying
 mod Finishing
 pub mod FinishingBoard
 pub mod Improving
@@ -17,6 +16,7 @@ mod Pushed
 pub mod GivingBack
 pub mod Firsts
 pub mod Taking
+pub mod Carrying
 pub mod Halting
 pub mod First
 -- what runs keep, and what good boards say
