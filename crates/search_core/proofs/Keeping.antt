@@ -5,15 +5,14 @@ use Rattle.std.proofs.lemmas.List.{length-map}
 use Rattle.std.proofs.lemmas.Option.{slice_get_read, slice_get_within}
 use Rattle.std.specs.List.{slice_get}
 use Rattle.std.specs.Prelude.{is_some, IsSome, ◌^◌}
-use Rattle.dp_model.specs.Best.{Best}
+use Rattle.dp_model.specs.Solution.{Solution, IsSolutionWith}
 use Rattle.dp_model.specs.Dp.{Dp}
 use Rattle.dp_model.specs.Gaps.{IsStateOf}
 use Rattle.dp_model.specs.Laws.{IsLawful}
 use Rattle.dp_model.specs.Lists.{Each, OneOf}
 use Rattle.dp_model.specs.Numbers.{IsFar, is_above}
 use Rattle.dp_model.specs.Prefixes.{IsSolution, value_of, state_of}
-use Rattle.dp_model.specs.Subproblem.{Subproblem, Roomy, IsOwn, IsChild}
-use Rattle.dp_model.specs.Worth.{IsWorth}
+use Rattle.dp_model.specs.Subproblem.{Subproblem, SubView, IsOwn, IsChild}
 use Rattle.dp_model.proofs.Members.{Each-then, Each-map}
 use Rattle.dp_model.proofs.Paths.{state_of-state}
 use Rattle.dp_model.proofs.Sizes.{value_of-size}
@@ -119,7 +118,7 @@ take-some b may none = none-first b.open_ones (hands b may).some none
 -- Improve.
 
 -- a value and a distance fit
-pub reach-fits : (dp : Dp) → IsLawful dp → (settings : Settings) → AreSettings settings → (x : List ℕ) (value : ℤ) → IsWorth dp x value → IsFar (value +ℤ settings.within)
+pub reach-fits : (dp : Dp) → IsLawful dp → (settings : Settings) → AreSettings settings → (x : List ℕ) (value : ℤ) → IsSolutionWith dp x value → IsFar (value +ℤ settings.within)
 reach-fits dp laws settings are x value worth =
     let size = value_of-size dp laws x worth.solution.prefix in
     let long = worth.solution.whole in
@@ -129,7 +128,7 @@ reach-fits dp laws settings are x value worth =
     let low = size.low in let high = size.high in
     record { low = omega (arith, ints); high = omega (arith, ints) }
 
-held-by : (dp : Dp) → IsLawful dp → (settings : Settings) → AreSettings settings → (held : Option Best) → IncumbentHolds dp held → (value : ℤ) → value_held held ≡ Some value → IsFar (value +ℤ settings.within)
+held-by : (dp : Dp) → IsLawful dp → (settings : Settings) → AreSettings settings → (held : Option Solution) → IncumbentHolds dp held → (value : ℤ) → value_held held ≡ Some value → IsFar (value +ℤ settings.within)
 held-by dp laws settings are None h value is = absurd (cc)
 held-by dp laws settings are (Some best) h value is = (let same : best.value ≡ value = cc in subst (λ v. IsFar (v +ℤ settings.within)) same (reach-fits dp laws settings are best.decisions best.value h))
 
@@ -148,10 +147,10 @@ improve-step dp b x value os g is left =
 
 -- the fields after a better solution
 pub improve-kept : (dp : Dp) (b : BoardState) (x : List ℕ) (value : ℤ) (os : List Ticketed) (fringe fringe2 : FringeView) (table : TableView) (room for_best for_best2 cells spare_cells : ℕ) → IsKept dp b fringe table room for_best cells spare_cells
-    → IsWorth dp x value → is_above (incumbent_value b) value ≡ true → os ≡ (improved b (record { decisions = x; value = value })).open_ones → fringe2.words ≡ fringe.words → fringe.spare ≤ fringe2.spare → for_best ≤ for_best2
+    → IsSolutionWith dp x value → is_above (incumbent_value b) value ≡ true → os ≡ (improved b (record { decisions = x; value = value })).open_ones → fringe2.words ≡ fringe.words → fringe.spare ≤ fringe2.spare → for_best ≤ for_best2
     → IsKept dp (record b { incumbent = Some (record { decisions = x; value = value }); open_ones = os }) fringe2 table room for_best2 cells spare_cells
 improve-kept dp b x value os fringe fringe2 table room for_best for_best2 cells spare_cells k worth up left words spare more =
-    let best : Best = record { decisions = x; value = value } in
+    let best : Solution = record { decisions = x; value = value } in
     let later = record b { incumbent = Some best; open_ones = os } in
     let fits = k.has_room.open_room in
     let step : improved b best ≡ later = ap (λ l. record b { incumbent = Some best; open_ones = l }) (sym left) in
@@ -160,22 +159,22 @@ improve-kept dp b x value os fringe fringe2 table room for_best for_best2 cells 
 
 -- Finish.
 
-pub contents-many : (held : List Roomy) → length (contents held) ≡ length held
+pub contents-many : (held : List SubView) → length (contents held) ≡ length held
 contents-many [] = refl
 contents-many (h ∷ held) = let rest = contents-many held in omega arith
 
-pub contents-each : (P : Subproblem → Type 0) (held : List Roomy) → Each P (contents held) → Each (λ h. P h.subproblem) held
+pub contents-each : (P : Subproblem → Type 0) (held : List SubView) → Each P (contents held) → Each (λ h. P h.subproblem) held
 contents-each P [] h = tt
 contents-each P (x ∷ held) h = (h.0, contents-each P held h.1)
 
 -- rows of children have as many cells, and are states of their depth
-pub children-cells : (dp : Dp) → IsLawful dp → (held : List Roomy) (words : ℕ) → words ≡ dp.words → Each (IsOwn dp) (contents held) → Each (λ h. length h.subproblem.row ≡ words) held
+pub children-cells : (dp : Dp) → IsLawful dp → (held : List SubView) (words : ℕ) → words ≡ dp.words → Each (IsOwn dp) (contents held) → Each (λ h. length h.subproblem.row ≡ words) held
 children-cells dp laws held words same own =
-    Each-then (λ (h : Roomy). IsOwn dp h.subproblem) (λ h. length h.subproblem.row ≡ words) held (λ h x. own-cells dp laws h.subproblem x ∙ sym same) (contents-each (IsOwn dp) held own)
+    Each-then (λ (h : SubView). IsOwn dp h.subproblem) (λ h. length h.subproblem.row ≡ words) held (λ h x. own-cells dp laws h.subproblem x ∙ sym same) (contents-each (IsOwn dp) held own)
 
-pub children-states : (dp : Dp) → IsLawful dp → (held : List Roomy) → Each (IsOwn dp) (contents held) → Each (λ h. IsStateOf dp (length h.subproblem.decisions) h.subproblem.row) held
+pub children-states : (dp : Dp) → IsLawful dp → (held : List SubView) → Each (IsOwn dp) (contents held) → Each (λ h. IsStateOf dp (length h.subproblem.decisions) h.subproblem.row) held
 children-states dp laws held own =
-    Each-then (λ (h : Roomy). IsOwn dp h.subproblem) (λ h. IsStateOf dp (length h.subproblem.decisions) h.subproblem.row) held (λ h x. own-state dp laws h.subproblem x) (contents-each (IsOwn dp) held own)
+    Each-then (λ (h : SubView). IsOwn dp h.subproblem) (λ h. IsStateOf dp (length h.subproblem.decisions) h.subproblem.row) held (λ h x. own-state dp laws h.subproblem x) (contents-each (IsOwn dp) held own)
 
 pub entry-states : (dp : Dp) (b : BoardState) → IsBoard dp b → Each (λ e. IsStateOf dp e.depth e.row) b.entries
 entry-states dp b g = Each-then (IsEntry dp b.next_ticket) (λ e. IsStateOf dp e.depth e.row) b.entries (λ e h. h.state) g.entries
@@ -322,7 +321,7 @@ back-kept dp laws b who o fringe fringe2 table room for_best cells spare_cells k
 
 -- Begin.
 
-abbrev pub begun : Option Best → List Ticketed → List (Option Ticketed) → List TableEntry → Settings → ℕ → BoardState
+abbrev pub begun : Option Solution → List Ticketed → List (Option Ticketed) → List TableEntry → Settings → ℕ → BoardState
 begun incumbent os slots es settings next = record {
   incumbent = incumbent;
   open_ones = os;
@@ -335,7 +334,7 @@ begun incumbent os slots es settings next = record {
   cause = None;
 }
 
-pub begin-step : (dp : Dp) (best : Option Best) (os : List Ticketed) (slots : List (Option Ticketed)) (es : List TableEntry) (settings : Settings) (next : ℕ) → best ≡ first_incumbent dp → os ≡ first_open dp → slots ≡ empty_slots settings.workers → es ≡ []
+pub begin-step : (dp : Dp) (best : Option Solution) (os : List Ticketed) (slots : List (Option Ticketed)) (es : List TableEntry) (settings : Settings) (next : ℕ) → best ≡ first_incumbent dp → os ≡ first_open dp → slots ≡ empty_slots settings.workers → es ≡ []
     → next ≡ length os → begun best os slots es settings next ≡ first_board dp settings
 begin-step dp best os slots es settings next best_is open_is slots_is es_is next_is =
     ap (λ x. begun x os slots es settings next) best_is

@@ -5,3 +5,4 @@ mod Bounds
 mod Sums
 mod Roots
 mod Keeping
+mod Childless

@@ -1,8 +1,10 @@
 -- The bound of the root fits.
-use Rattle.std.proofs.Common.{◌≡◌, ℤ, sym, Some, FitsSigned, w64, arith}
+use Rattle.std.proofs.Common.{◌≡◌, ℤ, length, sym, ◌∙◌, ap, Option, Some, None, FitsSigned, w64, arith}
 use Rattle.std.proofs.lemmas.Int.{ints}
 use Rattle.dp_model.specs.Dp.{Dp}
 use Rattle.dp_model.specs.Laws.{IsLawful}
+use Rattle.dp_model.specs.Subproblem.{Subproblem}
+use Rattle.board_laws.specs.Steps.{root_bound, root_with, root_of}
 use Rattle.board_laws.proofs.First.{root-state}
 use Rattle.search_core.proofs.Sums.{IsSum, far-sum}
 
@@ -13,3 +15,11 @@ root-sum dp laws value rough value-is rough-is =
     let fits : FitsSigned w64 value = omega (arith, ints) in
     let fits_rough : FitsSigned w64 rough = omega (arith, ints) in
     far-sum value rough fits fits_rough (record { low = omega (arith, ints); high = omega (arith, ints) })
+
+cells-with : (dp : Dp) → IsLawful dp → (bound : Option ℤ) (c : Subproblem) → Some c ≡ root_with dp bound → length c.row ≡ dp.words
+cells-with dp laws None c is = absurd (cc)
+cells-with dp laws (Some bound) c is = ap length (let same : c.row ≡ dp.root = cc in same) ∙ laws.sizes.cells 0 dp.root (root-state dp laws)
+
+-- the root has as many cells as any state
+pub root-cells : (dp : Dp) → IsLawful dp → (c : Subproblem) → Some c ≡ root_of dp → length c.row ≡ dp.words
+root-cells dp laws c is = cells-with dp laws (root_bound dp) c is

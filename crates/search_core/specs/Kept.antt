@@ -1,13 +1,13 @@
 -- What the fields of a board keep.
 use Rattle.std.specs.Prelude.{◌≡◌, ℕ, ◌+◌, ◌≤◌, ℤ, ◌⊎◌, List, length, Option, Some, None}
-use Rattle.dp_model.specs.Best.{Best}
+use Rattle.dp_model.specs.Solution.{Solution}
 use Rattle.dp_model.specs.Dp.{Dp}
 use Rattle.shared_fringe.specs.Fringe.{FringeView}
 use Rattle.dominance_table.specs.Entries.{TableView}
 use Rattle.board_laws.specs.Board.{BoardState, full_slots}
 use Rattle.board_laws.specs.GoodBoard.{IsBoard, IsGood}
 
-abbrev pub best_of : List ℕ → Option ℤ → Option Best
+abbrev pub best_of : List ℕ → Option ℤ → Option Solution
 best_of decisions None = None
 best_of decisions (Some value) = Some (record { decisions = decisions; value = value })
 

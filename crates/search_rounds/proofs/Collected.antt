@@ -8,7 +8,7 @@ use Rattle.dp_model.specs.Laws.{IsLawful}
 use Rattle.dp_model.specs.Lists.{Each, OneOf}
 use Rattle.dp_model.specs.Prefixes.{IsPrefix, IsCompletion, IsMatched, state_of, value_of}
 use Rattle.dp_model.specs.Rows.{row_same}
-use Rattle.dp_model.specs.Subproblem.{Subproblem, Roomy, IsOwn, IsChild}
+use Rattle.dp_model.specs.Subproblem.{Subproblem, SubView, IsOwn, IsChild}
 use Rattle.dp_model.proofs.Members.{Has, Each-then, Each-append, each-has, each-of-all, one-of-has}
 use Rattle.dp_model.proofs.Paths.{IsPrefix-then}
 use Rattle.dp_model.proofs.RowLemmas.{row_same-is}
@@ -202,7 +202,7 @@ more-left : (dp : Dp) (c : Subproblem) → IsOwn dp c → length c.decisions + 1
 more-left dp c own more = let shorter = own.shorter in grind arith
 
 -- a child that the code made
-pub collected_child : (dp : Dp) → IsLawful dp → (parent : Subproblem) (n : ℕ) (cs new : List Subproblem) (made : Option Roomy) (child : Roomy) → IsOwn dp parent → length parent.decisions + 1 ≢ dp.vars → n < dp.choices (length parent.decisions)
+pub collected_child : (dp : Dp) → IsLawful dp → (parent : Subproblem) (n : ℕ) (cs new : List Subproblem) (made : Option SubView) (child : SubView) → IsOwn dp parent → length parent.decisions + 1 ≢ dp.vars → n < dp.choices (length parent.decisions)
     → dp.allowed (length parent.decisions) (state_of dp parent.decisions) n ≡ true → IsCollected dp parent.decisions n cs → contents (option_to_list made) ≡ bounded dp (parent.decisions ++ n ∷ []) → made ≡ Some child → Joins cs child.subproblem new
     → IsCollected dp parent.decisions (n + 1) new
 collected_child dp laws parent n cs new made child own more less test so_far is some joins =
@@ -214,7 +214,7 @@ collected_child dp laws parent n cs new made child own more less test so_far is 
     collected_join dp laws p n own.prefix short cs new child.subproblem so_far e.0 e.1 joins
 
 -- an extension that is known to have no completion
-pub collected_nothing : (dp : Dp) → IsLawful dp → (parent : Subproblem) (n : ℕ) (cs : List Subproblem) (made : Option Roomy) → IsOwn dp parent → IsCollected dp parent.decisions n cs → contents (option_to_list made) ≡ bounded dp (parent.decisions ++ n ∷ []) → made ≡ None
+pub collected_nothing : (dp : Dp) → IsLawful dp → (parent : Subproblem) (n : ℕ) (cs : List Subproblem) (made : Option SubView) → IsOwn dp parent → IsCollected dp parent.decisions n cs → contents (option_to_list made) ≡ bounded dp (parent.decisions ++ n ∷ []) → made ≡ None
     → IsCollected dp parent.decisions (n + 1) cs
 collected_nothing dp laws parent n cs made own so_far is none =
     let q = parent.decisions ++ n ∷ [] in

@@ -4,7 +4,7 @@ use Rattle.std.proofs.lemmas.Int.{ints}
 use Rattle.dp_model.specs.Dp.{Dp, IsAllowed}
 use Rattle.dp_model.specs.Numbers.{AtMost, OptionAtMost}
 use Rattle.dp_model.specs.Prefixes.{IsSolution, IsCompletion, state_of, value_of}
-use Rattle.dp_model.specs.Subproblem.{Subproblem, Roomy, IsOwn}
+use Rattle.dp_model.specs.Subproblem.{Subproblem, SubView, IsOwn}
 use Rattle.dp_model.proofs.Paths.{IsPrefix-then}
 use Rattle.board_laws.specs.Board.{BoardState, incumbent_value}
 use Rattle.board_laws.specs.Improving.{ImproveGives, after_offer}
@@ -92,17 +92,17 @@ true_or_false : (b : Bool) → b ≡ true → b ≡ false → ⊥
 true_or_false b yes_it_is not_it = cc
 
 -- while whole extensions are offered: so many decisions were gone through, and beside the board nothing has changed
-pub record IsOffering (dp : Dp) (first now : BoardView) (before taken : Roomy) (n : ℕ) : Type 0 where
+pub record IsOffering (dp : Dp) (first now : BoardView) (before taken : SubView) (n : ℕ) : Type 0 where
   pub offered : IsOffered dp first.board now.board
   pub best : AreOffered dp before.subproblem.decisions n now.board
   pub tag : tag_of now ≡ tag_of first
   pub same : taken.subproblem ≡ before.subproblem
   pub room : before.room ≤ taken.room
 
-pub offering_none : (dp : Dp) (first : BoardView) (before : Roomy) → IsOffering dp first first before before 0
+pub offering_none : (dp : Dp) (first : BoardView) (before : SubView) → IsOffering dp first first before before 0
 offering_none dp first before = record { offered = IsOffered-refl dp first.board; best = λ d less. absurd (omega arith); tag = refl; same = refl; room = omega arith }
 
-pub offering_one : (mean : List ℤ → Dp) (numbers : List ℤ) (first now later : BoardView) (before taken after : Roomy) (n : ℕ) → first.numbers ≡ numbers → IsOwn (mean numbers) before.subproblem → length before.subproblem.decisions + 1 ≡ (mean numbers).vars
+pub offering_one : (mean : List ℤ → Dp) (numbers : List ℤ) (first now later : BoardView) (before taken after : SubView) (n : ℕ) → first.numbers ≡ numbers → IsOwn (mean numbers) before.subproblem → length before.subproblem.decisions + 1 ≡ (mean numbers).vars
     → IsOffering (mean numbers) first now before taken n
     → IsOffered (mean now.numbers) now.board later.board → (IsSolution (mean now.numbers) (taken.subproblem.decisions ++ n ∷ []) → AtMost (value_of (mean now.numbers) (taken.subproblem.decisions ++ n ∷ [])) (incumbent_value later.board))
     → tag_of later ≡ tag_of now → after.subproblem ≡ taken.subproblem → taken.room ≤ after.room → IsOffering (mean numbers) first later before after (n + 1)
@@ -123,7 +123,7 @@ offering_one mean ns first now later before taken after n known own last so_far 
       room = omega arith;
     }
 
-pub offering_refused : (dp : Dp) (first now later : BoardView) (before taken after : Roomy) (n : ℕ) → dp.allowed (length before.subproblem.decisions) (state_of dp before.subproblem.decisions) n ≡ false
+pub offering_refused : (dp : Dp) (first now later : BoardView) (before taken after : SubView) (n : ℕ) → dp.allowed (length before.subproblem.decisions) (state_of dp before.subproblem.decisions) n ≡ false
     → IsOffering dp first now before taken n → later ≡ now → after ≡ taken → IsOffering dp first later before after (n + 1)
 offering_refused dp first now later before taken after n test so_far kept same =
     let here : IsOffering dp first now before taken (n + 1) = record {
@@ -136,6 +136,6 @@ offering_refused dp first now later before taken after n test so_far kept same =
     subst (λ b. IsOffering dp first b before after (n + 1)) (sym kept) (subst (λ t. IsOffering dp first now before t (n + 1)) (sym same) here)
 
 -- the same of equal boards and subproblems
-pub offering_same : (dp : Dp) (first now later : BoardView) (before taken after : Roomy) (n : ℕ) → IsOffering dp first now before taken n → later ≡ now → after ≡ taken → IsOffering dp first later before after n
+pub offering_same : (dp : Dp) (first now later : BoardView) (before taken after : SubView) (n : ℕ) → IsOffering dp first now before taken n → later ≡ now → after ≡ taken → IsOffering dp first later before after n
 offering_same dp first now later before taken after n so_far kept same =
     subst (λ b. IsOffering dp first b before after n) (sym kept) (subst (λ t. IsOffering dp first now before t n) (sym same) so_far)

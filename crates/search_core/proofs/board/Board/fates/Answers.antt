@@ -3,7 +3,7 @@ use Rattle.std.specs.Arc.{arc_value}
 use Rattle.dp_model.specs.Gaps.{IsStateOf}
 use Rattle.dp_model.specs.Laws.{IsLawful}
 use Rattle.dp_model.specs.Lists.{Each}
-use Rattle.dp_model.specs.Subproblem.{Roomy, IsOwn}
+use Rattle.dp_model.specs.Subproblem.{SubView, IsOwn}
 use Rattle.dominance_table.specs.Entries.{TableEntry}
 use Rattle.board_laws.specs.Board.{full_slots}
 use Rattle.search_core.specs.Contents.{contents}
@@ -23,7 +23,7 @@ decide_all-requires-clause-cells g c κs _ =
 pub decide_all-requires-clause-states : goal.decide_all-requires-clause-states
 decide_all-requires-clause-states g c κs _ =
     let own = subst (λ (v : BoardView). Each (IsOwn (g.M.DpModel.meaning v.numbers)) (contents c.args.subs.now)) (sym c.self.view_is) c.requires.own in
-    subst (λ m. Each (λ (h : Roomy). IsStateOf (g.M.DpModel.meaning (g.M.DpModel.numbers m)) (length h.subproblem.decisions) h.subproblem.row) c.args.subs.now) (sym c.deref.ensures)
+    subst (λ m. Each (λ (h : SubView). IsStateOf (g.M.DpModel.meaning (g.M.DpModel.numbers m)) (length h.subproblem.decisions) h.subproblem.row) c.args.subs.now) (sym c.deref.ensures)
     (children-states _ (laws_of g (arc_value c.self.inside.model)) c.args.subs.now own)
 
 pub decide_all-requires-clause-entries : goal.decide_all-requires-clause-entries

@@ -1,15 +1,14 @@
-use Rattle.std.proofs.Common.{◌≡◌, ℕ, ◌+◌, ◌<◌, ◌≤◌, ◌^◌, refl, length, sym, ◌∙◌, ap, subst, arith, rules}
+use Rattle.std.proofs.Common.{◌≡◌, ℕ, ◌+◌, ◌<◌, ◌≤◌, ◌^◌, refl, length, sym, ◌∙◌, ap, subst, arith, rules, map}
 use Rattle.std.specs.Arc.{arc_value}
 use Rattle.dp_model.specs.Gaps.{IsStateOf}
 use Rattle.dp_model.specs.Laws.{IsLawful}
 use Rattle.dp_model.specs.Lists.{Each}
-use Rattle.dp_model.specs.Subproblem.{Roomy, IsOwn}
+use Rattle.dp_model.specs.Subproblem.{SubView, IsOwn}
 use Rattle.dominance_table.specs.Entries.{TableView}
 use Rattle.board_laws.specs.Entering.{entering, entry_of}
 use Rattle.board_laws.specs.Finishing.{MayFinish}
 use Rattle.board_laws.specs.Pushes.{put_each}
 use Rattle.board_laws.specs.Steps.{finished_by}
-use Rattle.std.proofs.Common.{map}
 use Rattle.search_core.specs.Contents.{contents}
 use Rattle.search_core.specs.Kept.{HasRows}
 use Rattle.search_core.specs.View.{BoardView}
@@ -40,7 +39,7 @@ enter_all-self-inside-requires-clause-cells g c κs _ =
 pub enter_all-self-inside-requires-clause-states : goal.enter_all-self-inside-requires-clause-states
 enter_all-self-inside-requires-clause-states g c κs _ =
     let may = subst (λ (v : BoardView). MayFinish (g.M.DpModel.meaning v.numbers) v.board c.args.who c.args.threshold (contents c.args.subs.now.items) c.args.fates.now) (sym c.self.view_is) c.requires.may in
-    subst (λ m. Each (λ (h : Roomy). IsStateOf (g.M.DpModel.meaning (g.M.DpModel.numbers m)) (length h.subproblem.decisions) h.subproblem.row) c.args.subs.now.items) (sym c.deref.ensures)
+    subst (λ m. Each (λ (h : SubView). IsStateOf (g.M.DpModel.meaning (g.M.DpModel.numbers m)) (length h.subproblem.decisions) h.subproblem.row) c.args.subs.now.items) (sym c.deref.ensures)
     (children-states _ (laws_of g (arc_value c.self.inside.model)) c.args.subs.now.items (children-own _ _ _ may.children.own))
 
 pub enter_all-self-inside-requires-clause-tickets : goal.enter_all-self-inside-requires-clause-tickets

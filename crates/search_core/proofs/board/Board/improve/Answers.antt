@@ -4,7 +4,7 @@ use Rattle.std.specs.Arc.{arc_value}
 use Rattle.dp_model.specs.Laws.{IsLawful}
 use Rattle.dp_model.specs.Numbers.{is_above}
 use Rattle.dp_model.specs.Prefixes.{value_of}
-use Rattle.dp_model.specs.Worth.{IsWorth}
+use Rattle.dp_model.specs.Solution.{IsSolutionWith}
 use Rattle.shared_fringe.specs.Tickets.{above_value}
 use Rattle.board_laws.specs.Improving.{after_offer}
 use Rattle.board_laws.specs.declared.improved.Improved.TheVariants.{Yes}
@@ -21,16 +21,16 @@ pub overflow_add-value : goal.overflow_add-value
 overflow_add-value g c =
     let value : FitsSigned w64 c.in-Some.value = search rules in
     let within : FitsSigned w64 c.self.inside.settings.within = search rules in
-    let worth : IsWorth (g.M.DpModel.meaning (g.M.DpModel.numbers (arc_value c.self.inside.model))) c.args.decisions.now c.in-Some.value =
-    subst (λ m. IsWorth (g.M.DpModel.meaning (g.M.DpModel.numbers m)) c.args.decisions.now c.in-Some.value) c.deref.ensures (record { solution = c.in-Some.ensures.solution; value = c.in-Some.ensures.value }) in
+    let worth : IsSolutionWith (g.M.DpModel.meaning (g.M.DpModel.numbers (arc_value c.self.inside.model))) c.args.decisions.now c.in-Some.value =
+    subst (λ m. IsSolutionWith (g.M.DpModel.meaning (g.M.DpModel.numbers m)) c.args.decisions.now c.in-Some.value) c.deref.ensures (record { solution = c.in-Some.ensures.solution; value = c.in-Some.ensures.value }) in
     (far-sum c.in-Some.value c.self.inside.settings.within value within (reach-fits _ (laws_of g (arc_value c.self.inside.model)) c.self.inside.settings c.self.invariant.board.settings c.args.decisions.now c.in-Some.value worth)).fits
 
 pub invariant_of-self-2 : goal.invariant_of-self-2
 invariant_of-self-2 g c =
     let value : FitsSigned w64 c.in-Some.value = search rules in
     let within : FitsSigned w64 c.self.inside.settings.within = search rules in
-    let worth : IsWorth (g.M.DpModel.meaning (g.M.DpModel.numbers (arc_value c.self.inside.model))) c.args.decisions.now c.in-Some.value =
-    subst (λ m. IsWorth (g.M.DpModel.meaning (g.M.DpModel.numbers m)) c.args.decisions.now c.in-Some.value) c.deref.ensures (record { solution = c.in-Some.ensures.solution; value = c.in-Some.ensures.value }) in
+    let worth : IsSolutionWith (g.M.DpModel.meaning (g.M.DpModel.numbers (arc_value c.self.inside.model))) c.args.decisions.now c.in-Some.value =
+    subst (λ m. IsSolutionWith (g.M.DpModel.meaning (g.M.DpModel.numbers m)) c.args.decisions.now c.in-Some.value) c.deref.ensures (record { solution = c.in-Some.ensures.solution; value = c.in-Some.ensures.value }) in
     let sum = far-sum c.in-Some.value c.self.inside.settings.within value within (reach-fits _ (laws_of g (arc_value c.self.inside.model)) c.self.inside.settings c.self.invariant.board.settings c.args.decisions.now c.in-Some.value worth) in
     let is = to_z-of_z w64 c.in-Some.value value in
     let up = sym c.is_above.ensures ∙ c.if-not-is_above.false in
@@ -44,8 +44,8 @@ pub returns-clause-step : goal.returns-clause-step
 returns-clause-step g c =
     let value : FitsSigned w64 c.in-Some.value = search rules in
     let within : FitsSigned w64 c.self.inside.settings.within = search rules in
-    let worth : IsWorth (g.M.DpModel.meaning (g.M.DpModel.numbers (arc_value c.self.inside.model))) c.args.decisions.now c.in-Some.value =
-    subst (λ m. IsWorth (g.M.DpModel.meaning (g.M.DpModel.numbers m)) c.args.decisions.now c.in-Some.value) c.deref.ensures (record { solution = c.in-Some.ensures.solution; value = c.in-Some.ensures.value }) in
+    let worth : IsSolutionWith (g.M.DpModel.meaning (g.M.DpModel.numbers (arc_value c.self.inside.model))) c.args.decisions.now c.in-Some.value =
+    subst (λ m. IsSolutionWith (g.M.DpModel.meaning (g.M.DpModel.numbers m)) c.args.decisions.now c.in-Some.value) c.deref.ensures (record { solution = c.in-Some.ensures.solution; value = c.in-Some.ensures.value }) in
     let sum = far-sum c.in-Some.value c.self.inside.settings.within value within (reach-fits _ (laws_of g (arc_value c.self.inside.model)) c.self.inside.settings c.self.invariant.board.settings c.args.decisions.now c.in-Some.value worth) in
     let is = to_z-of_z w64 c.in-Some.value value in
     let left = c.drop_up_to.ensures.step ∙ (ap (λ z. above_value z c.self.inside.fringe.open_ones) sum.is ∙ ap (λ v. above_value (v +ℤ c.self.inside.settings.within) c.self.inside.fringe.open_ones) (sym is)) in
