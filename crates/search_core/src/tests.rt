@@ -47,6 +47,15 @@ fn is_out(board: &Board<Ones>) -> bool
     board.slot_ticket(0).is_some()
 }
 
+fn has_two(board: &Board<Ones>) -> bool
+    ensures { IsTrue result → incumbent_value board.now.board ≡ Some (pos 2) }
+{
+    match board.incumbent_value() {
+        Some(value) => value == 2,
+        None => false,
+    }
+}
+
 fn is_halted(board: &Board<Ones>) -> bool
     ensures { IsTrue result → IsSome board.now.board.cause }
 {
@@ -147,7 +156,7 @@ fn finishes(rt: HostRuntime) -> Result<(), Fail> {
     let mut board = root_taken(rt.alloc())?;
     assert_eq!(rt; board.improve(&[1, 1]), Improved::Yes);
     board.reserve_for(3)?;
-    assert_eq!(rt; board.incumbent_value(), Some(2));
+    assert!(rt; has_two(&board));
     assert!(rt; is_out(&board));
     finish_childless(rt.alloc(), &mut board);
     assert_eq!(rt; board.finished(), 1);
