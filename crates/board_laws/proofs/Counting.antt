@@ -13,7 +13,7 @@ use Rattle.dp_laws.proofs.Counting.{sum-map, pots-below, pots-positive}
 use Rattle.shared_fringe.specs.Tickets.{Ticketed}
 use Rattle.board_laws.proofs.Lists.{two-map}
 use Rattle.board_laws.specs.Board.{prefixes}
-use Rattle.board_laws.specs.Children.{AreApart}
+use Rattle.dp_laws.specs.Children.{AreApart}
 use Rattle.board_laws.specs.GoodBoard.{pot_of, rest_of}
 
 -- together fewer prefixes begin with children that are apart than with their parent

@@ -17,14 +17,15 @@ use Rattle.shared_fringe.specs.Tickets.{Ticketed, IsEarlier}
 use Rattle.shared_fringe.proofs.Rows.{same-depth, same-row}
 use Rattle.dominance_table.specs.Dominator.{dominates}
 use Rattle.dominance_table.specs.Entries.{TableEntry}
-use Rattle.board_laws.proofs.Carrying.{deep-less, floors-match, same-state-matches, Deep, CarriesBy, carries-from, floor-carried, own-floor, option-self}
+use Rattle.board_laws.proofs.Carrying.{Deep, CarriesBy, carries-from, own-floor, option-self}
 use Rattle.board_laws.proofs.Fates.{KeepsOut, FatesHold, IsLeftOut, kids-one, kids-each, Beats, stays-or-beaten}
-use Rattle.board_laws.proofs.Frontier.{at-most-then, not-above}
-use Rattle.board_laws.proofs.Lists.{one-then, one-map, one-left, one-right, one-cases, one-each, one-out, each-back, one-has, each-both}
+use Rattle.board_laws.proofs.Frontier.{not-above}
+use Rattle.board_laws.proofs.Lists.{one-map, one-left, one-right, one-cases, one-each, one-out, each-back, one-has, each-both}
 use Rattle.board_laws.proofs.With.{IsWith, with-right, one-out_of}
 use Rattle.board_laws.specs.Board.{prefixes}
 use Rattle.board_laws.specs.Entering.{entering, replaced, is_among, staying, entry_of, put_all}
-use Rattle.board_laws.specs.Floors.{ReachesBelow, IsFloor}
+use Rattle.dp_laws.specs.Floors.{ReachesBelow, IsFloor}
+use Rattle.dp_laws.proofs.Reaches.{at-most-then, deep-less, floor-carried, floors-match, one-then, same-state-matches}
 use Rattle.board_laws.specs.GoodBoard.{IsEntry, HasFloor}
 use Rattle.board_laws.specs.declared.fate.Fate.{Fate}
 

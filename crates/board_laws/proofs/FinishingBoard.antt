@@ -17,7 +17,7 @@ use Rattle.dp_laws.proofs.Lists.{each-filter, two-filter}
 use Rattle.shared_fringe.specs.Fringe.{AreDifferent}
 use Rattle.shared_fringe.specs.Tickets.{Ticketed, IsEarlier}
 use Rattle.dominance_table.specs.Entries.{TableEntry}
-use Rattle.board_laws.proofs.Carrying.{carries-from, covers-carried, option-self}
+use Rattle.board_laws.proofs.Carrying.{carries-from, option-self}
 use Rattle.board_laws.proofs.Counting.{children-below, pots-split}
 use Rattle.board_laws.proofs.Differing.{kids-above, kids-differ}
 use Rattle.board_laws.proofs.Fates.{fates-hold, fates-many, kids-each, kids-two, kids-hold}
@@ -27,7 +27,8 @@ use Rattle.board_laws.proofs.Lists.{each-both, each-back, two-then, two-append, 
 use Rattle.board_laws.proofs.Slots.{emptied, slot-full}
 use Rattle.board_laws.proofs.With.{with-right, each-out, two-out, sum-with, length-with}
 use Rattle.board_laws.specs.Board.{full_slots, prefixes, BoardState, frontier, reach}
-use Rattle.board_laws.specs.Children.{AreApart, DifferInPlace}
+use Rattle.dp_laws.specs.Children.{AreApart, DifferInPlace}
+use Rattle.dp_laws.proofs.Reaches.{covers-carried}
 use Rattle.board_laws.specs.Entering.{entering, replaced, is_among, staying, entry_of, put_all}
 use Rattle.board_laws.specs.Fates.{tickets_after, fate_of, fates_on}
 use Rattle.board_laws.specs.Finishing.{MayFinish}

@@ -20,7 +20,7 @@ use Rattle.shared_fringe.specs.Fringe.{AreDifferent}
 use Rattle.shared_fringe.specs.Tickets.{Ticketed, IsEarlier}
 use Rattle.board_laws.proofs.Lists.{two-then}
 use Rattle.board_laws.specs.Board.{AreSettings, BoardState, reach_of, value_held, full_slots, prefixes}
-use Rattle.board_laws.specs.Children.{AreApart}
+use Rattle.dp_laws.specs.Children.{AreApart}
 use Rattle.board_laws.specs.GoodBoard.{IncumbentHolds, IsBoard, IsGood, pot_of, rest_of}
 use Rattle.board_laws.specs.Laws.{IsFirstGood}
 use Rattle.board_laws.specs.Steps.{root_with, root_of, opened, empty_slots, first_incumbent, first_open}
@@ -197,3 +197,7 @@ first-is-good dp laws settings are =
       board = begin-board dp (first_incumbent dp) (first_open dp) settings are begins;
       good = begin-good dp (first_incumbent dp) (first_open dp) settings begins;
     }
+
+pub slots-more : (n : ℕ) → empty_slots n ++ None ∷ [] ≡ empty_slots (n + 1)
+slots-more zero = refl
+slots-more (suc n) = ap (λ l. None ∷ l) (slots-more n) ∙ ap empty_slots (let same : suc (n + 1) ≡ suc n + 1 = omega arith in same)

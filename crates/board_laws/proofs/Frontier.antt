@@ -16,7 +16,8 @@ use Rattle.shared_fringe.specs.Tickets.{Ticketed}
 use Rattle.board_laws.proofs.Lists.{one-map, one-mapped}
 use Rattle.board_laws.proofs.With.{IsWith, each-out, each-in, one-out_of, one-in, two-out, two-in, sum-with}
 use Rattle.board_laws.specs.Board.{prefixes}
-use Rattle.board_laws.specs.Children.{AreApart}
+use Rattle.dp_laws.specs.Children.{AreApart}
+use Rattle.dp_laws.proofs.Reaches.{at-most-then}
 
 -- Numbers beside an option.
 
@@ -24,10 +25,6 @@ use Rattle.board_laws.specs.Children.{AreApart}
 pub not-above : (inc : Option ℤ) (z : ℤ) → is_above inc z ≡ false → AtMost z inc
 not-above None z h = absurd (cc)
 not-above (Some b) z h = grind (arith, ints)
-
-pub at-most-then : (a b : ℤ) (inc : Option ℤ) → a ≤ℤ b → AtMost b inc → AtMost a inc
-at-most-then a b None le h = h
-at-most-then a b (Some c) le h = omega (arith, ints)
 
 -- what is at most the lesser one is at most the greater
 pub at-most-above : (a z : ℤ) (inc : Option ℤ) → is_above inc z ≡ true → AtMost a inc → a ≤ℤ z

@@ -11,7 +11,7 @@ use Rattle.dp_model.specs.Subproblem.{IsOwn}
 use Rattle.dp_model.proofs.Members.{Each-then}
 use Rattle.shared_fringe.specs.Pushing.{after_push}
 use Rattle.shared_fringe.specs.Tickets.{Ticketed}
-use Rattle.board_laws.proofs.Carrying.{Deep, CarriesBy, carries-from, covers-carried, floor-carried, option-self}
+use Rattle.board_laws.proofs.Carrying.{Deep, CarriesBy, carries-from, option-self}
 use Rattle.board_laws.proofs.Finishing.{reaches-low}
 use Rattle.board_laws.proofs.Frontier.{not-above, tickets-flip, apart-flip}
 use Rattle.board_laws.proofs.Lists.{each-back}
@@ -19,7 +19,8 @@ use Rattle.board_laws.proofs.Pushed.{IsPushed, GoesOn, push-out, out-goes, pushe
 use Rattle.board_laws.proofs.Slots.{emptied, slot-full}
 use Rattle.board_laws.proofs.With.{with-right, each-out, two-out, one-out_of, sum-with, length-with}
 use Rattle.board_laws.specs.Board.{reach, full_slots, prefixes, BoardState, frontier, slot_at}
-use Rattle.board_laws.specs.Children.{AreApart}
+use Rattle.dp_laws.specs.Children.{AreApart}
+use Rattle.dp_laws.proofs.Reaches.{covers-carried, floor-carried}
 use Rattle.board_laws.specs.GoodBoard.{pot_of, rest_of, HasFloor, IsBoard, IsGood}
 use Rattle.board_laws.specs.Laws.{GiveBackKeeps}
 use Rattle.board_laws.specs.Steps.{given_back_from}

@@ -11,12 +11,13 @@ use Rattle.dp_model.proofs.Members.{Each-then}
 use Rattle.dp_laws.proofs.Lists.{two-filter}
 use Rattle.shared_fringe.specs.Fringe.{AreDifferent}
 use Rattle.shared_fringe.specs.Tickets.{Ticketed, IsEarlier}
-use Rattle.board_laws.proofs.Carrying.{reach-rises, at-most-raised, Deep, CarriesBy, carries-from, covers-carried, floor-carried}
+use Rattle.board_laws.proofs.Carrying.{reach-rises, Deep, CarriesBy, carries-from}
 use Rattle.board_laws.proofs.Finishing.{reaches-low}
 use Rattle.board_laws.proofs.Frontier.{not-above}
 use Rattle.board_laws.proofs.Lists.{each-less, two-less, sum-less, one-left, one-right, one-cases, one-filter, one-each, one-out, each-back, each-passes}
 use Rattle.board_laws.specs.Board.{reach, reach_of, incumbent_value, full_slots, prefixes, BoardState, frontier}
-use Rattle.board_laws.specs.Children.{AreApart}
+use Rattle.dp_laws.specs.Children.{AreApart}
+use Rattle.dp_laws.proofs.Reaches.{at-most-raised, covers-carried, floor-carried}
 use Rattle.board_laws.specs.GoodBoard.{IncumbentHolds, pot_of, rest_of, HasFloor, IsBoard, IsGood}
 use Rattle.board_laws.specs.Laws.{ImproveKeeps}
 use Rattle.board_laws.specs.Steps.{improved}

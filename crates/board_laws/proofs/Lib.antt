@@ -1,21 +1,25 @@
-mod Lists
-mod With
+-- lists
+pub mod Lists
+pub mod With
+pub mod Slots
 mod Counting
-mod Slots
-mod Frontier
-mod Firsts
-mod Carrying
-mod Fates
-mod Finishing
+pub mod Frontier
+-- fates
+pub mod Fates
+pub mod Pushing
 mod Differing
-mod FinishingBoard
-mod Improving
+-- what each step keeps
+mod Finishing
+pub mod FinishingBoard
+pub mod Improving
 mod Pushed
-mod GivingBack
-mod Taking
-mod Halting
-mod First
-mod Pushing
-mod Reading
-mod Running
+pub mod GivingBack
+pub mod Firsts
+pub mod Taking
+pub mod Carrying
+pub mod Halting
+pub mod First
+-- what runs keep, and what good boards say
+pub mod Running
+pub mod Reading
 mod Examples

@@ -23,11 +23,6 @@ each-passes p (x ∷ xs) =
     λ b. elim b as (λ b. p x ≡ b → Each (λ x. p x ≡ true) (cond b (x ∷ filter p xs) (filter p xs))) [ true ↦ λ e. (e, each-passes p xs) | false ↦ λ e. each-passes p xs ] in
     go (p x) refl
 
-pub one-then : {X : Type 0} (P Q : X → Type 0) → ((x : X) → P x → Q x) → (xs : List X) → OneOf P xs → OneOf Q xs
-one-then P Q f [] h = absurd h
-one-then P Q f (x ∷ xs) (inl h) = inl (f x h)
-one-then P Q f (x ∷ xs) (inr h) = inr (one-then P Q f xs h)
-
 pub one-left : {X : Type 0} (P : X → Type 0) (xs ys : List X) → OneOf P xs → OneOf P (xs ++ ys)
 one-left P [] ys h = absurd h
 one-left P (x ∷ xs) ys (inl h) = inl h

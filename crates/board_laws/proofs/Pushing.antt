@@ -1,5 +1,5 @@
 -- Children pushed one after another give the list that their fates give.
-use Rattle.std.proofs.Common.{◌≡◌, ℕ, ◌+◌, ◌<◌, ℤ, int_le, nat_eq, nat_lt, Bool, true, false, cond, not, ◌||◌, ◌&&◌, List, [], ◌∷◌, ◌++◌, length, Option, Some, None, refl, sym, ◌∙◌, ap, subst, append_assoc, arith}
+use Rattle.std.proofs.Common.{◌≡◌, ℕ, ◌+◌, ◌<◌, ℤ, int_le, nat_eq, nat_lt, Bool, true, false, cond, not, ◌||◌, ◌&&◌, List, [], ◌∷◌, ◌++◌, length, Option, Some, None, refl, sym, ◌∙◌, ap, subst, append_assoc, arith, ◌-◌}
 use Rattle.std.proofs.lemmas.Bool.Decides.{nat_tests}
 use Rattle.dp_model.specs.Dp.{Dp}
 use Rattle.dp_model.specs.Lists.{Each}
@@ -10,7 +10,7 @@ use Rattle.dp_laws.specs.Pairs.{EachTwo}
 use Rattle.dp_laws.proofs.Lists.{each-filter, two-filter}
 use Rattle.board_laws.proofs.Fates.{FatesHold, fates-hold, fates-many, found-one, same-ticket}
 use Rattle.board_laws.proofs.Lists.{two-append}
-use Rattle.board_laws.specs.Children.{DifferInPlace}
+use Rattle.dp_laws.specs.Children.{DifferInPlace}
 use Rattle.board_laws.specs.Entering.{entering, replaced, is_among, staying, put_all}
 use Rattle.board_laws.specs.Fates.{fate_of, fates_by, ticket_after}
 use Rattle.board_laws.specs.Pushes.{push_by, PushesAreFates, PutsAreEntries}
@@ -20,7 +20,6 @@ use Rattle.shared_fringe.specs.Fringe.{is_same, same_at, same_open}
 use Rattle.shared_fringe.specs.Pushing.{pushed_beside, after_push}
 use Rattle.shared_fringe.specs.Tickets.{Ticketed, IsEarlier, by_ticket, without}
 use Rattle.dominance_table.specs.Entries.{TableEntry, after_put, is_full}
-use Rattle.std.proofs.Common.{◌-◌}
 use Rattle.shared_fringe.proofs.Rows.{same-depth, same-row, different-turned}
 
 -- what a push needs of a fate

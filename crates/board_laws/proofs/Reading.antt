@@ -1,5 +1,5 @@
 -- What a good board says of the feasible solutions and of the counts.
-use Rattle.std.proofs.Common.{◌≡◌, ◌≢◌, ℕ, ◌<◌, ◌≤◌, ℤ, ◌≤ℤ◌, List, [], ◌∷◌, ◌++◌, length, Bool, true, false, cond, Option, Some, None, ◌⊎◌, inl, inr, refl, ◌∙◌, length-append, arith}
+use Rattle.std.proofs.Common.{◌≡◌, ◌≢◌, ℕ, ◌<◌, ◌≤◌, ℤ, ◌≤ℤ◌, List, [], ◌∷◌, ◌++◌, length, Bool, true, false, cond, Option, Some, None, ◌⊎◌, inl, inr, refl, ◌∙◌, length-append, arith, pos, ◌+◌, ◌+ℤ◌, sym, ap, subst, IsTrue}
 use Rattle.std.proofs.lemmas.Int.{ints}
 use Rattle.std.specs.Prelude.{int_lt}
 use Rattle.dp_model.specs.Counts.{tree}
@@ -16,7 +16,6 @@ use Rattle.board_laws.specs.Bound.{raised, raised_by, bound_of, IsGreatest}
 use Rattle.board_laws.specs.GoodBoard.{IsGood, IncumbentHolds, IsBoard}
 use Rattle.board_laws.specs.Laws.{NoneExceedsTheBound, ExploredIsWithinReach, ExploredIsBest}
 use Rattle.shared_fringe.specs.Tickets.{Ticketed}
-use Rattle.std.proofs.Common.{pos, ◌+◌, ◌+ℤ◌, sym, ap, subst, IsTrue}
 use Rattle.std.proofs.lemmas.Bool.Decides.{nat_tests}
 use Rattle.dp_model.specs.Solution.{Solution}
 use Rattle.dp_model.specs.Best.{IsBest}

@@ -1,16 +1,17 @@
 -- What a step and a run keep beside the board.
-use Rattle.std.proofs.Common.{◌≡◌, ◌≢◌, ℕ, zero, suc, ◌≤◌, ℤ, List, [], ◌∷◌, set, Bool, true, false, cond, Option, Some, None, refl, ◌∙◌, ap, subst, arith}
+use Rattle.std.proofs.Common.{◌≡◌, ◌≢◌, ℕ, zero, suc, ◌≤◌, ℤ, List, [], ◌∷◌, ◌++◌, set, Bool, true, false, cond, Option, Some, None, refl, ◌∙◌, ap, subst, arith, sym}
 use Rattle.std.proofs.lemmas.Int.{ints}
 use Rattle.std.specs.List.{slice_get}
 use Rattle.dp_model.specs.Solution.{Solution}
 use Rattle.dp_model.specs.Dp.{Dp}
 use Rattle.dp_model.specs.Laws.{IsLawful}
-use Rattle.dp_model.specs.Numbers.{OptionAtMost, is_above}
+use Rattle.dp_model.specs.Numbers.{OptionAtMost, is_above, AtMost}
 use Rattle.dp_model.specs.Prefixes.{value_of}
+use Rattle.dp_laws.proofs.Reaches.{at-most-raised}
 use Rattle.shared_fringe.specs.Firsts.{first_taken}
 use Rattle.shared_fringe.specs.Tickets.{Ticketed}
 use Rattle.board_laws.specs.Runs.Step.{Take, Improve, Finish, GiveBack, Halt}
-use Rattle.board_laws.proofs.Carrying.{at-most-raised, option-self}
+use Rattle.board_laws.proofs.Carrying.{option-self}
 use Rattle.board_laws.proofs.FinishingBoard.{finish-keeps}
 use Rattle.board_laws.proofs.GivingBack.{give-back-keeps}
 use Rattle.board_laws.proofs.Halting.{halt-keeps}
@@ -19,13 +20,17 @@ use Rattle.board_laws.proofs.Taking.{same-kept, take-keeps}
 use Rattle.board_laws.specs.Board.{BoardState, incumbent_value, slot_of, slot_at}
 use Rattle.board_laws.specs.Fates.{ticket_after, tickets_after, fates_on}
 use Rattle.board_laws.specs.Laws.{Keeps, StepsKeep, RunKeeps, RunsKeep}
-use Rattle.board_laws.specs.Runs.{Step, May, after, offered, worker_of, Follows}
+use Rattle.board_laws.specs.Runs.{Step, May, after, offered, worker_of, Follows, IsRun}
 use Rattle.board_laws.specs.Steps.{improved, given_back_from}
 use Rattle.board_laws.specs.Taking.{take_gives, checked_out, after_answer}
 use Rattle.board_laws.specs.declared.fate.Fate.{Fate}
 use Rattle.board_laws.specs.declared.fate.Fate.TheVariants.{Below, Kept, Dominated, Replaced, Entered}
 use Rattle.board_laws.specs.declared.taken.Taken.{Taken}
 use Rattle.board_laws.specs.declared.taken.Taken.TheVariants.{Sub, WaitForOthers, Finished, Halted}
+use Rattle.board_laws.proofs.Frontier.{not-above}
+use Rattle.board_laws.specs.Improving.{ImproveGives, after_offer}
+use Rattle.board_laws.specs.declared.improved.Improved.{Improved}
+use Rattle.board_laws.specs.declared.improved.Improved.TheVariants.{Yes, NotBetter, NoSolution}
 
 -- A board follows another.
 
@@ -152,3 +157,35 @@ runs-keep dp laws b (step ∷ steps) last run =
     let first = steps-keep dp laws b step run.0 in
     let rest = runs-keep dp laws (after dp b step) steps last run.1 in
     record { keeps = keeps-then dp b (after dp b step) last first.keeps rest.keeps; follows = follows-then b (after dp b step) last first.follows rest.follows }
+
+-- Runs one after another.
+
+pub run-then : (dp : Dp) (a b c : BoardState) (first then : List Step) → IsRun dp a first b → IsRun dp b then c → IsRun dp a (first ++ then) c
+run-then dp a b c [] then h k = subst (λ x. IsRun dp x then c) (sym h) k
+run-then dp a b c (step ∷ first) then h k = (h.0, run-then dp (after dp a step) b c first then h.1 k)
+
+pub run-one : (dp : Dp) (b : BoardState) (step : Step) (later : BoardState) → May dp b step → later ≡ after dp b step → IsRun dp b (step ∷ []) later
+run-one dp b step later may is = (may, sym is)
+
+pub run-follows : (dp : Dp) (b : BoardState) (steps : List Step) (last : BoardState) → IsRun dp b steps last → Follows b last
+run-follows dp b [] last run = subst (Follows b) run (follows-self b)
+run-follows dp b (step ∷ steps) last run = follows-then b (after dp b step) last (step-follows dp b step) (run-follows dp (after dp b step) steps last run.1)
+
+-- a run by an offer
+pub record OfferRuns (dp : Dp) (b later : BoardState) : Type 0 where
+  pub steps : List Step
+  pub run : IsRun dp b steps later
+
+better-offered : (dp : Dp) (b : BoardState) (x : List ℕ) → (AtMost (value_of dp x) (incumbent_value b) → ⊥) → improved b (record { decisions = x; value = value_of dp x }) ≡ offered dp b x
+better-offered dp b x more =
+    let later = improved b (record { decisions = x; value = value_of dp x }) in
+    let go : (up : Bool) → is_above (incumbent_value b) (value_of dp x) ≡ up → later ≡ cond up later b = λ up. elim up as (λ up. is_above (incumbent_value b) (value_of dp x) ≡ up → later ≡ cond up later b) [
+      | true ↦ λ e. refl
+      | false ↦ λ e. absurd (more (not-above (incumbent_value b) (value_of dp x) e))
+    ] in
+    go (is_above (incumbent_value b) (value_of dp x)) refl
+
+pub offer-runs : (dp : Dp) (b later : BoardState) (x : List ℕ) (answer : Improved) → ImproveGives dp b x answer → later ≡ after_offer dp answer b x → OfferRuns dp b later
+offer-runs dp b later x Yes gives is = record { steps = Improve x ∷ []; run = (gives.0, sym (is ∙ better-offered dp b x gives.1)) }
+offer-runs dp b later x NotBetter gives is = record { steps = []; run = sym is }
+offer-runs dp b later x NoSolution gives is = record { steps = []; run = sym is }

@@ -13,14 +13,15 @@ use Rattle.dp_laws.proofs.Lists.{each-filter, two-filter}
 use Rattle.shared_fringe.specs.Fringe.{AreDifferent}
 use Rattle.shared_fringe.specs.Tickets.{Ticketed, IsEarlier, without}
 use Rattle.shared_fringe.proofs.Tickets.{without-later}
-use Rattle.board_laws.proofs.Carrying.{Deep, CarriesBy, carries-from, covers-carried, floor-carried, option-self}
+use Rattle.board_laws.proofs.Carrying.{Deep, CarriesBy, carries-from, option-self}
 use Rattle.board_laws.proofs.Firsts.{first_taken-is}
 use Rattle.board_laws.proofs.Frontier.{each-moved, one-moved, two-moved, sum-moved, tickets-flip, apart-flip}
 use Rattle.board_laws.proofs.Lists.{one-each, one-out}
 use Rattle.board_laws.proofs.Slots.{filled, full-few}
 use Rattle.board_laws.proofs.With.{IsWith, with-left, with-right, length-with, with-here, with-there}
 use Rattle.board_laws.specs.Board.{reach, full_slots, prefixes, BoardState, frontier, is_explored}
-use Rattle.board_laws.specs.Children.{AreApart}
+use Rattle.dp_laws.specs.Children.{AreApart}
+use Rattle.dp_laws.proofs.Reaches.{covers-carried, floor-carried}
 use Rattle.board_laws.specs.GoodBoard.{pot_of, rest_of, HasFloor, IsBoard, IsGood}
 use Rattle.board_laws.specs.Laws.{TakeKeeps, Keeps}
 use Rattle.board_laws.specs.Taking.{checked_out, is_budget_up, take_gives, take_open, take_unless, after_answer}

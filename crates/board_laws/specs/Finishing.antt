@@ -6,7 +6,7 @@ use Rattle.dp_model.specs.Subproblem.{Subproblem}
 use Rattle.shared_fringe.specs.Tickets.{Ticketed}
 use Rattle.board_laws.specs.declared.fate.Fate.{Fate}
 use Rattle.board_laws.specs.Board.{BoardState, reach, slot_at}
-use Rattle.board_laws.specs.Children.{AreChildren}
+use Rattle.dp_laws.specs.Children.{AreChildren}
 use Rattle.board_laws.specs.Fates.{fates_on}
 
 -- the slot is full; the threshold of the diagram that the children come from is at most the reach; the children are those of the

@@ -14,8 +14,8 @@ use Rattle.shared_fringe.specs.Tickets.{Ticketed, IsEarlier}
 use Rattle.dominance_table.specs.Entries.{TableEntry}
 use Rattle.board_laws.specs.declared.cause.Cause.TheVariants.{Budget}
 use Rattle.board_laws.specs.Board.{AreSettings, BoardState, reach, full_slots, frontier, prefixes}
-use Rattle.board_laws.specs.Children.{AreApart}
-use Rattle.board_laws.specs.Floors.{IsFloor}
+use Rattle.dp_laws.specs.Children.{AreApart}
+use Rattle.dp_laws.specs.Floors.{IsFloor}
 
 -- the incumbent, where there is one, is a feasible solution with its value
 abbrev pub IncumbentHolds : Dp → Option Solution → Type 0

@@ -6,12 +6,10 @@ pub mod Improving
 pub mod Fates
 pub mod Entering
 pub mod Pushes
-pub mod Children
 pub mod Finishing
 pub mod Bound
 pub mod Runs
 -- what boards keep
-pub mod Floors
 pub mod GoodBoard
 -- the laws
 pub mod Laws

@@ -9,7 +9,7 @@ use Rattle.shared_fringe.specs.Tickets.{Ticketed, IsEarlier}
 use Rattle.dominance_table.specs.Entries.{TableEntry, TableView, after_put}
 use Rattle.board_laws.specs.declared.fate.Fate.{Fate}
 use Rattle.board_laws.specs.declared.fate.Fate.TheVariants.{Below, Kept, Dominated, Replaced, Entered}
-use Rattle.board_laws.specs.Children.{DifferInPlace}
+use Rattle.dp_laws.specs.Children.{DifferInPlace}
 use Rattle.board_laws.specs.Entering.{let_in, entering, replaced, staying, entry_of, put_all}
 use Rattle.board_laws.specs.Fates.{fate_of, fates_by}
 

@@ -1,8 +1,6 @@
 //! What a good board says of the feasible solutions.
 
 ghost use Rattle.dp_model.specs.Dp.{Dp};
-ghost use Rattle.dp_model.specs.Laws.{IsLawful};
-ghost use Rattle.board_laws.specs.Floors.{FloorsMatch};
 ghost use Rattle.board_laws.specs.Laws.{ExploredIsBest, ExploredIsWithinReach, NoneExceedsTheBound};
 
 /// Where nothing is open or out, each feasible solution is at most the reach.
@@ -18,10 +16,4 @@ pub fn explored_is_best()
 /// No feasible solution exceeds the bound of a good board.
 pub fn no_solution_exceeds_the_bound()
     ensures { (dp : Dp) → NoneExceedsTheBound dp }
-{}
-
-/// Where an entry of the table dominates a prefix, each completion of the prefix is at most the reach, or matched by a prefix of
-/// the frontier that is as long.
-pub fn floors_match()
-    ensures { (dp : Dp) → IsLawful dp → FloorsMatch dp }
 {}

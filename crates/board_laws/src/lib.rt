@@ -21,9 +21,7 @@ mod settings;
 mod steps;
 mod taken;
 
-pub use boards::{
-    explored_is_best, explored_is_within_reach, floors_match, no_solution_exceeds_the_bound,
-};
+pub use boards::{explored_is_best, explored_is_within_reach, no_solution_exceeds_the_bound};
 pub use cause::Cause;
 pub use fate::Fate;
 pub use improved::Improved;

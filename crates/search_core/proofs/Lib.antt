@@ -1,13 +1,8 @@
-pub mod Lists
-pub mod With
-pub mod Counting
-pub mod Slots
-pub mod Firsts
-pub mod Kids
-pub mod Frontier
-pub mod Steps
-pub mod First
-pub mod Roots
-pub mod Reading
-pub mod Keeping
-pub mod Childless
+mod Entered
+mod Turns
+mod Rows
+mod Bounds
+mod Sums
+mod Roots
+mod Keeping
+mod Childless

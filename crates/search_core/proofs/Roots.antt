@@ -1,14 +1,12 @@
 -- The bound of the root fits.
-use Rattle.std.proofs.Common.{◌≡◌, ℤ, ◌+ℤ◌, ◌∙◌, ap, sym, subst, Some, FitsSigned, to_z, of_z, w64, arith}
-use Rattle.std.proofs.lemmas.Int.{ints, to_z-of_z}
+use Rattle.std.proofs.Common.{◌≡◌, ℤ, length, sym, ◌∙◌, ap, Option, Some, None, FitsSigned, w64, arith}
+use Rattle.std.proofs.lemmas.Int.{ints}
 use Rattle.dp_model.specs.Dp.{Dp}
 use Rattle.dp_model.specs.Laws.{IsLawful}
-use Rattle.search_core.proofs.First.{root-state}
-
--- the sum of two numbers in memory fits, and is their sum
-pub record IsSum (value rough : ℤ) : Type 0 where
-  pub fits : FitsSigned w64 (to_z w64 (of_z w64 value) +ℤ to_z w64 (of_z w64 rough))
-  pub is : to_z w64 (of_z w64 (to_z w64 (of_z w64 value) +ℤ to_z w64 (of_z w64 rough))) ≡ value +ℤ rough
+use Rattle.dp_model.specs.Subproblem.{Subproblem}
+use Rattle.board_laws.specs.Steps.{root_bound, root_with, root_of}
+use Rattle.board_laws.proofs.First.{root-state}
+use Rattle.search_core.proofs.Sums.{IsSum, far-sum}
 
 pub root-sum : (dp : Dp) → IsLawful dp → (value rough : ℤ) → value ≡ dp.root_value → Some rough ≡ dp.rough 0 dp.root → IsSum value rough
 root-sum dp laws value rough value-is rough-is =
@@ -16,11 +14,12 @@ root-sum dp laws value rough value-is rough-is =
     let small_rough = laws.sizes.rough 0 dp.root rough (root-state dp laws) (sym rough-is) in
     let fits : FitsSigned w64 value = omega (arith, ints) in
     let fits_rough : FitsSigned w64 rough = omega (arith, ints) in
-    let here = to_z-of_z w64 value fits in
-    let there = to_z-of_z w64 rough fits_rough in
-    let sum : to_z w64 (of_z w64 value) +ℤ to_z w64 (of_z w64 rough) ≡ value +ℤ rough = ap (λ z. z +ℤ to_z w64 (of_z w64 rough)) here ∙ ap (λ z. value +ℤ z) there in
-    let fits_sum : FitsSigned w64 (value +ℤ rough) = omega (arith, ints) in
-    record {
-      fits = subst (λ z. FitsSigned w64 z) (sym sum) fits_sum;
-      is = ap (λ z. to_z w64 (of_z w64 z)) sum ∙ to_z-of_z w64 _ fits_sum;
-    }
+    far-sum value rough fits fits_rough (record { low = omega (arith, ints); high = omega (arith, ints) })
+
+cells-with : (dp : Dp) → IsLawful dp → (bound : Option ℤ) (c : Subproblem) → Some c ≡ root_with dp bound → length c.row ≡ dp.words
+cells-with dp laws None c is = absurd (cc)
+cells-with dp laws (Some bound) c is = ap length (let same : c.row ≡ dp.root = cc in same) ∙ laws.sizes.cells 0 dp.root (root-state dp laws)
+
+-- the root has as many cells as any state
+pub root-cells : (dp : Dp) → IsLawful dp → (c : Subproblem) → Some c ≡ root_of dp → length c.row ≡ dp.words
+root-cells dp laws c is = cells-with dp laws (root_bound dp) c is

@@ -1,29 +1,32 @@
-ghost use Rattle.std.specs.Prelude.{◌≡◌, ℕ, ◌+◌, ◌-◌, ◌^◌, ◌<◌, ◌≤◌, ◌≢◌, ◌↔◌, ℤ, true, List, [], length, slice_get, Option, Some, None, option_map, IsTrue, IfOk, OnOk, OnErr, IsSome, IsNone, vec_capacity};
+ghost use Rattle.std.specs.Prelude.{◌≡◌, ℕ, ◌+◌, ◌-◌, ◌^◌, ◌<◌, ◌≤◌, ◌≢◌, ℤ, pos, List, [], length, slice_get, Option, Some, None, option_map, IsTrue, IfOk, OnOk, OnErr, IsSome, vec_capacity};
 ghost use Rattle.std.specs.Arc.{arc_value};
 ghost use Rattle.dp_model.specs.Best.{IsBest};
 ghost use Rattle.dp_model.specs.Counts.{tree};
+ghost use Rattle.dp_model.specs.Lists.{Each};
 ghost use Rattle.dp_model.specs.Numbers.{AtMost};
 ghost use Rattle.dp_model.specs.Prefixes.{IsSolution, value_of};
-ghost use Rattle.search_core.specs.Board.{incumbent_value, full_slots, slot_at, is_explored, KeepsSettings};
-ghost use Rattle.search_core.specs.Bound.{bound_of, IsGreatest};
-ghost use Rattle.search_core.specs.Fates.{fates_on};
-ghost use Rattle.search_core.specs.Finishing.{contents, MayFinish};
-ghost use Rattle.search_core.specs.GoodBoard.{IsGood};
-ghost use Rattle.search_core.specs.Solving.{ImproveGives, after_offer};
-ghost use Rattle.search_core.specs.Steps.{first_board, finished_by, given_back, halted};
-ghost use Rattle.search_core.specs.Taking.{take_gives, after_take, handed_out, HasFirst};
+ghost use Rattle.dp_model.specs.Subproblem.{IsOwn};
+ghost use Rattle.board_laws.specs.Board.{AreSettings, incumbent_value, reach, full_slots, slot_at, is_explored};
+ghost use Rattle.board_laws.specs.Bound.{bound_of, IsGreatest};
+ghost use Rattle.board_laws.specs.Fates.{fates_on};
+ghost use Rattle.board_laws.specs.Finishing.{MayFinish};
+ghost use Rattle.board_laws.specs.GoodBoard.{IsBoard, IsGood};
+ghost use Rattle.board_laws.specs.Improving.{ImproveGives, after_offer};
+ghost use Rattle.board_laws.specs.Steps.{first_board, finished_by, given_back, halted};
+ghost use Rattle.board_laws.specs.Taking.{take_gives, after_take, handed_out, HasFirst};
+ghost use Rattle.search_core.specs.Contents.{contents};
+ghost use Rattle.search_core.specs.View.{tag_of};
 
-use crate::cause::Cause;
-use crate::entering::{decide_all, enter_all, is_above, put_back};
-use crate::fate::Fate;
-use crate::full::{count_full, raised_by_slots};
-use crate::improved::Improved;
-use crate::settings::Settings;
+use crate::checked_out::CheckedOut;
+use crate::deciding::{decide_all, is_above};
+use crate::entering::{enter_all, put_back, reserve_rows};
+use crate::full::{count_full, raised_by_fringe, raised_by_slots};
 use crate::solving::{copy_decisions, solution_value};
 use crate::starting::{empty_slots, first_open, first_value};
-use crate::taken::Taken;
+use board_laws::{Cause, Fate, Improved, Settings, Taken};
+use dominance_table::Table;
 use dp_model::{DpModel, Found, OutOfMemory, Sub};
-use shared_fringe::{Listed, first_place, keep_above, raised_by};
+use shared_fringe::Fringe;
 use std::alloc::Global;
 use std::marker::Model;
 use std::sync::Arc;
@@ -31,17 +34,19 @@ use std::sync::Arc;
 /// Once the next ticket is greater, the budget counts as taken up, so that tickets never run out: 2^64 - 2^29.
 const GREATEST_TICKET: u64 = 0xFFFF_FFFF_E000_0000;
 
-/// The board of a search: what was found, what is open, and what each worker has out.
+/// The board of a search: what was found, what is open, what each worker has out, and which states were reached.
 #[derive(Drop)]
 pub struct Board<M: DpModel> {
     model: Arc<M>,
+    settings: Settings,
     best: Vec<u32>,
     best_value: Option<i64>,
-    listed: Vec<Listed>,
-    slots: Vec<Option<Listed>>,
+    fringe: Fringe,
+    slots: Vec<Option<CheckedOut>>,
+    table: Table,
+    room: usize,
     taken: u64,
     finished: u64,
-    budget: u64,
     next_ticket: u64,
     cause: Option<Cause>,
     row: Vec<i64>,
@@ -49,47 +54,72 @@ pub struct Board<M: DpModel> {
 }
 
 impl<M: DpModel> Model for Board<M> {
-    ghost use Rattle.std.specs.Prelude.{◌+◌, ◌-◌, length, vec_len, vec_capacity};
+    ghost use Rattle.std.specs.Prelude.{vec_len, vec_capacity};
     ghost use Rattle.std.specs.Arc.{arc_value};
-    ghost use Rattle.search_core.specs.Board.{BoardView, full_slots};
-    ghost use Rattle.search_core.specs.Kept.{board_of, IsKept};
+    ghost use Rattle.search_core.specs.Kept.{best_of, IsKept};
+    ghost use Rattle.search_core.specs.View.{BoardView};
 
     ghost Value = { BoardView };
 
     ghost view = { λ b. record {
       numbers = M.numbers (arc_value b.model);
-      board = board_of b.best.items b.best_value b.listed.items b.slots.items b.taken b.finished b.budget b.next_ticket b.cause;
-      room = vec_capacity b.listed - (vec_len b.listed + length (full_slots b.slots.items));
+      board = record {
+        incumbent = best_of b.best.items b.best_value;
+        open_ones = b.fringe.open_ones;
+        slots = b.slots.items;
+        entries = b.table.entries;
+        settings = b.settings;
+        taken = b.taken;
+        finished = b.finished;
+        next_ticket = b.next_ticket;
+        cause = b.cause;
+      };
+      room = b.room;
     } };
 
-    ghost invariant = { λ b. IsKept (M.meaning (M.numbers (arc_value b.model))) (board_of b.best.items b.best_value b.listed.items b.slots.items b.taken b.finished b.budget b.next_ticket b.cause) (vec_capacity b.best) (vec_capacity b.listed) (vec_len b.row) (vec_len b.spare) };
+    ghost invariant = { λ b. IsKept (M.meaning (M.numbers (arc_value b.model)))
+        (record {
+          incumbent = best_of b.best.items b.best_value;
+          open_ones = b.fringe.open_ones;
+          slots = b.slots.items;
+          entries = b.table.entries;
+          settings = b.settings;
+          taken = b.taken;
+          finished = b.finished;
+          next_ticket = b.next_ticket;
+          cause = b.cause;
+        })
+        b.fringe b.table b.room (vec_capacity b.best) (vec_len b.row) (vec_len b.spare) };
 }
 
 impl<M: DpModel> Board<M> {
     /// The board at the start of a search: the root is open with ticket 0, unless it is known to have no completion; without
-    /// variables the empty solution is the incumbent instead. There are from 1 to 16 workers. Fails only for want of memory.
+    /// variables the empty solution is the incumbent instead. There are from 1 to 16 workers, the width is at least 1, and the
+    /// distance is from 0 to 2^50. Fails only for want of memory.
     pub fn begin(alloc: Global, model: Arc<M>, settings: Settings) -> Result<Board<M>, OutOfMemory>
-        requires some { 1 ≤ settings.workers }
-        requires few { settings.workers ≤ 16 }
+        requires { AreSettings settings }
         ensures numbers { IfOk result (λ b. b.numbers ≡ M.numbers (arc_value model)) }
-        ensures board { IfOk result (λ b. b.board ≡ first_board (M.meaning (M.numbers (arc_value model))) settings.workers settings.budget) }
+        ensures board { IfOk result (λ b. b.board ≡ first_board (M.meaning (M.numbers (arc_value model))) settings) }
     {
         let row = vec![in alloc; 0i64; model.words()]?;
         let spare = vec![in alloc; 0i64; model.words()]?;
         let best = Vec::with_capacity(alloc, model.vars())?;
         let slots = empty_slots(alloc, settings.workers)?;
-        let listed = first_open(alloc, &*model)?;
-        let next_ticket = listed.len() as u64;
+        let fringe = first_open(alloc, &*model)?;
+        let table = Table::new(alloc, model.words(), settings.table_limit);
+        let next_ticket = fringe.len() as u64;
         let best_value = first_value(&*model);
         Ok(Board {
             model,
+            settings,
             best,
             best_value,
-            listed,
+            fringe,
             slots,
+            table,
+            room: 0,
             taken: 0,
             finished: 0,
-            budget: settings.budget,
             next_ticket,
             cause: None,
             row,
@@ -98,9 +128,9 @@ impl<M: DpModel> Board<M> {
     }
 
     /// The worker asks for a subproblem. The first rule that applies decides: nothing is open or out (`Finished`); a cause is
-    /// held (`Halted`); nothing is open (`WaitForOthers`); the budget is taken up (`Halted(Budget)`); otherwise the open one
-    /// with the greatest bound, then the greatest value, then the least ticket goes to the worker's slot and is copied to
-    /// `into`. It takes no memory.
+    /// held (`Halted`); nothing is open (`WaitForOthers`); the budget is taken up (`Halted(Budget)`); otherwise the open
+    /// subproblem with the greatest bound, then the greatest value, then the least ticket goes to the worker's slot and is copied
+    /// to `into`. It takes no memory.
     ///
     /// The worker's slot is empty, and `into` has room for the decisions of all variables and a row of `words` cells.
     pub fn take(&mut self, who: u32, into: &mut Sub) -> Taken
@@ -114,9 +144,8 @@ impl<M: DpModel> Board<M> {
         ensures out { result ≡ Taken.Sub → option_map (λ o. o.subproblem) (slot_at self.new.board who) ≡ Some into.new.subproblem }
         ensures untouched { result ≢ Taken.Sub → into.new ≡ into.old }
         ensures into_room { into.old.room ≤ into.new.room }
-        ensures numbers { self.new.numbers ≡ self.old.numbers }
-        ensures settings { KeepsSettings self.old.board self.new.board }
-        ensures room { self.old.room ≤ self.new.room }
+        ensures tag { tag_of self.new ≡ tag_of self.old }
+        ensures room { self.new.room ≡ self.old.room }
     {
         let answer = self.answer();
         if let Taken::Sub = answer {
@@ -135,16 +164,16 @@ impl<M: DpModel> Board<M> {
         if let Some(cause) = self.cause {
             return Taken::Halted(cause);
         }
-        if self.listed.is_empty() {
+        if self.fringe.is_empty() {
             return Taken::WaitForOthers;
         }
-        if self.taken == self.budget || self.next_ticket > GREATEST_TICKET {
+        if self.taken == self.settings.budget || self.next_ticket > GREATEST_TICKET {
             return Taken::Halted(Cause::Budget);
         }
         Taken::Sub
     }
 
-    /// The first open one goes to the worker's slot, and a copy to `into`.
+    /// The first open subproblem goes to the worker's slot, and a copy to `into`.
     fn check_out(&mut self, who: u32, into: &mut Sub)
         requires may { take_gives self.old.board ≡ Taken.Sub }
         requires empty { slice_get self.old.board.slots who ≡ Some None }
@@ -155,26 +184,25 @@ impl<M: DpModel> Board<M> {
         ensures copied { into.new.subproblem ≡ handed_out Taken.Sub self.old.board into.old.subproblem }
         ensures out { option_map (λ o. o.subproblem) (slot_at self.new.board who) ≡ Some into.new.subproblem }
         ensures into_room { into.old.room ≤ into.new.room }
-        ensures numbers { self.new.numbers ≡ self.old.numbers }
-        ensures settings { KeepsSettings self.old.board self.new.board }
-        ensures room { self.old.room ≤ self.new.room }
+        ensures tag { tag_of self.new ≡ tag_of self.old }
+        ensures room { self.new.room ≡ self.old.room }
     {
-        let place = first_place(self.listed.as_slice());
-        let one = self.listed.remove(place);
-        into.copy_from(&one.sub);
-        self.slots[who as usize] = Some(one);
+        let Some((ticket, sub)) = self.fringe.pop_best() else {
+            unreachable!();
+        };
+        into.copy_from(&sub);
+        self.slots[who as usize] = Some(CheckedOut { ticket, sub });
         self.taken += 1;
     }
 
     /// Offers a solution. It becomes the incumbent where it is feasible and its value is greater than the incumbent's, and
-    /// then every open subproblem whose bound is at most its value is dropped. `NoSolution` exactly where the decisions are no
+    /// then every open subproblem whose bound is at most the new reach is dropped. `NoSolution` exactly where the decisions are no
     /// feasible solution, `NotBetter` exactly where the value is at most the incumbent's. It takes no memory.
     pub fn improve(&mut self, decisions: &[u32]) -> Improved
         ensures answer { ImproveGives (M.meaning self.old.numbers) self.old.board decisions.now result }
-        ensures step { self.new.board ≡ after_offer result self.old.board decisions.now (value_of (M.meaning self.old.numbers) decisions.now) }
-        ensures numbers { self.new.numbers ≡ self.old.numbers }
-        ensures settings { KeepsSettings self.old.board self.new.board }
-        ensures room { self.old.room ≤ self.new.room }
+        ensures step { self.new.board ≡ after_offer (M.meaning self.old.numbers) result self.old.board decisions.now }
+        ensures tag { tag_of self.new ≡ tag_of self.old }
+        ensures room { self.new.room ≡ self.old.room }
     {
         let value = solution_value(
             &*self.model,
@@ -190,80 +218,115 @@ impl<M: DpModel> Board<M> {
         }
         copy_decisions(&mut self.best, decisions);
         self.best_value = Some(value);
-        keep_above(&mut self.listed, value);
+        self.fringe.drop_up_to(value + self.settings.within);
         Improved::Yes
     }
 
-    /// Makes `room` at least `count`: so many children have room beside all that is open or out. It fails only where that room
-    /// was missing, and a refusal changes nothing.
+    /// Makes `room` at least `count`: so many children have room in the fringe and in the table beside all that is out. It fails
+    /// only where that room was missing, and a refusal changes nothing.
     pub fn reserve_for(&mut self, count: usize) -> Result<(), OutOfMemory>
         ensures board { self.new.board ≡ self.old.board }
-        ensures numbers { self.new.numbers ≡ self.old.numbers }
-        ensures settings { KeepsSettings self.old.board self.new.board }
+        ensures tag { tag_of self.new ≡ tag_of self.old }
         ensures ok { OnOk result (count ≤ self.new.room) }
         ensures err { OnErr result (self.new ≡ self.old) }
         ensures full { OnErr result (self.old.room < count) }
         ensures room { self.old.room ≤ self.new.room }
     {
+        if count <= self.room {
+            return Ok(());
+        }
         let out = count_full(self.slots.as_slice());
         let Some(more) = count.checked_add(out) else {
             return Err(OutOfMemory);
         };
-        self.listed.reserve(more)
+        self.fringe.reserve(more)?;
+        reserve_rows(&mut self.table, count)?;
+        self.room = count;
+        Ok(())
+    }
+
+    /// The reach: the incumbent's value and the distance of the settings.
+    fn reach(&self) -> Option<i64>
+        ensures { result ≡ reach self.now.board }
+    {
+        match self.best_value {
+            Some(value) => Some(value + self.settings.within),
+            None => None,
+        }
     }
 
     /// Decides the fates of children, all on the board as it is. It takes no memory.
     ///
-    /// A slot is full, there are at most 2^24 children, and `into` is empty and has room for their fates.
+    /// A slot is full, there are at most 2^24 children, each is a prefix of its own with its state and value that is shorter than a
+    /// solution, and `into` is empty and has room for their fates.
     pub fn fates(&self, subs: &[Sub], into: &mut Vec<Fate>)
         requires full { 1 ≤ length (full_slots self.now.board.slots) }
         requires few { length subs.now ≤ 2 ^ 24 }
+        requires own { Each (IsOwn (M.meaning self.now.numbers)) (contents subs.now) }
         requires empty { into.old.items ≡ [] }
         requires room { length subs.now ≤ vec_capacity into.old }
-        ensures fates { into.new.items ≡ fates_on self.now.board (contents subs.now) }
+        ensures fates { into.new.items ≡ fates_on (M.meaning self.now.numbers) self.now.board (contents subs.now) }
         ensures capacity { vec_capacity into.new ≡ vec_capacity into.old }
     {
-        decide_all(self.best_value, self.next_ticket, subs, into);
+        let reach = self.reach();
+        decide_all(
+            &*self.model,
+            reach,
+            &self.fringe,
+            &self.table,
+            self.next_ticket,
+            subs,
+            into,
+        );
     }
 
     /// The worker's slot becomes empty, and the children enter by their fates, in order. `subs` is emptied. It takes no memory.
     ///
     /// The slot is full, `room` is at least the number of children, there are at most 2^24 of them, and `fates` are those of
-    /// this board. Each child properly extends the slot's prefix, is shorter than a solution, and has its own state and value;
-    /// none begins with another; each bound is at most 2^62 in size, and no completion of the child exceeds both it and the
-    /// incumbent. Each completion of the slot's prefix is at most the incumbent or matched by a child.
-    pub fn finish(&mut self, who: u32, subs: &mut Vec<Sub>, fates: &[Fate])
-        requires may { MayFinish (M.meaning self.old.numbers) self.old.board who (contents subs.old.items) fates.now }
+    /// this board. `threshold`, that of the diagram which the children come from, is none or at most the reach. Each child properly
+    /// extends the slot's prefix, is shorter than a solution, and has its own state and value; no child begins with another, and
+    /// those of one depth differ in state; each bound is at most 2^62 in size, and no completion of the child exceeds both it and
+    /// the reach. Each completion of the slot's prefix is at most the reach or matched by a child.
+    pub fn finish(&mut self, who: u32, threshold: Option<i64>, subs: &mut Vec<Sub>, fates: &[Fate])
+        requires may { MayFinish (M.meaning self.old.numbers) self.old.board who threshold (contents subs.old.items) fates.now }
         requires room { length subs.old.items ≤ self.old.room }
-        ensures step { self.new.board ≡ finished_by self.old.board who (contents subs.old.items) }
+        ensures step { self.new.board ≡ finished_by (M.meaning self.old.numbers) self.old.board who (contents subs.old.items) }
         ensures emptied { subs.new.items ≡ [] }
         ensures capacity { vec_capacity subs.new ≡ vec_capacity subs.old }
-        ensures numbers { self.new.numbers ≡ self.old.numbers }
-        ensures settings { KeepsSettings self.old.board self.new.board }
+        ensures tag { tag_of self.new ≡ tag_of self.old }
         ensures room { self.old.room ≤ self.new.room + length subs.old.items }
     {
+        let count = subs.len();
         self.slots[who as usize] = None;
-        self.next_ticket = enter_all(&mut self.listed, self.next_ticket, subs, fates);
+        self.next_ticket = enter_all(
+            &*self.model,
+            &mut self.fringe,
+            &mut self.table,
+            self.next_ticket,
+            subs,
+            fates,
+        );
         self.finished += 1;
+        self.room -= count;
     }
 
-    /// The worker hands its subproblem back, after a halt: it is open again under its own ticket, or dropped where its bound is
-    /// at most the incumbent's value. It takes no memory.
+    /// The worker hands its subproblem back, after a halt: it is open again under its own ticket, unless an open subproblem of its
+    /// depth and state has no less value, or its bound is at most the reach. It takes no memory.
     ///
     /// The slot is full, and a cause is held.
     pub fn give_back(&mut self, who: u32)
         requires full { IsSome (slot_at self.old.board who) }
         requires halted { IsSome self.old.board.cause }
         ensures step { self.new.board ≡ given_back self.old.board who }
-        ensures numbers { self.new.numbers ≡ self.old.numbers }
-        ensures settings { KeepsSettings self.old.board self.new.board }
-        ensures room { self.old.room ≤ self.new.room }
+        ensures tag { tag_of self.new ≡ tag_of self.old }
+        ensures room { self.new.room ≡ self.old.room }
     {
+        let reach = self.reach();
         let slot = std::mem::replace(&mut self.slots[who as usize], None);
         let Some(one) = slot else {
             unreachable!();
         };
-        put_back(&mut self.listed, self.best_value, one);
+        put_back(&mut self.fringe, reach, one);
     }
 
     /// Halts the search. `Memory` becomes the cause only where none is held; `Journal` becomes it always. The budget is no
@@ -271,8 +334,7 @@ impl<M: DpModel> Board<M> {
     pub fn halt(&mut self, cause: Cause)
         requires { cause ≢ Cause.Budget }
         ensures step { self.new.board ≡ halted self.old.board cause }
-        ensures numbers { self.new.numbers ≡ self.old.numbers }
-        ensures settings { KeepsSettings self.old.board self.new.board }
+        ensures tag { tag_of self.new ≡ tag_of self.old }
         ensures room { self.new.room ≡ self.old.room }
     {
         match (self.cause, cause) {
@@ -320,25 +382,28 @@ impl<M: DpModel> Board<M> {
     /// The value of the best solution found, or `None` exactly where there is none yet.
     pub fn incumbent_value(&self) -> Option<i64>
         ensures value { result ≡ incumbent_value self.now.board }
+        ensures kept { IsBoard (M.meaning self.now.numbers) self.now.board }
         ensures good { IsGood (M.meaning self.now.numbers) self.now.board }
     {
         self.best_value
     }
 
-    /// The greatest of the incumbent's value and the bounds of all that is open or out, which no feasible solution exceeds.
-    /// `None` exactly where there is no incumbent and nothing is open or out.
+    /// The greatest of the reach and the bounds of all that is open or out, which no feasible solution exceeds. `None` exactly
+    /// where there is no incumbent and nothing is open or out.
     pub fn bound(&self) -> Option<i64>
         ensures bound { result ≡ bound_of self.now.board }
         ensures greatest { IsGreatest self.now.board result }
         ensures holds { (x : List ℕ) → IsSolution (M.meaning self.now.numbers) x → AtMost (value_of (M.meaning self.now.numbers) x) result }
     {
-        let most = raised_by_slots(self.best_value, self.slots.as_slice());
-        raised_by(most, self.listed.as_slice())
+        let most = raised_by_slots(self.reach(), self.slots.as_slice());
+        raised_by_fringe(most, &self.fringe)
     }
 
-    /// How many subproblems were taken. Where something is open and no cause is held, there are more prefixes than that.
+    /// How many subproblems were taken: no more than the budget. Where something is open and no cause is held, there are more
+    /// prefixes than that.
     pub fn taken(&self) -> u64
         ensures taken { result ≡ self.now.board.taken }
+        ensures budget { result ≤ self.now.board.settings.budget }
         ensures fewer { self.now.board.cause ≡ None → self.now.board.open_ones ≢ [] → result < tree (M.meaning self.now.numbers) }
     {
         self.taken
@@ -360,12 +425,13 @@ impl<M: DpModel> Board<M> {
         self.cause
     }
 
-    /// Whether nothing is open or out. Then the incumbent is best, or there is no feasible solution.
+    /// Whether nothing is open or out. Then each feasible solution is at most the reach; without a distance the incumbent is best,
+    /// or there is no feasible solution.
     pub fn is_explored(&self) -> bool
         ensures explored { result ≡ is_explored self.now.board }
-        ensures best { IsTrue result → IsBest (M.meaning self.now.numbers) (incumbent_value self.now.board) }
-        ensures good { IsGood (M.meaning self.now.numbers) self.now.board }
+        ensures within { IsTrue result → (x : List ℕ) → IsSolution (M.meaning self.now.numbers) x → AtMost (value_of (M.meaning self.now.numbers) x) (reach self.now.board) }
+        ensures best { IsTrue result → self.now.board.settings.within ≡ pos 0 → IsBest (M.meaning self.now.numbers) (incumbent_value self.now.board) }
     {
-        self.listed.is_empty() && count_full(self.slots.as_slice()) == 0
+        self.fringe.is_empty() && count_full(self.slots.as_slice()) == 0
     }
 }

@@ -1,15 +1,16 @@
 //! What a board begins with.
 
 ghost use Rattle.std.specs.Prelude.{◌≡◌, ◌≤◌, [], length, IfOk, option_map, vec_len, vec_capacity};
+ghost use Rattle.board_laws.specs.Steps.{empty_slots, root_bound, root_of, first_incumbent, first_open};
 ghost use Rattle.search_core.specs.Kept.{best_of};
-ghost use Rattle.search_core.specs.Steps.{empty_slots, root_bound, root_of, first_incumbent, first_open};
 
+use crate::checked_out::CheckedOut;
 use dp_model::{DpModel, OutOfMemory, Sub};
-use shared_fringe::Listed;
+use shared_fringe::Fringe;
 use std::alloc::Global;
 
 /// Slots for so many workers, all empty.
-pub fn empty_slots(alloc: Global, workers: u32) -> Result<Vec<Option<Listed>>, OutOfMemory>
+pub fn empty_slots(alloc: Global, workers: u32) -> Result<Vec<Option<CheckedOut>>, OutOfMemory>
     ensures { IfOk result (λ slots. slots.items ≡ empty_slots workers) }
 {
     let mut slots = Vec::with_capacity(alloc, workers as usize)?;
@@ -51,7 +52,7 @@ fn root_bound<M: DpModel>(model: &M, row: &[i64]) -> Option<i64>
 
 /// The root as a subproblem, or `None` where it is known to have no completion.
 fn root_sub<M: DpModel>(alloc: Global, model: &M) -> Result<Option<Sub>, OutOfMemory>
-    ensures { IfOk result (λ root. option_map (λ s. s.subproblem) root ≡ root_of (M.meaning (M.numbers model.now))) }
+    ensures root { IfOk result (λ root. option_map (λ s. s.subproblem) root ≡ root_of (M.meaning (M.numbers model.now))) }
 {
     let mut sub = Sub::blank(alloc, model.vars(), model.words())?;
     write_root(model, &mut sub.row);
@@ -63,15 +64,19 @@ fn root_sub<M: DpModel>(alloc: Global, model: &M) -> Result<Option<Sub>, OutOfMe
     Ok(Some(sub))
 }
 
-/// The list with the root, where there are variables and the root has a bound.
-pub fn first_open<M: DpModel>(alloc: Global, model: &M) -> Result<Vec<Listed>, OutOfMemory>
-    ensures { IfOk result (λ listed. listed.items ≡ first_open (M.meaning (M.numbers model.now))) }
+/// The fringe with the root, where there are variables and the root has a bound.
+pub fn first_open<M: DpModel>(alloc: Global, model: &M) -> Result<Fringe, OutOfMemory>
+    ensures open { IfOk result (λ fringe. fringe.open_ones ≡ first_open (M.meaning (M.numbers model.now))) }
+    ensures words { IfOk result (λ fringe. fringe.words ≡ (M.meaning (M.numbers model.now)).words) }
 {
-    let mut listed = Vec::with_capacity(alloc, 1)?;
-    if model.vars() > 0 {
-        if let Some(sub) = root_sub(alloc, model)? {
-            listed.push_reserved(Listed { ticket: 0, sub });
-        }
+    let mut fringe = Fringe::new(alloc, model.words());
+    if model.vars() == 0 {
+        return Ok(fringe);
     }
-    Ok(listed)
+    let Some(root) = root_sub(alloc, model)? else {
+        return Ok(fringe);
+    };
+    fringe.reserve(1)?;
+    fringe.push(0, root);
+    Ok(fringe)
 }

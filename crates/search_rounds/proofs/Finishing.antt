@@ -1,13 +1,18 @@
 -- What a Finish asks.
-use Rattle.std.proofs.Common.{◌≡◌, ◌≤◌, List, length, Option, Some, None, option_map, refl, sym, ap, subst}
+use Rattle.std.proofs.Common.{◌≡◌, ℕ, ◌≤◌, ℤ, List, length, Option, Some, None, option_map, refl, sym, ap, subst}
 use Rattle.dp_model.specs.Dp.{Dp}
+use Rattle.dp_model.specs.Numbers.{AtMost, OptionAtMost}
+use Rattle.dp_model.specs.Prefixes.{IsCompletion, value_of}
 use Rattle.dp_model.specs.Subproblem.{Subproblem}
-use Rattle.search_core.specs.Tickets.{Ticketed}
-use Rattle.search_core.specs.declared.fate.Fate.{Fate}
-use Rattle.search_core.specs.Board.{BoardState, full_slots, slot_at}
-use Rattle.search_core.specs.Fates.{fates_on}
-use Rattle.search_core.specs.Finishing.{MayFinish}
-use Rattle.search_rounds.specs.Branched.{IsBranched}
+use Rattle.dp_laws.specs.Children.{AreChildren}
+use Rattle.dp_laws.proofs.Reaches.{at-most-raised}
+use Rattle.shared_fringe.specs.Tickets.{Ticketed}
+use Rattle.board_laws.specs.Board.{BoardState, incumbent_value, reach, full_slots, slot_at}
+use Rattle.board_laws.specs.Fates.{fates_on}
+use Rattle.board_laws.specs.Finishing.{MayFinish}
+use Rattle.board_laws.specs.GoodBoard.{IsBoard}
+use Rattle.board_laws.specs.declared.fate.Fate.{Fate}
+use Rattle.board_laws.proofs.Carrying.{reach-above}
 use Rattle.search_rounds.proofs.Taking.{first_full}
 
 -- what is out, with its ticket
@@ -23,9 +28,22 @@ out_of (Some o) c is = record { out = o; full = refl; same = cc }
 pub out_full : (b : BoardState) (c : Subproblem) → option_map (λ (o : Ticketed). o.subproblem) (slot_at b 0) ≡ Some c → 1 ≤ length (full_slots b.slots)
 out_full b c is = let at = out_of (slot_at b 0) c is in first_full b.slots at.out at.full
 
-pub may_finish : (dp : Dp) (b : BoardState) (c : Subproblem) (cs : List Subproblem) (fs : List Fate) → option_map (λ (o : Ticketed). o.subproblem) (slot_at b 0) ≡ Some c
-    → IsBranched dp b c.decisions cs → fs ≡ fates_on b cs → MayFinish dp b 0 cs fs
-may_finish dp b c cs fs is branched fates =
+pub may_finish : (dp : Dp) (b : BoardState) (c : Subproblem) (threshold : Option ℤ) (cs : List Subproblem) (fs : List Fate) → option_map (λ (o : Ticketed). o.subproblem) (slot_at b 0) ≡ Some c
+    → AreChildren dp (reach b) c.decisions cs → OptionAtMost threshold (reach b) → fs ≡ fates_on dp b cs → MayFinish dp b 0 threshold cs fs
+may_finish dp b c threshold cs fs is children below fates =
     let at = out_of (slot_at b 0) c is in
-    let here : IsBranched dp b at.out.subproblem.decisions cs = subst (λ p. IsBranched dp b p cs) (ap (λ s. s.decisions) (sym at.same)) branched in
-    record { parent = at.out; full = at.full; few = here.few; fates = fates; own = here.own; apart = here.apart; far = here.far; held = here.held; matched = here.matched }
+    record {
+      parent = at.out;
+      full = at.full;
+      below = below;
+      children = subst (λ p. AreChildren dp (reach b) p cs) (ap (λ s. s.decisions) (sym at.same)) children;
+      fates = fates;
+    }
+
+-- the incumbent's value is at most the reach
+pub incumbent_below : (dp : Dp) (b : BoardState) → IsBoard dp b → OptionAtMost (incumbent_value b) (reach b)
+incumbent_below dp b g = reach-above b.settings.within (incumbent_value b) g.settings.within_least
+
+-- so what is at most the incumbent is at most the reach
+pub below_reach : (dp : Dp) (b : BoardState) → IsBoard dp b → (p : List ℕ) → ((x : List ℕ) → IsCompletion dp p x → AtMost (value_of dp x) (incumbent_value b)) → (x : List ℕ) → IsCompletion dp p x → AtMost (value_of dp x) (reach b)
+below_reach dp b g p best x k = at-most-raised (value_of dp x) (incumbent_value b) (reach b) (incumbent_below dp b g) (best x k)

@@ -1,20 +1,21 @@
 -- Rounds on a board, one after another.
-use Rattle.std.proofs.Common.{◌≡◌, ℕ, ◌+◌, ◌-◌, ◌^◌, ◌<◌, ◌≤◌, List, [], length, slice_get, slice_set, Bool, true, false, ◌||◌, nat_eq, nat_lt, Option, Some, None, option_map, IsTrue, refl, sym, ◌∙◌, ap, subst, arith}
+use Rattle.std.proofs.Common.{◌≡◌, ℕ, ◌+◌, ◌-◌, ◌^◌, ◌<◌, ◌≤◌, ℤ, List, [], ◌∷◌, ◌++◌, length, slice_get, slice_set, Bool, true, false, ◌||◌, nat_eq, nat_lt, Option, Some, None, option_map, IsTrue, refl, sym, ◌∙◌, ap, subst, arith}
+use Rattle.std.specs.Prelude.{IsSome}
 use Rattle.dp_model.specs.Counts.{tree}
 use Rattle.dp_model.specs.Dp.{Dp}
-use Rattle.dp_model.specs.Numbers.{OptionAtMost}
 use Rattle.dp_model.specs.Subproblem.{Subproblem}
-use Rattle.search_core.specs.Tickets.{Ticketed}
-use Rattle.search_core.specs.declared.cause.Cause.{Cause}
-use Rattle.search_core.specs.declared.cause.Cause.TheVariants.{Memory}
-use Rattle.search_core.specs.Board.{BoardState, incumbent_value, full_slots, slot_of, slot_at, is_explored}
-use Rattle.search_core.specs.GoodBoard.{IsGood}
-use Rattle.search_core.specs.Steps.{finished_by, given_back, given_back_from, cause_after, halted}
-use Rattle.search_core.proofs.Kids.{next-many}
+use Rattle.shared_fringe.specs.Tickets.{Ticketed}
+use Rattle.board_laws.specs.Board.{BoardState, full_slots, slot_of, slot_at, is_explored}
+use Rattle.board_laws.specs.GoodBoard.{IsGood}
+use Rattle.board_laws.specs.Runs.{Step, IsRun, MayGiveBack}
+use Rattle.board_laws.specs.Runs.Step.{GiveBack, Halt}
+use Rattle.board_laws.specs.Steps.{finished_by, given_back, given_back_from, cause_after, halted}
+use Rattle.board_laws.specs.declared.cause.Cause.{Cause}
+use Rattle.board_laws.specs.declared.cause.Cause.TheVariants.{Memory}
+use Rattle.board_laws.proofs.Running.{run-then, run-one}
 use Rattle.search_rounds.specs.Later.{IsCauseAfter, IsLater, HasEnded, IsComplete}
 use Rattle.search_rounds.specs.Offered.{IsOffered}
 use Rattle.search_rounds.specs.UnderWay.{IsUnderWay}
-use Rattle.search_rounds.proofs.Offers.{OptionAtMost-refl, OptionAtMost-trans}
 use Rattle.search_rounds.proofs.Taking.{set_back, slot_set}
 
 cause_after-refl : (cause : Option Cause) → IsCauseAfter cause cause
@@ -26,34 +27,29 @@ cause_after-trans None None c first then = then
 cause_after-trans None (Some cause) c first then = subst (IsCauseAfter None) (sym then) first
 cause_after-trans (Some cause) b c first then = subst (λ o. IsCauseAfter o c) first then
 
-pub later_refl : (b : BoardState) → IsLater b b
-later_refl b = record { slots = refl; budget = refl; taken = omega arith; finished = omega arith; next_ticket = omega arith; cause = cause_after-refl b.cause; better = OptionAtMost-refl (incumbent_value b) }
+pub later_refl : (dp : Dp) (b : BoardState) → IsLater dp b b
+later_refl dp b = record { steps = []; run = refl; slots = refl; cause = cause_after-refl b.cause }
 
-pub later_trans : (a b c : BoardState) → IsLater a b → IsLater b c → IsLater a c
-later_trans a b c first then = record {
+pub later_trans : (dp : Dp) (a b c : BoardState) → IsLater dp a b → IsLater dp b c → IsLater dp a c
+later_trans dp a b c first then = record {
+  steps = first.steps ++ then.steps;
+  run = run-then dp a b c first.steps then.steps first.run then.run;
   slots = then.slots ∙ first.slots;
-  budget = then.budget ∙ first.budget;
-  taken = (let one = first.taken in let two = then.taken in omega arith);
-  finished = (let one = first.finished in let two = then.finished in omega arith);
-  next_ticket = (let one = first.next_ticket in let two = then.next_ticket in omega arith);
   cause = cause_after-trans a.cause b.cause c.cause first.cause then.cause;
-  better = OptionAtMost-trans (incumbent_value a) (incumbent_value b) (incumbent_value c) first.better then.better;
 }
 
 -- what is under way stays so while solutions are offered
-pub still_under_way : (dp : Dp) (b taken now : BoardState) (c : Subproblem) → IsUnderWay dp b taken c → IsOffered taken now → IsUnderWay dp b now c
+pub still_under_way : (dp : Dp) (b taken now : BoardState) (c : Subproblem) → IsUnderWay dp b taken c → IsOffered dp taken now → IsUnderWay dp b now c
 still_under_way dp b taken now c way offered = record {
+  steps = way.steps ++ offered.steps;
+  run = run-then dp b taken now way.steps offered.steps way.run offered.run;
   out = way.out;
   same = way.same;
   own = way.own;
   slots = offered.slots ∙ way.slots;
   taken = offered.taken ∙ way.taken;
-  finished = offered.finished ∙ way.finished;
-  next_ticket = offered.next_ticket ∙ way.next_ticket;
-  budget = offered.budget ∙ way.budget;
   began_without = way.began_without;
   without_cause = offered.cause ∙ way.without_cause;
-  better = OptionAtMost-trans (incumbent_value b) (incumbent_value taken) (incumbent_value now) way.better offered.better;
 }
 
 -- what is under way is out
@@ -63,37 +59,33 @@ way_out dp b now c way empty = ap (λ s. slot_of (slice_get s 0)) way.slots ∙ 
 pub way_out_is : (dp : Dp) (b now : BoardState) (c : Subproblem) → IsUnderWay dp b now c → slice_get b.slots 0 ≡ Some None → option_map (λ (o : Ticketed). o.subproblem) (slot_at now 0) ≡ Some c
 way_out_is dp b now c way empty = ap (option_map (λ (o : Ticketed). o.subproblem)) (way_out dp b now c way empty) ∙ ap Some way.same
 
--- a round that ends with the slot empty again
-round_later : (dp : Dp) (b now later : BoardState) (c : Subproblem) → IsUnderWay dp b now c → slice_get b.slots 0 ≡ Some None → later.slots ≡ slice_set now.slots 0 None → later.budget ≡ now.budget
-    → now.taken ≤ later.taken → now.finished ≤ later.finished → now.next_ticket ≤ later.next_ticket → IsCauseAfter None later.cause → incumbent_value later ≡ incumbent_value now → IsLater b later
-round_later dp b now later c way empty slots budget taken finished next cause same =
-    let one_more = way.taken in
-    let done = way.finished in
-    let given = way.next_ticket in
-    record {
-      slots = slots ∙ (ap (λ s. slice_set s 0 None) way.slots ∙ set_back b.slots (Some way.out) empty);
-      budget = budget ∙ way.budget;
-      taken = omega arith;
-      finished = omega arith;
-      next_ticket = omega arith;
-      cause = subst (λ o. IsCauseAfter o later.cause) (sym way.began_without) cause;
-      better = subst (OptionAtMost (incumbent_value b)) (sym same) way.better;
-    }
-
 -- a round that finishes
-pub finished_later : (dp : Dp) (b now after : BoardState) (c : Subproblem) (cs : List Subproblem) → IsUnderWay dp b now c → slice_get b.slots 0 ≡ Some None → after ≡ finished_by now 0 cs → IsLater b after
-finished_later dp b now after c cs way empty step =
-    let tickets = next-many (incumbent_value now) now.next_ticket cs in
-    subst (IsLater b) (sym step)
-    (round_later dp b now (finished_by now 0 cs) c way empty refl refl (omega arith) (omega arith) (omega arith) (subst (IsCauseAfter None) (sym way.without_cause) tt) refl)
+pub finished_later : (dp : Dp) (b now after : BoardState) (c : Subproblem) (cs : List Subproblem) (steps : List Step) → IsUnderWay dp b now c → slice_get b.slots 0 ≡ Some None → IsRun dp now steps after → after ≡ finished_by dp now 0 cs → IsLater dp b after
+finished_later dp b now after c cs steps way empty run step = record {
+  steps = way.steps ++ steps;
+  run = run-then dp b now after way.steps steps way.run run;
+  slots = ap (λ l. l.slots) step ∙ (ap (λ s. slice_set s 0 None) way.slots ∙ set_back b.slots (Some way.out) empty);
+  cause = subst (λ o. IsCauseAfter o after.cause) (sym way.began_without) (subst (IsCauseAfter None) (sym (ap (λ l. l.cause) step ∙ way.without_cause)) tt);
+}
+
+-- it took one more
+pub finished_taken : (dp : Dp) (b now after : BoardState) (c : Subproblem) (cs : List Subproblem) → IsUnderWay dp b now c → after ≡ finished_by dp now 0 cs → b.taken + 1 ≤ after.taken
+finished_taken dp b now after c cs way step = let same = ap (λ l. l.taken) step in let more = way.taken in omega arith
 
 -- a round that gives up
-pub given_up_later : (dp : Dp) (b now after : BoardState) (c : Subproblem) → IsUnderWay dp b now c → slice_get b.slots 0 ≡ Some None → after ≡ given_back (halted now Memory) 0 → IsLater b after
+pub given_up_later : (dp : Dp) (b now after : BoardState) (c : Subproblem) → IsUnderWay dp b now c → slice_get b.slots 0 ≡ Some None → after ≡ given_back (halted now Memory) 0 → IsLater dp b after
 given_up_later dp b now after c way empty step =
-    let is : after ≡ given_back_from (halted now Memory) 0 (Some way.out) = step ∙ ap (given_back_from (halted now Memory) 0) (way_out dp b now c way empty) in
-    subst (IsLater b) (sym is)
-    (round_later dp b now (given_back_from (halted now Memory) 0 (Some way.out)) c way empty refl refl (omega arith) (omega arith) (omega arith)
-    (subst (λ o. IsCauseAfter None (cause_after o Memory)) (sym way.without_cause) refl) refl)
+    let halt = halted now Memory in
+    let full : slot_at halt 0 ≡ Some way.out = way_out dp b now c way empty in
+    let held : halt.cause ≡ Some Memory = ap (λ o. cause_after o Memory) way.without_cause in
+    let is : after ≡ given_back_from halt 0 (Some way.out) = step ∙ ap (given_back_from halt 0) full in
+    let may : MayGiveBack halt 0 = record { full = subst (λ s. IsSome s) (sym full) refl; halted = subst (λ o. IsSome o) (sym held) refl } in
+    record {
+      steps = way.steps ++ Halt Memory ∷ GiveBack 0 ∷ [];
+      run = run-then dp b now after way.steps (Halt Memory ∷ GiveBack 0 ∷ []) way.run (tt, (may, sym step));
+      slots = ap (λ l. l.slots) is ∙ (ap (λ s. slice_set s 0 None) way.slots ∙ set_back b.slots (Some way.out) empty);
+      cause = subst (λ o. IsCauseAfter o after.cause) (sym way.began_without) (subst (IsCauseAfter None) (sym (ap (λ l. l.cause) is ∙ held)) refl);
+    }
 
 -- The end.
 
@@ -115,6 +107,6 @@ complete dp b good ended idle fewer enough few none =
       | false ↦ λ is.
           let something : b.open_ones ≡ [] → ⊥ = λ nothing. explored_or_not b idle nothing is in
           let less = fewer none something in
-          let tickets = good.counts.tickets in
-          absurd (budget_left b.taken b.budget b.next_ticket (omega arith) (omega arith) (ended is none))
+          let tickets = good.shares in
+          absurd (budget_left b.taken b.settings.budget b.next_ticket (omega arith) (omega arith) (ended is none))
     ] refl

@@ -3,6 +3,7 @@ pub mod Children
 pub mod Collected
 pub mod Extensions
 pub mod Finishing
+pub mod Joining
 pub mod LaterBoards
 pub mod Offers
 pub mod Taking

@@ -2,18 +2,18 @@
 use Rattle.std.proofs.Common.{◌≡◌, ◌≤◌, List, [], ◌∷◌, ◌++◌, length, slice_get, slice_set, drop, Bool, true, false, cond, Option, Some, None, refl, sym, ◌∙◌, ap, subst, arith}
 use Rattle.dp_model.specs.Dp.{Dp}
 use Rattle.dp_model.specs.Lists.{Each}
-use Rattle.dp_model.specs.Numbers.{OptionAtMost}
 use Rattle.dp_model.specs.Subproblem.{Subproblem, IsOwn}
-use Rattle.search_core.specs.Firsts.{first_from, first_taken}
-use Rattle.search_core.specs.Tickets.{Ticketed}
-use Rattle.search_core.specs.declared.cause.Cause.{Cause}
-use Rattle.search_core.specs.declared.taken.Taken.{Taken}
-use Rattle.search_core.specs.declared.taken.Taken.TheVariants.{Sub, Finished}
-use Rattle.search_core.specs.Board.{BoardState, incumbent_value, full_slots, slot_of, is_explored}
-use Rattle.search_core.specs.GoodBoard.{IsGood}
-use Rattle.search_core.specs.Taking.{take_open, take_unless, take_gives, checked_out, after_answer, after_take, copy_of, handed_out}
+use Rattle.shared_fringe.specs.Firsts.{first_from, first_taken}
+use Rattle.shared_fringe.specs.Tickets.{Ticketed}
+use Rattle.board_laws.specs.Board.{BoardState, full_slots, slot_of, is_explored}
+use Rattle.board_laws.specs.GoodBoard.{IsBoard}
+use Rattle.board_laws.specs.Runs.Step.{Take}
+use Rattle.board_laws.specs.Taking.{take_open, take_unless, take_gives, checked_out, after_answer, after_take, copy_of, handed_out}
+use Rattle.board_laws.specs.declared.cause.Cause.{Cause}
+use Rattle.board_laws.specs.declared.taken.Taken.{Taken}
+use Rattle.board_laws.specs.declared.taken.Taken.TheVariants.{Sub, Finished}
+use Rattle.board_laws.proofs.Running.{run-one}
 use Rattle.search_rounds.specs.UnderWay.{IsUnderWay}
-use Rattle.search_rounds.proofs.Offers.{OptionAtMost-refl}
 
 -- The first slot.
 
@@ -60,7 +60,7 @@ own_first : (dp : Dp) (o : Ticketed) (full rest fringe : List Ticketed) → full
 own_first dp o full rest fringe e own = let all : Each (λ o. IsOwn dp o.subproblem) ((o ∷ rest) ++ fringe) = subst (λ os. Each (λ o. IsOwn dp o.subproblem) (os ++ fringe)) e own in all.0
 
 pub taken_under_way : (dp : Dp) (b now : BoardState) (c before : Subproblem) → take_gives b ≡ Sub → now ≡ after_take b 0 → c ≡ handed_out Sub b before
-    → full_slots b.slots ≡ [] → 1 ≤ length b.slots → IsGood dp now → IsUnderWay dp b now c
+    → full_slots b.slots ≡ [] → 1 ≤ length b.slots → IsBoard dp now → IsUnderWay dp b now c
 taken_under_way dp b now c before gives step copied idle some good =
     let by_cause = from_cause b b.cause (from_explored (is_explored b) (take_unless b b.cause) gives) in
     let by_open = from_open b b.open_ones by_cause.1 in
@@ -70,15 +70,13 @@ taken_under_way dp b now c before gives step copied idle some good =
     let slots : now.slots ≡ slice_set b.slots 0 (Some first) = ap (λ n. n.slots) is in
     let full : full_slots now.slots ≡ first ∷ full_slots (drop 1 b.slots) = ap full_slots slots ∙ first_set b.slots first some in
     record {
+      steps = Take 0 ∷ [];
+      run = run-one dp b (Take 0) now (first_empty b.slots idle some) step;
       out = first;
       same = same;
       own = subst (IsOwn dp) same (own_first dp first (full_slots now.slots) (full_slots (drop 1 b.slots)) now.open_ones full good.own);
       slots = slots;
       taken = ap (λ n. n.taken) is;
-      finished = ap (λ n. n.finished) is;
-      next_ticket = ap (λ n. n.next_ticket) is;
-      budget = ap (λ n. n.budget) is;
       began_without = by_cause.0;
       without_cause = ap (λ n. n.cause) is ∙ by_cause.0;
-      better = subst (λ n. OptionAtMost (incumbent_value b) (incumbent_value n)) (sym is) (OptionAtMost-refl (incumbent_value b));
     }

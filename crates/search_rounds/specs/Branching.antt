@@ -1,9 +1,9 @@
 -- One step of branching.
-use Rattle.std.specs.Prelude.{ℕ, ℤ, ◌+ℤ◌, List, [], ◌∷◌, ◌++◌, length, filter, Option, Some, None}
-use Rattle.std.specs.List.{flat_map}
-use Rattle.dp_model.specs.Decisions.{below}
+use Rattle.std.specs.Prelude.{◌≡◌, ℕ, ℤ, ◌+ℤ◌, ◌≤ℤ◌, true, false, List, [], ◌∷◌, ◌++◌, length, slice_get, slice_set, Option, Some, None, ◌⊎◌}
 use Rattle.dp_model.specs.Dp.{Dp}
+use Rattle.dp_model.specs.Lists.{Each}
 use Rattle.dp_model.specs.Prefixes.{state_of, value_of}
+use Rattle.dp_model.specs.Rows.{row_same}
 use Rattle.dp_model.specs.Subproblem.{Subproblem}
 
 -- the prefix with its own state and value, its bound the value plus this rough bound; nothing where that is none
@@ -15,10 +15,19 @@ bounded_by dp p (Some rough) = record { decisions = p; row = state_of dp p; valu
 abbrev pub bounded : Dp → List ℕ → List Subproblem
 bounded dp p = bounded_by dp p (dp.rough (length p) (state_of dp p))
 
--- the extensions of a prefix by the allowed decisions of a list that are not known to have no completion
-abbrev pub extended_by : Dp → List ℕ → List ℕ → List Subproblem
-extended_by dp p ds = flat_map (λ d. bounded dp (p ++ d ∷ [])) (filter (dp.allowed (length p) (state_of dp p)) ds)
+-- the child is one more, where no other has its state
+pub record IsAdded (old : List Subproblem) (c : Subproblem) (new : List Subproblem) : Type 0 where
+  pub others : Each (λ b. row_same b.row c.row ≡ false) old
+  pub is : new ≡ old ++ c ∷ []
 
--- the children of a prefix by one-step branching
-abbrev pub children_of : Dp → List ℕ → List Subproblem
-children_of dp p = extended_by dp p (below (dp.choices (length p)))
+-- of the child and another one of its state, that of the greater value has the other's place
+pub record IsBeside (old : List Subproblem) (c : Subproblem) (new : List Subproblem) : Type 0 where
+  pub place : ℕ
+  pub other : Subproblem
+  pub at : slice_get old place ≡ Some other
+  pub same : row_same other.row c.row ≡ true
+  pub greater : ((c.value ≤ℤ other.value) × (new ≡ old)) ⊎ ((other.value ≤ℤ c.value) × (new ≡ slice_set old place c))
+
+-- the child joins the others, and no two have one state
+abbrev pub Joins : List Subproblem → Subproblem → List Subproblem → Type 0
+Joins old c new = IsAdded old c new ⊎ IsBeside old c new

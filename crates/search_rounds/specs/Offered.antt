@@ -1,14 +1,15 @@
 -- What offered solutions change.
-use Rattle.std.specs.Prelude.{◌≡◌}
-use Rattle.dp_model.specs.Numbers.{OptionAtMost}
-use Rattle.search_core.specs.Board.{BoardState, incumbent_value}
+use Rattle.std.specs.Prelude.{◌≡◌, List}
+use Rattle.dp_model.specs.Dp.{Dp}
+use Rattle.board_laws.specs.Board.{BoardState}
+use Rattle.board_laws.specs.Runs.{Step, IsRun}
 
--- a board after offers: the incumbent is no worse, and beside it only what is open may have changed
-pub record IsOffered (b later : BoardState) : Type 0 where
-  pub better : OptionAtMost (incumbent_value b) (incumbent_value later)
+-- a board after offers, which are steps of a run: beside the incumbent only what is open may have changed
+pub record IsOffered (dp : Dp) (b later : BoardState) : Type 0 where
+  pub steps : List Step
+  pub run : IsRun dp b steps later
   pub slots : later.slots ≡ b.slots
   pub taken : later.taken ≡ b.taken
   pub finished : later.finished ≡ b.finished
-  pub budget : later.budget ≡ b.budget
   pub next_ticket : later.next_ticket ≡ b.next_ticket
   pub cause : later.cause ≡ b.cause

@@ -1,11 +1,13 @@
 //! The children of a prefix.
 
-ghost use Rattle.std.specs.Prelude.{◌≡◌, ℕ, ◌+◌, ◌<◌, ◌≤◌, ℤ, ◌+ℤ◌, [], ◌∷◌, ◌++◌, length, IfOk, OnOk, option_to_list, vec_capacity};
+ghost use Rattle.std.specs.Prelude.{◌≡◌, ◌≢◌, ℕ, ◌+◌, ◌<◌, ◌≤◌, ℤ, ◌+ℤ◌, true, false, [], ◌∷◌, ◌++◌, length, slice_get, Some, None, option_map, MatchOption, IfOk, OnOk, option_to_list, vec_len, vec_capacity};
 ghost use Rattle.dp_model.specs.Dp.{IsAllowed};
-ghost use Rattle.dp_model.specs.Prefixes.{state_of, value_of};
+ghost use Rattle.dp_model.specs.Lists.{Each};
+ghost use Rattle.dp_model.specs.Rows.{row_same};
 ghost use Rattle.dp_model.specs.Subproblem.{IsOwn};
-ghost use Rattle.search_core.specs.Finishing.{contents};
-ghost use Rattle.search_rounds.specs.Branching.{bounded, children_of};
+ghost use Rattle.dp_laws.specs.Children.{AreChildren};
+ghost use Rattle.search_core.specs.Contents.{contents};
+ghost use Rattle.search_rounds.specs.Branching.{bounded, Joins};
 
 use dp_model::{DpModel, OutOfMemory, Sub};
 use std::alloc::Global;
@@ -63,7 +65,43 @@ fn child_by<M: DpModel>(
     Ok(Some(child))
 }
 
-/// Makes the children of a prefix by one-step branching, in order of decision. The row is written over.
+/// Whether two rows are the same.
+fn row_same(one: &[i64], other: &[i64]) -> bool
+    ensures { result ≡ row_same one.now other.now }
+{
+    one == other
+}
+
+/// Where a child of the state stands, or `None` exactly where there is none.
+fn place_of_row(children: &[Sub], row: &[i64]) -> Option<usize>
+    ensures { MatchOption result (Each (λ h. row_same h.subproblem.row row.now ≡ false) children.now) (λ place. (place < length children.now) × (option_map (λ h. row_same h.subproblem.row row.now) (slice_get children.now place) ≡ Some true)) }
+{
+    for (place, child) in children.iter().enumerate() {
+        if row_same(child.row.as_slice(), row) {
+            return Some(place);
+        }
+    }
+    None
+}
+
+/// The child joins the others: of two of one state, that of the greater value stays.
+fn join(children: &mut Vec<Sub>, child: Sub)
+    requires { vec_len children.old < vec_capacity children.old }
+    ensures joined { Joins (contents children.old.items) child.subproblem (contents children.new.items) }
+    ensures capacity { vec_capacity children.new ≡ vec_capacity children.old }
+{
+    let place = place_of_row(children.as_slice(), child.row.as_slice());
+    let Some(place) = place else {
+        children.push_reserved(child);
+        return;
+    };
+    if children[place].value < child.value {
+        children[place] = child;
+    }
+}
+
+/// Makes the children of a prefix by one-step branching, in order of decision; of those of one state, that of the greatest value.
+/// The row is written over.
 pub fn make_children<M: DpModel>(
     alloc: Global,
     parent: &Sub,
@@ -72,9 +110,10 @@ pub fn make_children<M: DpModel>(
     model: &M,
 ) -> Result<(), OutOfMemory>
     requires own { IsOwn (M.meaning (M.numbers model.now)) parent.now.subproblem }
+    requires more { length parent.now.subproblem.decisions + 1 ≢ (M.meaning (M.numbers model.now)).vars }
     requires cells { length row.old ≡ (M.meaning (M.numbers model.now)).words }
     requires none { children.old.items ≡ [] }
-    ensures { OnOk result (contents children.new.items ≡ children_of (M.meaning (M.numbers model.now)) parent.now.subproblem.decisions) }
+    ensures { OnOk result (AreChildren (M.meaning (M.numbers model.now)) None parent.now.subproblem.decisions (contents children.new.items)) }
 {
     let depth = parent.decisions.len();
     let choices = model.choices(depth);
@@ -82,7 +121,7 @@ pub fn make_children<M: DpModel>(
     'decisions: for decision in 0..choices {
         if model.allowed(depth, parent.row.as_slice(), decision) {
             if let Some(child) = child_by(alloc, parent, decision, row, model)? {
-                children.push_reserved(child);
+                join(children, child);
             }
         }
     }

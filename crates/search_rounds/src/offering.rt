@@ -4,7 +4,8 @@ ghost use Rattle.std.specs.Prelude.{◌≡◌, ℕ, ◌+◌, ◌<◌, ◌≤◌,
 ghost use Rattle.dp_model.specs.Numbers.{AtMost};
 ghost use Rattle.dp_model.specs.Prefixes.{IsSolution, IsCompletion, value_of};
 ghost use Rattle.dp_model.specs.Subproblem.{IsOwn};
-ghost use Rattle.search_core.specs.Board.{incumbent_value};
+ghost use Rattle.board_laws.specs.Board.{incumbent_value};
+ghost use Rattle.search_core.specs.View.{tag_of};
 ghost use Rattle.search_rounds.specs.Offered.{IsOffered};
 
 use dp_model::{DpModel, Sub};
@@ -16,9 +17,9 @@ pub fn offer_all<M: DpModel>(board: &mut Board<M>, taken: &mut Sub, model: &M)
     requires own { IsOwn (M.meaning (M.numbers model.now)) taken.old.subproblem }
     requires last { length taken.old.subproblem.decisions + 1 ≡ (M.meaning (M.numbers model.now)).vars }
     requires room { (M.meaning (M.numbers model.now)).vars ≤ taken.old.room }
-    ensures offered { IsOffered board.old.board board.new.board }
+    ensures offered { IsOffered (M.meaning (M.numbers model.now)) board.old.board board.new.board }
     ensures best { (x : List ℕ) → IsCompletion (M.meaning (M.numbers model.now)) taken.old.subproblem.decisions x → AtMost (value_of (M.meaning (M.numbers model.now)) x) (incumbent_value board.new.board) }
-    ensures numbers { board.new.numbers ≡ board.old.numbers }
+    ensures tag { tag_of board.new ≡ tag_of board.old }
     ensures taken { taken.new.subproblem ≡ taken.old.subproblem }
     ensures room { taken.old.room ≤ taken.new.room }
 {
@@ -33,9 +34,9 @@ pub fn offer_all<M: DpModel>(board: &mut Board<M>, taken: &mut Sub, model: &M)
 /// Offers the prefix with one decision more. It takes no memory.
 fn offer<M: DpModel>(board: &mut Board<M>, taken: &mut Sub, decision: u32)
     requires { length taken.old.subproblem.decisions < taken.old.room }
-    ensures offered { IsOffered board.old.board board.new.board }
+    ensures offered { IsOffered (M.meaning board.old.numbers) board.old.board board.new.board }
     ensures best { IsSolution (M.meaning board.old.numbers) (taken.old.subproblem.decisions ++ decision ∷ []) → AtMost (value_of (M.meaning board.old.numbers) (taken.old.subproblem.decisions ++ decision ∷ [])) (incumbent_value board.new.board) }
-    ensures numbers { board.new.numbers ≡ board.old.numbers }
+    ensures tag { tag_of board.new ≡ tag_of board.old }
     ensures taken { taken.new.subproblem ≡ taken.old.subproblem }
     ensures room { taken.old.room ≤ taken.new.room }
 {

@@ -1,12 +1,14 @@
 //! Rounds, and the search that they make.
 
-ghost use Rattle.std.specs.Prelude.{◌≡◌, ℕ, ◌+◌, ◌≤◌, true, false, [], length, slice_get, IsSome, OnOk, option_map, Some, None, vec_capacity};
-ghost use Rattle.dp_model.specs.Counts.{tree};
+ghost use Rattle.std.specs.Prelude.{◌≡◌, ◌+◌, ◌≤◌, true, false, [], ◌∷◌, length, IsSome, OnOk, option_map, Some, None, vec_capacity};
 ghost use Rattle.dp_model.specs.Subproblem.{IsOwn};
-ghost use Rattle.search_core.specs.Board.{full_slots, slot_at};
-ghost use Rattle.search_core.specs.Finishing.{contents};
-ghost use Rattle.search_core.specs.Steps.{finished_by, given_back, halted};
-ghost use Rattle.search_rounds.specs.Branched.{IsBranched};
+ghost use Rattle.dp_laws.specs.Children.{AreChildren};
+ghost use Rattle.board_laws.specs.Board.{incumbent_value, reach, full_slots, slot_at};
+ghost use Rattle.board_laws.specs.Runs.{IsRun};
+ghost use Rattle.board_laws.specs.Runs.Step.{Finish};
+ghost use Rattle.board_laws.specs.Steps.{finished_by, given_back, halted};
+ghost use Rattle.search_core.specs.Contents.{contents};
+ghost use Rattle.search_core.specs.View.{tag_of};
 ghost use Rattle.search_rounds.specs.Later.{IsLater, HasEnded, IsComplete};
 ghost use Rattle.search_rounds.specs.Offered.{IsOffered};
 ghost use Rattle.search_rounds.specs.Prepared.{HasRoom, IsPrepared};
@@ -30,8 +32,8 @@ pub fn explore<M: DpModel>(alloc: Global, board: &mut Board<M>, desk: &mut Desk,
     requires some { 1 ≤ length board.old.board.slots }
     requires idle { full_slots board.old.board.slots ≡ [] }
     requires prepared { IsPrepared (M.meaning (M.numbers model.now)) desk.old }
-    ensures numbers { board.new.numbers ≡ board.old.numbers }
-    ensures later { IsLater board.old.board board.new.board }
+    ensures tag { tag_of board.new ≡ tag_of board.old }
+    ensures later { IsLater (M.meaning (M.numbers model.now)) board.old.board board.new.board }
     ensures ended { HasEnded board.new.board }
     ensures complete { IsComplete (M.meaning (M.numbers model.now)) board.new.board }
     ensures prepared { IsPrepared (M.meaning (M.numbers model.now)) desk.new }
@@ -48,10 +50,10 @@ fn round<M: DpModel>(alloc: Global, board: &mut Board<M>, desk: &mut Desk, model
     requires some { 1 ≤ length board.old.board.slots }
     requires idle { full_slots board.old.board.slots ≡ [] }
     requires prepared { IsPrepared (M.meaning (M.numbers model.now)) desk.old }
-    ensures numbers { board.new.numbers ≡ board.old.numbers }
-    ensures later { IsLater board.old.board board.new.board }
-    ensures finished { result ≡ true → board.new.board.finished ≡ board.old.board.finished + 1 }
-    ensures counts { result ≡ true → board.new.board.finished ≤ tree (M.meaning (M.numbers model.now)) }
+    ensures tag { tag_of board.new ≡ tag_of board.old }
+    ensures later { IsLater (M.meaning (M.numbers model.now)) board.old.board board.new.board }
+    ensures taken { result ≡ true → board.old.board.taken + 1 ≤ board.new.board.taken }
+    ensures budget { result ≡ true → board.new.board.taken ≤ board.new.board.settings.budget }
     ensures ended { result ≡ false → HasEnded board.new.board }
     ensures prepared { IsPrepared (M.meaning (M.numbers model.now)) desk.new }
 {
@@ -63,8 +65,8 @@ fn round<M: DpModel>(alloc: Global, board: &mut Board<M>, desk: &mut Desk, model
         return false;
     }
     finish_one(board, desk);
-    // What every board keeps of its counts: rounds come to an end.
-    let _ = board.finished();
+    // No more are taken than the budget: rounds come to an end.
+    let _ = board.taken();
     true
 }
 
@@ -77,7 +79,7 @@ fn take_one<M: DpModel>(board: &mut Board<M>, desk: &mut Desk, model: &M) -> boo
     ensures taken { result ≡ true → IsUnderWay (M.meaning (M.numbers model.now)) board.old.board board.new.board desk.new.taken.subproblem }
     ensures kept { result ≡ false → board.new.board ≡ board.old.board }
     ensures ended { result ≡ false → HasEnded board.old.board }
-    ensures numbers { board.new.numbers ≡ board.old.numbers }
+    ensures tag { tag_of board.new ≡ tag_of board.old }
     ensures prepared { IsPrepared (M.meaning (M.numbers model.now)) desk.new }
 {
     let answer = board.take(0, &mut desk.taken);
@@ -100,17 +102,19 @@ fn branch<M: DpModel>(
     requires numbers { board.old.numbers ≡ M.numbers model.now }
     requires own { IsOwn (M.meaning (M.numbers model.now)) desk.old.taken.subproblem }
     requires prepared { IsPrepared (M.meaning (M.numbers model.now)) desk.old }
-    ensures branched { OnOk result (IsBranched (M.meaning (M.numbers model.now)) board.new.board desk.old.taken.subproblem.decisions (contents desk.new.children.items)) }
+    ensures branched { OnOk result (AreChildren (M.meaning (M.numbers model.now)) (reach board.new.board) desk.old.taken.subproblem.decisions (contents desk.new.children.items)) }
     ensures place { OnOk result (length desk.new.children.items ≤ board.new.room) }
     ensures fates { OnOk result (length desk.new.children.items ≤ vec_capacity desk.new.fates) }
-    ensures offered { IsOffered board.old.board board.new.board }
-    ensures numbers { board.new.numbers ≡ board.old.numbers }
+    ensures offered { IsOffered (M.meaning (M.numbers model.now)) board.old.board board.new.board }
+    ensures tag { tag_of board.new ≡ tag_of board.old }
     ensures taken { desk.new.taken.subproblem ≡ desk.old.taken.subproblem }
     ensures room { HasRoom (M.meaning (M.numbers model.now)) desk.new }
     ensures no_fates { desk.new.fates.items ≡ [] }
 {
     if desk.taken.decisions.len() + 1 == model.vars() {
         offer_all(board, &mut desk.taken, model);
+        // What every board keeps of its distance.
+        let _ = board.incumbent_value();
         return Ok(());
     }
     make_children(
@@ -127,17 +131,19 @@ fn branch<M: DpModel>(
 /// Finishes the subproblem on the desk with the children there.
 fn finish_one<M: DpModel>(board: &mut Board<M>, desk: &mut Desk)
     requires out { option_map (λ o. o.subproblem) (slot_at board.old.board 0) ≡ Some desk.old.taken.subproblem }
-    requires branched { IsBranched (M.meaning board.old.numbers) board.old.board desk.old.taken.subproblem.decisions (contents desk.old.children.items) }
+    requires branched { AreChildren (M.meaning board.old.numbers) (reach board.old.board) desk.old.taken.subproblem.decisions (contents desk.old.children.items) }
     requires place { length desk.old.children.items ≤ board.old.room }
     requires fates { length desk.old.children.items ≤ vec_capacity desk.old.fates }
     requires room { HasRoom (M.meaning board.old.numbers) desk.old }
     requires no_fates { desk.old.fates.items ≡ [] }
-    ensures step { board.new.board ≡ finished_by board.old.board 0 (contents desk.old.children.items) }
-    ensures numbers { board.new.numbers ≡ board.old.numbers }
+    ensures run { IsRun (M.meaning board.old.numbers) board.old.board (Finish 0 (incumbent_value board.old.board) (contents desk.old.children.items) ∷ []) board.new.board }
+    ensures step { board.new.board ≡ finished_by (M.meaning board.old.numbers) board.old.board 0 (contents desk.old.children.items) }
+    ensures tag { tag_of board.new ≡ tag_of board.old }
     ensures prepared { IsPrepared (M.meaning board.old.numbers) desk.new }
 {
     board.fates(desk.children.as_slice(), &mut desk.fates);
-    board.finish(0, &mut desk.children, desk.fates.as_slice());
+    let threshold = board.incumbent_value();
+    board.finish(0, threshold, &mut desk.children, desk.fates.as_slice());
     desk.fates.clear();
 }
 
@@ -147,7 +153,7 @@ fn give_up<M: DpModel>(board: &mut Board<M>, desk: &mut Desk)
     requires room { HasRoom (M.meaning board.old.numbers) desk.old }
     requires no_fates { desk.old.fates.items ≡ [] }
     ensures step { board.new.board ≡ given_back (halted board.old.board Cause.Memory) 0 }
-    ensures numbers { board.new.numbers ≡ board.old.numbers }
+    ensures tag { tag_of board.new ≡ tag_of board.old }
     ensures prepared { IsPrepared (M.meaning board.old.numbers) desk.new }
 {
     desk.children.clear();

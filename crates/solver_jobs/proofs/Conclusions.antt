@@ -1,5 +1,5 @@
 -- What a search that is over may answer.
-use Rattle.std.proofs.Common.{◌≡◌, ◌≢◌, ℕ, ◌+◌, ◌^◌, ◌≤◌, ℤ, List, [], ◌∷◌, ◌++◌, length, false, nat_eq, Option, Some, None, refl, sym, ◌∙◌, ap, subst, arith}
+use Rattle.std.proofs.Common.{◌≡◌, ◌≢◌, ℕ, ◌+◌, ◌^◌, ◌≤◌, ℤ, pos, List, [], ◌∷◌, ◌++◌, length, true, false, nat_eq, Option, Some, None, refl, sym, ◌∙◌, ap, subst, arith}
 use Rattle.std.proofs.lemmas.Int.{ints}
 use Rattle.dp_model.specs.Solution.{Solution, IsSolutionWith, SolutionGives}
 use Rattle.dp_model.specs.Best.{best, IsBest}
@@ -9,14 +9,19 @@ use Rattle.dp_model.specs.Numbers.{AtMost}
 use Rattle.dp_model.specs.Prefixes.{IsSolution, value_of}
 use Rattle.dp_model.proofs.Solutions.{best-is_best, IsBest-unique, given_value, given_none}
 use Rattle.problems.specs.Theory.{Agrees}
-use Rattle.search_core.specs.Bounds.{raised, raised_by}
-use Rattle.search_core.specs.Tickets.{Ticketed}
-use Rattle.search_core.specs.Board.{BoardState, full_slots, value_held, incumbent_value, is_explored}
-use Rattle.search_core.specs.declared.cause.Cause.{Cause}
-use Rattle.search_core.specs.declared.cause.Cause.TheVariants as causes
-use Rattle.search_rounds.specs.Later.{IsCauseAfter}
-use Rattle.search_core.specs.Bound.{bound_of}
-use Rattle.search_core.specs.GoodBoard.{IncumbentHolds, IsGood}
+use Rattle.board_laws.specs.Bound.{raised, raised_by}
+use Rattle.shared_fringe.specs.Tickets.{Ticketed}
+use Rattle.board_laws.specs.Board.{BoardState, full_slots, value_held, reach, is_explored}
+use Rattle.board_laws.specs.declared.cause.Cause.{Cause}
+use Rattle.board_laws.specs.declared.cause.Cause.TheVariants as causes
+use Rattle.board_laws.specs.Runs.{IsRun}
+use Rattle.board_laws.specs.Steps.{first_board}
+use Rattle.board_laws.specs.declared.settings.Settings.{Settings}
+use Rattle.board_laws.proofs.First.{full-none}
+use Rattle.board_laws.proofs.Running.{run-follows}
+use Rattle.search_rounds.specs.Later.{IsCauseAfter, IsLater, HasEnded, IsComplete}
+use Rattle.board_laws.specs.Bound.{bound_of}
+use Rattle.board_laws.specs.GoodBoard.{IncumbentHolds, IsBoard}
 use Rattle.solver_report.specs.declared.answer.Stop.{Stop}
 use Rattle.solver_report.specs.declared.answer.Stop.TheVariants.{Budget}
 use Rattle.solver_jobs.specs.Answers.{IsFound, FoundHolds, NoneIsWorthMore, IsProved, IsInfeasible, StopHolds, IsStopped}
@@ -89,18 +94,18 @@ no_append (x ∷ xs) ys some h = absurd (cc)
 pub bound_there : (dp : Dp) (budget : ℕ) (b : BoardState) → IsOver dp budget b → is_explored b ≡ false → bound_of b ≡ None → ⊥
 bound_there dp budget b over left h =
     let some = open_left b.open_ones (full_slots b.slots) over.idle left in
-    raised_by-open (incumbent_value b) (full_slots b.slots ++ b.open_ones) (no_append (full_slots b.slots) b.open_ones some) h
+    raised_by-open (reach b) (full_slots b.slots ++ b.open_ones) (no_append (full_slots b.slots) b.open_ones some) h
 
 -- a search that is over with something open is stopped, for the reason that holds
 pub is_stopped : (dp : Dp) (own : List ℕ → Option ℤ) → Agrees dp own → (budget : ℕ) (b : BoardState) (stop : Stop) (found : Option Solution) (bound : ℤ)
-    → IsGood dp b → IsOver dp budget b → is_explored b ≡ false → found ≡ b.incumbent → bound_of b ≡ Some bound → ((x : List ℕ) → IsSolution dp x → AtMost (value_of dp x) (Some bound))
+    → IsBoard dp b → IsOver dp budget b → is_explored b ≡ false → found ≡ b.incumbent → bound_of b ≡ Some bound → ((x : List ℕ) → IsSolution dp x → AtMost (value_of dp x) (Some bound))
     → StopHolds b stop → (stop ≡ Budget → tree dp ≤ budget → tree dp ≤ 2 ^ 63 → ⊥) → IsStopped dp own budget b stop found bound
-is_stopped dp own agrees budget b stop found bound good over left same bound_is most holds incomplete = record {
+is_stopped dp own agrees budget b stop found bound kept over left same bound_is most holds incomplete = record {
   something_open = open_left b.open_ones (full_slots b.slots) over.idle left;
   holds = holds;
   held = sym same;
   bound_is = bound_is;
-  found_one = found_holds dp own agrees found (subst (IncumbentHolds dp) (sym same) good.incumbent);
+  found_one = found_holds dp own agrees found (subst (IncumbentHolds dp) (sym same) kept.incumbent);
   most = most;
   own_most = none_worth_more dp own agrees bound most;
   incomplete = incomplete;
@@ -110,3 +115,38 @@ is_stopped dp own agrees budget b stop found bound good over left same bound_is 
 pub memory_held : (held : Option Cause) (cause : Cause) → IsCauseAfter None held → held ≡ Some cause → held ≡ Some causes.Memory
 memory_held None cause after is = absurd (let none : None ≡ Some cause = is in cc)
 memory_held (Some x) cause after is = ap Some after
+
+-- The search that is over.
+
+-- the settings are those of the first board
+pub over_settings : (dp : Dp) (budget : ℕ) (b : BoardState) → (over : IsOver dp budget b) → b.settings ≡ over.settings
+over_settings dp budget b over = (run-follows dp (first_board dp over.settings) over.steps b over.run).settings
+
+pub over_exact : (dp : Dp) (budget : ℕ) (b : BoardState) → IsOver dp budget b → b.settings.within ≡ pos 0
+over_exact dp budget b over = ap (λ (s : Settings). s.within) (over_settings dp budget b over) ∙ over.exact
+
+-- some rounds after the first board
+pub is_over : (dp : Dp) (settings : Settings) (first b : BoardState) → first ≡ first_board dp settings → settings.within ≡ pos 0 → IsLater dp first b → HasEnded b → IsComplete dp b → IsOver dp settings.budget b
+is_over dp settings first b is exact later ended complete = record {
+  settings = settings;
+  steps = later.steps;
+  run = subst (λ (f : BoardState). IsRun dp f later.steps b) is later.run;
+  within = refl;
+  exact = exact;
+  idle = ap full_slots later.slots ∙ (ap (λ (f : BoardState). full_slots f.slots) is ∙ full-none settings.workers);
+  ended = ended;
+  complete = complete;
+  cause = subst (λ o. IsCauseAfter o b.cause) (ap (λ (f : BoardState). f.cause) is) later.cause;
+}
+
+-- a search that is over with something open and without a cause is stopped for its budget
+pub budget_up : (dp : Dp) (budget : ℕ) (b : BoardState) → IsOver dp budget b → is_explored b ≡ false → b.cause ≡ None → StopHolds b Budget
+budget_up dp budget b over left none = (over.ended left none, none)
+
+-- and then the budget or the tickets do not suffice for every prefix
+pub incomplete_for : (dp : Dp) (budget : ℕ) (b : BoardState) → IsOver dp budget b → is_explored b ≡ false → b.cause ≡ None → tree dp ≤ budget → tree dp ≤ 2 ^ 63 → ⊥
+incomplete_for dp budget b over left none most tickets =
+    let same : budget ≡ b.settings.budget = sym over.within ∙ ap (λ (s : Settings). s.budget) (sym (over_settings dp budget b over)) in
+    let up : tree dp ≤ b.settings.budget = omega arith in
+    let all : is_explored b ≡ true = over.complete up tickets none in
+    cc

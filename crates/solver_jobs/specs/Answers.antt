@@ -1,5 +1,5 @@
 -- When what a job answers for an instance is right.
-use Rattle.std.specs.Prelude.{◌≡◌, ◌≢◌, ℕ, ◌-◌, ◌^◌, ◌≤◌, Bool, true, false, ℤ, ◌≤ℤ◌, List, [], Option, Some, None, MatchResult, IsTrue}
+use Rattle.std.specs.Prelude.{◌≡◌, ◌≢◌, ℕ, ◌-◌, ◌^◌, ◌≤◌, Bool, true, false, ℤ, pos, ◌≤ℤ◌, List, [], Option, Some, None, MatchResult, IsTrue}
 use Rattle.dd_text.specs.declared.instance_error.InstanceError.{InstanceError}
 use Rattle.dp_model.specs.Solution.{Solution}
 use Rattle.dp_model.specs.Best.{best}
@@ -10,11 +10,14 @@ use Rattle.dp_model.specs.Prefixes.{IsSolution, value_of}
 use Rattle.problem_names.specs.declared.ModelName.{ModelName}
 use Rattle.problems.specs.Theories.{theory_of}
 use Rattle.problems.specs.Theory.{Theory}
-use Rattle.search_core.specs.Board.{BoardState, full_slots}
-use Rattle.search_core.specs.Bound.{bound_of}
-use Rattle.search_core.specs.GoodBoard.{IsGood}
-use Rattle.search_core.specs.Taking.{is_budget_up}
-use Rattle.search_core.specs.declared.cause.Cause.TheVariants as causes
+use Rattle.board_laws.specs.Board.{BoardState, full_slots}
+use Rattle.board_laws.specs.Bound.{bound_of}
+use Rattle.board_laws.specs.GoodBoard.{IsBoard, IsGood}
+use Rattle.board_laws.specs.Runs.{Step, IsRun}
+use Rattle.board_laws.specs.Steps.{first_board}
+use Rattle.board_laws.specs.Taking.{is_budget_up}
+use Rattle.board_laws.specs.declared.cause.Cause.TheVariants as causes
+use Rattle.board_laws.specs.declared.settings.Settings.{Settings}
 use Rattle.sha2.specs.Sha256.{sha256}
 use Rattle.solver_report.specs.declared.answer.Stop.{Stop}
 use Rattle.solver_report.specs.declared.answer.Stop.TheVariants.{Budget, Memory}
@@ -80,7 +83,7 @@ pub record AreCounts (dp : Dp) (board : BoardState) (counts : Counts) : Type 0 w
   pub taken : counts.taken ≡ board.taken
   pub finished : counts.finished ≡ board.finished
   pub in_order : counts.finished ≤ counts.taken
-  pub within : counts.taken ≤ board.budget
+  pub within : counts.taken ≤ board.settings.budget
   pub few : counts.finished ≤ tree dp
 
 -- they are told exactly where they are asked for
@@ -89,11 +92,17 @@ IsCounted dp board true (Some counts) = AreCounts dp board counts
 IsCounted dp board false None = Unit {0}
 IsCounted dp board _ _ = ⊥
 
--- there is a good board of that budget with nothing out, of which this outcome and these counts are told
+-- a run from the first board with that budget, and without a distance from the best, led to a good board with nothing out, of which this
+-- outcome and these counts are told
 pub record HasSearched (dp : Dp) (own : List ℕ → Option ℤ) (budget : ℕ) (stats : Bool) (outcome : Outcome) (counts : Option Counts) : Type 0 where
+  pub settings : Settings
+  pub steps : List Step
   pub board : BoardState
+  pub run : IsRun dp (first_board dp settings) steps board
+  pub within : settings.budget ≡ budget
+  pub exact : settings.within ≡ pos 0
+  pub kept : IsBoard dp board
   pub good : IsGood dp board
-  pub within : board.budget ≡ budget
   pub nothing_out : full_slots board.slots ≡ []
   pub ends : Ends dp own budget board outcome
   pub counted : IsCounted dp board stats counts

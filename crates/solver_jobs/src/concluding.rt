@@ -1,6 +1,6 @@
-ghost use Rattle.std.specs.Prelude.{◌≡◌, ℕ, true, false, IfOk};
-ghost use Rattle.search_core.specs.Board.{is_explored};
-ghost use Rattle.search_core.specs.GoodBoard.{IsGood};
+ghost use Rattle.std.specs.Prelude.{◌≡◌, ℕ, pos, true, false, IfOk};
+ghost use Rattle.board_laws.specs.Board.{is_explored};
+ghost use Rattle.board_laws.specs.GoodBoard.{IsBoard, IsGood};
 ghost use Rattle.solver_jobs.specs.Answers.{Solves, Ends, IsCounted};
 ghost use Rattle.solver_jobs.specs.Over.{IsOver};
 
@@ -44,6 +44,7 @@ fn held_solution<M: DpModel>(
 /// The counts of a search, where they are asked for.
 fn counts_of<M: DpModel>(board: &Board<M>, stats: bool) -> Option<Counts>
     ensures counts { IsCounted (M.meaning board.now.numbers) board.now.board stats result }
+    ensures kept { IsBoard (M.meaning board.now.numbers) board.now.board }
     ensures good { IsGood (M.meaning board.now.numbers) board.now.board }
 {
     // What the board keeps of its counts.
@@ -79,6 +80,7 @@ fn outcome_of<P: Problem>(
 fn explored<P: Problem>(board: &Board<P>, model: &P, found: Option<Solution>) -> Outcome
     requires numbers { board.now.numbers ≡ P.numbers model.now }
     requires nothing_left { is_explored board.now.board ≡ true }
+    requires exact { board.now.board.settings.within ≡ pos 0 }
     requires copied { found ≡ board.now.board.incumbent }
     ensures { (budget : ℕ) → Ends (P.meaning (P.numbers model.now)) (P.theory.own_value (P.numbers model.now)) budget board.now.board result }
 {

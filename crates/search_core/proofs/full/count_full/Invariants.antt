@@ -1,5 +1,5 @@
 use Rattle.std.proofs.Common.{◌≡◌, ◌+◌, ◌≤◌, length, drop}
-use Rattle.search_core.specs.Board.{full_slots}
+use Rattle.board_laws.specs.Board.{full_slots}
 use Rattle.search_core.proofs.full.count_full.Given as goal
 
 abbrev pub invariant-loop-slot : goal.invariant-loop-slot

@@ -1,6 +1,6 @@
 use Rattle.std.proofs.Common.{◌≡◌, drop}
-use Rattle.shared_fringe.specs.Bounds.{raised_by}
-use Rattle.search_core.specs.Board.{full_slots}
+use Rattle.board_laws.specs.Bound.{raised_by}
+use Rattle.board_laws.specs.Board.{full_slots}
 use Rattle.search_core.proofs.full.raised_by_slots.Given as goal
 
 abbrev pub invariant-loop-slot : goal.invariant-loop-slot

@@ -1,5 +1,5 @@
 use Rattle.std.proofs.Common.{◌≡◌, vec_len, vec_capacity}
-use Rattle.search_core.specs.Steps.{empty_slots}
+use Rattle.board_laws.specs.Steps.{empty_slots}
 use Rattle.search_core.proofs.starting.empty_slots.Given as goal
 
 abbrev pub invariant-loop-made : goal.invariant-loop-made

@@ -39,7 +39,7 @@ decisions-preserved g c =
       | then-allowed w ↦
           offering_same dp c.args.board.now w.offer.new.board c.if-allowed.board c.args.taken.now w.offer.new.taken c.if-allowed.taken (c.decisions.decision + 1)
           (offering_one g.M.DpModel.meaning (g.M.DpModel.numbers c.args.model.now) c.args.board.now c.decisions.board w.offer.new.board c.args.taken.now c.decisions.taken w.offer.new.taken c.decisions.decision c.requires.numbers c.requires.own c.requires.last
-          c.decisions.invariant w.offer.ensures.offered w.offer.ensures.best w.offer.ensures.numbers w.offer.ensures.taken w.offer.ensures.room)
+          c.decisions.invariant w.offer.ensures.offered w.offer.ensures.best w.offer.ensures.tag w.offer.ensures.taken w.offer.ensures.room)
           w.board-is w.taken-is
       | else-allowed w ↦ offering_refused dp c.args.board.now c.decisions.board c.if-allowed.board c.args.taken.now c.decisions.taken c.if-allowed.taken c.decisions.decision (sym is ∙ (sym c.allowed.ensures ∙ w.if-allowed.false)) c.decisions.invariant w.board-is w.taken-is
     ]
@@ -55,8 +55,8 @@ returns-clause-best g c =
     let all : c.decisions.decision ≡ dp.choices (length c.args.taken.now.subproblem.decisions) = end ∙ (c.choices-decision-end.ensures ∙ ap dp.choices deep) in
     offered_all dp c.args.taken.now.subproblem.decisions c.decisions.board.board c.requires.last (subst (λ n. AreOffered dp c.args.taken.now.subproblem.decisions n c.decisions.board.board) all c.decisions.invariant.best)
 
-pub returns-clause-numbers : goal.returns-clause-numbers
-returns-clause-numbers g c = c.decisions.invariant.numbers
+pub returns-clause-tag : goal.returns-clause-tag
+returns-clause-tag g c = c.decisions.invariant.tag
 
 pub returns-clause-taken : goal.returns-clause-taken
 returns-clause-taken g c = c.decisions.invariant.same

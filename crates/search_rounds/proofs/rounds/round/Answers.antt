@@ -1,5 +1,12 @@
-use Rattle.std.proofs.Common.{Some, sym, ◌∙◌, ap, refl}
-use Rattle.search_rounds.proofs.LaterBoards.{still_under_way, way_out_is, finished_later, given_up_later}
+use Rattle.std.proofs.Common.{◌≡◌, Some, ◌∷◌, [], sym, ◌∙◌, ap, subst, refl}
+use Rattle.dp_laws.specs.Children.{AreChildren}
+use Rattle.board_laws.specs.Board.{BoardState, incumbent_value, reach}
+use Rattle.board_laws.specs.Runs.{IsRun}
+use Rattle.board_laws.specs.Runs.Step.{Finish}
+use Rattle.board_laws.specs.Steps.{finished_by}
+use Rattle.search_core.specs.Contents.{contents}
+use Rattle.search_core.specs.View.{Tag}
+use Rattle.search_rounds.proofs.LaterBoards.{still_under_way, way_out_is, finished_later, finished_taken, given_up_later}
 use Rattle.search_rounds.proofs.Taking.{first_empty}
 use Rattle.search_rounds.proofs.rounds.round.Goals as goal
 
@@ -17,6 +24,12 @@ finish_one-requires-clause-out g c κs within =
 
 pub returns-clause-later : goal.returns-clause-later
 returns-clause-later g c =
+    let dp = g.M.DpModel.meaning (g.M.DpModel.numbers c.args.model.now) in
     let empty = first_empty c.args.board.now.board.slots c.requires.idle c.requires.some in
     let way = still_under_way _ _ _ _ _ (c.if-not-take_one.ensures.taken refl) c.branch-alloc.ensures.offered in
-    finished_later _ _ _ _ _ _ way empty c.finish_one.ensures.step
+    let now = c.branch-alloc.new.board.board in
+    let cs = contents c.branch-alloc.new.desk.children.items in
+    let numbers = ap (λ (t : Tag). t.numbers) (c.branch-alloc.ensures.tag ∙ c.take_one.ensures.tag) ∙ c.requires.numbers in
+    let run = subst (λ ns. IsRun (g.M.DpModel.meaning ns) now (Finish 0 (incumbent_value now) cs ∷ []) c.finish_one.new.board.board) numbers c.finish_one.ensures.run in
+    let step = subst (λ ns. c.finish_one.new.board.board ≡ finished_by (g.M.DpModel.meaning ns) now 0 cs) numbers c.finish_one.ensures.step in
+    finished_later dp c.args.board.now.board now c.finish_one.new.board.board _ cs (Finish 0 (incumbent_value now) cs ∷ []) way empty run step

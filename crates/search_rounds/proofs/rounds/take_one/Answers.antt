@@ -1,6 +1,7 @@
-use Rattle.std.proofs.Common.{sym, ◌∙◌, subst, refl, arith}
+use Rattle.std.proofs.Common.{sym, ◌∙◌, ap, subst, refl, arith}
 use Rattle.dp_model.specs.Laws.{IsLawful}
-use Rattle.search_core.specs.GoodBoard.{IsGood}
+use Rattle.board_laws.specs.GoodBoard.{IsBoard}
+use Rattle.search_core.specs.View.{Tag}
 use Rattle.search_rounds.specs.UnderWay.{IsUnderWay}
 use Rattle.search_rounds.proofs.Extensions.{own_state}
 use Rattle.search_rounds.proofs.Taking.{first_empty, taken_under_way}
@@ -15,9 +16,9 @@ take-answer-requires-clause-empty g c κs within = first_empty c.args.board.now.
 
 under_way : (g : given.Over) (c : goal.In-Sub g) → IsUnderWay (g.M.DpModel.meaning (g.M.DpModel.numbers c.args.model.now)) c.args.board.now.board c.take-answer.new.self.board c.take-answer.new.into.subproblem
 under_way g c =
-    let good = subst (λ ns. IsGood (g.M.DpModel.meaning ns) c.take-answer.new.self.board) (c.take-answer.ensures.numbers ∙ c.requires.numbers) c.incumbent_value.ensures.good in
+    let kept = subst (λ ns. IsBoard (g.M.DpModel.meaning ns) c.take-answer.new.self.board) (ap (λ (t : Tag). t.numbers) c.take-answer.ensures.tag ∙ c.requires.numbers) c.incumbent_value.ensures.kept in
     taken_under_way (g.M.DpModel.meaning (g.M.DpModel.numbers c.args.model.now)) c.args.board.now.board c.take-answer.new.self.board c.take-answer.new.into.subproblem c.args.desk.now.taken.subproblem
-    (sym c.in-Sub.ensures.answer) c.in-Sub.ensures.step c.in-Sub.ensures.copied c.requires.idle c.requires.some good
+    (sym c.in-Sub.ensures.answer) c.in-Sub.ensures.step c.in-Sub.ensures.copied c.requires.idle c.requires.some kept
 
 pub returns-in-Sub-clause-taken : goal.returns-in-Sub-clause-taken
 returns-in-Sub-clause-taken g c = λ _. under_way g c

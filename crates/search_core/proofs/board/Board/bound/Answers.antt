@@ -1,22 +1,21 @@
 use Rattle.std.proofs.Common.{◌++◌, ap, sym, ◌∙◌, subst, List, ℕ}
 use Rattle.dp_model.specs.Numbers.{AtMost}
 use Rattle.dp_model.specs.Prefixes.{IsSolution, value_of}
-use Rattle.shared_fringe.specs.Bounds.{raised_by}
-use Rattle.search_core.specs.Board.{BoardView, full_slots}
-use Rattle.search_core.specs.Bound.{bound_of, IsGreatest}
-use Rattle.search_core.proofs.Reading.{raised-append, held-value, bound-greatest, bound-holds}
+use Rattle.board_laws.specs.Board.{full_slots, reach}
+use Rattle.board_laws.specs.Bound.{raised_by, bound_of, IsGreatest}
+use Rattle.board_laws.proofs.Reading.{raised-append, bound-greatest, bound-holds}
+use Rattle.search_core.specs.View.{BoardView}
 use Rattle.search_core.proofs.board.Board.bound.Goals as goal
 
 pub returns-clause-bound : goal.returns-clause-bound
 returns-clause-bound g c =
     let full = full_slots c.self.inside.slots.items in
-    let os = c.self.inside.listed.items in
-    c.raised_by.ensures
-    ∙ (ap (raised_by c.raised_by_slots-most.result) c.as_slice-2.ensures.value
-    ∙ (ap (λ m. raised_by m os) (c.raised_by_slots-most.ensures ∙ ap (λ slots. raised_by c.self.inside.best_value (full_slots slots)) c.as_slice.ensures.value)
-    ∙ (raised-append c.self.inside.best_value full os
-    ∙ (ap (λ m. raised_by m (full ++ os)) (sym (held-value c.self.inside.best.items c.self.inside.best_value))
-    ∙ ap (λ (v : BoardView). bound_of v.board) c.self.view_is))))
+    let os = c.self.inside.fringe.open_ones in
+    c.raised_by_fringe.ensures
+    ∙ (ap (λ m. raised_by m os) (c.raised_by_slots-most.ensures ∙ ap (λ slots. raised_by c.reach.result (full_slots slots)) c.as_slice.ensures.value)
+    ∙ (raised-append c.reach.result full os
+    ∙ (ap (λ m. raised_by m (full ++ os)) (c.reach.ensures ∙ ap (λ (v : BoardView). reach v.board) (sym c.self.view_is))
+    ∙ ap (λ (v : BoardView). bound_of v.board) c.self.view_is)))
 
 pub returns-clause-greatest : goal.returns-clause-greatest
 returns-clause-greatest g c =

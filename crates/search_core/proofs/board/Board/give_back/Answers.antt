@@ -1,44 +1,49 @@
-use Rattle.std.proofs.Common.{length, sym, ◌∙◌, ap, subst, arith}
+use Rattle.std.proofs.Common.{◌≡◌, length, Some, sym, ◌∙◌, ap, subst, arith}
+use Rattle.std.specs.Arc.{arc_value}
+use Rattle.std.specs.List.{slice_get}
 use Rattle.std.specs.Prelude.{IsSome}
-use Rattle.search_core.specs.Board.{BoardView, slot_at}
-use Rattle.search_core.specs.Steps.{back_among, given_back}
-use Rattle.search_core.proofs.Keeping.{back-kept, back-at, back-spare, back-open, back-many, back-step}
-use Rattle.search_core.proofs.Reading.{held-value}
+use Rattle.dp_model.specs.Laws.{IsLawful}
+use Rattle.board_laws.specs.Board.{reach, slot_at}
+use Rattle.board_laws.specs.Steps.{back_among, given_back}
+use Rattle.search_core.specs.View.{BoardView}
+use Rattle.search_core.proofs.Keeping.{back-at, back-kept, back-step, goes-back}
+use Rattle.search_core.proofs.board.Board.give_back.Given as given
 use Rattle.search_core.proofs.board.Board.give_back.Goals as goal
 
-pub put_back-requires : goal.put_back-requires
-put_back-requires g c =
+laws_of : (g : given.Over) (m : g.row.M.Denot) → IsLawful (g.M.DpModel.meaning (g.M.DpModel.numbers m))
+laws_of g m = (g.met.M.DpModel g.world.𝓛 g.world.𝓜 g.world.𝓡 ((λ s x. x), (λ x. x), (λ x. x), λ x. x)).lawful m
+
+pub put_back-requires-clause-room : goal.put_back-requires-clause-room
+put_back-requires-clause-room g c =
     let full = subst (λ (v : BoardView). IsSome (slot_at v.board c.args.who)) (sym c.self.view_is) c.requires.full in
     let at = back-at c.self.inside.slots.items c.args.who c.index_mut.result.now c.in-Some.one full c.index_mut.ensures.value (sym c.in-Some.ensures.value) in
-    let spare = back-spare _ _ c.args.who c.in-Some.one _ _ _ _ c.self.invariant at in
-    let long = c.self.inside.listed.ok.0 in
-    omega arith
+    (goes-back _ (laws_of g (arc_value c.self.inside.model)) _ c.args.who c.in-Some.one _ _ _ _ _ _ c.self.invariant at).room
+
+pub put_back-requires-clause-cells : goal.put_back-requires-clause-cells
+put_back-requires-clause-cells g c =
+    let full = subst (λ (v : BoardView). IsSome (slot_at v.board c.args.who)) (sym c.self.view_is) c.requires.full in
+    let at = back-at c.self.inside.slots.items c.args.who c.index_mut.result.now c.in-Some.one full c.index_mut.ensures.value (sym c.in-Some.ensures.value) in
+    (goes-back _ (laws_of g (arc_value c.self.inside.model)) _ c.args.who c.in-Some.one _ _ _ _ _ _ c.self.invariant at).cells ∙ sym c.self.invariant.has_room.fringe_words
+
+pub put_back-requires-clause-new : goal.put_back-requires-clause-new
+put_back-requires-clause-new g c =
+    let full = subst (λ (v : BoardView). IsSome (slot_at v.board c.args.who)) (sym c.self.view_is) c.requires.full in
+    let at = back-at c.self.inside.slots.items c.args.who c.index_mut.result.now c.in-Some.one full c.index_mut.ensures.value (sym c.in-Some.ensures.value) in
+    (goes-back _ (laws_of g (arc_value c.self.inside.model)) _ c.args.who c.in-Some.one _ _ _ _ _ _ c.self.invariant at).new
 
 pub invariant_of-self : goal.invariant_of-self
 invariant_of-self g c =
     let full = subst (λ (v : BoardView). IsSome (slot_at v.board c.args.who)) (sym c.self.view_is) c.requires.full in
     let halted = subst (λ (v : BoardView). IsSome v.board.cause) (sym c.self.view_is) c.requires.halted in
     let at = back-at c.self.inside.slots.items c.args.who c.index_mut.result.now c.in-Some.one full c.index_mut.ensures.value (sym c.in-Some.ensures.value) in
-    let put = c.put_back.ensures.put ∙ ap (λ v. back_among v c.in-Some.one c.self.inside.listed.items) (sym (held-value c.self.inside.best.items c.self.inside.best_value)) in
-    rw (c.replace-slot.ensures.after, put)
-    (back-kept _ _ c.args.who c.in-Some.one _ _ _ _ _ c.self.invariant at halted c.put_back.ensures.capacity)
+    let put = c.put_back.ensures.put ∙ ap (λ r. back_among r c.in-Some.one c.self.inside.fringe.open_ones) (c.reach-reach.ensures ∙ ap (λ (v : BoardView). reach v.board) (sym c.self.view_is)) in
+    rw c.replace-slot.ensures.after
+    (back-kept _ (laws_of g (arc_value c.self.inside.model)) _ c.args.who c.in-Some.one c.self.inside.fringe c.put_back.new.fringe _ _ _ _ _ c.self.invariant at halted put c.put_back.ensures.words c.put_back.ensures.spare)
 
 pub returns-clause-step : goal.returns-clause-step
 returns-clause-step g c =
     let full = subst (λ (v : BoardView). IsSome (slot_at v.board c.args.who)) (sym c.self.view_is) c.requires.full in
     let at = back-at c.self.inside.slots.items c.args.who c.index_mut.result.now c.in-Some.one full c.index_mut.ensures.value (sym c.in-Some.ensures.value) in
-    let put = c.put_back.ensures.put ∙ ap (λ v. back_among v c.in-Some.one c.self.inside.listed.items) (sym (held-value c.self.inside.best.items c.self.inside.best_value)) in
-    rw (c.replace-slot.ensures.after, put)
-    (back-step _ c.args.who c.in-Some.one at ∙ ap (λ (v : BoardView). given_back v.board c.args.who) c.self.view_is)
-
-pub returns-clause-room : goal.returns-clause-room
-returns-clause-room g c =
-    let full = subst (λ (v : BoardView). IsSome (slot_at v.board c.args.who)) (sym c.self.view_is) c.requires.full in
-    let at = back-at c.self.inside.slots.items c.args.who c.index_mut.result.now c.in-Some.one full c.index_mut.ensures.value (sym c.in-Some.ensures.value) in
-    let room = ap (λ (v : BoardView). v.room) c.self.view_is in
-    let more = back-open c.self.inside.best_value c.in-Some.one c.self.inside.listed.items in
-    let less = back-many c.self.inside.slots.items c.args.who c.in-Some.one at in
-    let old_length = c.self.inside.listed.ok.0 in
-    let new_length = c.put_back.new.listed.ok.0 ∙ ap length c.put_back.ensures.put in
-    let capacity = c.put_back.ensures.capacity in
-    rw c.replace-slot.ensures.after (omega arith)
+    let put = c.put_back.ensures.put ∙ ap (λ r. back_among r c.in-Some.one c.self.inside.fringe.open_ones) (c.reach-reach.ensures ∙ ap (λ (v : BoardView). reach v.board) (sym c.self.view_is)) in
+    rw c.replace-slot.ensures.after
+    (back-step _ c.args.who c.in-Some.one c.put_back.new.fringe.open_ones at put ∙ ap (λ (v : BoardView). given_back v.board c.args.who) c.self.view_is)

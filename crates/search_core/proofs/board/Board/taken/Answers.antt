@@ -1,10 +1,10 @@
 use Rattle.std.proofs.Common.{◌≡◌, ◌≢◌, ◌<◌, [], None, subst}
 use Rattle.dp_model.specs.Counts.{tree}
-use Rattle.search_core.specs.Board.{BoardView}
-use Rattle.search_core.proofs.Reading.{taken-fewer}
+use Rattle.board_laws.proofs.Reading.{taken-fewer}
+use Rattle.search_core.specs.View.{BoardView}
 use Rattle.search_core.proofs.board.Board.taken.Goals as goal
 
 pub returns-clause-fewer : goal.returns-clause-fewer
 returns-clause-fewer g c =
     subst (λ (v : BoardView). v.board.cause ≡ None → v.board.open_ones ≢ [] → c.self.inside.taken < tree (g.M.DpModel.meaning v.numbers)) c.self.view_is
-    (taken-fewer _ _ c.self.invariant.good)
+    (taken-fewer _ _ c.self.invariant.board c.self.invariant.good)
