@@ -29,7 +29,7 @@ pub(crate) fn append_frame<D: Disk>(
     ensures acknowledged { OnOk result (IsTrue (D.tells disk.old) →
         IsSettled (D.seen disk.new) (D.may_leave disk.new) tail.new (frames_of (D.seen disk.new))
         × (frames_of (D.seen disk.new) ≡
-            frames_of (D.seen disk.old) ++ record { kind = kind; body = body.now } ∷ [])) }
+        frames_of (D.seen disk.old) ++ record { kind = kind; body = body.now } ∷ [])) }
     ensures any_moment { IsTrue (D.tells disk.old) → LeavesOnly D.moment D.left_since disk.old disk.new
         (IsBeforeOrAfter (frames_of (D.seen disk.old)) (record { kind = kind; body = body.now })) }
     ensures disk { IsErrOf result AppendError.Disk → Rose (D.faults disk.old) (D.faults disk.new) }
@@ -82,7 +82,7 @@ pub fn append<D: Disk>(
     ensures any_moment { IsTrue (D.tells disk.old) → (head : HeadView) (records : List RecordView) →
         HasRecords head records (D.seen disk.old) →
         LeavesOnly D.moment D.left_since disk.old disk.new (λ c.
-            HasRecords head records c ⊎ HasRecords head (records ++ record_view entry.now ∷ []) c) }
+        HasRecords head records c ⊎ HasRecords head (records ++ record_view entry.now ∷ []) c) }
     ensures disk { IsErrOf result AppendError.Disk → Rose (D.faults disk.old) (D.faults disk.new) }
     ensures memory { IsErrOf result AppendError.OutOfMemory → disk.new ≡ disk.old }
     ensures tail { OnErr result (tail.new ≡ tail.old) }

@@ -79,7 +79,7 @@ pub fn begin<D: Disk>(alloc: Global, disk: &mut D, head: &Head) -> Result<Tail, 
     // From its sync on a crash at any moment leaves no journal, or this head alone.
     ensures since { IsTrue (D.tells disk.old) → D.start disk.old ≡ None →
         IfSome (D.start disk.new) (λ s. MayBegin s.content →
-            (c : List ℕ) → D.left_since disk.new s.moment c → IsBegun (head_view head.now) c) }
+        (c : List ℕ) → D.left_since disk.new s.moment c → IsBegun (head_view head.now) c) }
     ensures exists { IsErrOf result JournalError.Exists → IsTrue (D.tells disk.old) →
         (2 ≤ length (D.seen disk.old)) × ¬ (get_or (D.seen disk.old) 0 0 ≡ 0) × (D.seen disk.new ≡ D.seen disk.old) }
     ensures begins { OnOk result (IsTrue (D.tells disk.old) → MayBegin (D.seen disk.old)) }
