@@ -47,9 +47,18 @@ fn the_first_wrong_record_is_told(rt: HostRuntime) -> Result<(), Fail> {
         (&[head, improve], Ok(1)),
         (&[head, finish, improve], Ok(2)),
         (&[improve], Err(Refusal::Malformed { offset: 0 })),
-        (&[(1, b"\x00\x00\x00")], Err(Refusal::Malformed { offset: 0 })),
-        (&[(1, b"\x00\x00\x00\x02")], Err(Refusal::Version { found: 2 })),
-        (&[(1, b"\x00\x00\x00\x01")], Err(Refusal::Malformed { offset: 0 })),
+        (
+            &[(1, b"\x00\x00\x00")],
+            Err(Refusal::Malformed { offset: 0 }),
+        ),
+        (
+            &[(1, b"\x00\x00\x00\x02")],
+            Err(Refusal::Version { found: 2 }),
+        ),
+        (
+            &[(1, b"\x00\x00\x00\x01")],
+            Err(Refusal::Malformed { offset: 0 }),
+        ),
         (
             &[(1, b"\x00\x00\x00\x01\x00\x00\x00\x00\x00")],
             Err(Refusal::Malformed { offset: 0 }),
@@ -68,19 +77,36 @@ fn the_first_wrong_record_is_told(rt: HostRuntime) -> Result<(), Fail> {
         ),
         (&[head, head], Err(Refusal::Malformed { offset: 51 })),
         (&[head, (4, b"")], Err(Refusal::Malformed { offset: 51 })),
-        (&[head, (0, IMPROVE)], Err(Refusal::Malformed { offset: 51 })),
-        (&[head, (3, IMPROVE)], Err(Refusal::Malformed { offset: 51 })),
+        (
+            &[head, (0, IMPROVE)],
+            Err(Refusal::Malformed { offset: 51 }),
+        ),
+        (
+            &[head, (3, IMPROVE)],
+            Err(Refusal::Malformed { offset: 51 }),
+        ),
         (&[head, (2, FINISH)], Err(Refusal::Malformed { offset: 51 })),
         (
-            &[head, (2, b"\x00\x00\x00\x00\x00\x00\x00\x09\x00\x00\x00\x00\x00")],
+            &[
+                head,
+                (2, b"\x00\x00\x00\x00\x00\x00\x00\x09\x00\x00\x00\x00\x00"),
+            ],
             Err(Refusal::Malformed { offset: 51 }),
         ),
         (
-            &[head, (2, b"\x00\x00\x00\x00\x00\x00\x00\x09\xff\xff\xff\xff")],
+            &[
+                head,
+                (2, b"\x00\x00\x00\x00\x00\x00\x00\x09\xff\xff\xff\xff"),
+            ],
             Err(Refusal::Malformed { offset: 51 }),
         ),
         (
-            &[head, improve, (3, b"\x00\x00\x00\x00\x00\x00\x00\x00\xff\xff\xff\xff"), head],
+            &[
+                head,
+                improve,
+                (3, b"\x00\x00\x00\x00\x00\x00\x00\x00\xff\xff\xff\xff"),
+                head,
+            ],
             Err(Refusal::Malformed { offset: 105 }),
         ),
     ] {
@@ -95,7 +121,10 @@ fn a_wrong_record_comes_before_a_damaged_one(rt: HostRuntime) -> Result<(), Fail
     let alloc = rt.alloc();
     let mut bytes = file_of(alloc, &[(1, HEAD), (4, b""), (2, IMPROVE)])?;
     let _ = bytes.pop();
-    assert_eq!(rt; count(alloc, &bytes), Err(Refusal::Malformed { offset: 51 }));
+    assert_eq!(rt;
+        count(alloc, &bytes),
+        Err(Refusal::Malformed { offset: 51 })
+    );
     let mut bytes = file_of(alloc, &[(1, HEAD), (4, b"")])?;
     let _ = bytes.pop();
     assert_eq!(rt; count(alloc, &bytes), Err(Refusal::Damaged { offset: 51 }));
