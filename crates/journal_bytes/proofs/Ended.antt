@@ -1,6 +1,6 @@
 -- What was read of a file ends at a closed gate.
-use Rattle.std.proofs.Common.{◌≡◌, ℕ, ◌+◌, ◌<◌, ◌≤◌, Bool, true, List, length, Result, Ok, Err, refl, sym, ◌∙◌, ap, arith}
-use Rattle.std.specs.Prelude.{IsTrue, IfOk, nat_le}
+use Rattle.std.proofs.Common.{◌≡◌, ℕ, ◌<◌, ◌≤◌, true, List, length, Result, Ok, Err, sym, ◌∙◌, ap, arith}
+use Rattle.std.specs.Prelude.{IsTrue, IfOk}
 use Rattle.std.proofs.lemmas.Bool.Decides.{nat_tests}
 use Rattle.journal_bytes.specs.declared.refusal.Refusal.TheVariants.{NotBegun}
 use Rattle.journal_bytes.specs.declared.tail.Tail.{Tail}

@@ -1,14 +1,14 @@
 -- Reading records frame by frame, as a loop does.
-use Rattle.std.proofs.Common.{◌≡◌, ℕ, suc, ◌-◌, ◌+◌, ◌≤◌, ◌<◌, List, [], ◌∷◌, ◌++◌, length, drop, get_or, map, Option, Some, None, Result, Ok, Err, refl, sym, ap, ◌∙◌, append_assoc, arith}
+use Rattle.std.proofs.Common.{◌≡◌, ℕ, ◌+◌, List, [], ◌∷◌, ◌++◌, length, Some, Result, Ok, Err, refl, sym, ap, ◌∙◌, append_assoc}
 use Rattle.std.proofs.lemmas.List.{append-nil}
 use Rattle.journal_bytes.specs.declared.refusal.Refusal.{Refusal}
-use Rattle.journal_bytes.specs.declared.refusal.Refusal.TheVariants.{Malformed, OutOfMemory}
+use Rattle.journal_bytes.specs.declared.refusal.Refusal.TheVariants.{Malformed}
 use Rattle.journal_bytes.specs.declared.body.BodyError.{BodyError}
 use Rattle.journal_bytes.specs.declared.body.BodyError.TheVariants as bodies
 use Rattle.journal_bytes.specs.Frames.{Frame}
 use Rattle.journal_bytes.specs.Bodies.{RecordView, record_of}
 use Rattle.journal_bytes.specs.Views.{Fails}
-use Rattle.journal_bytes.specs.Journal.{◌>>=◌, or_malformed, records_from, placed_at, Refuses}
+use Rattle.journal_bytes.specs.Journal.{◌>>=◌, records_from, placed_at, Refuses}
 
 -- what was read before, and what is still read
 abbrev pub with_front : List RecordView → Result (List RecordView) Refusal → Result (List RecordView) Refusal

@@ -1,13 +1,11 @@
 -- What a journal reads as, with one record more.
-use Rattle.std.proofs.Common.{◌≡◌, ◌⊎◌, inl, inr, ℕ, suc, ◌+◌, ◌-◌, ◌^◌, ◌<◌, ◌≤◌, Bool, true, false, List, [], ◌∷◌, ◌++◌, length, get_or, take, drop, Option, Some, None, Result, Ok, Err, refl, sym, ◌∙◌, ap, subst, arith, append_assoc}
-use Rattle.std.specs.Prelude.{ℤ, nat_lt, ◌&&◌, ◌==◌, if◌then◌else◌}
+use Rattle.std.proofs.Common.{◌≡◌, inl, inr, ℕ, ◌+◌, ◌^◌, ◌<◌, ◌≤◌, Bool, true, false, List, [], ◌∷◌, ◌++◌, length, Some, Result, Ok, Err, refl, sym, ◌∙◌, ap, arith}
 use Rattle.std.proofs.lemmas.Bool.{cases_lt, cases_eq}
-use Rattle.std.proofs.lemmas.Bool.Decides.{nat_tests}
 use Rattle.journal_bytes.specs.declared.refusal.Refusal.{Refusal}
 use Rattle.journal_bytes.specs.declared.refusal.Refusal.TheVariants.{NotBegun}
 use Rattle.journal_bytes.specs.declared.tail.Tail.{Tail}
-use Rattle.journal_bytes.specs.Frames.{Frame, Reading, no_digest, is_sound, reading, reading_of, frames_of, closed_after, ReadsAs}
-use Rattle.journal_bytes.specs.Bodies.{RecordView, Improve, Finish, record_of}
+use Rattle.journal_bytes.specs.Frames.{Frame, no_digest, is_sound, frames_of, closed_after, ReadsAs}
+use Rattle.journal_bytes.specs.Bodies.{RecordView, record_of}
 use Rattle.journal_bytes.specs.Journal.{◌>>=◌, HeadView, JournalView, or_malformed, head_of, records_from, journal_in, journal_of, HasRecords}
 use Rattle.journal_bytes.specs.Spelling.{head_frame}
 use Rattle.journal_bytes.proofs.Again.{head_again}

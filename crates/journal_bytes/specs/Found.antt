@@ -1,5 +1,5 @@
 -- What a reading has found, without where it lies in memory.
-use Rattle.std.specs.Prelude.{ℕ, List, map, Bool}
+use Rattle.std.specs.Prelude.{map}
 use Rattle.journal_bytes.specs.declared.frames.Frame.{Frame as Kept}
 use Rattle.journal_bytes.specs.declared.frames.Found.{Found}
 use Rattle.journal_bytes.specs.Frames.{Frame, Reading}

@@ -1,5 +1,5 @@
 -- What a file reads as, or the first cause for which it is refused.
-use Rattle.std.specs.Prelude.{◌≡◌, ℕ, ◌+◌, nat_le, Bool, ◌==◌, if◌then◌else◌, List, [], ◌∷◌, ◌++◌, map, length, take, drop, Option, Some, None, Result, Ok, Err}
+use Rattle.std.specs.Prelude.{◌≡◌, ℕ, ◌+◌, nat_le, ◌==◌, if◌then◌else◌, List, [], ◌∷◌, length, Option, Some, None, Result, Ok, Err}
 use Rattle.std.specs.Int.{w32}
 use Rattle.journal_bytes.specs.declared.refusal.Refusal.{Refusal}
 use Rattle.journal_bytes.specs.declared.refusal.Refusal.TheVariants.{NotBegun, Damaged, Malformed, Version, OutOfMemory}

@@ -1,5 +1,5 @@
 -- The one spelling of each body.
-use Rattle.std.specs.Prelude.{ℕ, ◌-◌, ◌^◌, ◌<◌, ◌≤◌, ℤ, List, [], ◌∷◌, ◌++◌, length, Option, None, Some, IfSome, FitsSigned, ◌+◌, ◌*◌, sum_by, All}
+use Rattle.std.specs.Prelude.{ℕ, ◌-◌, ◌^◌, ◌<◌, List, [], ◌∷◌, ◌++◌, length, Option, None, Some, IfSome, FitsSigned, ◌+◌, ◌*◌, sum_by, All}
 use Rattle.std.specs.List.{flat_map, AllByRecursion}
 use Rattle.std.specs.Int.{w32, w64, to_be_bytes, cast_unsigned}
 use Rattle.problem_names.specs.declared.ModelName.{ModelName}

@@ -1,5 +1,5 @@
 -- Records without where they lie in memory, and what a reader gives.
-use Rattle.std.specs.Prelude.{◌≡◌, ℕ, List, map, Option, Some, None, Result, Ok, Err}
+use Rattle.std.specs.Prelude.{◌≡◌, map, Option, Some, None, Result, Ok, Err}
 use Rattle.journal_bytes.specs.declared.record.Child.{Child}
 use Rattle.journal_bytes.specs.declared.record.Record.{Record}
 use Rattle.journal_bytes.specs.declared.record.Record.TheVariants as records

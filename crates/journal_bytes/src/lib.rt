@@ -16,6 +16,8 @@ mod records;
 mod refusal;
 mod sealing;
 mod tail;
+#[cfg(test)]
+mod tests;
 mod writing;
 
 pub use head::Head;

@@ -1,13 +1,12 @@
 -- How a journal begins.
-use Rattle.std.proofs.Common.{◌≡◌, ◌≢◌, ◌⊎◌, inl, inr, ⊎_elim, ℕ, zero, suc, ◌+◌, ◌-◌, ◌^◌, ◌<◌, ◌≤◌, Bool, true, false, List, [], ◌∷◌, ◌++◌, length, get_or, take, drop, max, Option, Some, None, Err, refl, sym, ◌∙◌, ap, subst, arith}
+use Rattle.std.proofs.Common.{◌≡◌, ◌≢◌, inl, inr, ⊎_elim, ℕ, suc, ◌-◌, ◌^◌, ◌<◌, ◌≤◌, Bool, true, false, List, [], ◌∷◌, ◌++◌, length, get_or, Option, Some, None, Err, refl, sym, ◌∙◌, ap, subst, arith}
 use Rattle.std.specs.Prelude.{IsSome, IfSome}
-use Rattle.std.specs.List.{AllByRecursion}
 use Rattle.std.proofs.lemmas.Bool.{cases_lt}
-use Rattle.std.proofs.lemmas.List.{length-take-le, drop_all}
+use Rattle.std.proofs.lemmas.List.{drop_all}
 use Rattle.dd_disk.specs.Disk.{FirstSync, Holds, Torn, Only, LeavesOnly}
 use Rattle.journal_bytes.specs.declared.refusal.Refusal.TheVariants.{NotBegun}
 use Rattle.journal_bytes.specs.declared.tail.Tail.{Tail}
-use Rattle.journal_bytes.specs.Frames.{Frame, Fits, no_digest, frames_of, reading_of, ReadsAs, IsBeforeOrAfter}
+use Rattle.journal_bytes.specs.Frames.{Frame, no_digest, frames_of, ReadsAs, IsBeforeOrAfter}
 use Rattle.journal_file.specs.Settled.{IsSettled, IsOpen}
 use Rattle.journal_bytes.specs.Journal.{HeadView, journal_in, journal_of, HasRecords}
 use Rattle.journal_bytes.specs.Spelling.{head_frame}

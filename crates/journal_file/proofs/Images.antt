@@ -1,10 +1,10 @@
 -- What a crash leaves in each of the two writes of an append.
-use Rattle.std.proofs.Common.{◌≡◌, ◌≢◌, inl, inr, ℕ, ◌+◌, ◌<◌, ◌≤◌, List, [], ◌∷◌, ◌++◌, length, get_or, take, drop, refl, sym, ◌∙◌, ap, subst, arith, append_assoc, length-append, take-append-drop}
+use Rattle.std.proofs.Common.{◌≡◌, ◌≢◌, inl, inr, ℕ, ◌+◌, ◌<◌, List, [], ◌∷◌, ◌++◌, length, get_or, take, drop, sym, ◌∙◌, ap, subst, arith, append_assoc, length-append, take-append-drop}
 use Rattle.std.specs.List.{AllByRecursion}
 use Rattle.std.proofs.lemmas.Bool.{cases_eq}
 use Rattle.std.proofs.lemmas.List.{take_at, drop_at, drop_more}
 use Rattle.dd_disk.specs.Disk.{Holds, Torn}
-use Rattle.journal_bytes.specs.Frames.{Frame, Fits, digest_of, sealed, no_digest, spelled, digest_after, ReadsAs, IsBeforeOrAfter}
+use Rattle.journal_bytes.specs.Frames.{Frame, Fits, sealed, no_digest, spelled, digest_after, ReadsAs, IsBeforeOrAfter}
 use Rattle.journal_bytes.proofs.Reading.{reads_as, spelled-push, fit-push}
 
 module _ (fs : List Frame) (fit : AllByRecursion Fits fs) (gate : ℕ) (shut : gate ≢ 1) (rest : List ℕ) (f : Frame) (f_fits : Fits f) (o : ℕ) (o_is : length (spelled no_digest fs) ≡ o) where

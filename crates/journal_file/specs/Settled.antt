@@ -1,5 +1,5 @@
 -- A journal on a disk to which a record may be added.
-use Rattle.std.specs.Prelude.{ℕ, List}
+use Rattle.std.specs.Prelude.{ℕ, List, Bool, IsTrue}
 use Rattle.dd_disk.specs.Disk.{Only}
 use Rattle.journal_bytes.specs.declared.tail.Tail.{Tail}
 use Rattle.journal_bytes.specs.Bodies.{RecordView}
@@ -18,3 +18,8 @@ pub record IsOpen (file : List ℕ) (may_leave : List ℕ → Type 0) (tail : Ta
   pub head : HeadView
   pub records : List RecordView
   pub reads : HasRecords head records file
+
+-- A disk and a tail with which a record may be added.
+pub record IsReady {D : Type 0} (attached tells : D → Bool) (seen : D → List ℕ) (may_leave : D → List ℕ → Type 0) (disk : D) (tail : Tail) : Type 0 where
+  pub is_attached : IsTrue (attached disk)
+  pub is_open : IsTrue (tells disk) → IsOpen (seen disk) (may_leave disk) tail

@@ -1,7 +1,7 @@
-use Rattle.std.proofs.Common.{rules, ◌≡◌, ◌≢◌, ℕ, suc, ◌+◌, ◌-◌, List, [], ◌∷◌, ◌++◌, length, map, get_or, take, drop, length-drop, true, false, refl, sym, ◌∙◌, ap, arith}
+use Rattle.std.proofs.Common.{rules, ◌≡◌, ◌≢◌, ℕ, ◌+◌, ◌-◌, List, [], ◌∷◌, ◌++◌, length, map, get_or, take, drop, length-drop, true, false, refl, ◌∙◌, ap, arith}
 use Rattle.std.proofs.lemmas.List.{take_all, get_or_past, map-append}
 use Rattle.std.proofs.lemmas.Bool.Decides.{nat_tests}
-use Rattle.journal_bytes.specs.Frames.{Frame, reading, reading_of, body_length, frame_at}
+use Rattle.journal_bytes.specs.Frames.{Frame, reading, reading_of}
 use Rattle.journal_bytes.specs.Found.{frame}
 use Rattle.journal_bytes.proofs.Found.{with_fronts, frame_is, stops, goes, reading_shut, reading_damaged, reading_none}
 use Rattle.journal_bytes.proofs.frames.read_frames.Goals as goal

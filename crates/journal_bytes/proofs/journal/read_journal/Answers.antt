@@ -1,4 +1,4 @@
-use Rattle.std.proofs.Common.{◌≡◌, ◌<◌, ◌≤◌, length, sym, ◌∙◌, ap, subst, arith}
+use Rattle.std.proofs.Common.{sym, ◌∙◌, ap, subst, arith}
 use Rattle.journal_bytes.specs.Found.{found}
 use Rattle.journal_bytes.specs.Journal.{journal_in, journal_view, Gives}
 use Rattle.journal_bytes.proofs.Ended.{ends_if, short_file, long_file}

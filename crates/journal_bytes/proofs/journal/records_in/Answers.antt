@@ -1,10 +1,10 @@
-use Rattle.std.proofs.Common.{◌≡◌, ℕ, ◌+◌, List, [], ◌∷◌, ◌++◌, length, map, get_or, drop, Some, subst, refl, sym, ◌∙◌, ap, arith}
+use Rattle.std.proofs.Common.{◌≡◌, ◌+◌, [], ◌∷◌, ◌++◌, length, map, drop, Some, subst, sym, ◌∙◌, ap, arith}
 use Rattle.std.proofs.lemmas.List.{drop_more, drop_all, map_push}
 use Rattle.journal_bytes.specs.Frames.{Frame}
 use Rattle.journal_bytes.specs.Bodies.{record_of}
 use Rattle.journal_bytes.specs.Found.{frame}
 use Rattle.journal_bytes.specs.Views.{record_view, Fails}
-use Rattle.journal_bytes.specs.Journal.{records_from, placed_at, Refuses}
+use Rattle.journal_bytes.specs.Journal.{records_from, Refuses}
 use Rattle.journal_bytes.proofs.Entries.{goes_on, stops, is_done}
 use Rattle.journal_bytes.proofs.journal.records_in.Goals as goal
 

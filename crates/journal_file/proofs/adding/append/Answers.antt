@@ -1,4 +1,4 @@
-use Rattle.std.proofs.Common.{◌≡◌, ◌∙◌, ◌++◌, ◌∷◌, [], List, ℕ, Some}
+use Rattle.std.proofs.Common.{◌≡◌, ◌∙◌, ◌++◌, ◌∷◌, [], List, Some}
 use Rattle.std.specs.Prelude.{IsTrue}
 use Rattle.journal_bytes.specs.Bodies.{RecordView, record_of}
 use Rattle.journal_bytes.specs.Frames.{Frame, frames_of}

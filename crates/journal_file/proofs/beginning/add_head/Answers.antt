@@ -1,4 +1,4 @@
-use Rattle.std.proofs.Common.{inl, ◌≡◌, ◌∷◌, [], ◌^◌, ◌<◌, ℕ, List, length, refl, sym, ◌∙◌, ap, subst, arith}
+use Rattle.std.proofs.Common.{inl, ◌≡◌, ◌^◌, ◌<◌, length, refl, sym, ◌∙◌, ap, subst, arith}
 use Rattle.std.specs.Prelude.{IsTrue}
 use Rattle.journal_bytes.specs.Frames.{Frame, frames_of, no_digest}
 use Rattle.journal_bytes.specs.Journal.{head_view, journal_of}

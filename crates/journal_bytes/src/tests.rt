@@ -1,0 +1,132 @@
+use super::{Refusal, read_journal, seal};
+use std::alloc::{AllocError, Global};
+use std::test::Fail;
+
+/// Version 1, knapsack, four bytes of text.
+const HEAD: &[u8] = b"\x00\x00\x00\x01\x01\x00\x00\x00\x040 5\n";
+
+/// The value 9 by the decision 7.
+const IMPROVE: &[u8] = b"\x00\x00\x00\x00\x00\x00\x00\x09\x00\x00\x00\x01\x00\x00\x00\x07";
+
+/// Ticket 3, and one child that replaced none, of bound -1 and no decision.
+const FINISH: &[u8] =
+    b"\x00\x00\x00\x00\x00\x00\x00\x03\x00\x00\x00\x01\xff\xff\xff\xff\xff\xff\xff\xff\xff\xff\xff\xff\xff\xff\xff\xff\x00\x00\x00\x00";
+
+/// A file of records with right digests, of these kinds and bodies.
+fn file_of(alloc: Global, frames: &[(u8, &[u8])]) -> Result<Vec<u8>, AllocError> {
+    let mut file = [0].to_vec(alloc)?;
+    let mut digest = [0; 32];
+    for (kind, body) in frames {
+        if body.len() < 100 {
+            let sealed = seal(alloc, &digest, *kind, body)?;
+            let (bytes, next) = sealed;
+            let _ = file.pop();
+            file.push(1)?;
+            file.extend_from_slice(&bytes)?;
+            digest = next;
+        }
+    }
+    Ok(file)
+}
+
+/// How many records the bytes spell behind the head, or why they are refused.
+fn count(alloc: Global, bytes: &[u8]) -> Result<usize, Refusal> {
+    let (_, records, _) = read_journal(alloc, bytes)?;
+    Ok(records.len())
+}
+
+#[test]
+fn the_first_wrong_record_is_told(rt: HostRuntime) -> Result<(), Fail> {
+    let alloc = rt.alloc();
+    let head = (1, HEAD);
+    let improve = (2, IMPROVE);
+    let finish = (3, FINISH);
+    for (frames, answer) in [
+        ([].as_slice(), Err(Refusal::NotBegun)),
+        (&[head], Ok(0)),
+        (&[head, improve], Ok(1)),
+        (&[head, finish, improve], Ok(2)),
+        (&[improve], Err(Refusal::Malformed { offset: 0 })),
+        (
+            &[(1, b"\x00\x00\x00")],
+            Err(Refusal::Malformed { offset: 0 }),
+        ),
+        (
+            &[(1, b"\x00\x00\x00\x02")],
+            Err(Refusal::Version { found: 2 }),
+        ),
+        (
+            &[(1, b"\x00\x00\x00\x01")],
+            Err(Refusal::Malformed { offset: 0 }),
+        ),
+        (
+            &[(1, b"\x00\x00\x00\x01\x00\x00\x00\x00\x00")],
+            Err(Refusal::Malformed { offset: 0 }),
+        ),
+        (
+            &[(1, b"\x00\x00\x00\x01\x05\x00\x00\x00\x00")],
+            Err(Refusal::Malformed { offset: 0 }),
+        ),
+        (
+            &[(1, b"\x00\x00\x00\x01\x01\x00\x00\x00\x01")],
+            Err(Refusal::Malformed { offset: 0 }),
+        ),
+        (
+            &[(1, b"\x00\x00\x00\x01\x01\x00\x00\x00\x000")],
+            Err(Refusal::Malformed { offset: 0 }),
+        ),
+        (&[head, head], Err(Refusal::Malformed { offset: 51 })),
+        (&[head, (4, b"")], Err(Refusal::Malformed { offset: 51 })),
+        (
+            &[head, (0, IMPROVE)],
+            Err(Refusal::Malformed { offset: 51 }),
+        ),
+        (
+            &[head, (3, IMPROVE)],
+            Err(Refusal::Malformed { offset: 51 }),
+        ),
+        (&[head, (2, FINISH)], Err(Refusal::Malformed { offset: 51 })),
+        (
+            &[
+                head,
+                (2, b"\x00\x00\x00\x00\x00\x00\x00\x09\x00\x00\x00\x00\x00"),
+            ],
+            Err(Refusal::Malformed { offset: 51 }),
+        ),
+        (
+            &[
+                head,
+                (2, b"\x00\x00\x00\x00\x00\x00\x00\x09\xff\xff\xff\xff"),
+            ],
+            Err(Refusal::Malformed { offset: 51 }),
+        ),
+        (
+            &[
+                head,
+                improve,
+                (3, b"\x00\x00\x00\x00\x00\x00\x00\x00\xff\xff\xff\xff"),
+                head,
+            ],
+            Err(Refusal::Malformed { offset: 105 }),
+        ),
+    ] {
+        let bytes = file_of(alloc, frames)?;
+        assert_eq!(rt; count(alloc, &bytes), answer, "of {} records", frames.len());
+    }
+    Ok(())
+}
+
+#[test]
+fn a_wrong_record_comes_before_a_damaged_one(rt: HostRuntime) -> Result<(), Fail> {
+    let alloc = rt.alloc();
+    let mut bytes = file_of(alloc, &[(1, HEAD), (4, b""), (2, IMPROVE)])?;
+    let _ = bytes.pop();
+    assert_eq!(rt;
+        count(alloc, &bytes),
+        Err(Refusal::Malformed { offset: 51 })
+    );
+    let mut bytes = file_of(alloc, &[(1, HEAD), (4, b"")])?;
+    let _ = bytes.pop();
+    assert_eq!(rt; count(alloc, &bytes), Err(Refusal::Damaged { offset: 51 }));
+    Ok(())
+}
