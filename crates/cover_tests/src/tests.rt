@@ -1,5 +1,6 @@
 use bound_cover::{Checker, Cover, CoverArc, Verdict, Why};
 use dp_model::OutOfMemory;
+use knapsack::Knapsack;
 use std::alloc::Global;
 use std::test::Fail;
 
@@ -203,20 +204,33 @@ fn cover_of(alloc: Global, above: Row, below: Row) -> Result<Cover, OutOfMemory>
     Ok(cover)
 }
 
+/// What a new checker says of the case.
+fn verdict_of(alloc: Global, model: &Knapsack, case: &Case) -> Result<Verdict, OutOfMemory> {
+    let (above, below, best, assignment, _) = *case;
+    let cover = cover_of(alloc, above, below)?;
+    let mut checker = Checker::prepare(alloc, model)?;
+    Ok(checker.check(model, best, assignment, &cover))
+}
+
 #[test]
 fn the_first_failing_test_is_answered(rt: HostRuntime) -> Result<(), Fail> {
     let read = knapsack::read(rt.alloc(), b"1 1\n4 1\n");
     assert!(rt; read.is_ok());
     let Ok(model) = read else { return Ok(()) };
-    let mut checker = Checker::prepare(rt.alloc(), &model)?;
-    for (above, below, best, assignment, verdict) in CASES {
-        let cover = cover_of(rt.alloc(), *above, *below)?;
-        assert_eq!(rt; checker.check(&model, *best, assignment, &cover), *verdict);
+    for case in CASES {
+        assert_eq!(rt; verdict_of(rt.alloc(), &model, case)?, case.4);
     }
-    assert_eq!(rt;
-        checker.check(&model, BEST, TAKEN, &Cover::new(rt.alloc())),
-        Verdict::Refused(Why::Layers)
-    );
+    Ok(())
+}
+
+#[test]
+fn a_cover_without_layers_is_refused(rt: HostRuntime) -> Result<(), Fail> {
+    let read = knapsack::read(rt.alloc(), b"1 1\n4 1\n");
+    assert!(rt; read.is_ok());
+    let Ok(model) = read else { return Ok(()) };
+    let mut checker = Checker::prepare(rt.alloc(), &model)?;
+    let verdict = checker.check(&model, BEST, TAKEN, &Cover::new(rt.alloc()));
+    assert_eq!(rt; verdict, Verdict::Refused(Why::Layers));
     Ok(())
 }
 
@@ -240,6 +254,7 @@ fn rows_are_checked_alone(rt: HostRuntime) -> Result<(), Fail> {
 fn a_cover_is_read_back(rt: HostRuntime) -> Result<(), Fail> {
     let cover = cover_of(rt.alloc(), TOP, END)?;
     assert_eq!(rt; cover.layers(), 2);
+    assert_eq!(rt; cover.rows(0), 1);
     assert_eq!(rt; cover.rows(1), 1);
     assert_eq!(rt; cover.bound(0, 0), Some(4));
     assert!(rt; cover.words(0, 0) == [1].as_slice());
