@@ -39,3 +39,14 @@ IsCause errors.OutOfMemory read = Unit {0}
 abbrev pub Opens : Result (Head × List RecordView × Tail) JournalError → Result JournalView Refusal → Type 0
 Opens (Ok journal) read = read ≡ Ok (journal_view journal)
 Opens (Err e) read = IsCause e read
+
+-- the errors for which no journal is begun
+abbrev pub KeepsFromBeginning : JournalError → Type 0
+KeepsFromBeginning errors.Disk = Unit {0}
+KeepsFromBeginning errors.NotBegun = ⊥
+KeepsFromBeginning errors.Exists = Unit {0}
+KeepsFromBeginning (errors.Damaged offset) = ⊥
+KeepsFromBeginning (errors.Malformed offset) = ⊥
+KeepsFromBeginning (errors.Version found) = ⊥
+KeepsFromBeginning (errors.NoSolution offset) = ⊥
+KeepsFromBeginning errors.OutOfMemory = Unit {0}

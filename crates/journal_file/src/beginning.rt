@@ -1,10 +1,11 @@
-ghost use Rattle.std.specs.Prelude.{◌≡◌, ◌≤◌, ◌<◌, ◌^◌, [], ℕ, List, length, Some, None, Err, get_or, is_err, IsTrue, IfSome, IfOk, OnOk, IsErrOf};
+ghost use Rattle.std.specs.Prelude.{◌≡◌, ◌≤◌, ◌<◌, ◌^◌, [], ℕ, List, length, Some, None, Err, get_or, is_err, IsTrue, IfSome, IfOk, OnOk, IfErr, IsErrOf};
 ghost use Rattle.dd_disk.specs.Counts.{Rose, Counts};
 ghost use Rattle.dd_disk.specs.Disk.{FirstSync, Only, Keeps, LeavesOnly};
 ghost use Rattle.journal_bytes.specs.Journal.{journal_of, head_view, HasRecords};
 ghost use Rattle.journal_bytes.specs.declared.refusal.Refusal.TheVariants.{NotBegun};
 ghost use Rattle.journal_file.specs.Settled.{IsOpen};
 ghost use Rattle.journal_file.specs.Beginning.{IsProbed, MayBegin, IsBegun};
+ghost use Rattle.journal_file.specs.Refusing.{KeepsFromBeginning};
 
 use crate::adding::append_frame;
 use crate::steps::{probe, write_synced};
@@ -84,6 +85,7 @@ pub fn begin<D: Disk>(alloc: Global, disk: &mut D, head: &Head) -> Result<Tail, 
         (2 ≤ length (D.seen disk.old)) × ¬ (get_or (D.seen disk.old) 0 0 ≡ 0) × (D.seen disk.new ≡ D.seen disk.old) }
     ensures begins { OnOk result (IsTrue (D.tells disk.old) → MayBegin (D.seen disk.old)) }
     ensures disk { IsErrOf result JournalError.Disk → Rose (D.faults disk.old) (D.faults disk.new) }
+    ensures errors { IfErr result KeepsFromBeginning }
     ensures faults { D.faults disk.old ≤ D.faults disk.new }
     ensures keeps { Keeps D.attached D.tells disk.old disk.new }
 {

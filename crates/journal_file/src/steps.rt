@@ -3,6 +3,7 @@ ghost use Rattle.dd_disk.specs.Counts.{Rose, Counts};
 ghost use Rattle.dd_disk.specs.Disk.{FirstSync, Holds, Torn, Only, Keeps, LeavesOnly};
 ghost use Rattle.journal_file.specs.declared.error.JournalError.{JournalError};
 ghost use Rattle.journal_file.specs.Beginning.{IsProbed, BeganAt};
+ghost use Rattle.journal_file.specs.Refusing.{KeepsFromBeginning};
 
 use crate::error::JournalError;
 use dd_disk::{Disk, DiskFailed};
@@ -59,6 +60,7 @@ pub(crate) fn probe<D: Disk>(disk: &mut D) -> Result<bool, JournalError>
     ensures keeps { Keeps D.attached D.tells disk.old disk.new }
     ensures faults { D.faults disk.old ≤ D.faults disk.new }
     ensures disk { IsErrOf result JournalError.Disk → Rose (D.faults disk.old) (D.faults disk.new) }
+    ensures errors { IfErr result KeepsFromBeginning }
 {
     disk.sync()?;
     if disk.len()? < 2 {
