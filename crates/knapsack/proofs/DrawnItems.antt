@@ -6,7 +6,7 @@ use Rattle.std.proofs.lemmas.List.Sums.{sum_by-append}
 use Rattle.draws.specs.Draws.{steps}
 use Rattle.draws.proofs.Steps.{steps_more, steps_none}
 use Rattle.knapsack.specs.declared.item.Item.{Item}
-use Rattle.knapsack.specs.declared.problem.Knapsack.{Knapsack}
+use Rattle.knapsack.specs.declared.instance.Knapsack.{Knapsack}
 use Rattle.knapsack.specs.Shown.{instance_in}
 use Rattle.knapsack.specs.Instance.{is_small_item}
 use Rattle.knapsack.specs.Generating.{behind_item, generated, item_drawn, whole_weight, with_item}

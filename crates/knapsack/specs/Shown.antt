@@ -1,6 +1,6 @@
 -- What contracts see of a knapsack problem in memory.
 use Rattle.dp_model.specs.Dp.{Dp}
-use Rattle.knapsack.specs.declared.problem.Knapsack.{Knapsack}
+use Rattle.knapsack.specs.declared.instance.Knapsack.{Knapsack}
 use Rattle.knapsack.specs.Instance.{Instance}
 use Rattle.knapsack.specs.Program.{program_of}
 

@@ -6,7 +6,7 @@ ghost use Rattle.knapsack.specs.Shown.{instance_in};
 ghost use Rattle.knapsack.specs.Generating.{item_drawn, behind_item, generated};
 
 use crate::item::Item;
-use crate::problem::Knapsack;
+use crate::instance::Knapsack;
 use draws::Draws;
 use std::alloc::{AllocError, Global};
 

@@ -15,19 +15,19 @@
 
 mod filling;
 mod generating;
+mod instance;
 mod item;
 mod model;
 mod ordering;
-mod packing;
 mod placed;
 mod printing;
-mod problem;
 mod reading;
 mod running;
+mod value;
 
 pub use generating::generate;
+pub use instance::Knapsack;
 pub use item::Item;
-pub use packing::value_of;
 pub use printing::print;
-pub use problem::Knapsack;
 pub use reading::read;
+pub use value::value_of;

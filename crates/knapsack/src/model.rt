@@ -4,7 +4,7 @@ ghost use Rattle.knapsack.specs.Limits.{IsSmallItem};
 
 use crate::filling::filled;
 use crate::item::Item;
-use crate::problem::Knapsack;
+use crate::instance::Knapsack;
 use dp_model::DpModel;
 
 /// Writes a state of one cell.

@@ -5,7 +5,7 @@ ghost use Rattle.knapsack.specs.Reading.{instance_text};
 ghost use Rattle.std.specs.List.{flat_map};
 
 use crate::item::Item;
-use crate::problem::Knapsack;
+use crate::instance::Knapsack;
 use dd_text::{push_number, push_text};
 use std::alloc::{AllocError, Global};
 

@@ -6,7 +6,7 @@ ghost use Rattle.knapsack.specs.Shown.{instance_in};
 ghost use Rattle.knapsack.specs.Reading.{copies_at, item_behind, instance_text};
 
 use crate::item::Item;
-use crate::problem::Knapsack;
+use crate::instance::Knapsack;
 use dd_text::{Comment, InstanceError, InstanceFault, ReadModelError, Tokens};
 use std::alloc::Global;
 

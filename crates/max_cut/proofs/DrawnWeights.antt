@@ -4,7 +4,7 @@ use Rattle.std.specs.List.{All}
 use Rattle.std.proofs.lemmas.List.Elements.{All-nil, All-push}
 use Rattle.draws.specs.Draws.{steps}
 use Rattle.draws.proofs.Steps.{steps_more, steps_none}
-use Rattle.max_cut.specs.declared.model.MaxCut.{MaxCut}
+use Rattle.max_cut.specs.declared.instance.MaxCut.{MaxCut}
 use Rattle.max_cut.specs.Graph.{IsGraph, IsWeight, pairs_of}
 use Rattle.max_cut.specs.Generating.{behind_weight, generated, weight_drawn, with_weight}
 use Rattle.max_cut.specs.Shown.{instance_in}

@@ -8,7 +8,7 @@ use Rattle.benefit_rows.specs.Benefits.{size_of, rank_of}
 use Rattle.benefit_rows.specs.BenefitLaws.{rank_of-positive, rank_of-drop, rank_of-append}
 use Rattle.dp_model.specs.NumberLaws.{int_le-is}
 use Rattle.dp_model.specs.Gaps.{IsStateOf}
-use Rattle.max_cut.specs.declared.model.MaxCut.{MaxCut}
+use Rattle.max_cut.specs.declared.instance.MaxCut.{MaxCut}
 use Rattle.max_cut.specs.Graph.{Graph, IsGraph, row_of, weights_from}
 use Rattle.max_cut.specs.GraphLaws.{length-row_of, rank_of-split, rank_of-most, rank_of-weights_from}
 use Rattle.max_cut.specs.Program.{zeros, pulls_of, grown_by, is_within, limits_of, words_of, stepped}

@@ -1,6 +1,6 @@
 -- What contracts see of an instance in memory.
 use Rattle.dp_model.specs.Dp.{Dp}
-use Rattle.max_cut.specs.declared.model.MaxCut.{MaxCut}
+use Rattle.max_cut.specs.declared.instance.MaxCut.{MaxCut}
 use Rattle.max_cut.specs.Graph.{Graph}
 use Rattle.max_cut.specs.Program.{program_of}
 

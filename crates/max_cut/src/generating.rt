@@ -6,7 +6,7 @@ ghost use Rattle.max_cut.specs.Generating.{weight_drawn, behind_weight, generate
 ghost use Rattle.max_cut.specs.Shown.{instance_in};
 
 use crate::edges::count_of_pairs;
-use crate::model::MaxCut;
+use crate::instance::MaxCut;
 use draws::Draws;
 use std::alloc::{AllocError, Global};
 

@@ -12,21 +12,21 @@
 //! Only want of memory has no stated cause.
 #![tactic(auto)]
 
-mod cut;
 mod edges;
 mod generating;
+mod instance;
 mod layers;
 mod limits;
 mod lines;
 mod model;
-mod prepared;
 mod printing;
 mod reading;
 mod rests;
 mod sides;
+mod value;
 
-pub use cut::value_of;
 pub use generating::generate;
-pub use model::MaxCut;
+pub use instance::MaxCut;
 pub use printing::print;
 pub use reading::read;
+pub use value::value_of;

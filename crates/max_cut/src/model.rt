@@ -1,23 +1,10 @@
 ghost use Rattle.std.specs.Prelude.{◌≡◌, ◌≤◌, ◌+◌, ◌<◌, length, pos, slice_index_or};
-ghost use Rattle.max_cut.specs.Graph.{IsPrepared};
 
+use crate::instance::MaxCut;
 use crate::layers::{extend_row, gain_by_side, row_of_pairs, tail, write_step, write_zeros};
 use crate::limits::is_within_limits;
 use benefit_rows::{gap, gap_within, merge_into, rank};
 use dp_model::{DpModel, Extended};
-
-/// An instance of maximum cut: up to 1,024 vertices, and a weight of up to 500,000,000 in size for each
-/// pair of them, 0 where no edge stands.
-#[derive(Debug, Drop)]
-pub struct MaxCut {
-    pub(crate) vertices: usize,
-    // The weights of the pairs, by the first vertex, then by the second.
-    pub(crate) weights: Vec<i64>,
-    // For each vertex the sum of the sizes of the weights of pairs from it on, and a last 0.
-    pub(crate) sizes: Vec<i64>,
-    pub(crate) negatives: i64,
-    ghost prepared: { IsPrepared (record { vertices = vertices; weights = weights.items }) sizes.items negatives },
-}
 
 impl MaxCut {
     ghost use Rattle.std.specs.Prelude.{◌≡◌, ◌-◌, ◌^◌, ◌<◌, ◌≤◌, drop, length, pos, ◌+ℤ◌, ◌≤ℤ◌};

@@ -6,7 +6,7 @@ ghost use Rattle.max_cut.specs.EdgeLines.{text_of};
 ghost use Rattle.max_cut.specs.Shown.{instance_in};
 
 use crate::lines::{count_edges, push_ended, push_lines, push_spaced};
-use crate::model::MaxCut;
+use crate::instance::MaxCut;
 use std::alloc::{AllocError, Global};
 
 /// The canonical text, which reads as the instance: the number of vertices and of edges, then a line for

@@ -6,7 +6,7 @@ ghost use Rattle.max_cut.specs.Edges.{instance_text};
 ghost use Rattle.max_cut.specs.Shown.{instance_in};
 
 use crate::edges::read_totals;
-use crate::model::MaxCut;
+use crate::instance::MaxCut;
 use dd_text::{Comment, ReadModelError, Tokens};
 use std::alloc::Global;
 

@@ -6,7 +6,7 @@ use Rattle.draws.proofs.Steps.{steps_more, steps_none}
 use Rattle.max_two_sat.specs.declared.clause.Literals.{Literals}
 use Rattle.max_two_sat.specs.declared.header.Header.{Header}
 use Rattle.max_two_sat.specs.declared.header.Form.TheVariants.{Weighted}
-use Rattle.max_two_sat.specs.declared.problem.MaxTwoSat.{MaxTwoSat}
+use Rattle.max_two_sat.specs.declared.instance.MaxTwoSat.{MaxTwoSat}
 use Rattle.max_two_sat.specs.Clauses.{FitsLiterals, Gathered, gathered_with, nothing_gathered}
 use Rattle.max_two_sat.specs.Model.{instance_in}
 use Rattle.max_two_sat.specs.Room.{HasRoom}

@@ -1,5 +1,5 @@
 -- The instance that a problem in memory holds.
-use Rattle.max_two_sat.specs.declared.problem.MaxTwoSat.{MaxTwoSat}
+use Rattle.max_two_sat.specs.declared.instance.MaxTwoSat.{MaxTwoSat}
 use Rattle.max_two_sat.specs.Instance.{Instance}
 
 abbrev pub instance_in : MaxTwoSat → Instance

@@ -6,7 +6,7 @@ ghost use Rattle.max_two_sat.specs.Room.{HasRoom};
 ghost use Rattle.max_two_sat.specs.Drafted.{gathered_in, instance_gathered};
 
 use crate::clause::{Literal, Literals};
-use crate::problem::start_of_row;
+use crate::instance::start_of_row;
 use crate::weights::{PairWeights, UnitWeights};
 use std::alloc::{AllocError, Global};
 

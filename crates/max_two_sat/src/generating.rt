@@ -9,7 +9,7 @@ ghost use Rattle.max_two_sat.specs.Model.{instance_in};
 
 use crate::clause::{Literal, Literals};
 use crate::draft::Draft;
-use crate::problem::MaxTwoSat;
+use crate::instance::MaxTwoSat;
 use draws::Draws;
 use std::alloc::{AllocError, Global};
 

@@ -3,7 +3,7 @@ ghost use Rattle.max_two_sat.specs.Instance.{no_pair, pair_total, row_at, rows_o
 ghost use Rattle.max_two_sat.specs.Kept.{IsKept, PairIsPositive, UnitIsPositive};
 ghost use Rattle.max_two_sat.specs.Program.{are_within, limits_at, words_of};
 
-use crate::problem::row_of;
+use crate::instance::row_of;
 use crate::row::is_at_most;
 use crate::weights::{PairWeights, UnitWeights};
 

@@ -9,7 +9,7 @@ ghost use Rattle.max_two_sat.specs.Texts.{instance_at};
 
 use crate::draft::Draft;
 use crate::first_line::read_header;
-use crate::problem::MaxTwoSat;
+use crate::instance::MaxTwoSat;
 use crate::reading_clauses::{ends_clauses, fault_here, read_clauses};
 use dd_text::{Comment, InstanceFault, ReadModelError, Tokens};
 use std::alloc::Global;

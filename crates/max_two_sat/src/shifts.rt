@@ -6,7 +6,7 @@ ghost use Rattle.max_two_sat.specs.Kept.{PairIsPositive, pairs_are_positive};
 ghost use Rattle.max_two_sat.specs.Shifts.{AreShifts, shift_of, shifts_of, stake_of, stakes_of};
 
 use crate::limits::pair_sum;
-use crate::problem::row_of;
+use crate::instance::row_of;
 use crate::row::{open_weights, settled_weight};
 use crate::weights::PairWeights;
 use std::alloc::{AllocError, Global};

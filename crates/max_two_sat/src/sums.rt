@@ -4,7 +4,7 @@ ghost use Rattle.max_two_sat.specs.Kept.{pairs_are_positive};
 ghost use Rattle.max_two_sat.specs.Table.{later_totals};
 
 use crate::limits::pair_sum;
-use crate::problem::row_of;
+use crate::instance::row_of;
 use crate::weights::PairWeights;
 use std::alloc::{AllocError, Global};
 

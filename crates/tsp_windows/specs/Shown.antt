@@ -1,6 +1,6 @@
 -- What contracts see of a tour problem in memory.
 use Rattle.dp_model.specs.Dp.{Dp}
-use Rattle.tsp_windows.specs.declared.problem.TspWindows.{TspWindows}
+use Rattle.tsp_windows.specs.declared.instance.TspWindows.{TspWindows}
 use Rattle.tsp_windows.specs.Instance.{Instance}
 use Rattle.tsp_windows.specs.Program.{program_of}
 

@@ -6,7 +6,7 @@ ghost use Rattle.tsp_windows.specs.Instance.{is_window};
 ghost use Rattle.tsp_windows.specs.Generating.{distance_drawn, behind_distance, distances_drawn, AreDistances, way_on, home_again, windows_along, generated};
 ghost use Rattle.tsp_windows.specs.Shown.{instance_in};
 
-use crate::problem::TspWindows;
+use crate::instance::TspWindows;
 use crate::reading::problem_of;
 use crate::window::Window;
 use draws::Draws;

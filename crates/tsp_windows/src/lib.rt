@@ -12,18 +12,18 @@
 #![tactic(auto)]
 
 mod generating;
+mod instance;
 mod model;
 mod parts;
 mod printing;
-mod problem;
 mod reading;
-mod touring;
+mod value;
 mod ways;
 mod window;
 
 pub use generating::generate;
+pub use instance::TspWindows;
 pub use printing::print;
-pub use problem::TspWindows;
 pub use reading::read;
-pub use touring::value_of;
+pub use value::value_of;
 pub use window::Window;

@@ -5,7 +5,7 @@ ghost use Rattle.tsp_windows.specs.Instance.{no_window};
 ghost use Rattle.tsp_windows.specs.Shown.{instance_in};
 ghost use Rattle.tsp_windows.specs.Texts.{printed, printed_distances, printed_window, printed_windows, spelled};
 
-use crate::problem::TspWindows;
+use crate::instance::TspWindows;
 use crate::window::Window;
 use dd_text::{OutOfMemory, push_number, push_text};
 use std::alloc::Global;

@@ -6,7 +6,7 @@ ghost use Rattle.tsp_windows.specs.Instance.{is_small};
 ghost use Rattle.tsp_windows.specs.Shown.{instance_in};
 ghost use Rattle.tsp_windows.specs.Texts.{distance_at, window_at, nodes_at, spelled};
 
-use crate::problem::TspWindows;
+use crate::instance::TspWindows;
 use crate::ways::least_ways;
 use crate::window::Window;
 use dd_text::{Comment, InstanceError, InstanceFault, ReadModelError, Tokens};

@@ -1,0 +1,36 @@
+use Rattle.std.proofs.Common.{◌+◌, ◌++◌, ◌∷◌, pos, length, take, drop, ap, ◌∙◌}
+use Rattle.benefit_rows.specs.Benefits.{sums_of}
+use Rattle.max_two_sat.specs.InstanceNumbers.{instance_of-numbers_of}
+use Rattle.max_two_sat.specs.Model.{instance_in}
+use Rattle.max_two_sat.specs.Instance.{row_at, rows_of}
+use Rattle.max_two_sat.proofs.Layers.{row-fits, same-allowed, same-cells}
+use Rattle.max_two_sat.proofs.Shifting.{shifts-fit}
+use Rattle.max_two_sat.proofs.Writing.{step-shifts}
+use Rattle.max_two_sat.proofs.model.MaxTwoSatDpModel.step.Goals as goal
+
+pub shifts-requires : goal.shifts-requires
+shifts-requires c = record {
+  variable = same-allowed (instance_in c.args.self.now) c.args.k c.args.s.now c.args.d c.requires.allowed;
+  decision = (rw instance_of-numbers_of at c.requires.allowed).choice;
+}
+
+pub write_step-requires : goal.write_step-requires
+write_step-requires c =
+    let i = instance_in c.args.self.now in
+    let fits = row-fits i c.args.k c.args.s.now c.args.d c.args.self.now.kept c.requires.state c.requires.allowed in
+    let own = shifts-fit (row_at (rows_of (length i.units) i.pairs) c.args.k) c.args.k c.args.s.now c.args.d c.shifts.result.now fits c.shifts.ensures in
+    record {
+      cells = same-cells i c.args.k c.args.s.now c.args.out.now c.args.self.now.kept c.requires.state (same-allowed i c.args.k c.args.s.now c.args.d c.requires.allowed) c.requires.cells;
+      entries = own.entries;
+      sizes = own.sizes;
+      benefits = fits.rank;
+    }
+
+pub returns : goal.returns
+returns c =
+    let i = instance_in c.args.self.now in
+    let fits = row-fits i c.args.k c.args.s.now c.args.d c.args.self.now.kept c.requires.state c.requires.allowed in
+    let own = shifts-fit (row_at (rows_of (length i.units) i.pairs) c.args.k) c.args.k c.args.s.now c.args.d c.shifts.result.now fits c.shifts.ensures in
+    rw (instance_of-numbers_of i)
+    (c.write_step.ensures.row ∙ (ap (λ zs. take c.args.k c.args.s.now ++ pos 0 ∷ sums_of (drop (c.args.k + 1) c.args.s.now) zs) c.shifts.ensures
+    ∙ step-shifts (row_at (rows_of (length i.units) i.pairs) c.args.k) c.args.s.now c.args.k c.args.d own.below))

@@ -1,7 +1,0 @@
-use Rattle.std.proofs.Common.{ap, length}
-use Rattle.max_two_sat.specs.Model.{instance_in}
-use Rattle.max_two_sat.specs.InstanceNumbers.{instance_of-numbers_of}
-use Rattle.max_two_sat.proofs.program.MaxTwoSatDpModel.vars.Goals as goal
-
-pub returns : goal.returns
-returns c = rw (instance_of-numbers_of (instance_in c.args.self.now)) (ap length c.as_slice.ensures.value)
