@@ -1,0 +1,36 @@
+-- What the steps of building a layer ask of nodes, and what they keep.
+use Rattle.std.specs.Prelude.{◌≡◌, ℕ, ◌≤◌, ℤ, List, length, map, IsTrue}
+use Rattle.dp_model.specs.Dp.{Dp}
+use Rattle.dp_model.specs.Gaps.{IsStateOf}
+use Rattle.dp_model.specs.Lists.{Each}
+use Rattle.dp_model.specs.Numbers.{IsFar}
+use Rattle.layer_candidates.specs.Ways.{IsNear}
+use Rattle.layer_nodes.specs.Nodes.{NodeView, LayerView, without_arcs}
+
+-- a node of the layer at depth k: its row is a state, with its rank, and its value leaves room for gains, gaps and rough bounds
+pub record IsNodeOf (dp : Dp) (k : ℕ) (node : NodeView) : Type 0 where
+  pub state : IsStateOf dp k node.row
+  pub rank : node.rank ≡ dp.rank k node.row
+  pub value : IsNear node.value
+
+-- a row is a state, with its rank
+pub record IsRanked (dp : Dp) (k : ℕ) (node : NodeView) : Type 0 where
+  pub state : IsStateOf dp k node.row
+  pub rank : node.rank ≡ dp.rank k node.row
+
+-- the arcs of the node may be lengthened by a gap
+abbrev pub MayBeLengthened : NodeView → Type 0
+MayBeLengthened node = Each (λ arc. IsFar arc.longer) node.arcs
+
+-- nothing of the layer changes but the arcs of its nodes
+pub record KeepsNodes (old new : LayerView) : Type 0 where
+  pub words : new.words ≡ old.words
+  pub nodes : map without_arcs new.nodes ≡ map without_arcs old.nodes
+  pub nodes_room : new.nodes_room ≡ old.nodes_room
+  pub arcs_room : new.arcs_room ≡ old.arcs_room
+
+-- the cells of the rows, and the rooms, stay as they are
+pub record KeepsRoom (old new : LayerView) : Type 0 where
+  pub words : new.words ≡ old.words
+  pub nodes_room : new.nodes_room ≡ old.nodes_room
+  pub arcs_room : new.arcs_room ≡ old.arcs_room
