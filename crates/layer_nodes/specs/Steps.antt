@@ -4,14 +4,20 @@ use Rattle.dp_model.specs.Dp.{Dp}
 use Rattle.dp_model.specs.Gaps.{IsStateOf}
 use Rattle.dp_model.specs.Lists.{Each}
 use Rattle.dp_model.specs.Numbers.{IsFar}
-use Rattle.layer_candidates.specs.Ways.{IsNear}
+use Rattle.layer_candidates.specs.Ways.{IsNear, IsNearly}
 use Rattle.layer_nodes.specs.Nodes.{NodeView, LayerView, without_arcs}
 
--- a node of the layer at depth k: its row is a state, with its rank, and its value leaves room for gains, gaps and rough bounds
-pub record IsNodeOf (dp : Dp) (k : ℕ) (node : NodeView) : Type 0 where
+-- a node of the layer at depth k that may be extended: its row is a state, with its rank, and its value leaves room for a gain
+pub record IsParent (dp : Dp) (k : ℕ) (node : NodeView) : Type 0 where
   pub state : IsStateOf dp k node.row
   pub rank : node.rank ≡ dp.rank k node.row
   pub value : IsNear node.value
+
+-- a node of the layer at depth k: its row is a state, with its rank, and its value leaves room for gaps and rough bounds
+pub record IsNodeOf (dp : Dp) (k : ℕ) (node : NodeView) : Type 0 where
+  pub state : IsStateOf dp k node.row
+  pub rank : node.rank ≡ dp.rank k node.row
+  pub value : IsNearly node.value
 
 -- a row is a state, with its rank
 pub record IsRanked (dp : Dp) (k : ℕ) (node : NodeView) : Type 0 where

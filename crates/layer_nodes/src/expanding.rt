@@ -11,7 +11,7 @@ pub fn expand<M: DpModel>(
     requires layer { k < (M.meaning (M.numbers model.now)).vars }
     requires above_words { above.old.words ≡ (M.meaning (M.numbers model.now)).words }
     requires next_words { next.old.words ≡ (M.meaning (M.numbers model.now)).words }
-    requires nodes { Each (IsNodeOf (M.meaning (M.numbers model.now)) k) above.old.nodes }
+    requires nodes { Each (IsParent (M.meaning (M.numbers model.now)) k) above.old.nodes }
     requires arcs_room { length above.old.nodes * (M.meaning (M.numbers model.now)).choices k ≤ above.old.arcs_room }
     requires nodes_room { length above.old.nodes * (M.meaning (M.numbers model.now)).choices k ≤ next.old.nodes_room }
     requires room { length above.old.nodes * (M.meaning (M.numbers model.now)).choices k ≤ expansion.old }
