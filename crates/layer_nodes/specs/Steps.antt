@@ -1,5 +1,5 @@
 -- What the steps of building a layer ask of nodes, and what they keep.
-use Rattle.std.specs.Prelude.{◌≡◌, ℕ, ◌≤◌, ℤ, List, length, map, IsTrue}
+use Rattle.std.specs.Prelude.{◌≡◌, ℕ, map}
 use Rattle.dp_model.specs.Dp.{Dp}
 use Rattle.dp_model.specs.Gaps.{IsStateOf}
 use Rattle.dp_model.specs.Lists.{Each}

@@ -9,17 +9,10 @@
 //! plain lists of nodes. Only the `prepare` calls take memory.
 #![tactic(auto)]
 
-mod expanding;
-mod keeping;
 mod layer;
-mod merging;
 mod node;
 mod redirecting;
-mod striking;
+mod rows;
 
-pub use expanding::{Expansion, expand};
-pub use keeping::keep_first;
 pub use layer::Layer;
-pub use merging::merge_rest;
 pub use redirecting::Redirects;
-pub use striking::strike;
