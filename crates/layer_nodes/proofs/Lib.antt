@@ -1,2 +1,5 @@
 pub mod Redirected
 pub mod Stored
+pub mod Shown
+pub mod Leaders
+pub mod Pruned

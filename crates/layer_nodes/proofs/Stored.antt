@@ -1,13 +1,14 @@
 -- Nodes of a layer in memory, one after another.
-use Rattle.std.proofs.Common.{◌≡◌, ℕ, zero, suc, ◌+◌, ◌*◌, ◌<◌, ◌≤◌, ℤ, List, [], ◌∷◌, ◌++◌, length, map, take, set, get_or, Option, refl, sym, ◌∙◌, ap, ap₂, arith, mul-le-mul_right}
+use Rattle.std.proofs.Common.{◌≡◌, ℕ, zero, suc, ◌+◌, ◌*◌, ◌<◌, ◌≤◌, ℤ, List, [], ◌∷◌, ◌++◌, length, map, take, set, get_or, Option, refl, sym, ◌∙◌, inl, inr, ap, ap₂, subst, arith, mul-le-mul_right}
 use Rattle.std.proofs.lemmas.List.{take_more, take_all, map-append, length_push}
-use Rattle.dp_model.specs.Lists.{Each}
+use Rattle.dp_model.specs.Lists.{Each, OneOf}
 use Rattle.dp_model.proofs.Members.{Each-append}
 use Rattle.dp_laws.specs.declared.arc.DdArc.{DdArc}
 use Rattle.layer_candidates.specs.Rows.{row_at, with_row}
 use Rattle.layer_candidates.proofs.Blocks.{before-with, here-with, length-row}
 use Rattle.layer_nodes.specs.declared.node.Node.{Node}
 use Rattle.layer_nodes.specs.Nodes.{without_arcs, suffix_set}
+use Rattle.layer_nodes.specs.Steps.{AreAmong}
 use Rattle.layer_nodes.specs.Stored.{node_view, IsStored, IsCopy, AreCopied, HasRow}
 
 -- ---- members of lists
@@ -30,6 +31,41 @@ pub each-take : {X : Type 0} (P : X → Type 0) (n : ℕ) (xs : List X) → Each
 each-take P zero xs h = tt
 each-take P (suc n) [] h = tt
 each-take P (suc n) (x ∷ xs) h = (h.0, each-take P n xs h.1)
+
+pub length-take-most : {X : Type 0} (n : ℕ) (xs : List X) → length (take n xs) ≤ length xs
+length-take-most zero xs = omega arith
+length-take-most (suc n) [] = omega arith
+length-take-most (suc n) (x ∷ xs) = let rest = length-take-most n xs in omega arith
+
+-- what holds of the old ones holds of the new ones
+pub among-each : {X : Type 0} (P : X → Type 0) (old new : List X) → AreAmong old new → Each P old → Each P new
+among-each P old [] a h = tt
+among-each P old (x ∷ new) a h = (found P old x a.0 h, among-each P old new a.1 h)
+  where
+    found : {X : Type 0} (P : X → Type 0) (old : List X) (x : X) → OneOf (λ other. other ≡ x) old → Each P old → P x
+    found P [] x one h = absurd one
+    found P (y ∷ old) x (inl e) h = subst P e h.0
+    found P (y ∷ old) x (inr r) h = found P old x r h.1
+
+pub among-self : {X : Type 0} (xs : List X) → AreAmong xs xs
+among-self [] = tt
+among-self (x ∷ xs) = (inl refl, more x xs xs (among-self xs))
+  where
+    more : {X : Type 0} (x : X) (xs new : List X) → AreAmong xs new → AreAmong (x ∷ xs) new
+    more x xs [] h = tt
+    more x xs (y ∷ new) h = (inr h.0, more x xs new h.1)
+
+pub among-map : {X Y : Type 0} (f : X → Y) (old new : List X) → AreAmong old new → AreAmong (map f old) (map f new)
+among-map f old [] h = tt
+among-map f old (x ∷ new) h = (found f old x h.0, among-map f old new h.1)
+  where
+    found : {X Y : Type 0} (f : X → Y) (old : List X) (x : X) → OneOf (λ other. other ≡ x) old → OneOf (λ other. other ≡ f x) (map f old)
+    found f [] x one = absurd one
+    found f (y ∷ old) x (inl e) = inl (ap f e)
+    found f (y ∷ old) x (inr r) = inr (found f old x r)
+
+pub among-take : {X : Type 0} (n : ℕ) (old new : List X) → AreAmong old new → AreAmong old (take n new)
+among-take n old new h = each-take (λ x. OneOf (λ other. other ≡ x) old) n new h
 
 -- ---- a suffix
 

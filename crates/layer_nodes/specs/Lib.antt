@@ -2,3 +2,5 @@ pub mod Nodes
 pub mod Stored
 pub mod Steps
 pub mod Redirecting
+pub mod Leading
+pub mod Striking

@@ -26,9 +26,13 @@ pub record IsStored (room : ℕ) (arcs : List DdArc) (node : Node) : Type 0 wher
   pub fresh : IsSome node.parent → node.row < room
   pub arcs_lie : node.first_arc + node.arcs ≤ length arcs
 
+-- the row at the place lies in the cells
+abbrev pub IsRowOf : ℕ → List ℤ → ℕ → Type 0
+IsRowOf words rows place = place * words + words ≤ length rows
+
 -- the row of the node lies in the cells
 abbrev pub HasRow : ℕ → List ℤ → Node → Type 0
-HasRow words rows node = node.row * words + words ≤ length rows
+HasRow words rows node = IsRowOf words rows node.row
 
 -- the row of the node stands before the place, and it has no arcs
 pub record IsCopy (i : ℕ) (node : Node) : Type 0 where

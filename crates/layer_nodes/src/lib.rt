@@ -10,9 +10,12 @@
 #![tactic(auto)]
 
 mod layer;
+mod leading;
 mod node;
 mod redirecting;
 mod rows;
+mod striking;
 
 pub use layer::Layer;
 pub use redirecting::Redirects;
+pub use striking::strike;

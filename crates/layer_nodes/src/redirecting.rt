@@ -1,11 +1,14 @@
 //! Where the arcs into a layer are redirected when its nodes are put into order, taken out or merged.
 
-ghost use Rattle.std.specs.Prelude.{◌≡◌, ◌+◌, ◌<◌, ◌^◌, IfOk, length, map};
+ghost use Rattle.std.specs.Prelude.{◌≡◌, ℕ, List, IfOk, map};
 ghost use Rattle.dp_model.specs.Lists.{Each};
 ghost use Rattle.dp_model.specs.Numbers.{IsFar};
-ghost use Rattle.dp_laws.specs.Rules.Redirects.{Redirect, redirected};
+ghost use Rattle.dp_laws.specs.Rules.Redirects.{Redirect, redirected, with_redirected};
+ghost use Rattle.layer_nodes.specs.Nodes.{shown_layer};
 ghost use Rattle.layer_nodes.specs.Redirecting.{redirect_of, IsShort, AreRedirected};
+ghost use Rattle.layer_nodes.specs.Steps.{MayBeLengthened, KeepsNodes};
 
+use crate::layer::Layer;
 use dp_laws::DdArc;
 use dp_model::OutOfMemory;
 use std::alloc::Global;
@@ -107,4 +110,14 @@ pub(crate) fn redirect_arcs(arcs: &mut [DdArc], redirects: &[Option<Redirect>])
     'arcs: for i in 0..arcs.len() {
         arcs[i] = redirect_arc(arcs[i], redirects);
     }
+}
+
+/// The arcs of the layer get new targets, and nothing else of it changes.
+pub(crate) fn redirect_layer(layer: &mut Layer, redirects: &[Option<Redirect>])
+    requires short { Each IsShort redirects.now }
+    requires lengths { Each MayBeLengthened layer.old.nodes }
+    ensures nodes { (paths : ℕ → List ℕ) → shown_layer paths layer.new.nodes ≡ with_redirected redirects.now (shown_layer paths layer.old.nodes) }
+    ensures rest { KeepsNodes layer.old layer.new }
+{
+    redirect_arcs(layer.arcs.as_mut_slice(), redirects);
 }
