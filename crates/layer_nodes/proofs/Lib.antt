@@ -3,3 +3,4 @@ pub mod Stored
 pub mod Shown
 pub mod Leaders
 pub mod Pruned
+pub mod Kept

@@ -109,3 +109,6 @@ pub changed-all : (ls : List (Option Redirect)) (old now : List DdArc) (i : ℕ)
 changed-all ls old now i h end =
     let size = h.same in
     subst (λ l. AreRedirected ls l now) (take_all i old (omega arith)) (subst (AreRedirected ls (take i old)) (take_all i now (omega arith)) h.done)
+
+pub changed-none : (ls : List (Option Redirect)) (arcs : List DdArc) → IsChanged ls arcs arcs 0
+changed-none ls arcs = record { done = tt; left = refl; same = refl }

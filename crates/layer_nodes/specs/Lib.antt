@@ -4,3 +4,4 @@ pub mod Steps
 pub mod Redirecting
 pub mod Leading
 pub mod Striking
+pub mod Keeping

@@ -9,6 +9,7 @@
 //! plain lists of nodes. Only the `prepare` calls take memory.
 #![tactic(auto)]
 
+mod keeping;
 mod layer;
 mod leading;
 mod node;
@@ -16,6 +17,7 @@ mod redirecting;
 mod rows;
 mod striking;
 
+pub use keeping::keep_first;
 pub use layer::Layer;
 pub use redirecting::Redirects;
 pub use striking::strike;
