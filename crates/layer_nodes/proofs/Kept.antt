@@ -1,5 +1,5 @@
 -- Arcs that lose their targets behind a width.
-use Rattle.std.proofs.Common.{◌≡◌, ℕ, zero, suc, ◌+◌, ◌-◌, ◌<◌, ◌≤◌, nat_lt, ℤ, pos, ◌+ℤ◌, true, false, cond, List, [], ◌∷◌, ◌++◌, length, replicate, slice_get, Option, Some, None, option_and_then, ◌⊎◌, inl, inr, refl, sym, ◌∙◌, ap, subst, arith}
+use Rattle.std.proofs.Common.{◌≡◌, ℕ, zero, suc, ◌+◌, ◌-◌, ◌<◌, ◌≤◌, nat_lt, ℤ, pos, ◌+ℤ◌, true, false, cond, List, ◌++◌, length, replicate, slice_get, Option, Some, None, option_and_then, ◌⊎◌, inl, inr, refl, sym, ◌∙◌, ap, arith}
 use Rattle.std.proofs.lemmas.Int.{ints}
 use Rattle.dp_laws.specs.declared.arc.DdArc.{DdArc}
 use Rattle.dp_laws.specs.Diagrams.Nodes.{DdNode}
@@ -37,7 +37,6 @@ kept-some width m i = go (let at : (i < width) ⊎ (width ≤ i) = grind arith i
 by-test : (arc : DdArc) (i : ℕ) → (b : _) → record arc { target = cond b (Some i) None } ≡ redirected_by arc (cond b (Some (record { place = i; longer = pos 0 })) None)
 by-test arc i true = ap (λ l. record arc { target = Some i; longer = l }) (sym (plus-none arc.longer))
 by-test arc i false = refl
-
 
 kept-target : (width m : ℕ) (arc : DdArc) (target : Option ℕ) → record arc { target = kept_target width target } ≡ redirected_by arc (redirect_of (staying width ++ replicate m None) target)
 kept-target width m arc None = refl

@@ -4,3 +4,5 @@ pub mod Shown
 pub mod Leaders
 pub mod Pruned
 pub mod Kept
+pub mod Merged
+pub mod MergedLayers

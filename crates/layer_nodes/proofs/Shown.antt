@@ -1,11 +1,10 @@
 -- Layers with their paths, whose arcs get new targets.
-use Rattle.std.proofs.Common.{◌≡◌, ℕ, zero, suc, ◌+◌, ◌≤◌, ℤ, List, [], ◌∷◌, ◌++◌, length, map, take, drop, Option, refl, sym, ◌∙◌, ap, ap₂, subst, arith}
+use Rattle.std.proofs.Common.{IsSome, ◌<◌, ◌≡◌, ℕ, ◌+◌, ℤ, List, [], ◌∷◌, length, map, take, drop, Option, refl, ap, ap₂, arith}
 use Rattle.dp_model.specs.Dp.{Dp}
 use Rattle.dp_model.specs.Lists.{Each}
 use Rattle.dp_laws.specs.declared.arc.DdArc.{DdArc}
 use Rattle.dp_laws.specs.Diagrams.Nodes.{DdNode, path_below}
 use Rattle.dp_laws.specs.Rules.Redirects.{Redirect, redirected, with_redirected}
-use Rattle.layer_candidates.specs.Rows.{row_at}
 use Rattle.layer_nodes.specs.declared.node.Node.{Node}
 use Rattle.layer_nodes.specs.Leading.{IsNodeIn}
 use Rattle.layer_nodes.specs.Nodes.{NodeView, shown, shown_from, shown_below, without_arcs}
@@ -13,8 +12,8 @@ use Rattle.layer_nodes.specs.Redirecting.{AreRedirected}
 use Rattle.layer_nodes.specs.Steps.{IsNodeOf, MayBeLengthened}
 use Rattle.layer_nodes.specs.Stored.{node_view, IsStored, HasRow}
 use Rattle.layer_nodes.specs.Striking.{Shows}
-use Rattle.layer_nodes.proofs.Redirected.{redirected-take, redirected-drop, redirected-far, redirected-length}
-use Rattle.layer_nodes.proofs.Stored.{each-map, row-fits}
+use Rattle.layer_nodes.proofs.Redirected.{redirected-take, redirected-drop, redirected-far}
+use Rattle.layer_nodes.proofs.Stored.{each-map}
 
 -- ---- the layer above
 
@@ -69,3 +68,9 @@ pub nodes-in : (dp : Dp) (k words : ℕ) (rows : List ℤ) (arcs : List DdArc) (
 nodes-in dp k words rows arcs [] h r = tt
 nodes-in dp k words rows arcs (node ∷ nodes) h r =
     (record { within = r.0; state = h.0.state; ranked = h.0.rank; near = h.0.value }, nodes-in dp k words rows arcs nodes h.1 r.1)
+
+-- nodes with a parent do not stand in the row behind the room
+pub fresh-rows : (room words : ℕ) (rows : List ℤ) (arcs : List DdArc) (nodes : List Node) → Each (λ (n : NodeView). IsSome n.parent) (map (node_view words rows arcs) nodes) → Each (IsStored room arcs) nodes
+    → Each (λ node. node.row < room) nodes
+fresh-rows room words rows arcs [] some stored = tt
+fresh-rows room words rows arcs (node ∷ nodes) some stored = (stored.0.fresh some.0, fresh-rows room words rows arcs nodes some.1 stored.1)

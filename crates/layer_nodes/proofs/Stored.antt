@@ -1,5 +1,5 @@
 -- Nodes of a layer in memory, one after another.
-use Rattle.std.proofs.Common.{◌≡◌, ℕ, zero, suc, ◌+◌, ◌*◌, ◌<◌, ◌≤◌, ℤ, List, [], ◌∷◌, ◌++◌, length, map, take, set, get_or, Option, refl, sym, ◌∙◌, inl, inr, ap, ap₂, subst, arith, mul-le-mul_right}
+use Rattle.std.proofs.Common.{◌≡◌, ℕ, zero, suc, ◌+◌, ◌*◌, ◌<◌, ◌≤◌, ℤ, List, [], ◌∷◌, ◌++◌, length, map, take, drop, set, get_or, Option, refl, sym, ◌∙◌, inl, inr, ap, ap₂, subst, arith, mul-le-mul_right}
 use Rattle.std.proofs.lemmas.List.{take_more, take_all, map-append, length_push}
 use Rattle.dp_model.specs.Lists.{Each, OneOf}
 use Rattle.dp_model.proofs.Members.{Each-append}
@@ -31,6 +31,11 @@ pub each-take : {X : Type 0} (P : X → Type 0) (n : ℕ) (xs : List X) → Each
 each-take P zero xs h = tt
 each-take P (suc n) [] h = tt
 each-take P (suc n) (x ∷ xs) h = (h.0, each-take P n xs h.1)
+
+pub each-drop : {X : Type 0} (P : X → Type 0) (n : ℕ) (xs : List X) → Each P xs → Each P (drop n xs)
+each-drop P zero xs h = h
+each-drop P (suc n) [] h = tt
+each-drop P (suc n) (x ∷ xs) h = each-drop P n xs h.1
 
 pub length-take-most : {X : Type 0} (n : ℕ) (xs : List X) → length (take n xs) ≤ length xs
 length-take-most zero xs = omega arith

@@ -5,3 +5,4 @@ pub mod Redirecting
 pub mod Leading
 pub mod Striking
 pub mod Keeping
+pub mod Merging

@@ -12,6 +12,7 @@
 mod keeping;
 mod layer;
 mod leading;
+mod merging;
 mod node;
 mod redirecting;
 mod rows;
@@ -19,5 +20,6 @@ mod striking;
 
 pub use keeping::keep_first;
 pub use layer::Layer;
+pub use merging::merge_rest;
 pub use redirecting::Redirects;
 pub use striking::strike;

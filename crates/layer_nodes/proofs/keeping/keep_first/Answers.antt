@@ -1,4 +1,4 @@
-use Rattle.std.proofs.Common.{rules, ◌≡◌, length, map, take, sym, ◌∙◌, ap, subst}
+use Rattle.std.proofs.Common.{map, take, sym, ◌∙◌, ap, subst}
 use Rattle.std.proofs.lemmas.List.{take-map}
 use Rattle.layer_nodes.specs.Nodes.{LayerView, shown_below}
 use Rattle.layer_nodes.specs.Steps.{AreAmong}

@@ -1,14 +1,14 @@
-use Rattle.std.proofs.Common.{rules, ◌≡◌, ◌≤◌, length, map, refl, sym, ◌∙◌, ap, ap₂, subst}
+use Rattle.std.proofs.Common.{rules, ◌≡◌, length, map, sym, ◌∙◌, ap, subst}
 use Rattle.std.proofs.lemmas.List.{with_items_is}
 use Rattle.dp_model.specs.Lists.{Each}
 use Rattle.dp_laws.specs.Rules.Redirects.{with_redirected}
 use Rattle.dp_laws.specs.Rules.Reducing.{keep_redirects}
-use Rattle.layer_nodes.specs.Nodes.{LayerView, NodeView, shown_layer, without_arcs}
+use Rattle.layer_nodes.specs.Nodes.{LayerView, shown_layer, without_arcs}
 use Rattle.layer_nodes.specs.Redirecting.{AreRedirected}
 use Rattle.layer_nodes.specs.Steps.{MayBeLengthened}
 use Rattle.layer_nodes.specs.Stored.{node_view}
 use Rattle.layer_nodes.proofs.Redirected.{redirected-length}
-use Rattle.layer_nodes.proofs.Shown.{with_targets, views-redirected, shown-redirected, bare-redirected}
+use Rattle.layer_nodes.proofs.Shown.{views-redirected, shown-redirected, bare-redirected}
 use Rattle.layer_nodes.proofs.keeping.keep_layer_targets.Goals as goal
 
 pub returns-clause-nodes : goal.returns-clause-nodes

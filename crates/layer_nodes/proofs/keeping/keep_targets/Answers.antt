@@ -1,4 +1,4 @@
-use Rattle.std.proofs.Common.{rules, pos, None, refl, ◌≤◌, ◌∙◌, length}
+use Rattle.std.proofs.Common.{rules, pos, None, ◌∙◌}
 use Rattle.dp_laws.specs.declared.arc.DdArc.{DdArc}
 use Rattle.dp_laws.specs.Rules.Reducing.{keep_redirects}
 use Rattle.layer_nodes.proofs.Kept.{kept-is}

@@ -1,11 +1,10 @@
-use Rattle.std.proofs.Common.{rules, ◌≡◌, ◌+◌, ◌<◌, pos, false, None, length, get_or, IfSome, Vec, Global, vec_capacity, refl, sym, ◌∙◌, ap, subst, arith}
-use Rattle.dp_laws.specs.Rules.Redirects.{Redirect}
+use Rattle.std.proofs.Common.{◌+◌, pos, false, None, get_or, IfSome, Vec, Global, vec_capacity, refl, sym, ◌∙◌, ap, subst, arith}
 use Rattle.layer_nodes.specs.declared.node.Node.{Node}
 use Rattle.layer_nodes.specs.declared.redirecting.LeaderAt.{LeaderAt}
 use Rattle.layer_nodes.specs.Leading.{IsNodeIn, leaders_of, bare}
 use Rattle.layer_nodes.specs.Redirecting.{IsShort}
 use Rattle.layer_nodes.specs.Striking.{taken_out}
-use Rattle.layer_nodes.proofs.Pruned.{pruned-none, pruned-out, pruned-stays, pruned-all, pruned-by}
+use Rattle.layer_nodes.proofs.Pruned.{pruned-none, pruned-out, pruned-stays, pruned-by}
 use Rattle.layer_nodes.proofs.Stored.{each-get, among-each}
 use Rattle.layer_nodes.proofs.striking.prune.Goals as goal
 use Rattle.layer_nodes.proofs.striking.prune.Goals.{in-Some, in-None}
