@@ -1,3 +1,4 @@
 pub mod Nodes
 pub mod Stored
 pub mod Steps
+pub mod Expanding

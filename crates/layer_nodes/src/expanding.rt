@@ -1,3 +1,63 @@
+//! A layer is expanded.
+
+ghost use Rattle.std.specs.Prelude.{◌≡◌, ℕ, ◌+◌, ◌*◌, ◌^◌, ◌<◌, ◌≤◌, List, length, IfOk, IsSome};
+ghost use Rattle.dp_model.specs.Lists.{Each};
+ghost use Rattle.dp_laws.specs.Rules.Compiling.{expand};
+ghost use Rattle.layer_nodes.specs.Nodes.{shown_layer, shown_below};
+ghost use Rattle.layer_nodes.specs.Steps.{IsParent, IsRanked, KeepsNodes, KeepsRoom};
+
+use crate::extending::extend_layer;
+use crate::layer::Layer;
+use crate::numbering::{lead, list_nodes, number};
+use dp_model::{DpModel, OutOfMemory};
+use layer_candidates::{Key, Way, put_in_order};
+use std::alloc::Global;
+use std::marker::Model;
+
+/// The memory in which a layer is expanded. It is made once and used again.
+#[derive(Debug, Drop)]
+pub struct Expansion {
+    room: usize,
+    ways: Vec<Way>,
+    folds: Vec<u64>,
+    heads: Vec<u32>,
+    next: Vec<u32>,
+    keys: Vec<Key>,
+    exact: Vec<bool>,
+    places: Vec<u32>,
+}
+
+impl Model for Expansion {
+    ghost use Rattle.std.specs.Prelude.{vec_len, vec_capacity};
+    ghost use Rattle.layer_nodes.specs.Stored.{HasExpansion};
+
+    ghost Value = { ℕ };
+
+    ghost view = { λ e. e.room };
+
+    ghost invariant = { λ e. HasExpansion e.room (vec_capacity e.ways) (vec_len e.folds) (vec_len e.heads) (vec_len e.next) (vec_capacity e.keys) (vec_len e.exact) (vec_len e.places) };
+}
+
+impl Expansion {
+    /// Memory for so many candidates.
+    pub fn prepare(alloc: Global, room: usize) -> Result<Expansion, OutOfMemory>
+        requires { room + 1 < 2 ^ 32 }
+        ensures { IfOk result (λ e. e ≡ room) }
+    {
+        let slots = (2 * room + 1).next_power_of_two();
+        Ok(Expansion {
+            room,
+            ways: Vec::with_capacity(alloc, room)?,
+            folds: vec![in alloc; 0u64; room]?,
+            heads: vec![in alloc; 0u32; slots]?,
+            next: vec![in alloc; 0u32; room]?,
+            keys: Vec::with_capacity(alloc, room)?,
+            exact: vec![in alloc; false; room]?,
+            places: vec![in alloc; 0u32; room]?,
+        })
+    }
+}
+
 /// Expands the layer at depth `k`: its nodes get an arc for each allowed decision, and of each state the best candidate, in the
 /// reduction order, is a node of the next layer, exact where all arcs to its state come from exact nodes; whatever the paths
 /// of the nodes above are. Nothing else of them changes. It takes no memory.
@@ -23,3 +83,36 @@ pub fn expand<M: DpModel>(
     ensures rest { KeepsNodes above.old above.new }
     ensures next_rooms { KeepsRoom next.old next.new }
     ensures expansion { expansion.new ≡ expansion.old }
+{
+    extend_layer(
+        model,
+        k,
+        above.words,
+        above.rows.as_slice(),
+        above.nodes.as_mut_slice(),
+        &mut above.arcs,
+        next.rows.as_mut_slice(),
+        &mut expansion.ways,
+        expansion.folds.as_mut_slice(),
+        expansion.heads.as_mut_slice(),
+        expansion.next.as_mut_slice(),
+        expansion.exact.as_mut_slice(),
+    );
+    put_in_order(
+        next.rows.as_slice(),
+        next.words,
+        expansion.ways.as_slice(),
+        &mut expansion.keys,
+    );
+    number(
+        expansion.keys.as_slice(),
+        expansion.places.as_mut_slice(),
+    );
+    lead(above.arcs.as_mut_slice(), expansion.places.as_slice());
+    list_nodes(
+        expansion.ways.as_slice(),
+        expansion.keys.as_slice(),
+        expansion.exact.as_slice(),
+        &mut next.nodes,
+    );
+}
