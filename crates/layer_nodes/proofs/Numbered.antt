@@ -28,7 +28,7 @@ numbered-more keys places i room done j less = go (same-or (key_in keys j).place
     go : ((key_in keys j).place ≡ (key_in keys i).place) ⊎ ((key_in keys j).place ≢ (key_in keys i).place) → IsNumbered (i + 1) keys (set places (key_in keys i).place i) (key_in keys j).place
     go (inl e) = record {
       number = i;
-      is = ap (slice_get (set places (key_in keys i).place i)) e ∙ (slice_get-get_or (set places (key_in keys i).place i) p 0 (let size = length-set places (key_in keys i).place i in omega arith) ∙ ap Some (get_or-set_same places (key_in keys i).place i 0 room));
+      is = ap (slice_get (set places (key_in keys i).place i)) e ∙ (slice_get-get_or (set places (key_in keys i).place i) (key_in keys i).place 0 (let size = length-set places (key_in keys i).place i in omega arith) ∙ ap Some (get_or-set_same places (key_in keys i).place i 0 room));
       within = omega arith;
       same = sym e;
     }

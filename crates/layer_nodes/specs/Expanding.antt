@@ -1,5 +1,5 @@
 -- A layer is expanded: what its nodes are tried by, and what comes of it.
-use Rattle.std.specs.Prelude.{◌≡◌, ℕ, ◌+◌, ◌*◌, ◌^◌, ◌<◌, ◌≤◌, nat_eq, ℤ, pos, Bool, true, false, not, ◌&&◌, ◌||◌, List, [], ◌∷◌, ◌++◌, length, map, set, slice_index_or, slice_get, Some, None, option_and_then}
+use Rattle.std.specs.Prelude.{◌≡◌, ℕ, ◌+◌, ◌*◌, ◌^◌, ◌<◌, ◌≤◌, nat_eq, ℤ, pos, Bool, true, false, not, ◌&&◌, ◌||◌, List, [], ◌∷◌, ◌++◌, length, map, set, slice_index_or, slice_get, Some, None, option_and_then, IsPermutation, IsSortedBy}
 use Rattle.dp_model.specs.Dp.{Dp}
 use Rattle.dp_model.specs.Rows.{row_same}
 use Rattle.dp_laws.specs.declared.arc.DdArc.{DdArc}
@@ -7,6 +7,7 @@ use Rattle.layer_candidates.specs.declared.key.Key.{Key}
 use Rattle.layer_candidates.specs.declared.member.Member.{Member}
 use Rattle.layer_candidates.specs.declared.way.Way.{Way}
 use Rattle.layer_candidates.specs.Extending.{allowed_below}
+use Rattle.layer_candidates.specs.KeyOrder.{keys_of, goes_before}
 use Rattle.layer_candidates.specs.Rows.{row_at}
 use Rattle.layer_candidates.specs.Ways.{way_at}
 use Rattle.layer_nodes.specs.declared.node.Node.{Node}
@@ -126,3 +127,13 @@ node_of ways marks key = record {
   arcs = 0;
   exact = mark_at marks key.place;
 }
+
+-- the ways in the reduction order became the nodes, and the arcs lead to their places
+pub record AreArranged (rows : List ℤ) (words : ℕ) (ways : List Way) (marks : List Bool) (old new : List DdArc) (nodes : List Node) : Type 0 where
+  pub keys : List Key
+  pub places : List ℕ
+  pub all : IsPermutation (keys_of ways) keys
+  pub sorted : IsSortedBy (goes_before rows words) keys
+  pub numbered : (j : ℕ) → j < length keys → IsNumbered (length keys) keys places (key_in keys j).place
+  pub arcs_are : new ≡ map (led places) old
+  pub nodes_are : nodes ≡ map (node_of ways marks) keys

@@ -8,9 +8,9 @@ ghost use Rattle.layer_nodes.specs.Steps.{IsParent, IsRanked, KeepsNodes, KeepsR
 
 use crate::extending::extend_layer;
 use crate::layer::Layer;
-use crate::numbering::{lead, list_nodes, number};
+use crate::numbering::arrange;
 use dp_model::{DpModel, OutOfMemory};
-use layer_candidates::{Key, Way, put_in_order};
+use layer_candidates::{Key, Way};
 use std::alloc::Global;
 use std::marker::Model;
 
@@ -28,7 +28,7 @@ pub struct Expansion {
 }
 
 impl Model for Expansion {
-    ghost use Rattle.std.specs.Prelude.{vec_len, vec_capacity};
+    ghost use Rattle.std.specs.Prelude.{ℕ, vec_len, vec_capacity};
     ghost use Rattle.layer_nodes.specs.Stored.{HasExpansion};
 
     ghost Value = { ℕ };
@@ -98,21 +98,14 @@ pub fn expand<M: DpModel>(
         expansion.next.as_mut_slice(),
         expansion.exact.as_mut_slice(),
     );
-    put_in_order(
+    arrange(
         next.rows.as_slice(),
         next.words,
         expansion.ways.as_slice(),
-        &mut expansion.keys,
-    );
-    number(
-        expansion.keys.as_slice(),
-        expansion.places.as_mut_slice(),
-    );
-    lead(above.arcs.as_mut_slice(), expansion.places.as_slice());
-    list_nodes(
-        expansion.ways.as_slice(),
-        expansion.keys.as_slice(),
         expansion.exact.as_slice(),
+        &mut expansion.keys,
+        expansion.places.as_mut_slice(),
+        above.arcs.as_mut_slice(),
         &mut next.nodes,
     );
 }

@@ -2,15 +2,15 @@
 
 ghost use Rattle.std.specs.Prelude.{◌≡◌, ℕ, ◌<◌, ◌≤◌, ◌^◌, Bool, List, length, map, slice_get, option_and_then, vec_capacity};
 ghost use Rattle.dp_model.specs.Lists.{Each};
-ghost use Rattle.layer_nodes.specs.Expanding.{mark_at, key_in, IsNumbered, led, node_of};
+ghost use Rattle.layer_nodes.specs.Expanding.{mark_at, key_in, IsNumbered, led, node_of, AreArranged};
 ghost use Rattle.layer_candidates.specs.Ways.{way_at};
 
 use crate::node::Node;
 use dp_laws::DdArc;
-use layer_candidates::{Key, Way};
+use layer_candidates::{Key, Way, put_in_order};
 
 /// Numbers the ways by the places of their keys.
-pub fn number(keys: &[Key], places: &mut [u32])
+fn number(keys: &[Key], places: &mut [u32])
     requires within { Each (λ key. key.place < length places.old) keys.now }
     requires small { length keys.now < 2 ^ 32 }
     ensures { (j : ℕ) → j < length keys.now → IsNumbered (length keys.now) keys.now places.new (key_in keys.now j).place }
@@ -41,7 +41,7 @@ fn led(arc: DdArc, places: &[u32]) -> DdArc
 }
 
 /// The arcs lead to the numbers of their targets.
-pub fn lead(arcs: &mut [DdArc], places: &[u32])
+fn lead(arcs: &mut [DdArc], places: &[u32])
     ensures { arcs.new ≡ map (led places.now) arcs.old }
 {
     'arcs: for i in 0..arcs.len() {
@@ -67,7 +67,7 @@ fn node_of(way: Way, key: Key, exact: bool) -> Node
 }
 
 /// Becomes the nodes of the keys, each with the way and the mark of its place.
-pub fn list_nodes(ways: &[Way], keys: &[Key], marks: &[bool], nodes: &mut Vec<Node>)
+fn list_nodes(ways: &[Way], keys: &[Key], marks: &[bool], nodes: &mut Vec<Node>)
     requires ways { Each (λ key. key.place < length ways.now) keys.now }
     requires marks { Each (λ key. key.place < length marks.now) keys.now }
     requires room { length keys.now ≤ vec_capacity nodes.old }
@@ -80,4 +80,31 @@ pub fn list_nodes(ways: &[Way], keys: &[Key], marks: &[bool], nodes: &mut Vec<No
         let place = key.place as usize;
         nodes.push_reserved(node_of(ways[place], key, marks[place]));
     }
+}
+
+/// Puts the ways into the reduction order, in which they become the nodes, each with the mark of its place; the arcs, which lead to
+/// places of ways, lead to those of the nodes.
+pub fn arrange(
+    rows: &[i64],
+    words: usize,
+    ways: &[Way],
+    marks: &[bool],
+    keys: &mut Vec<Key>,
+    places: &mut [u32],
+    arcs: &mut [DdArc],
+    nodes: &mut Vec<Node>,
+)
+    requires small { length ways.now < 2 ^ 32 }
+    requires marks_room { length ways.now ≤ length marks.now }
+    requires keys_room { length ways.now ≤ vec_capacity keys.old }
+    requires places_room { length ways.now ≤ length places.old }
+    requires nodes_room { length ways.now ≤ vec_capacity nodes.old }
+    ensures arranged { AreArranged rows.now words ways.now marks.now arcs.old arcs.new nodes.new.items }
+    ensures keys_capacity { vec_capacity keys.new ≡ vec_capacity keys.old }
+    ensures nodes_capacity { vec_capacity nodes.new ≡ vec_capacity nodes.old }
+{
+    put_in_order(rows, words, ways, keys);
+    number(keys.as_slice(), places);
+    lead(arcs, places);
+    list_nodes(ways, keys.as_slice(), marks, nodes);
 }
