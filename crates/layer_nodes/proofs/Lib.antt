@@ -1,3 +1,4 @@
 pub mod Tried
 pub mod Numbered
 pub mod Spans
+pub mod Expanded

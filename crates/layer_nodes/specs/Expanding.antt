@@ -1,7 +1,9 @@
 -- A layer is expanded: what its nodes are tried by, and what comes of it.
-use Rattle.std.specs.Prelude.{◌≡◌, ℕ, ◌+◌, ◌*◌, ◌^◌, ◌<◌, ◌≤◌, nat_eq, ℤ, pos, Bool, true, false, not, ◌&&◌, ◌||◌, List, [], ◌∷◌, ◌++◌, length, map, set, slice_index_or, slice_get, Some, None, option_and_then, IsPermutation, IsSortedBy}
+use Rattle.std.specs.Prelude.{◌≡◌, ℕ, ◌+◌, ◌*◌, ◌^◌, ◌<◌, ◌≤◌, nat_eq, ℤ, pos, Bool, true, false, not, ◌&&◌, ◌||◌, List, [], ◌∷◌, ◌++◌, length, map, set, slice_index_or, slice_get, Some, None, option_and_then, IsSome, IsPermutation, IsSortedBy}
 use Rattle.dp_model.specs.Dp.{Dp}
+use Rattle.dp_model.specs.Lists.{Each}
 use Rattle.dp_model.specs.Rows.{row_same}
+use Rattle.dp_laws.specs.Rules.Compiling.{expand}
 use Rattle.dp_laws.specs.declared.arc.DdArc.{DdArc}
 use Rattle.layer_candidates.specs.declared.key.Key.{Key}
 use Rattle.layer_candidates.specs.declared.member.Member.{Member}
@@ -11,6 +13,9 @@ use Rattle.layer_candidates.specs.KeyOrder.{keys_of, goes_before}
 use Rattle.layer_candidates.specs.Rows.{row_at}
 use Rattle.layer_candidates.specs.Ways.{way_at}
 use Rattle.layer_nodes.specs.declared.node.Node.{Node}
+use Rattle.layer_nodes.specs.Nodes.{NodeView, shown_layer, shown_below, without_arcs}
+use Rattle.layer_nodes.specs.Steps.{IsRanked}
+use Rattle.layer_nodes.specs.Stored.{node_view, IsStored}
 
 -- a node as a member of a layer, reached by the step of its place
 abbrev pub member_of : Node → ℕ → Member
@@ -137,3 +142,19 @@ pub record AreArranged (rows : List ℤ) (words : ℕ) (ways : List Way) (marks 
   pub numbered : (j : ℕ) → j < length keys → IsNumbered (length keys) keys places (key_in keys j).place
   pub arcs_are : new ≡ map (led places) old
   pub nodes_are : nodes ≡ map (node_of ways marks) keys
+
+-- the nodes of the layer at depth k are extended, and those below are the next layer, whatever the paths are, and whatever arcs
+-- there were before; the rows of the nodes below lie in `rows`
+pub record IsExpanded (dp : Dp) (k words : ℕ) (cells : List ℤ) (old new : List Node) (arcs : List DdArc) (rows : List ℤ) (below : List Node) : Type 0 where
+  pub above_is : (before : List DdArc) (paths : ℕ → List ℕ) → shown_layer paths (map (node_view words cells arcs) new)
+      ≡ (expand dp k (shown_layer paths (map (node_view words cells before) old))).above
+  pub next_is : (before any : List DdArc) (paths : ℕ → List ℕ) → shown_below paths (map (node_view words rows any) below)
+      ≡ (expand dp k (shown_layer paths (map (node_view words cells before) old))).next
+  pub rest : (before : List DdArc) → map without_arcs (map (node_view words cells arcs) new) ≡ map without_arcs (map (node_view words cells before) old)
+  pub ranked : (any : List DdArc) → Each (IsRanked dp (k + 1)) (map (node_view words rows any) below)
+  pub unmerged : (any : List DdArc) → Each (λ (n : NodeView). IsSome n.parent) (map (node_view words rows any) below)
+  pub stored : (before : List DdArc) (room : ℕ) → Each (IsStored room before) old → Each (IsStored room arcs) new
+  pub below_stored : (any : List DdArc) (room : ℕ) → length old * dp.choices k ≤ room → Each (IsStored room any) below
+  pub same : length new ≡ length old
+  pub few : length below ≤ length old * dp.choices k
+  pub few_arcs : length arcs ≤ length old * dp.choices k
