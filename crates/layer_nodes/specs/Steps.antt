@@ -1,8 +1,8 @@
 -- What the steps of building a layer ask of nodes, and what they keep.
-use Rattle.std.specs.Prelude.{◌≡◌, ℕ, ◌≤◌, ℤ, List, length, map, IsTrue}
+use Rattle.std.specs.Prelude.{◌≡◌, ℕ, List, map}
 use Rattle.dp_model.specs.Dp.{Dp}
 use Rattle.dp_model.specs.Gaps.{IsStateOf}
-use Rattle.dp_model.specs.Lists.{Each}
+use Rattle.dp_model.specs.Lists.{Each, OneOf}
 use Rattle.dp_model.specs.Numbers.{IsFar}
 use Rattle.layer_candidates.specs.Ways.{IsNear, IsNearly}
 use Rattle.layer_nodes.specs.Nodes.{NodeView, LayerView, without_arcs}
@@ -27,6 +27,10 @@ pub record IsRanked (dp : Dp) (k : ℕ) (node : NodeView) : Type 0 where
 -- the arcs of the node may be lengthened by a gap
 abbrev pub MayBeLengthened : NodeView → Type 0
 MayBeLengthened node = Each (λ arc. IsFar arc.longer) node.arcs
+
+-- each of the new ones is one of the old ones
+abbrev pub AreAmong : {X : Type 0} → List X → List X → Type 0
+AreAmong old new = Each (λ x. OneOf (λ other. other ≡ x) old) new
 
 -- nothing of the layer changes but the arcs of its nodes
 pub record KeepsNodes (old new : LayerView) : Type 0 where

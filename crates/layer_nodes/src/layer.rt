@@ -1,8 +1,11 @@
-ghost use Rattle.std.specs.Prelude.{◌≡◌, ◌+◌, ◌*◌, ◌<◌, ◌≤◌, ◌^◌, true, [], ◌∷◌, length, map, slice_get, option_map, option_and_then, Some, None, IfOk, IsSome};
+ghost use Rattle.std.specs.Prelude.{◌≡◌, ◌+◌, ◌*◌, ◌<◌, ◌≤◌, ◌^◌, true, [], ◌∷◌, length, map, slice_get, option_map, option_and_then, Some, None, IfOk, IsSome, vec_capacity};
+ghost use Rattle.dp_model.specs.Lists.{Each};
+ghost use Rattle.layer_nodes.specs.Stored.{HasRow, AreCopied};
 ghost use Rattle.layer_nodes.specs.Nodes.{without_arcs, suffix_set};
 ghost use Rattle.layer_nodes.specs.Steps.{KeepsRoom};
 
 use crate::node::Node;
+use crate::rows::{row, write_row};
 use dp_laws::DdArc;
 use dp_model::OutOfMemory;
 use std::alloc::Global;
@@ -35,6 +38,42 @@ impl Model for Layer {
     ghost invariant = { λ l. HasLayer l.words l.room l.nodes.items (vec_capacity l.nodes) l.rows.items l.arcs.items };
 }
 
+/// The node with its row at the place, and without arcs.
+fn bare(node: Node, place: u32) -> Node
+    ensures { result ≡ record node { row = place; first_arc = 0; arcs = 0 } }
+{
+    Node {
+        row: place,
+        first_arc: 0,
+        arcs: 0,
+        ..node
+    }
+}
+
+/// The nodes become copies of others, but for their arcs, and each row stands at the place of its node.
+fn copy_nodes(
+    words: usize,
+    others: &[Node],
+    other_rows: &[i64],
+    nodes: &mut Vec<Node>,
+    rows: &mut [i64],
+)
+    requires others { Each (HasRow words other_rows.now) others.now }
+    requires room { length others.now ≤ vec_capacity nodes.old }
+    requires rows_room { length others.now * words ≤ length rows.old }
+    requires few { length others.now < 2 ^ 32 }
+    ensures copied { AreCopied words others.now other_rows.now nodes.new.items rows.new (length others.now) }
+    ensures size { length rows.new ≡ length rows.old }
+    ensures capacity { vec_capacity nodes.new ≡ vec_capacity nodes.old }
+{
+    nodes.clear();
+    'nodes: for i in 0..others.len() {
+        let node = others[i];
+        write_row(rows, words, i, row(other_rows, words, node.row as usize));
+        nodes.push_reserved(bare(node, i as u32));
+    }
+}
+
 impl Layer {
     /// An empty layer, with room for so many nodes and so many arcs in all, whose rows have so many cells.
     pub fn prepare(
@@ -65,7 +104,7 @@ impl Layer {
         ensures node { self.new.nodes ≡ record { row = row.now; value = value; rank = rank; exact = true; parent = None; decision = 0; arcs = []; suffix = None } ∷ [] }
         ensures rooms { KeepsRoom self.old self.new }
     {
-        self.rows[..row.len()].copy_from_slice(row);
+        write_row(self.rows.as_mut_slice(), self.words, 0, row);
         self.arcs.clear();
         self.nodes.clear();
         self.nodes.push_reserved(Node {
@@ -89,10 +128,13 @@ impl Layer {
         ensures rooms { KeepsRoom self.old self.new }
     {
         self.arcs.clear();
-        self.nodes.clear();
-        'nodes: for i in 0..other.nodes.len() {
-            self.push_copy(other, i);
-        }
+        copy_nodes(
+            other.words,
+            other.nodes.as_slice(),
+            other.rows.as_slice(),
+            &mut self.nodes,
+            self.rows.as_mut_slice(),
+        );
     }
 
     /// How many nodes it has.
@@ -114,8 +156,11 @@ impl Layer {
         requires { node < length self.now.nodes }
         ensures { option_map (λ n. n.row) (slice_get self.now.nodes node) ≡ Some result.now }
     {
-        let at = self.nodes[node].row as usize * self.words;
-        &self.rows[at..at + self.words]
+        row(
+            self.rows.as_slice(),
+            self.words,
+            self.nodes[node].row as usize,
+        )
     }
 
     /// The greatest length of a path to a node.

@@ -10,16 +10,18 @@
 #![tactic(auto)]
 
 mod expanding;
+mod extending;
 mod keeping;
 mod layer;
-mod merging;
+mod leading;
 mod node;
+mod numbering;
 mod redirecting;
+mod rows;
 mod striking;
 
 pub use expanding::{Expansion, expand};
 pub use keeping::keep_first;
 pub use layer::Layer;
-pub use merging::merge_rest;
 pub use redirecting::Redirects;
 pub use striking::strike;
