@@ -1,29 +1,27 @@
 -- A layer that was expanded in memory is that of the rules, whatever the paths are.
-use Rattle.std.proofs.Common.{◌≡◌, ◌≢◌, ℕ, zero, suc, ◌+◌, ◌*◌, ◌<◌, ◌≤◌, nat_lt, ℤ, pos, Bool, true, false, not, cond, ◌&&◌, ◌||◌, List, [], ◌∷◌, ◌++◌, length, map, take, drop, get_or, slice_get, position, Option, Some, None, IsSome, option_and_then, IsPermutation, IsSortedBy, refl, sym, ◌∙◌, ap, ap₂, subst, append_assoc, length-append, arith}
+use Rattle.std.proofs.Common.{◌≡◌, ℕ, zero, suc, ◌+◌, ◌*◌, ◌<◌, ◌≤◌, nat_lt, ℤ, Bool, true, false, not, cond, ◌&&◌, ◌||◌, List, [], ◌∷◌, ◌++◌, length, map, take, drop, get_or, slice_get, position, Option, Some, None, IsSome, option_and_then, refl, sym, ◌∙◌, ap, ap₂, subst, append_assoc, length-append, arith}
 use Rattle.std.proofs.Math.Seq.{drop-append_seam}
 use Rattle.std.proofs.lemmas.List.{map-append, length-map, take-append-drop}
 use Rattle.std.proofs.lemmas.Option.{slice_get-map, slice_get-get_or}
 use Rattle.std.specs.List.{take-map}
 use Rattle.dp_model.specs.Dp.{Dp}
 use Rattle.dp_model.specs.Lists.{Each}
-use Rattle.dp_model.specs.Reached.{Reached}
 use Rattle.dp_model.specs.Rows.{row_same}
-use Rattle.dp_model.proofs.Members.{one-of-has, each-has, Each-then}
+use Rattle.dp_model.proofs.Members.{one-of-has, each-has}
 use Rattle.dp_laws.specs.Restricted.Beam.{expanded}
 use Rattle.dp_laws.specs.Restricted.Extensions.{candidates, all_joined}
 use Rattle.dp_laws.specs.Restricted.ReductionOrder.{in_order}
 use Rattle.dp_laws.proofs.Restricted.Permutations.{each-at, Has-permutation}
 use Rattle.dp_laws.specs.declared.arc.DdArc.{DdArc}
-use Rattle.dp_laws.specs.Diagrams.Nodes.{DdNode, prefix_at, path_below}
+use Rattle.dp_laws.specs.Diagrams.Nodes.{DdNode, prefix_at}
 use Rattle.dp_laws.specs.Diagrams.Seen.{decisions_at}
 use Rattle.dp_laws.proofs.Diagrams.Places.{same-Some, Has-at}
 use Rattle.dp_laws.specs.Rules.Expanding.{makes, is_exact_row, node_for, new_layer, arc_of, with_arcs}
 use Rattle.dp_laws.proofs.Rules.Expanded.{RowsApart, found-row, one-place, new-apart}
 use Rattle.layer_candidates.specs.declared.key.Key.{Key}
-use Rattle.layer_candidates.specs.declared.member.Member.{Member}
 use Rattle.layer_candidates.specs.declared.way.Way.{Way}
 use Rattle.layer_candidates.specs.Extending.{allowed_below}
-use Rattle.layer_candidates.specs.KeyOrder.{key_at, keys_of, goes_before, reached_of, all_of, IsKeyOf}
+use Rattle.layer_candidates.specs.KeyOrder.{key_at, keys_of, reached_of, all_of, IsKeyOf}
 use Rattle.layer_candidates.specs.Members.{member_as, members_as, IsMemberOf}
 use Rattle.layer_candidates.specs.Rows.{row_at}
 use Rattle.layer_candidates.specs.Ways.{way_at, all_reached, AreJoined}
@@ -34,7 +32,7 @@ use Rattle.layer_nodes.specs.declared.node.Node.{Node}
 use Rattle.layer_nodes.specs.Nodes.{NodeView, shown, shown_from, shown_layer, shown_below, without_arcs}
 use Rattle.layer_nodes.specs.Stored.{node_view, IsStored}
 use Rattle.layer_nodes.specs.Steps.{IsParent, IsRanked}
-use Rattle.layer_nodes.specs.Expanding.{Trial, trial, made_by, trials_by, trials_at, trials_of, spanned, all_spanned, arc_to, LeadsToRow, AreArcsOf, all_exact, mark_at, AreTried, key_in, IsNumbered, led, node_of, member_of, members_from, AreArranged, IsExpanded}
+use Rattle.layer_nodes.specs.Expanding.{Trial, trial, trials_at, trials_of, all_spanned, arc_to, LeadsToRow, AreArcsOf, all_exact, mark_at, AreTried, key_in, IsNumbered, led, node_of, member_of, members_from, AreArranged, IsExpanded}
 use Rattle.layer_nodes.proofs.Spans.{length-spanned}
 use Rattle.layer_nodes.proofs.Tried.{length-arcs}
 

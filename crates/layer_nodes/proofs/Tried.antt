@@ -1,5 +1,5 @@
 -- One trial more.
-use Rattle.std.proofs.Common.{◌≡◌, ◌≢◌, ℕ, zero, suc, ◌+◌, ◌<◌, ◌≤◌, nat_eq, ℤ, Bool, true, false, not, cond, ◌&&◌, ◌||◌, List, [], ◌∷◌, ◌++◌, length, map, set, get_or, ◌⊎◌, inl, inr, refl, sym, ap, ap₂, subst, ◌∙◌, arith}
+use Rattle.std.proofs.Common.{◌≡◌, ◌≢◌, ℕ, ◌+◌, ◌<◌, ◌≤◌, nat_eq, ℤ, Bool, true, false, not, ◌&&◌, ◌||◌, List, [], ◌∷◌, ◌++◌, length, map, ◌⊎◌, inl, inr, refl, sym, ap, ap₂, subst, ◌∙◌, arith}
 use Rattle.std.proofs.lemmas.Bool.Decides.{nat_tests}
 use Rattle.std.proofs.lemmas.List.{map-append, get_or-set_same, get_or-set_other}
 use Rattle.dp_model.specs.Dp.{Dp}
@@ -11,7 +11,7 @@ use Rattle.layer_candidates.specs.Table.{IsPlaced}
 use Rattle.layer_candidates.specs.Ways.{AreApart}
 use Rattle.layer_candidates.proofs.Extended.{allowed-more, refused-more}
 use Rattle.layer_candidates.proofs.Joined.{same_rows, other_rows}
-use Rattle.layer_nodes.specs.Expanding.{Trial, trial, made_by, trials_by, arc_to, LeadsToRow, AreArcsOf, all_exact, mark_at, marked, AreTried}
+use Rattle.layer_nodes.specs.Expanding.{Trial, trial, made_by, trials_by, arc_to, AreArcsOf, all_exact, mark_at, marked, AreTried}
 
 -- Arcs.
 

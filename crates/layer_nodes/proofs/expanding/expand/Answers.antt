@@ -1,11 +1,9 @@
-use Rattle.std.proofs.Common.{rules, ◌≡◌, ℕ, ◌+◌, ◌*◌, ◌<◌, ◌≤◌, List, length, map, vec_capacity, mul-le-mul_right, IsSome, refl, sym, ap, ap₂, subst, ◌∙◌, arith}
+use Rattle.std.proofs.Common.{rules, ◌≡◌, ◌*◌, ◌≤◌, length, map, vec_capacity, sym, ap, ap₂, subst, ◌∙◌, arith}
 use Rattle.std.proofs.lemmas.List.{with_items_is, length-map}
 use Rattle.dp_model.specs.Lists.{Each}
 use Rattle.dp_laws.specs.Rules.Compiling.{expand}
-use Rattle.layer_candidates.specs.Members.{IsMemberOf}
-use Rattle.layer_nodes.specs.Expanding.{members_from, IsExpanded}
-use Rattle.layer_nodes.specs.Nodes.{NodeView, LayerView, shown_layer, shown_below, without_arcs}
-use Rattle.layer_nodes.specs.Steps.{IsParent, IsRanked}
+use Rattle.layer_nodes.specs.Nodes.{LayerView, shown_layer, shown_below}
+use Rattle.layer_nodes.specs.Steps.{IsParent}
 use Rattle.layer_nodes.specs.Stored.{node_view, HasLayer}
 use Rattle.layer_nodes.proofs.Expanded.{members-of, expanded-by, each-by}
 use Rattle.layer_nodes.proofs.expanding.expand.Goals as goal

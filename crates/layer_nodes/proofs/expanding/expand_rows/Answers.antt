@@ -1,6 +1,5 @@
-use Rattle.std.proofs.Common.{rules, ◌≡◌, ◌+◌, ◌*◌, ◌<◌, ◌≤◌, length, vec_capacity, refl, sym, ap, subst, ◌∙◌, arith}
+use Rattle.std.proofs.Common.{rules, ◌≡◌, length, refl, sym, subst, ◌∙◌}
 use Rattle.std.proofs.lemmas.List.{with_items_is}
-use Rattle.layer_candidates.specs.Extending.{HasRoom}
 use Rattle.layer_nodes.specs.Expanding.{IsExpanded}
 use Rattle.layer_nodes.proofs.Expanded.{whole, arranged-by}
 use Rattle.layer_nodes.proofs.expanding.expand_rows.Goals as goal

@@ -1,11 +1,11 @@
-use Rattle.std.proofs.Common.{rules, ◌≡◌, ◌+◌, ◌*◌, ◌<◌, ◌≤◌, ◌++◌, length, take, vec_capacity, mul-le-mul_right, IsTrue, refl, sym, ap, subst, ◌∙◌, arith, length-append}
+use Rattle.std.proofs.Common.{rules, ◌≡◌, ◌+◌, ◌*◌, ◌≤◌, ◌++◌, length, take, vec_capacity, mul-le-mul_right, IsTrue, refl, sym, ap, subst, ◌∙◌, arith, length-append}
 use Rattle.layer_candidates.specs.declared.member.Member.{Member}
 use Rattle.layer_candidates.specs.Ways.{IsNear, AreJoined}
 use Rattle.layer_candidates.specs.Extending.{HasRoom, HasExtended}
 use Rattle.layer_candidates.proofs.Blocks.{length-row}
 use Rattle.layer_candidates.proofs.Extended.{room-less, members-all}
 use Rattle.layer_nodes.specs.Expanding.{members_from, node_in, trials_at, trials_by, trials_of, AreTried}
-use Rattle.layer_nodes.proofs.Spans.{length-members, next-member, node-next, extended-next, tried-next, spanned-next, trials-next}
+use Rattle.layer_nodes.proofs.Spans.{length-members, next-member, extended-next, tried-next, spanned-next}
 use Rattle.layer_nodes.proofs.Tried.{length-arcs}
 use Rattle.layer_nodes.proofs.extending.extend_layer.Goals as goal
 

@@ -1,4 +1,4 @@
-use Rattle.std.proofs.Common.{rules, ◌≡◌, ℕ, ◌<◌, [], ◌∷◌, ◌++◌, length, refl, sym, ap, ap₂, subst, ◌∙◌, arith}
+use Rattle.std.proofs.Common.{rules, ◌≡◌, ◌<◌, [], ◌∷◌, ◌++◌, length, refl, sym, ap, subst, ◌∙◌, arith}
 use Rattle.layer_nodes.specs.Expanding.{trial, arc_to, marked, AreTried}
 use Rattle.layer_nodes.proofs.Tried.{placed-low, tried-more}
 use Rattle.layer_nodes.proofs.extending.try_by.Goals as goal
