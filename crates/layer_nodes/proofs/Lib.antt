@@ -1,3 +1,7 @@
+pub mod Tried
+pub mod Numbered
+pub mod Spans
+pub mod Expanded
 pub mod Redirected
 pub mod Stored
 pub mod Shown

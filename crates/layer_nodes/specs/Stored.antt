@@ -54,3 +54,14 @@ pub record HasLayer (words room : ℕ) (nodes : List Node) (nodes_room : ℕ) (r
   pub rows_hold : (room + 1) * words ≤ length rows
   pub few_arcs : length arcs < 2 ^ 32
   pub stored : Each (IsStored room arcs) nodes
+
+-- there is memory for so many candidates
+pub record HasExpansion (room ways folds heads next keys exact places : ℕ) : Type 0 where
+  pub small : room + 1 < 2 ^ 32
+  pub ways_hold : room ≤ ways
+  pub folds_hold : room ≤ folds
+  pub some_heads : 0 < heads
+  pub next_hold : room ≤ next
+  pub keys_hold : room ≤ keys
+  pub exact_hold : room ≤ exact
+  pub places_hold : room ≤ places

@@ -9,15 +9,19 @@
 //! plain lists of nodes. Only the `prepare` calls take memory.
 #![tactic(auto)]
 
+mod expanding;
+mod extending;
 mod keeping;
 mod layer;
 mod leading;
 mod merging;
 mod node;
+mod numbering;
 mod redirecting;
 mod rows;
 mod striking;
 
+pub use expanding::{Expansion, expand};
 pub use keeping::keep_first;
 pub use layer::Layer;
 pub use merging::merge_rest;
