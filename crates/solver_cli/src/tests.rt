@@ -1,3 +1,5 @@
+mod covers;
+
 use crate::run::run;
 use dd_io::{MemSink, MemSource};
 use std::alloc::{AllocError, Global};
