@@ -6,7 +6,7 @@ use Rattle.solver_words.specs.Grammar.{Text}
 use Rattle.solver_words.specs.Words.{JobView, Refusal, and_then, meaning, solve, resume, check, digest, generate, usage}
 use Rattle.solver_words.specs.declared.job.JobSettings.{JobSettings}
 use Rattle.solver_cli.specs.declared.offering.Task.{Task}
-use Rattle.solver_cli.specs.declared.offering.Task.TheVariants.{OnInput, Draw}
+use Rattle.solver_cli.specs.declared.offering.Task.TheVariants.{OnInput, OnCover, Draw}
 
 -- a search by one worker, without a width of its own, a journal and a cover
 abbrev pub is_plain : JobSettings → Option Text → Option ℕ → Bool
@@ -16,7 +16,7 @@ is_plain settings journal cover = not (is_some settings.width) && (nat_le settin
 abbrev pub offered : JobView → Result Task Refusal
 offered (solve model settings journal cover) = cond (is_plain settings journal cover) (Ok (OnInput (Solve model settings.budget settings.stats))) (Err usage)
 offered (resume path settings) = Err usage
-offered check = Err usage
+offered check = Ok OnCover
 offered (digest model) = Ok (OnInput (Digest model))
 offered (generate model n seed solved) = Ok (Draw model n seed solved)
 
@@ -27,4 +27,5 @@ asked words = and_then offered (meaning words)
 -- what is to be drawn has a size of its problem, and a seed below 2^31
 abbrev pub IsDrawn : Task → Type 0
 IsDrawn (OnInput job) = Unit {0}
+IsDrawn OnCover = Unit {0}
 IsDrawn (Draw problem n seed solved) = ((theory_of problem).least_size ≤ n) × (n ≤ (theory_of problem).most_size) × (seed < 2 ^ 31)

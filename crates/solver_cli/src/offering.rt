@@ -12,6 +12,8 @@ use std::alloc::Global;
 pub enum Task {
     /// A job on the instance that the input spells.
     OnInput(TextJob),
+    /// A whole output with its cover is checked.
+    OnCover,
     /// An instance of that size is drawn from the seed, and printed or solved.
     Draw {
         problem: ModelName,
@@ -31,7 +33,7 @@ pub fn asked(alloc: Global, words: &[String]) -> Result<Task, WordsError>
 }
 
 /// The task of a job. This is the one place that tells which words are still to come: a search with a journal, with a cover, by more than
-/// one worker or with a width of its own, and the commands `resume` and `check`. They are answered as words outside the grammar.
+/// one worker or with a width of its own, and the command `resume`. They are answered as words outside the grammar.
 fn offered(job: &Job) -> Result<Task, WordsError>
     requires { IsDrawable job.now }
     ensures answer { IsAnswer (λ task. task) (offered (job_view job.now)) result }
@@ -48,6 +50,7 @@ fn offered(job: &Job) -> Result<Task, WordsError>
             budget: settings.budget,
             stats: settings.stats,
         })),
+        Job::Check => Ok(Task::OnCover),
         Job::Digest { model } => Ok(Task::OnInput(TextJob::Digest { model: *model })),
         Job::Generate {
             model,
@@ -60,7 +63,7 @@ fn offered(job: &Job) -> Result<Task, WordsError>
             seed: *seed,
             solved: *solve,
         }),
-        Job::Solve { .. } | Job::Resume { .. } | Job::Check => Err(WordsError::Usage),
+        Job::Solve { .. } | Job::Resume { .. } => Err(WordsError::Usage),
     }
 }
 

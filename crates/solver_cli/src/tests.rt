@@ -1,3 +1,5 @@
+mod covers;
+
 use crate::run::run;
 use dd_io::{MemSink, MemSource};
 use std::alloc::{AllocError, Global};
@@ -235,7 +237,7 @@ fn refuses_at_the_place(rt: HostRuntime) -> Result<(), Fail> {
             4,
         ),
         ("generate knapsack 1001 0", "", "words number n\n", 4),
-        ("check", THREE_ITEMS, "words usage\n", 4),
+        ("check", THREE_ITEMS, "cover word 1 1\n", 3),
         (
             "solve knapsack --workers 2",
             THREE_ITEMS,

@@ -7,6 +7,7 @@
 #![tactic(auto)]
 
 mod answering;
+mod checking;
 mod concluding;
 mod digesting;
 mod drawing;
@@ -14,5 +15,6 @@ mod solving;
 mod text_job;
 
 pub use answering::reply;
+pub use checking::check;
 pub use drawing::generate;
 pub use text_job::TextJob;
