@@ -140,7 +140,8 @@ impl Layer {
 
     /// How many nodes it has.
     pub fn len(&self) -> usize
-        ensures { result ≡ length self.now.nodes }
+        ensures count { result ≡ length self.now.nodes }
+        ensures room { result ≤ self.now.nodes_room }
     {
         self.nodes.len()
     }
