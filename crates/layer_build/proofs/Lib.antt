@@ -7,3 +7,4 @@ pub mod Stacks
 pub mod Going
 pub mod Changing
 pub mod Starting
+pub mod Reading
