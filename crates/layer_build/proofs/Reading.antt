@@ -40,8 +40,10 @@ node-seen i h depth node low high =
     let begun = h.first in
     let away : depth - length i.prefix.items ≡ depth - i.stack.first = ap (λ (n : ℕ). depth - n) (sym begun) in
     let layer = layer-down (nodes_in i.stack) (i.prefix.items ∷ []) i.stack.first (i.stack.last - i.stack.first) (depth - i.stack.first) depth (omega arith) (omega arith) in
+    let from-zero : 0 + node ≡ node = omega arith in
     ap (λ (o : Option (List DdNode)). option_and_then (λ (l : List DdNode). slice_get l node) o) (ap (slice_get (shown_stack i.prefix.items i.stack)) away ∙ layer)
-    ∙ get-shown (path_in (paths_at (nodes_in i.stack) (i.prefix.items ∷ []) i.stack.first (depth - i.stack.first))) 0 (nodes_in i.stack depth) node
+    ∙ (get-shown (path_in (paths_at (nodes_in i.stack) (i.prefix.items ∷ []) i.stack.first (depth - i.stack.first))) 0 (nodes_in i.stack depth) node
+    ∙ ap (λ (k : ℕ). option_map (shown (path_of i depth k)) (slice_get (nodes_in i.stack depth) node)) from-zero)
 
 -- a place that is there lies within the layers
 none-some : {X : Type 0} (o : Option X) → o ≡ None → IsSome o → ⊥

@@ -1,4 +1,5 @@
-use Rattle.std.proofs.Common.{◌≡◌, ℕ, ◌+◌, ◌≤◌, ◌<◌, ℤ, Bool, List, length, slice_get, Option, Some, IsSome, option_map, option_and_then, refl, rules, sym, ap, ◌∙◌, subst, arith}
+use Rattle.std.proofs.Common.{◌≡◌, ℕ, ◌+◌, ◌≤◌, ◌<◌, ℤ, Bool, List, length, slice_get, Option, Some, IsSome, option_map, option_and_then, to_z, of_z, w64, FitsSigned, refl, rules, sym, ap, ◌∙◌, subst, arith}
+use Rattle.std.proofs.lemmas.Int.{to_z-of_z}
 use Rattle.dp_laws.specs.declared.arc.DdArc.{DdArc}
 use Rattle.dp_laws.specs.Diagrams.Nodes.{DdNode, node_at}
 use Rattle.layer_nodes.specs.Nodes.{NodeView, LayerView, shown}
@@ -33,6 +34,7 @@ returns c =
     let low = begun-low i h c.args.self.now c.self.view_is c.args.depth c.requires.first in
     let some = subst (λ (s : SpaceView). IsSome (node_at (diagram_of s) c.args.depth c.args.node)) (sym c.self.view_is) c.requires.place in
     let high = depth-within i h c.args.depth c.args.node low some in
+    let fits : FitsSigned w64 c.value.result = search rules in
     let read = ap (λ (l : LayerView). option_map (λ (n : NodeView). n.value) (slice_get l.nodes c.args.node)) (sym c.layer_at.ensures) ∙ c.value.ensures in
-    subst (λ (s : SpaceView). option_map (λ (n : DdNode). n.value) (node_at (diagram_of s) c.args.depth c.args.node) ≡ Some c.value.result) c.self.view_is
-    (read-seen i h c.args.depth c.args.node low high (λ (n : DdNode). n.value) c.value.result read)
+    subst (λ (s : SpaceView). option_map (λ (n : DdNode). n.value) (node_at (diagram_of s) c.args.depth c.args.node) ≡ Some (to_z w64 (of_z w64 c.value.result))) c.self.view_is
+    (read-seen i h c.args.depth c.args.node low high (λ (n : DdNode). n.value) (to_z w64 (of_z w64 c.value.result)) (read ∙ ap (λ (z : ℤ). Some z) (sym (to_z-of_z w64 c.value.result fits))))
