@@ -3,7 +3,8 @@ use Rattle.std.proofs.Common.{◌≡◌, ℕ, ◌-◌, ◌<◌, ◌≤◌, ℤ, 
 use Rattle.std.proofs.lemmas.List.{map-append, take-map, drop-map, length-take-le}
 use Rattle.dp_model.specs.Dp.{Dp}
 use Rattle.dp_model.specs.Lists.{Each}
-use Rattle.dp_model.proofs.Members.{Each-append}
+use Rattle.dp_model.proofs.Members.{Each-append, Each-map, Each-then}
+use Rattle.dp_laws.proofs.Lists.{each-take}
 use Rattle.dp_laws.specs.declared.arc.DdArc.{DdArc}
 use Rattle.dp_laws.specs.Rules.Redirects.{Redirect}
 use Rattle.dp_laws.specs.Rules.Reducing.{merged_node, merged_layer, merge_redirects}
@@ -15,8 +16,7 @@ use Rattle.layer_nodes.specs.Nodes.{shown_below}
 use Rattle.layer_nodes.specs.Steps.{IsRanked}
 use Rattle.layer_nodes.specs.Stored.{node_view, IsStored}
 use Rattle.layer_nodes.proofs.Merged.{strip, node-strip, redirects-strip, in-same}
-use Rattle.layer_nodes.proofs.Shown.{map-map, seen, below-seen, view-each}
-use Rattle.layer_nodes.proofs.Stored.{each-take, each-map}
+use Rattle.layer_nodes.proofs.Shown.{map-map, seen, below-seen}
 
 -- nodes whose rows are the same look the same
 seen-same : (paths : ℕ → List ℕ) (rows rows2 : List ℤ) (words place : ℕ) (arcs : List DdArc) (nodes : List Node) → ((q : ℕ) → q < place → row_at rows2 words q ≡ row_at rows words q) → Each (λ node. node.row < place) nodes
@@ -63,9 +63,9 @@ module _ (dp : Dp) (k width words place : ℕ) (rows : List ℤ) (nodes : List N
   merged-ranked all low =
       let there = in-same dp k rows rows2 words place nodes h.before h.size all low in
       let IsGood : Node → Type 0 = λ node. IsRanked dp k (node_view words rows2 arcs node) in
-      view-each (IsRanked dp k) words rows2 arcs nodes2 (subst (Each IsGood) (sym h.list)
+      Each-map (node_view words rows2 arcs) (IsRanked dp k) nodes2 (subst (Each IsGood) (sym h.list)
       (Each-append IsGood (take n nodes) (new ∷ [])
-      (each-map (take n nodes) (λ node g. record { state = g.state; rank = g.ranked }) (each-take (IsNodeIn dp k rows2 words) n nodes there))
+      (Each-then (IsNodeIn dp k rows2 words) IsGood (take n nodes) (λ node g. record { state = g.state; rank = g.ranked }) (each-take (IsNodeIn dp k rows2 words) n nodes there))
       (record { state = h.state; rank = ap (dp.rank k) (sym h.merged) }, tt)))
 
   pub merged-stored : Each (IsStored place arcs) nodes → Each (IsStored place arcs) nodes2

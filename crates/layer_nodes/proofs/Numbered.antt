@@ -1,8 +1,7 @@
 -- Ways that are numbered by their keys.
-use Rattle.std.proofs.Common.{◌≡◌, ◌≢◌, ℕ, zero, suc, ◌+◌, ◌<◌, List, [], ◌∷◌, ◌++◌, length, map, take, drop, set, get_or, slice_get, Some, ◌⊎◌, inl, inr, sym, ap, ◌∙◌, arith}
+use Rattle.std.proofs.Common.{◌≡◌, ◌≢◌, ℕ, ◌+◌, ◌<◌, List, ◌++◌, length, map, take, drop, set, slice_get, Some, ◌⊎◌, inl, inr, sym, ap, ◌∙◌, arith}
 use Rattle.std.proofs.lemmas.List.{get_or-set_same, get_or-set_other, length-set}
 use Rattle.std.proofs.lemmas.Option.{slice_get-get_or, slice_get_within, get_or_from_slice_get}
-use Rattle.dp_model.specs.Lists.{Each}
 use Rattle.layer_candidates.specs.declared.key.Key.{Key}
 use Rattle.layer_nodes.specs.Expanding.{key_in, IsNumbered}
 
@@ -11,11 +10,6 @@ pub record IsMapped {X : Type 0} (f : X → X) (old now : List X) (i : ℕ) : Ty
   pub done : take i now ++ map f (drop i old) ≡ map f old
   pub left : drop i now ≡ drop i old
   pub same : length now ≡ length old
-
-pub each-get : {X : Type 0} (P : X → Type 0) (xs : List X) (i : ℕ) (d : X) → Each P xs → i < length xs → P (get_or xs i d)
-each-get P [] i d h less = absurd (omega arith)
-each-get P (x ∷ xs) zero d h less = h.0
-each-get P (x ∷ xs) (suc i) d h less = each-get P xs i d h.1 (omega arith)
 
 same-or : (a b : ℕ) → (a ≡ b) ⊎ (a ≢ b)
 same-or a b = grind arith

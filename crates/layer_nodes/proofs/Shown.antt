@@ -2,6 +2,7 @@
 use Rattle.std.proofs.Common.{IsSome, ◌<◌, ◌≡◌, ℕ, ◌+◌, ℤ, List, [], ◌∷◌, length, map, take, drop, Option, refl, ap, ap₂, arith}
 use Rattle.dp_model.specs.Dp.{Dp}
 use Rattle.dp_model.specs.Lists.{Each}
+use Rattle.dp_model.proofs.Members.{Each-then}
 use Rattle.dp_laws.specs.declared.arc.DdArc.{DdArc}
 use Rattle.dp_laws.specs.Diagrams.Nodes.{DdNode, path_below}
 use Rattle.dp_laws.specs.Rules.Redirects.{Redirect, redirected, with_redirected}
@@ -13,7 +14,6 @@ use Rattle.layer_nodes.specs.Steps.{IsNodeOf, MayBeLengthened}
 use Rattle.layer_nodes.specs.Stored.{node_view, IsStored, HasRow}
 use Rattle.layer_nodes.specs.Striking.{Shows}
 use Rattle.layer_nodes.proofs.Redirected.{redirected-take, redirected-drop, redirected-far}
-use Rattle.layer_nodes.proofs.Stored.{each-map}
 
 -- ---- the layer above
 
@@ -37,7 +37,7 @@ bare-redirected words rows old new [] = refl
 bare-redirected words rows old new (node ∷ nodes) = ap (λ l. without_arcs (node_view words rows old node) ∷ l) (bare-redirected words rows old new nodes)
 
 pub stored-same : (room : ℕ) (old new : List DdArc) (nodes : List Node) → length new ≡ length old → Each (IsStored room old) nodes → Each (IsStored room new) nodes
-stored-same room old new nodes same h = each-map nodes (λ node s. record { row = s.row; fresh = s.fresh; arcs_lie = (let lie = s.arcs_lie in omega arith) }) h
+stored-same room old new nodes same h = Each-then (IsStored room old) (IsStored room new) nodes (λ node s. record { row = s.row; fresh = s.fresh; arcs_lie = (let lie = s.arcs_lie in omega arith) }) h
 
 -- ---- the layer below
 
@@ -58,10 +58,6 @@ below-seen paths words rows arcs nodes = map-map (λ (node : NodeView). shown (p
 pub each-view : (P : NodeView → Type 0) (words : ℕ) (rows : List ℤ) (arcs : List DdArc) (nodes : List Node) → Each P (map (node_view words rows arcs) nodes) → Each (λ node. P (node_view words rows arcs node)) nodes
 each-view P words rows arcs [] h = tt
 each-view P words rows arcs (node ∷ nodes) h = (h.0, each-view P words rows arcs nodes h.1)
-
-pub view-each : (P : NodeView → Type 0) (words : ℕ) (rows : List ℤ) (arcs : List DdArc) (nodes : List Node) → Each (λ node. P (node_view words rows arcs node)) nodes → Each P (map (node_view words rows arcs) nodes)
-view-each P words rows arcs [] h = tt
-view-each P words rows arcs (node ∷ nodes) h = (h.0, view-each P words rows arcs nodes h.1)
 
 pub nodes-in : (dp : Dp) (k words : ℕ) (rows : List ℤ) (arcs : List DdArc) (nodes : List Node) → Each (IsNodeOf dp k) (map (node_view words rows arcs) nodes) → Each (HasRow words rows) nodes
     → Each (IsNodeIn dp k rows words) nodes

@@ -2,7 +2,8 @@
 use Rattle.std.proofs.Common.{◌≡◌, ℕ, zero, suc, ◌+◌, ◌*◌, ◌<◌, ◌≤◌, ℤ, List, [], ◌∷◌, ◌++◌, length, map, take, drop, set, get_or, Option, refl, sym, ◌∙◌, inl, inr, ap, ap₂, subst, arith, mul-le-mul_right}
 use Rattle.std.proofs.lemmas.List.{take_more, take_all, map-append, length_push}
 use Rattle.dp_model.specs.Lists.{Each, OneOf}
-use Rattle.dp_model.proofs.Members.{Each-append}
+use Rattle.dp_model.proofs.Members.{Each-append, Each-then}
+use Rattle.dp_laws.proofs.Lists.{each-take}
 use Rattle.dp_laws.specs.declared.arc.DdArc.{DdArc}
 use Rattle.layer_candidates.specs.Rows.{row_at, with_row}
 use Rattle.layer_candidates.proofs.Blocks.{before-with, here-with, length-row}
@@ -22,15 +23,6 @@ pub each-get : {X : Type 0} (P : X → Type 0) (xs : List X) (i : ℕ) (d : X) �
 each-get P [] i d h less = absurd (omega arith)
 each-get P (x ∷ xs) zero d h less = h.0
 each-get P (x ∷ xs) (suc i) d h less = each-get P xs i d h.1 (omega arith)
-
-pub each-map : {X : Type 0} {P Q : X → Type 0} (xs : List X) → ((x : X) → P x → Q x) → Each P xs → Each Q xs
-each-map [] f h = tt
-each-map (x ∷ xs) f h = (f x h.0, each-map xs f h.1)
-
-pub each-take : {X : Type 0} (P : X → Type 0) (n : ℕ) (xs : List X) → Each P xs → Each P (take n xs)
-each-take P zero xs h = tt
-each-take P (suc n) [] h = tt
-each-take P (suc n) (x ∷ xs) h = (h.0, each-take P n xs h.1)
 
 pub each-drop : {X : Type 0} (P : X → Type 0) (n : ℕ) (xs : List X) → Each P xs → Each P (drop n xs)
 each-drop P zero xs h = h
@@ -90,7 +82,7 @@ pub row-fits : (room words row n : ℕ) → row ≤ room → (room + 1) * words 
 row-fits room words row n low hold = let more : (row + 1) * words ≤ (room + 1) * words = mul-le-mul_right words (omega arith) in omega arith
 
 pub has-rows : (room words : ℕ) (rows : List ℤ) (arcs : List DdArc) (nodes : List Node) → (room + 1) * words ≤ length rows → Each (IsStored room arcs) nodes → Each (HasRow words rows) nodes
-has-rows room words rows arcs nodes hold h = each-map nodes (λ node s. row-fits room words node.row (length rows) s.row hold) h
+has-rows room words rows arcs nodes hold h = Each-then (IsStored room arcs) (HasRow words rows) nodes (λ node s. row-fits room words node.row (length rows) s.row hold) h
 
 -- ---- a copy
 
@@ -119,13 +111,13 @@ copied-more words others other_rows nodes rows row i d h less hold here is =
           ∙ (ap₂ (λ a b. a ++ b ∷ []) (copies-same words rows row i nodes room long h.copies ∙ h.list arcs) one
           ∙ sym (ap (λ l. map without_arcs (map old l)) (take_more others i d less)
           ∙ (ap (map without_arcs) (map-append old (take i others) (node ∷ [])) ∙ map-append without_arcs (map old (take i others)) (old node ∷ [])))));
-      copies = Each-append (IsCopy (i + 1)) nodes (new ∷ []) (each-map nodes (λ n c. record { row = (let low = c.row in omega arith); first_arc = c.first_arc; no_arcs = c.no_arcs }) h.copies)
+      copies = Each-append (IsCopy (i + 1)) nodes (new ∷ []) (Each-then (IsCopy i) (IsCopy (i + 1)) nodes (λ n c. record { row = (let low = c.row in omega arith); first_arc = c.first_arc; no_arcs = c.no_arcs }) h.copies)
           (record { row = omega arith; first_arc = refl; no_arcs = refl }, tt);
       size = length_push nodes new ∙ (let s = h.size in omega arith);
     }
 
 pub copied-stored : (room n : ℕ) (nodes : List Node) → n ≤ room → Each (IsCopy n) nodes → Each (IsStored room []) nodes
-copied-stored room n nodes most h = each-map nodes (λ node c. record {
+copied-stored room n nodes most h = Each-then (IsCopy n) (IsStored room []) nodes (λ node c. record {
   row = (let low = c.row in omega arith);
   fresh = λ some. (let low = c.row in omega arith);
   arcs_lie = (let a = c.first_arc in let b = c.no_arcs in omega arith);

@@ -5,9 +5,10 @@ ghost use Rattle.layer_nodes.specs.Nodes.{without_arcs, suffix_set};
 ghost use Rattle.layer_nodes.specs.Steps.{KeepsRoom};
 
 use crate::node::Node;
-use crate::rows::{row, write_row};
+use crate::rows::write_row;
 use dp_laws::DdArc;
 use dp_model::OutOfMemory;
+use layer_candidates::row;
 use std::alloc::Global;
 use std::marker::Model;
 
@@ -139,7 +140,8 @@ impl Layer {
 
     /// How many nodes it has.
     pub fn len(&self) -> usize
-        ensures { result ≡ length self.now.nodes }
+        ensures count { result ≡ length self.now.nodes }
+        ensures room { result ≤ self.now.nodes_room }
     {
         self.nodes.len()
     }

@@ -12,9 +12,9 @@ ghost use Rattle.layer_nodes.specs.Redirecting.{IsShort};
 ghost use Rattle.layer_nodes.specs.Leading.{IsIn, IsNodeIn, IsLeaderIn, leaders_of, led_at, bare};
 
 use crate::node::Node;
-use crate::redirecting::{LeaderAt, MOST_LEADERS, Redirect};
-use crate::rows::row;
+use crate::redirecting::{LeaderAt, Redirect};
 use dp_model::DpModel;
+use layer_candidates::{MOST_LEADERS, row};
 
 /// A node that stays at the place becomes a leader where it is exact and there are fewer than 16.
 pub(crate) fn lead(leaders: &mut Vec<LeaderAt>, place: u32, node: Node)

@@ -19,8 +19,8 @@ use crate::layer::Layer;
 use crate::leading::redirect_by;
 use crate::node::Node;
 use crate::redirecting::{Redirect, Redirects, redirect_layer};
-use crate::rows::row;
 use dp_model::DpModel;
+use layer_candidates::row;
 
 /// The node's value with the gap, or none where there is none.
 fn lifted(node: Node, gap: Option<i64>) -> Option<i64>

@@ -11,11 +11,9 @@ ghost use Rattle.layer_nodes.specs.Steps.{MayBeLengthened, KeepsNodes};
 use crate::layer::Layer;
 use dp_laws::DdArc;
 use dp_model::OutOfMemory;
+use layer_candidates::MOST_LEADERS;
 use std::alloc::Global;
 use std::marker::Model;
-
-/// No layer has more leaders.
-pub(crate) const MOST_LEADERS: usize = 16;
 
 /// The place of an arc's new target, and by how much the arc is lengthened.
 #[derive(Clone, Copy, Debug)]

@@ -1,16 +1,7 @@
 //! Rows of one length in a block of cells.
 
 ghost use Rattle.std.specs.Prelude.{◌≡◌, ◌+◌, ◌*◌, ◌≤◌, length};
-ghost use Rattle.layer_candidates.specs.Rows.{row_at, with_row};
-
-/// The cells of a row.
-pub fn row(rows: &[i64], words: usize, place: usize) -> &[i64]
-    requires { place * words + words ≤ length rows.now }
-    ensures { result.now ≡ row_at rows.now words place }
-{
-    let at = place * words;
-    &rows[at..at + words]
-}
+ghost use Rattle.layer_candidates.specs.Rows.{with_row};
 
 /// Writes a row into the place.
 pub fn write_row(rows: &mut [i64], words: usize, place: usize, row: &[i64])

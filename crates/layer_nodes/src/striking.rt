@@ -1,12 +1,9 @@
 //! Nodes that are struck, or that a leader dominates, are taken out of a layer.
 
 ghost use Rattle.std.specs.Prelude.{◌≡◌, ℕ, ◌≤◌, ◌<◌, ◌^◌, ◌∷◌, [], ◌++◌, List, IfSome, length, pos, set, Some, vec_capacity};
-ghost use Rattle.dp_model.specs.Gaps.{is_struck_by};
 ghost use Rattle.dp_model.specs.Lists.{Each};
-ghost use Rattle.dp_model.specs.Numbers.{IsSmall};
 ghost use Rattle.dp_laws.specs.Rules.Redirects.{with_redirected};
 ghost use Rattle.dp_laws.specs.Rules.Pruning.{is_struck, pruned_nodes, prune_redirects};
-ghost use Rattle.layer_candidates.specs.Ways.{IsNearly};
 ghost use Rattle.layer_nodes.specs.Leading.{IsNodeIn, IsLeaderIn, leaders_of, led_at, bare};
 ghost use Rattle.layer_nodes.specs.Nodes.{shown_layer, shown_below};
 ghost use Rattle.layer_nodes.specs.Redirecting.{IsShort};
@@ -17,23 +14,8 @@ use crate::layer::Layer;
 use crate::leading::{at_leader, lead};
 use crate::node::Node;
 use crate::redirecting::{LeaderAt, Redirect, Redirects, redirect_layer};
-use crate::rows::row;
 use dp_model::DpModel;
-
-/// Whether the value and the rough bound are at most the threshold; no rough bound is at most each.
-fn is_struck_by(value: i64, rough: Option<i64>, threshold: Option<i64>) -> bool
-    requires near { IsNearly value }
-    requires small { IfSome rough (λ r. IsSmall r) }
-    ensures { result ≡ is_struck_by value rough threshold }
-{
-    let Some(rough) = rough else {
-        return true;
-    };
-    match threshold {
-        Some(threshold) => value + rough <= threshold,
-        None => false,
-    }
-}
+use layer_candidates::{is_struck_by, row};
 
 /// Whether no completion of the node is known to be above the threshold.
 fn is_struck<M: DpModel>(

@@ -1,7 +1,8 @@
 use Rattle.std.proofs.Common.{◌<◌, length, arith}
 use Rattle.layer_candidates.specs.declared.key.Key.{Key}
 use Rattle.layer_nodes.specs.Expanding.{key_in}
-use Rattle.layer_nodes.proofs.Numbered.{each-get, numbered-more}
+use Rattle.layer_nodes.proofs.Numbered.{numbered-more}
+use Rattle.layer_nodes.proofs.Stored.{each-get}
 use Rattle.layer_nodes.proofs.numbering.number.Goals as goal
 
 pub keys-preserved : goal.keys-preserved

@@ -3,13 +3,14 @@ use Rattle.std.proofs.lemmas.List.{with_items_is}
 use Rattle.dp_model.specs.Lists.{Each}
 use Rattle.dp_laws.specs.Rules.Redirects.{with_redirected}
 use Rattle.dp_laws.specs.Rules.Pruning.{prune_redirects, pruned_nodes}
+use Rattle.dp_laws.proofs.Lists.{each-take}
 use Rattle.layer_nodes.specs.Leading.{IsNodeIn}
 use Rattle.layer_nodes.specs.Nodes.{LayerView, shown_layer, shown_below}
 use Rattle.layer_nodes.specs.Steps.{IsNodeOf, AreAmong}
 use Rattle.layer_nodes.specs.Stored.{node_view, IsStored}
 use Rattle.layer_nodes.specs.Striking.{Shows}
 use Rattle.layer_nodes.proofs.Shown.{seen, seen-shows, below-seen, nodes-in}
-use Rattle.layer_nodes.proofs.Stored.{has-rows, each-take, among-each, among-map, among-take, length-take-most}
+use Rattle.layer_nodes.proofs.Stored.{has-rows, among-each, among-map, among-take, length-take-most}
 use Rattle.layer_nodes.proofs.striking.strike.Goals as goal
 
 pub prune-stay-requires-clause-nodes : goal.prune-stay-requires-clause-nodes
