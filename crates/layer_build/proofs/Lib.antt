@@ -7,3 +7,5 @@ pub mod Stacks
 pub mod Going
 pub mod Changing
 pub mod Starting
+pub mod Walked
+pub mod Suffixed

@@ -138,9 +138,10 @@ impl Layer {
         );
     }
 
-    /// How many nodes it has.
+    /// How many nodes it has: at most those for which there is room.
     pub fn len(&self) -> usize
-        ensures { result ≡ length self.now.nodes }
+        ensures nodes { result ≡ length self.now.nodes }
+        ensures few { result ≤ self.now.nodes_room }
     {
         self.nodes.len()
     }
