@@ -8,3 +8,5 @@ pub mod Going
 pub mod Changing
 pub mod Starting
 pub mod Reading
+pub mod Walked
+pub mod Suffixed

@@ -14,5 +14,6 @@ mod walking;
 mod width;
 mod workspace;
 
+pub use dp_laws::DdArc;
 pub use width::greatest_width;
 pub use workspace::{PrepareError, Workspace};
