@@ -24,7 +24,7 @@ reduced_with dp first w t k m so_far last = first_of so_far (first_reduced_below
 pub record IsBuiltTo (dp : Dp) (t : Option ℤ) (k : ℕ) (start s : SpaceView) : Type 0 where
   pub deep : length start.prefix ≤ k
   pub low : k ≤ dp.vars
-  pub space : s ≡ record start { layers = s.layers; first_reduced = s.first_reduced }
+  pub space : s ≡ record start { layers = s.layers; ranks = s.ranks; first_reduced = s.first_reduced }
   pub size : length s.layers ≡ k - length start.prefix + 1
   pub layers : with_rest (compiled dp (length start.prefix) start.width t k (dp.vars - k)) s.layers ≡ compiled_from dp t start
   pub reduced_is : reduced_with dp (length start.prefix) start.width t k (dp.vars - k) s.first_reduced (last_layer s.layers)
@@ -78,8 +78,8 @@ builds-further dp t k start s new some low h n =
     record {
       deep = omega arith;
       low = omega arith;
-      space = n.space ∙ (let e : record s { layers = new.layers; first_reduced = new.first_reduced } ≡ record start { layers = new.layers; first_reduced = new.first_reduced } = ap (λ (v : SpaceView). record v { layers = new.layers; first_reduced = new.first_reduced }) h.space in
-          let f : record s { layers = expand_last (built dp (length s.prefix) s.width t (last_depth s)) s.layers; first_reduced = with_next dp t s } ≡ record s { layers = new.layers; first_reduced = new.first_reduced } = (let a = ap (λ (v : SpaceView). v.layers) n.space in let b = ap (λ (v : SpaceView). v.first_reduced) n.space in cc) in
+      space = n.space ∙ (let e : record s { layers = new.layers; ranks = new.ranks; first_reduced = new.first_reduced } ≡ record start { layers = new.layers; ranks = new.ranks; first_reduced = new.first_reduced } = ap (λ (v : SpaceView). record v { layers = new.layers; ranks = new.ranks; first_reduced = new.first_reduced }) h.space in
+          let f : record s { layers = expand_last (built dp (length s.prefix) s.width t (last_depth s)) s.layers; ranks = new.ranks; first_reduced = with_next dp t s } ≡ record s { layers = new.layers; ranks = new.ranks; first_reduced = new.first_reduced } = (let a = ap (λ (v : SpaceView). v.layers) n.space in let b = ap (λ (v : SpaceView). v.first_reduced) n.space in cc) in
           f ∙ e);
       size = ap (λ ls. length ls) layers ∙ (let long = length-expand (built dp first w t k) s.layers some-layer in omega arith);
       layers = ap (with_rest (compiled dp first w t (k + 1) m)) layers ∙ (sym (rest-expand dp first w t k m s.layers) ∙ (ap (λ c. with_rest (compiled dp first w t k c) s.layers) (sym left) ∙ h.layers));
@@ -102,26 +102,26 @@ builds-all dp t start s h =
     let reduced_is : s.first_reduced ≡ first_reduced_below dp first start.width t first (dp.vars - first) (start_layer (reached dp start.prefix)) =
     sym (first-of-none s.first_reduced) ∙ (ap (λ c. reduced_with dp first start.width t dp.vars c s.first_reduced (last_layer s.layers)) (sym none) ∙ h.reduced_is) in
     record {
-      space = h.space ∙ (ap (λ ls. record start { layers = ls; first_reduced = s.first_reduced }) layers ∙ ap (λ (o : Option ℕ). record start { layers = compiled_from dp t start; first_reduced = o }) reduced_is);
+      space = h.space ∙ (ap (λ ls. record start { layers = ls; ranks = s.ranks; first_reduced = s.first_reduced }) layers ∙ ap (λ (o : Option ℕ). record start { layers = compiled_from dp t start; ranks = s.ranks; first_reduced = o }) reduced_is);
       under_way = h.under_way;
     }
 
 -- a layer that is expanded, struck and reduced is built
 
-abbrev after_expand : Dp → SpaceView → SpaceView
-after_expand dp s = record s { layers = expand_last (expand dp (last_depth s)) s.layers }
+abbrev after_expand : Dp → List ℤ → SpaceView → SpaceView
+after_expand dp ranks s = record s { layers = expand_last (expand dp (last_depth s)) s.layers; ranks = ranks }
 
-abbrev after_strike : Dp → Option ℤ → SpaceView → SpaceView
-after_strike dp t s = record s { layers = on_last_two (prune dp (last_depth s) t) s.layers }
+abbrev after_strike : Dp → Option ℤ → List ℤ → SpaceView → SpaceView
+after_strike dp t ranks s = record s { layers = on_last_two (prune dp (last_depth s) t) s.layers; ranks = ranks }
 
-one-built : (dp : Dp) (t : Option ℤ) (s new : SpaceView) → 0 < length s.layers → HasReduced dp (after_strike dp t (after_expand dp s)) new → HasBuilt dp t s new
-one-built dp t s new some h =
+one-built : (dp : Dp) (t : Option ℤ) (s new : SpaceView) (r1 r2 : List ℤ) → 0 < length s.layers → HasReduced dp (after_strike dp t r2 (after_expand dp r1 s)) new → HasBuilt dp t s new
+one-built dp t s new r1 r2 some h =
     let first = length s.prefix in
     let w = s.width in
     let k = last_depth s in
     let ls = s.layers in
-    let s1 = after_expand dp s in
-    let s2 = after_strike dp t s1 in
+    let s1 = after_expand dp r1 s in
+    let s2 = after_strike dp t r2 s1 in
     let long1 = length-expand (expand dp k) ls some in
     let d1 : last_depth s1 ≡ k + 1 = omega arith in
     let long2 = length-two (prune dp (last_depth s1) t) s1.layers in
@@ -136,15 +136,15 @@ one-built dp t s new some h =
     ap (λ n. cond (is_wide dp first w n (last_layer s2.layers)) (reduced_first s.first_reduced n) s.first_reduced) d2
         ∙ ap (λ l. cond (is_wide dp first w (k + 1) l) (reduced_first s.first_reduced (k + 1)) s.first_reduced) last in
     record {
-      space = h.space ∙ (ap (λ ls. record s { layers = ls; first_reduced = with_last dp s2 }) layers ∙ ap (λ (o : Option ℕ). record s { layers = expand_last (built dp first w t k) ls; first_reduced = o }) least);
+      space = h.space ∙ (ap (λ ls. record s { layers = ls; ranks = new.ranks; first_reduced = with_last dp s2 }) layers ∙ ap (λ (o : Option ℕ). record s { layers = expand_last (built dp first w t k) ls; ranks = new.ranks; first_reduced = o }) least);
       under_way = h.under_way;
     }
 
-pub builds-one : (dp : Dp) (t : Option ℤ) (s s1 s2 new : SpaceView) → 0 < length s.layers → s1 ≡ after_expand dp s → s2 ≡ after_strike dp t s1 → HasReduced dp s2 new → HasBuilt dp t s new
-builds-one dp t s s1 s2 new some e1 e2 h = one-built dp t s new some (subst (λ v. HasReduced dp v new) (e2 ∙ ap (after_strike dp t) e1) h)
+pub builds-one : (dp : Dp) (t : Option ℤ) (s s1 s2 new : SpaceView) → 0 < length s.layers → s1 ≡ after_expand dp s1.ranks s → s2 ≡ after_strike dp t s2.ranks s1 → HasReduced dp s2 new → HasBuilt dp t s new
+builds-one dp t s s1 s2 new some e1 e2 h = one-built dp t s new s1.ranks s2.ranks some (subst (λ v. HasReduced dp v new) (e2 ∙ ap (after_strike dp t s2.ranks) e1) h)
 
 -- the struck layers are as many as the expanded ones
-pub some-struck : (dp : Dp) (t : Option ℤ) (s s1 s2 : SpaceView) → 0 < length s.layers → s1 ≡ after_expand dp s → s2 ≡ after_strike dp t s1 → 0 < length s2.layers
+pub some-struck : (dp : Dp) (t : Option ℤ) (s s1 s2 : SpaceView) → 0 < length s.layers → s1 ≡ after_expand dp s1.ranks s → s2 ≡ after_strike dp t s2.ranks s1 → 0 < length s2.layers
 some-struck dp t s s1 s2 some e1 e2 =
     let a = ap (λ (v : SpaceView). length v.layers) e1 in
     let b = ap (λ (v : SpaceView). length v.layers) e2 in

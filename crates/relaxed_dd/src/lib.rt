@@ -6,6 +6,8 @@
 #![tactic(auto)]
 
 mod building;
+mod lengths;
+mod suffixes;
 
 
 
