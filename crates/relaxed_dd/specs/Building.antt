@@ -4,8 +4,8 @@ use Rattle.dp_model.specs.Dp.{Dp}
 use Rattle.dp_model.specs.Prefixes.{IsPrefix}
 use Rattle.dp_model.specs.Reached.{reached}
 use Rattle.dp_laws.specs.Diagrams.Nodes.{DdNode}
-use Rattle.dp_laws.specs.Rules.Compiling.{expand, prune, is_wide, reduced, built, compiled, first_reduced_below, start_layer}
-use Rattle.layer_build.specs.Layers.{SpaceView, last_depth, last_layer, expand_last, on_last_two, reduced_first}
+use Rattle.dp_laws.specs.Rules.Compiling.{expand, prune, is_wide, reduced, built, compiled, first_reduced_below, start_layer, relaxed}
+use Rattle.layer_build.specs.Layers.{SpaceView, IsPreparedFor, diagram_of, last_depth, last_layer, expand_last, on_last_two, reduced_first}
 use Rattle.layer_build.specs.UnderWay.{IsUnderWay}
 
 -- the least depth that was reduced, once the last layer is reduced where it has to be
@@ -46,3 +46,10 @@ pub record HasCompiled (dp : Dp) (t : Option ℤ) (old new : SpaceView) : Type 0
       first_reduced = first_reduced_below dp (length old.prefix) old.width t (length old.prefix) (dp.vars - length old.prefix) (start_layer (reached dp old.prefix));
     }
   pub under_way : IsUnderWay dp new
+
+-- the diagram of the prefix is made
+pub record IsMade (dp : Dp) (p : List ℕ) (t : Option ℤ) (old new : SpaceView) : Type 0 where
+  pub layers : diagram_of new ≡ relaxed dp (reached dp p) old.width t
+  pub width : new.width ≡ old.width
+  pub held : new.held ≡ length new.prefix
+  pub prepared : IsPreparedFor dp new

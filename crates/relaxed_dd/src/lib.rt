@@ -6,12 +6,10 @@
 #![tactic(auto)]
 
 mod building;
+mod compiling;
+mod diagram;
 mod lengths;
 mod suffixes;
 
-
-
-
-
-
-
+pub use compiling::relaxed;
+pub use diagram::Diagram;
