@@ -1,10 +1,10 @@
 -- Layers that are built one after another.
-use Rattle.std.proofs.Common.{◌≡◌, ℕ, zero, suc, ◌+◌, ◌-◌, ◌<◌, ◌≤◌, Bool, true, false, cond, ℤ, List, [], ◌∷◌, length, slice_get, Option, Some, None, unwrap_or, IsTrue, refl, sym, ◌∙◌, ap, subst, arith}
+use Rattle.std.proofs.Common.{◌≡◌, ℕ, zero, suc, ◌+◌, ◌-◌, ◌<◌, ◌≤◌, Bool, true, false, cond, ℤ, List, length, Option, Some, None, IsTrue, refl, sym, ◌∙◌, ap, subst, arith}
 use Rattle.dp_model.specs.Dp.{Dp}
 use Rattle.dp_model.specs.Reached.{reached}
 use Rattle.dp_laws.specs.Diagrams.Nodes.{DdNode}
 use Rattle.dp_laws.specs.Restricted.Beam.{is_reduced}
-use Rattle.dp_laws.specs.Rules.Compiling.{TwoLayers, expand, prune, merge_rest, is_wide, reduced, built, compiled, first_reduced_below, start_layer}
+use Rattle.dp_laws.specs.Rules.Compiling.{expand, prune, is_wide, reduced, built, compiled, first_reduced_below, start_layer}
 use Rattle.dp_laws.proofs.Rules.Built.{built-narrow}
 use Rattle.layer_build.specs.Layers.{SpaceView, last_depth, last_layer, expand_last, on_last_two, reduced_first}
 use Rattle.layer_build.specs.UnderWay.{IsUnderWay}
@@ -129,12 +129,12 @@ one-built dp t s new r1 r2 some h =
     let struck : (n : ℕ) → on_last_two (prune dp n t) (expand_last (expand dp k) ls) ≡ expand_last (λ l. prune dp n t (expand dp k l)) ls = λ n. two-expand (prune dp n t) (expand dp k) ls in
     let layers : on_last_two (reduced dp first w (last_depth s2)) s2.layers ≡ expand_last (built dp first w t k) ls =
     ap (λ n. on_last_two (reduced dp first w n) s2.layers) d2 ∙ (ap (λ n. on_last_two (reduced dp first w (k + 1)) (on_last_two (prune dp n t) (expand_last (expand dp k) ls))) d1
-        ∙ (ap (on_last_two (reduced dp first w (k + 1))) (struck (k + 1)) ∙ two-expand (reduced dp first w (k + 1)) (λ l. prune dp (k + 1) t (expand dp k l)) ls)) in
+    ∙ (ap (on_last_two (reduced dp first w (k + 1))) (struck (k + 1)) ∙ two-expand (reduced dp first w (k + 1)) (λ l. prune dp (k + 1) t (expand dp k l)) ls)) in
     let last : last_layer s2.layers ≡ (prune dp (k + 1) t (expand dp k (last_layer ls))).next =
     ap (λ n. last_layer (on_last_two (prune dp n t) (expand_last (expand dp k) ls))) d1 ∙ (ap last_layer (struck (k + 1)) ∙ last-expand (λ l. prune dp (k + 1) t (expand dp k l)) ls some) in
     let least : with_last dp s2 ≡ with_next dp t s =
     ap (λ n. cond (is_wide dp first w n (last_layer s2.layers)) (reduced_first s.first_reduced n) s.first_reduced) d2
-        ∙ ap (λ l. cond (is_wide dp first w (k + 1) l) (reduced_first s.first_reduced (k + 1)) s.first_reduced) last in
+    ∙ ap (λ l. cond (is_wide dp first w (k + 1) l) (reduced_first s.first_reduced (k + 1)) s.first_reduced) last in
     record {
       space = h.space ∙ (ap (λ ls. record s { layers = ls; ranks = new.ranks; first_reduced = with_last dp s2 }) layers ∙ ap (λ (o : Option ℕ). record s { layers = expand_last (built dp first w t k) ls; ranks = new.ranks; first_reduced = o }) least);
       under_way = h.under_way;

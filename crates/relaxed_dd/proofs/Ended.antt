@@ -72,7 +72,7 @@ in-next dp k j i [] layer x e f = refl
 in-next dp k zero i (l ∷ rest) layer x e f =
     let same : l ≡ layer = ap (λ (o : Option (List DdNode)). unwrap_or o l) e in
     ap (λ next. suffix_at_node i (suffix_from dp k next x.arcs) (ended_to dp k (first_of_layers rest) i l) ∷ rest) (sym (first-is rest))
-        ∙ ap (λ l. l ∷ rest) (to-next dp k (first_of_layers rest) i l x (ap (λ l. slice_get l i) same ∙ f))
+    ∙ ap (λ l. l ∷ rest) (to-next dp k (first_of_layers rest) i l x (ap (λ l. slice_get l i) same ∙ f))
 in-next dp k (suc j) i (l ∷ rest) layer x e f = ap (λ ls. l ∷ ls) (in-next dp k j i rest layer x e f)
 
 in-all : (dp : Dp) (k j : ℕ) (ls : List (List DdNode)) (layer : List DdNode) → slice_get ls j ≡ Some layer → ended_in dp k j (length layer) ls ≡ ended_at dp k j ls
@@ -150,7 +150,7 @@ ends-further dp depth i start s new suffix first last some less e is n =
     let now = ended_space dp depth i start in
     let own : arcs_at now depth i ≡ p.node.arcs = ap (λ (o : Option DdNode). unwrap_or (option_map (λ (n : DdNode). n.arcs) o) []) (now-at dp depth i start p) in
     let found : suffix ≡ suffix_from dp depth (nth start.layers (suc j)) p.node.arcs = is ∙ (ap (λ (v : SpaceView). suffix_from dp depth (layer_at v (depth + 1)) (arcs_at v depth i)) e
-        ∙ (ap (λ l. suffix_from dp depth l (arcs_at now depth i)) (below-same dp depth i start first) ∙ ap (suffix_from dp depth (nth start.layers (suc j))) own)) in
+    ∙ (ap (λ l. suffix_from dp depth l (arcs_at now depth i)) (below-same dp depth i start first) ∙ ap (suffix_from dp depth (nth start.layers (suc j))) own)) in
     let one : suc i ≡ i + 1 = omega arith in
     let layers : suffix_in j i suffix now.layers ≡ ended_in dp depth j (i + 1) start.layers =
     ap (λ (o : Option ℤ). suffix_in j i o now.layers) found ∙ (in-next dp depth j i start.layers p.layer p.node p.at p.is ∙ ap (λ i. ended_in dp depth j i start.layers) one) in

@@ -1,5 +1,5 @@
 -- The suffixes of all layers, from the last one up.
-use Rattle.std.proofs.Common.{◌≡◌, ℕ, zero, suc, ◌+◌, ◌-◌, ◌<◌, ◌≤◌, ℤ, List, [], ◌∷◌, length, map, slice_get, Option, Some, None, unwrap_or, refl, sym, ◌∙◌, ap, subst, arith}
+use Rattle.std.proofs.Common.{◌≡◌, ℕ, zero, suc, ◌+◌, ◌-◌, ◌<◌, ◌≤◌, List, [], ◌∷◌, length, map, refl, sym, ◌∙◌, ap, subst, arith}
 use Rattle.dp_model.specs.Dp.{Dp}
 use Rattle.dp_model.specs.Lists.{Each}
 use Rattle.dp_laws.specs.declared.arc.DdArc.{DdArc}
@@ -7,7 +7,7 @@ use Rattle.dp_laws.specs.Diagrams.Nodes.{DdNode}
 use Rattle.dp_laws.specs.Rules.Compiling.{first_of_layers, with_suffixes}
 use Rattle.layer_build.specs.Layers.{SpaceView, last_depth, layer_at}
 use Rattle.relaxed_dd.specs.Lengths.{ended, ended_at, AreLayersWithin, MayAdd, MayLead}
-use Rattle.relaxed_dd.proofs.Ended.{nth, first-is}
+use Rattle.relaxed_dd.proofs.Ended.{nth}
 use Rattle.relaxed_dd.proofs.Numbers.{MaySum, may-sum}
 
 -- layers from depth k on, of which all but the first n have their suffixes
@@ -81,4 +81,4 @@ half-further dp start s new j depth at e n =
     let k = length start.prefix in
     let here : depth - k ≡ j = omega arith in
     n ∙ (ap (λ (v : SpaceView). record v { layers = ended_at dp depth (depth - length v.prefix) v.layers }) e
-        ∙ (ap (λ i. record start { layers = ended_at dp depth i (half dp k (suc j) start.layers) }) here ∙ ap (λ ls. record start { layers = ls }) (half-next dp k j depth start.layers at)))
+    ∙ (ap (λ i. record start { layers = ended_at dp depth i (half dp k (suc j) start.layers) }) here ∙ ap (λ ls. record start { layers = ls }) (half-next dp k j depth start.layers at)))

@@ -1,5 +1,5 @@
 -- The last layers of a list of layers.
-use Rattle.std.proofs.Common.{◌≡◌, ℕ, zero, suc, ◌+◌, ◌-◌, ◌<◌, ◌≤◌, Bool, true, false, cond, ℤ, List, [], ◌∷◌, length, slice_get, Option, Some, None, unwrap_or, refl, sym, ◌∙◌, ap, subst, arith}
+use Rattle.std.proofs.Common.{◌≡◌, ℕ, zero, suc, ◌+◌, ◌-◌, ◌<◌, true, false, cond, ℤ, List, [], ◌∷◌, length, slice_get, Option, unwrap_or, refl, sym, ◌∙◌, ap, arith}
 use Rattle.dp_model.specs.Dp.{Dp}
 use Rattle.dp_laws.specs.Diagrams.Nodes.{DdNode}
 use Rattle.dp_laws.specs.Rules.Compiling.{TwoLayers, merge_rest, is_wide, reduced, built, compiled}

@@ -4,3 +4,4 @@ pub mod Longest
 pub mod Ended
 pub mod Numbers
 pub mod Halves
+pub mod Made

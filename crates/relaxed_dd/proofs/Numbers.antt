@@ -1,5 +1,5 @@
 -- The numbers of a compiled diagram are small enough for its suffixes.
-use Rattle.std.proofs.Common.{◌≡◌, ℕ, zero, suc, ◌+◌, ◌-◌, ◌*◌, ◌^◌, ◌<◌, ◌≤◌, nat_lt, ℤ, pos, ◌+ℤ◌, ◌≤ℤ◌, Bool, true, false, cond, ◌&&◌, List, [], ◌∷◌, length, map, slice_get, Option, Some, None, IsTrue, refl, sym, ◌∙◌, ap, subst, arith}
+use Rattle.std.proofs.Common.{◌≡◌, ℕ, zero, suc, ◌+◌, ◌-◌, ◌*◌, ◌<◌, ◌≤◌, nat_lt, ℤ, ◌+ℤ◌, ◌≤ℤ◌, Bool, true, false, cond, List, [], ◌∷◌, length, map, slice_get, Option, Some, None, refl, sym, ap, subst, arith}
 use Rattle.std.proofs.lemmas.Int.{ints}
 use Rattle.std.proofs.lemmas.Bool.{and_parts}
 use Rattle.dp_model.specs.Dp.{Dp}
@@ -7,7 +7,7 @@ use Rattle.dp_model.specs.Laws.{IsLawful}
 use Rattle.dp_model.specs.Lists.{Each}
 use Rattle.dp_model.specs.Prefixes.{IsPrefix}
 use Rattle.dp_model.specs.Reached.{reached}
-use Rattle.dp_model.proofs.Members.{each-has, each-of-all, Has-map-from}
+use Rattle.dp_model.proofs.Members.{each-has, each-of-all}
 use Rattle.dp_laws.specs.declared.arc.DdArc.{DdArc}
 use Rattle.dp_laws.specs.Restricted.Beam.{is_reduced}
 use Rattle.dp_laws.specs.Diagrams.Nodes.{DdNode}
@@ -15,9 +15,8 @@ use Rattle.dp_laws.specs.Diagrams.Seen.{suffix_from}
 use Rattle.dp_laws.specs.Rules.Expanding.{new_layer}
 use Rattle.dp_laws.specs.Rules.Pruning.{prune_redirects}
 use Rattle.dp_laws.specs.Rules.Reducing.{merge_redirects}
-use Rattle.dp_laws.specs.Rules.Compiling.{TwoLayers, expand, prune, merge_rest, is_wide, built, compiled, first_of_layers, with_suffixes, start_layer}
+use Rattle.dp_laws.specs.Rules.Compiling.{expand, prune, merge_rest, is_wide, built, compiled, first_of_layers, with_suffixes, start_layer}
 use Rattle.dp_laws.specs.Rules.Within.{IsBetween, IsLayerWithin, ReachesWithin, LeadsWithin, IsArcWithin, AreWithin, IsSuffixWithin}
-use Rattle.dp_laws.proofs.Diagrams.Places.{Has-at}
 use Rattle.dp_laws.proofs.Rules.Expanded.{with_arcs_of}
 use Rattle.dp_laws.proofs.Rules.Redirecting.{followed_node}
 use Rattle.dp_laws.proofs.Rules.Within.{expand-within, prune-within, merge-within, start-within, suffixes-small}
@@ -45,8 +44,8 @@ pub into-same : (f : DdNode → DdNode) → KeepsValue f → (k : ℕ) (layer ne
 into-same f keeps k layer next h = each-of-all (λ (node : DdNode). Each (IsArcWithin k (map f next) node) node.arcs) layer (λ x has.
     let own = each-has (λ (node : DdNode). Each (IsArcWithin k next node) node.arcs) layer x h has in
     each-of-all (IsArcWithin k (map f next) x) x.arcs (λ arc listed.
-        let a = each-has (IsArcWithin k next x) x.arcs arc own listed in
-        record { gain = a.gain; longer = a.longer; leads = leads-same f keeps (x.value +ℤ (arc.gain +ℤ arc.longer)) next arc.target a.leads }))
+    let a = each-has (IsArcWithin k next x) x.arcs arc own listed in
+    record { gain = a.gain; longer = a.longer; leads = leads-same f keeps (x.value +ℤ (arc.gain +ℤ arc.longer)) next arc.target a.leads }))
 
 -- One layer more.
 
@@ -170,6 +169,6 @@ may-sum dp w k layer next rest small h e =
       leads = each-of-all (λ (node : DdNode). Each (λ (arc : DdArc). MayLead (map f next) arc.target) node.arcs) layer (λ x has.
           let own = each-has (λ (node : DdNode). Each (IsArcWithin k (map f next) node) node.arcs) layer x into has in
           each-of-all (λ (arc : DdArc). MayLead (map f next) arc.target) x.arcs (λ arc listed.
-              let a = each-has (IsArcWithin k (map f next) x) x.arcs arc own listed in
-              lead-within dp (k + 1) (map f next) arc.target (x.value +ℤ (arc.gain +ℤ arc.longer)) small (omega arith) values below a.leads));
+          let a = each-has (IsArcWithin k (map f next) x) x.arcs arc own listed in
+          lead-within dp (k + 1) (map f next) arc.target (x.value +ℤ (arc.gain +ℤ arc.longer)) small (omega arith) values below a.leads));
     }

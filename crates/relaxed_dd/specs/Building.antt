@@ -41,10 +41,10 @@ compiled_from dp t s = compiled dp (length s.prefix) s.width t (length s.prefix)
 
 pub record HasCompiled (dp : Dp) (t : Option ℤ) (old new : SpaceView) : Type 0 where
   pub space : new ≡ record old {
-      layers = compiled_from dp t old;
-      ranks = new.ranks;
-      first_reduced = first_reduced_below dp (length old.prefix) old.width t (length old.prefix) (dp.vars - length old.prefix) (start_layer (reached dp old.prefix));
-    }
+    layers = compiled_from dp t old;
+    ranks = new.ranks;
+    first_reduced = first_reduced_below dp (length old.prefix) old.width t (length old.prefix) (dp.vars - length old.prefix) (start_layer (reached dp old.prefix));
+  }
   pub under_way : IsUnderWay dp new
 
 -- the diagram of the prefix is made

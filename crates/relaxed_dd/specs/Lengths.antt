@@ -1,5 +1,5 @@
 -- The suffixes of a diagram, and the numbers that they are made of.
-use Rattle.std.specs.Prelude.{◌≡◌, ℕ, zero, suc, ◌+◌, ◌*◌, ◌^◌, ◌≤◌, cond, ℤ, pos, ◌+ℤ◌, ◌≤ℤ◌, int_lt, List, [], ◌∷◌, length, map, slice_get, Option, Some, None, option_map, unwrap_or}
+use Rattle.std.specs.Prelude.{ℕ, zero, suc, ◌+◌, cond, ℤ, ◌+ℤ◌, int_lt, List, [], ◌∷◌, map, slice_get, Option, Some, None, option_map, unwrap_or}
 use Rattle.std.specs.List.{filter_map}
 use Rattle.dp_model.specs.Dp.{Dp}
 use Rattle.dp_model.specs.Lists.{Each}

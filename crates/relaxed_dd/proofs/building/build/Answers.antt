@@ -1,5 +1,5 @@
-use Rattle.std.proofs.Common.{◌≡◌, ◌<◌, ℕ, length, sym, subst, arith}
-use Rattle.relaxed_dd.proofs.Built.{IsBuiltTo, MayBuild, starts, builds-further, builds-all, may-build}
+use Rattle.std.proofs.Common.{◌≡◌, ◌<◌, sym, subst, arith}
+use Rattle.relaxed_dd.proofs.Built.{IsBuiltTo, starts, builds-further, builds-all, may-build}
 use Rattle.relaxed_dd.proofs.building.build.Goals as goal
 
 pub layers-init : goal.layers-init

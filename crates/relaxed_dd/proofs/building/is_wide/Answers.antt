@@ -1,4 +1,4 @@
-use Rattle.std.proofs.Common.{◌≡◌, ◌&&◌, ℕ, nat_lt, true, length, sym, ◌∙◌, ap}
+use Rattle.std.proofs.Common.{◌≡◌, ◌&&◌, nat_lt, true, length, sym, ◌∙◌, ap}
 use Rattle.dp_laws.specs.Restricted.Beam.{is_reduced}
 use Rattle.layer_build.specs.Layers.{last_depth, last_layer}
 use Rattle.relaxed_dd.proofs.Lasts.{last-at-depth}

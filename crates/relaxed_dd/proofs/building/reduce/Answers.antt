@@ -1,5 +1,4 @@
-use Rattle.std.proofs.Common.{◌≡◌, ℕ, cond, true, false, sym, ◌∙◌, ap, length, List, Option}
-use Rattle.dp_laws.specs.Diagrams.Nodes.{DdNode}
+use Rattle.std.proofs.Common.{◌≡◌, ℕ, cond, true, false, sym, ◌∙◌, ap, length, Option}
 use Rattle.dp_laws.specs.Rules.Compiling.{is_wide, reduced}
 use Rattle.layer_build.specs.Layers.{last_depth, last_layer, reduced_first, on_last_two}
 use Rattle.relaxed_dd.proofs.Lasts.{reduced-wide, reduced-narrow}

@@ -1,6 +1,5 @@
-use Rattle.std.proofs.Common.{◌≡◌, ◌+◌, ◌-◌, ◌<◌, ◌≤◌, ℕ, suc, length, sym, ◌∙◌, ap, subst, arith}
+use Rattle.std.proofs.Common.{◌≡◌, ◌+◌, ◌-◌, ◌<◌, suc, length, sym, ◌∙◌, ap, arith}
 use Rattle.dp_model.specs.Laws.{IsLawful}
-use Rattle.layer_build.specs.Layers.{last_depth}
 use Rattle.relaxed_dd.proofs.Halves.{half_space, half-starts, may-set, half-further}
 use Rattle.relaxed_dd.proofs.suffixes.set_all.Given as given
 use Rattle.relaxed_dd.proofs.suffixes.set_all.Goals as goal

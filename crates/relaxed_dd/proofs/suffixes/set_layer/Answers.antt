@@ -1,4 +1,4 @@
-use Rattle.std.proofs.Common.{◌≡◌, ◌<◌, ℕ, length, sym, subst, arith}
+use Rattle.std.proofs.Common.{◌≡◌, ◌<◌, length, arith}
 use Rattle.layer_build.specs.Layers.{layer_at}
 use Rattle.relaxed_dd.proofs.Ended.{may-end, ends-none, ends-further, ends-all}
 use Rattle.relaxed_dd.proofs.suffixes.set_layer.Goals as goal
