@@ -18,14 +18,14 @@ no-items : {X : Type 0} (xs : List X) → length xs ≡ 0 → xs ≡ []
 no-items [] e = refl
 no-items (x ∷ xs) e = absurd (omega arith)
 
-map-last : {X Y : Type 0} (f : X → Y) (xs : List X) (x : X) → map f (xs ++ x ∷ []) ≡ map f xs ++ f x ∷ []
+pub map-last : {X Y : Type 0} (f : X → Y) (xs : List X) (x : X) → map f (xs ++ x ∷ []) ≡ map f xs ++ f x ∷ []
 map-last f [] x = refl
 map-last f (y ∷ xs) x = ap (λ ys. f y ∷ ys) (map-last f xs x)
 
 rows-first : (rows : List ℤ) (n words : ℕ) → length rows ≡ suc n * words → words ≤ length rows
 rows-first rows n words e = let s = suc-mul n words in omega arith
 
-rows-rest : (rows : List ℤ) (n words : ℕ) → length rows ≡ suc n * words → length (drop words rows) ≡ n * words
+pub rows-rest : (rows : List ℤ) (n words : ℕ) → length rows ≡ suc n * words → length (drop words rows) ≡ n * words
 rows-rest rows n words e = let s = suc-mul n words in let l = length-drop words rows in omega arith
 
 -- the last child has its row and its decisions behind those of the others
