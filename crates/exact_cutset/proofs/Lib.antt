@@ -1,2 +1,4 @@
 pub mod Kept
 pub mod Made
+pub mod Searched
+pub mod Taken

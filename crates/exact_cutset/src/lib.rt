@@ -6,14 +6,14 @@
 //! prepared once. `subs` gives the children as subproblems of their own.
 #![tactic(auto)]
 
-
 mod appending;
+mod bounding;
 mod child;
-
+mod finding;
 mod listed;
 mod making;
-
-
+mod preparing;
+mod taking;
 
 pub use listed::Children;
-
+pub use taking::children;
