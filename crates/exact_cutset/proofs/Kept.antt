@@ -1,12 +1,10 @@
 -- One child more in memory.
-use Rattle.std.proofs.Common.{◌≡◌, ℕ, zero, suc, ◌+◌, ◌*◌, ◌<◌, ◌≤◌, ℤ, Bool, true, List, [], ◌∷◌, ◌++◌, length, map, take, drop, Option, Some, None, option_map, refl, sym, ◌∙◌, ap, subst, arith, append_assoc, length-append, length-drop, mul-le-mul_right}
+use Rattle.std.proofs.Common.{◌≡◌, ℕ, suc, ◌+◌, ◌*◌, ◌<◌, ◌≤◌, ℤ, true, List, [], ◌∷◌, ◌++◌, length, map, take, drop, Option, Some, None, option_map, refl, sym, ◌∙◌, ap, arith, length-append, length-drop, mul-le-mul_right}
 use Rattle.std.proofs.lemmas.List.{take_all, take-append-le, drop-append-le, length-take-le}
 use Rattle.std.proofs.Math.Nat.{suc-mul}
 use Rattle.dp_model.specs.Lists.{Each}
-use Rattle.dp_model.specs.Solution.{Solution}
-use Rattle.dp_model.specs.Subproblem.{Subproblem}
 use Rattle.dp_laws.specs.Diagrams.Nodes.{DdNode, DdLayers, node_at}
-use Rattle.dp_laws.specs.Diagrams.Cutsets.{ChildAt, with_bound, child_from}
+use Rattle.dp_laws.specs.Diagrams.Cutsets.{with_bound, child_from}
 use Rattle.dp_laws.proofs.Diagrams.Places.{same-Some}
 use Rattle.exact_cutset.specs.declared.child.Child.{Child}
 use Rattle.exact_cutset.specs.Seen.{ChildrenView, MayKeep, with_child}
@@ -94,9 +92,9 @@ seen-kept d width words vars room places rows paths found decisions c row new-ro
     ap (λ r. shown_sub c r k.node.path) (sym own-row) ∙ (ap (λ v. record { decisions = k.node.path; row = k.node.row; value = v; bound = c.bound }) (sym value) ∙ ap (λ (o : Option DdNode). with_bound o c.bound) (sym k.is)) in
     let subs : shown_subs words (places ++ c ∷ []) new-rows new-paths ≡ shown_subs words places rows paths ++ child_from d (place_of c) ∷ [] =
     ap (λ r. shown_subs words (places ++ c ∷ []) r new-paths) rows-are ∙ (ap (λ p. shown_subs words (places ++ c ∷ []) (rows ++ row) p) (sym all-paths)
-        ∙ (shown-last words places c rows row paths k.node.path a (row-long words o row h row-is) b deep ∙ ap (λ s. shown_subs words places rows paths ++ s ∷ []) child)) in
+    ∙ (shown-last words places c rows row paths k.node.path a (row-long words o row h row-is) b deep ∙ ap (λ s. shown_subs words places rows paths ++ s ∷ []) child)) in
     ap (λ ps. record (seen_as width words vars room (places ++ c ∷ []) new-rows new-paths found decisions) { places = ps }) (map-last place_of places c)
-        ∙ ap (λ ss. record (seen_as width words vars room places rows paths found decisions) { places = map place_of places ++ place_of c ∷ []; subs = ss }) subs
+    ∙ ap (λ ss. record (seen_as width words vars room places rows paths found decisions) { places = map place_of places ++ place_of c ∷ []; subs = ss }) subs
 
 -- Room.
 

@@ -2,3 +2,4 @@ pub mod Kept
 pub mod Made
 pub mod Searched
 pub mod Taken
+pub mod Cuts

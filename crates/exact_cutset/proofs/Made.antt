@@ -1,5 +1,5 @@
 -- Subproblems of their own, one after another.
-use Rattle.std.proofs.Common.{◌≡◌, ℕ, suc, ◌+◌, ◌*◌, ◌<◌, ◌≤◌, ℤ, List, [], ◌∷◌, ◌++◌, length, get_or, map, take, drop, refl, sym, ◌∙◌, ap, arith, append_assoc, drop-cons, length-drop}
+use Rattle.std.proofs.Common.{◌≡◌, ℕ, suc, ◌+◌, ◌*◌, ◌<◌, ℤ, List, [], ◌∷◌, ◌++◌, length, get_or, take, drop, sym, ◌∙◌, ap, arith, append_assoc, drop-cons, length-drop}
 use Rattle.dp_model.specs.Subproblem.{Subproblem, SubView}
 use Rattle.exact_cutset.specs.declared.child.Child.{Child}
 use Rattle.exact_cutset.specs.Seen.{subproblems}
@@ -29,13 +29,13 @@ one-made words cs i all made rows rest-rows paths rest-paths d new s row path le
     let long : length rows ≡ suc (length rest) * words = a ∙ ap (λ l. length l * words) left in
     record {
       made_is =
-      ap (λ v. subproblems v ++ shown_subs words rest rest-rows rest-paths) n
-      ∙ (ap (λ v. v ++ shown_subs words rest rest-rows rest-paths) (map-last (λ (v : SubView). v.subproblem) made s)
-      ∙ (append_assoc (subproblems made) (s.subproblem ∷ []) (shown_subs words rest rest-rows rest-paths)
-      ∙ (ap (λ v. subproblems made ++ v ∷ shown_subs words rest rest-rows rest-paths) sub
-      ∙ (ap (λ r. subproblems made ++ shown_sub x (take words rows) (take x.depth paths) ∷ shown_subs words rest r rest-paths) r2
-      ∙ (ap (λ p. subproblems made ++ shown_sub x (take words rows) (take x.depth paths) ∷ shown_subs words rest (drop words rows) p) p2
-      ∙ (ap (λ l. subproblems made ++ shown_subs words l rows paths) (sym left) ∙ m))))));
+          ap (λ v. subproblems v ++ shown_subs words rest rest-rows rest-paths) n
+          ∙ (ap (λ v. v ++ shown_subs words rest rest-rows rest-paths) (map-last (λ (v : SubView). v.subproblem) made s)
+          ∙ (append_assoc (subproblems made) (s.subproblem ∷ []) (shown_subs words rest rest-rows rest-paths)
+          ∙ (ap (λ v. subproblems made ++ v ∷ shown_subs words rest rest-rows rest-paths) sub
+          ∙ (ap (λ r. subproblems made ++ shown_sub x (take words rows) (take x.depth paths) ∷ shown_subs words rest r rest-paths) r2
+          ∙ (ap (λ p. subproblems made ++ shown_sub x (take words rows) (take x.depth paths) ∷ shown_subs words rest (drop words rows) p) p2
+          ∙ (ap (λ l. subproblems made ++ shown_subs words l rows paths) (sym left) ∙ m))))));
       rows_are = ap (λ r. length r) r2 ∙ rows-rest rows (length rest) words long;
       paths_are = (let e = b ∙ ap depths_of left in let f = ap (λ p. length p) p2 in let g = length-drop x.depth paths in omega arith);
     }

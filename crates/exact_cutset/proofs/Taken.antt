@@ -1,11 +1,11 @@
 -- The nodes of a layer are taken, one after another.
-use Rattle.std.proofs.Common.{◌≡◌, ℕ, suc, zero, ◌+◌, ◌-◌, ◌<◌, ◌≤◌, ℤ, Bool, true, List, [], ◌∷◌, ◌++◌, length, map, drop, slice_get, Option, Some, None, option_map, option_and_then, unwrap_or, refl, sym, ◌∙◌, ap, subst, arith, append_assoc, length-append}
+use Rattle.std.proofs.Common.{◌≡◌, ℕ, ◌+◌, ◌-◌, ◌<◌, ◌≤◌, ℤ, Bool, true, List, [], ◌∷◌, ◌++◌, length, map, drop, slice_get, Option, Some, None, option_map, option_and_then, unwrap_or, refl, sym, ◌∙◌, ap, subst, arith, append_assoc, length-append}
 use Rattle.std.specs.List.{cons_option}
 use Rattle.dp_model.specs.Dp.{Dp}
 use Rattle.dp_laws.specs.Diagrams.Nodes.{DdNode, DdLayers, node_at}
 use Rattle.dp_laws.specs.Diagrams.Cutsets.{ChildAt, bound_of, places_where, child_from}
 use Rattle.relaxed_dd.specs.Shown.{layer_in, last_of}
-use Rattle.exact_cutset.specs.Seen.{ChildrenView, with_child}
+use Rattle.exact_cutset.specs.Seen.{ChildrenView}
 use Rattle.exact_cutset.specs.Ready.{bound_at, with_bounded}
 use Rattle.exact_cutset.proofs.Kept.{map-last}
 use Rattle.exact_cutset.proofs.Searched.{drop-at, there}

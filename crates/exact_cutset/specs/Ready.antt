@@ -1,10 +1,10 @@
 -- Nodes that may become children, and the solution that is found.
-use Rattle.std.specs.Prelude.{◌≡◌, ℕ, ◌+◌, ◌-◌, ◌<◌, ◌≤◌, ℤ, Bool, true, List, [], ◌∷◌, length, slice_get, Option, Some, None, option_and_then}
+use Rattle.std.specs.Prelude.{◌≡◌, ℕ, ◌+◌, ◌-◌, ◌<◌, ◌≤◌, ℤ, true, List, length, slice_get, Option, Some, None, option_and_then}
 use Rattle.dp_model.specs.Dp.{Dp}
 use Rattle.dp_model.specs.Gaps.{IsStateOf}
 use Rattle.dp_model.specs.Numbers.{IsFar}
 use Rattle.dp_laws.specs.Diagrams.Nodes.{DdNode, DdLayers, node_at}
-use Rattle.dp_laws.specs.Diagrams.Cutsets.{ChildAt, bound_of, first_exact}
+use Rattle.dp_laws.specs.Diagrams.Cutsets.{bound_of, first_exact}
 use Rattle.relaxed_dd.specs.Shown.{layer_in}
 use Rattle.exact_cutset.specs.Seen.{ChildrenView, with_child, solution_of}
 

@@ -1,6 +1,5 @@
 -- What is seen of a list of children.
-use Rattle.std.specs.Prelude.{◌≡◌, ℕ, ℤ, true, Bool, List, [], ◌∷◌, ◌++◌, length, map, Option, Some, None, option_map}
-use Rattle.dp_model.specs.Dp.{Dp}
+use Rattle.std.specs.Prelude.{◌≡◌, ℕ, true, List, [], ◌∷◌, ◌++◌, length, map, Option, Some, None, option_map}
 use Rattle.dp_model.specs.Solution.{Solution}
 use Rattle.dp_model.specs.Subproblem.{Subproblem, SubView}
 use Rattle.dp_model.specs.declared.found.Found.{Found}

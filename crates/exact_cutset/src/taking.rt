@@ -15,13 +15,7 @@ use dp_model::{CutKind, DpModel};
 use relaxed_dd::Diagram;
 
 /// Puts a node in as a child where it has a bound.
-fn offer<M: DpModel>(
-    model: &M,
-    diagram: &Diagram,
-    depth: usize,
-    node: usize,
-    out: &mut Children,
-)
+fn offer<M: DpModel>(model: &M, diagram: &Diagram, depth: usize, node: usize, out: &mut Children)
     requires first { (layers_of diagram.now).first ≤ depth }
     requires depth { depth ≤ out.old.vars }
     requires words { out.old.words ≡ (M.meaning (M.numbers model.now)).words }

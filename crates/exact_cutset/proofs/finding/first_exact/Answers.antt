@@ -1,5 +1,4 @@
-use Rattle.std.proofs.Common.{◌≡◌, ◌<◌, ℕ, Bool, true, false, Some, option_map, slice_get, length, sym, ◌∙◌, ap, arith}
-use Rattle.dp_laws.specs.Diagrams.Nodes.{DdNode}
+use Rattle.std.proofs.Common.{◌<◌, true, false, length, ap, arith}
 use Rattle.relaxed_dd.specs.Shown.{layers_of, last_of, layer_in}
 use Rattle.exact_cutset.proofs.Searched.{is-first, first-further}
 use Rattle.exact_cutset.proofs.Taken.{exact-here}

@@ -1,4 +1,4 @@
-use Rattle.std.proofs.Common.{◌≡◌, ◌*◌, ◌≤◌, ◌+◌, ◌++◌, drop, length, vec_len, vec_capacity}
+use Rattle.std.proofs.Common.{◌≡◌, ◌*◌, ◌≤◌, ◌++◌, drop, length, vec_len, vec_capacity}
 use Rattle.exact_cutset.specs.Seen.{subproblems}
 use Rattle.exact_cutset.specs.Stored.{shown_subs, depths_of}
 use Rattle.exact_cutset.proofs.making.make_subs.Given as goal

@@ -1,4 +1,4 @@
-use Rattle.std.proofs.Common.{◌<◌, ℕ, length, arith}
+use Rattle.std.proofs.Common.{◌<◌, length, arith}
 use Rattle.relaxed_dd.specs.Shown.{layers_of, layer_in}
 use Rattle.exact_cutset.proofs.Taken.{takes-further}
 use Rattle.exact_cutset.proofs.taking.take_layer.Goals as goal

@@ -1,6 +1,6 @@
 use mir.Syntax.{w64}
 use mir.Val.{to_z, of_z}
-use Rattle.std.proofs.Common.{◌≡◌, ◌+◌, ◌<◌, ◌≤◌, ◌++◌, ℕ, ℤ, [], ◌∷◌, length, sym, ◌∙◌, ap, subst, arith, rules, take, drop}
+use Rattle.std.proofs.Common.{◌≡◌, ◌<◌, ◌≤◌, ◌++◌, ℤ, [], ◌∷◌, length, sym, ◌∙◌, ap, subst, arith, rules, take, drop}
 use Rattle.std.proofs.lemmas.List.{length-map}
 use Rattle.std.specs.Prelude.{vec_capacity}
 use Rattle.dp_laws.specs.Diagrams.Nodes.{node_at}
@@ -62,9 +62,9 @@ returns c =
     let bound_is : to_z w64 (of_z w64 c.args.bound) ≡ c.args.bound = search rules in
     c.push_reserved.ensures.items ∙ (ap (λ (x : Child). i.places.items ++ x ∷ []) c.at-child.ensures ∙ (ap (λ (x : ℤ). i.places.items ++ record child { value = x; bound = to_z w64 (of_z w64 c.args.bound) } ∷ []) value_is ∙ ap (λ (x : ℤ). i.places.items ++ record child { bound = x } ∷ []) bound_is))) in
     ap (λ ps. seen_as i.width i.words i.vars i.room ps c.append_row.new.rows.items c.append_path.new.paths.items i.found i.decisions.items) pushed
-        ∙ (seen-kept (layers_of c.args.diagram.now) i.width i.words i.vars i.room i.places.items i.rows.items i.paths.items i.found i.decisions.items child c.row.result.now c.append_row.new.rows.items c.append_path.new.paths.items
-        may v.rows_are v.paths_are c.value-value.ensures c.row.ensures c.append_row.ensures.items c.append_path.ensures.items c.append_path.ensures.len
-        ∙ ap (with_child (layers_of c.args.diagram.now) (place_of child)) c.self.view_is)
+    ∙ (seen-kept (layers_of c.args.diagram.now) i.width i.words i.vars i.room i.places.items i.rows.items i.paths.items i.found i.decisions.items child c.row.result.now c.append_row.new.rows.items c.append_path.new.paths.items
+    may v.rows_are v.paths_are c.value-value.ensures c.row.ensures c.append_row.ensures.items c.append_path.ensures.items c.append_path.ensures.len
+    ∙ ap (with_child (layers_of c.args.diagram.now) (place_of child)) c.self.view_is)
 
 pub invariant_of-self : goal.invariant_of-self
 invariant_of-self c =
@@ -91,8 +91,8 @@ invariant_of-self c =
     let path : length (take i.path.len (c.append_path.new.path ++ drop (length c.append_path.new.path) i.path.items)) ≡ i.vars =
     rewritten-length i.path.len i.vars c.append_path.new.path i.path.items (let w = ap (λ p. length p) whole in omega arith) (let w = ap (λ p. length p) whole in omega arith) v.path_is in
     subst (λ ps. HasChildren i.words i.vars i.room ps (vec_capacity c.push_reserved.new.self) c.append_row.new.rows.items (vec_capacity c.append_row.new.rows) c.append_path.new.paths.items (vec_capacity c.append_path.new.paths) i.decisions.items
-        (take i.path.len (c.append_path.new.path ++ drop (length c.append_path.new.path) i.path.items))) (sym pushed)
+    (take i.path.len (c.append_path.new.path ++ drop (length c.append_path.new.path) i.path.items))) (sym pushed)
     (has-one-more i.words i.vars i.room (vec_capacity i.places) (vec_capacity i.rows) (vec_capacity i.paths) i.places.items i.rows.items i.paths.items i.decisions.items i.path.items v
-        child c.row.result.now c.append_row.new.rows.items c.append_path.new.paths.items (take i.path.len (c.append_path.new.path ++ drop (length c.append_path.new.path) i.path.items))
-        (vec_capacity c.push_reserved.new.self) (vec_capacity c.append_row.new.rows) (vec_capacity c.append_path.new.paths)
-        less deep long c.append_row.ensures.items c.append_path.ensures.len path (let cap = c.push_reserved.ensures.capacity in omega arith) c.append_row.ensures.room c.append_path.ensures.room)
+    child c.row.result.now c.append_row.new.rows.items c.append_path.new.paths.items (take i.path.len (c.append_path.new.path ++ drop (length c.append_path.new.path) i.path.items))
+    (vec_capacity c.push_reserved.new.self) (vec_capacity c.append_row.new.rows) (vec_capacity c.append_path.new.paths)
+    less deep long c.append_row.ensures.items c.append_path.ensures.len path (let cap = c.push_reserved.ensures.capacity in omega arith) c.append_row.ensures.room c.append_path.ensures.room)
