@@ -1,7 +1,8 @@
 ghost use Rattle.std.specs.Prelude.{◌≡◌, ◌+◌, ◌-◌, ◌<◌, ◌≤◌, true, Some, None, IsSome, length, slice_get, option_map, option_and_then};
 ghost use Rattle.dp_laws.specs.Diagrams.Nodes.{node_at};
 
-use layer_build::{DdArc, Workspace};
+use dp_laws::DdArc;
+use layer_build::Workspace;
 
 /// A relaxed diagram, which lies in the workspace that it was compiled in. Its layers stand by depth, from that of the prefix
 /// to the last one, and the nodes of a layer by their places.

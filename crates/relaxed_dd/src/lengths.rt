@@ -9,8 +9,9 @@ ghost use Rattle.dp_laws.specs.Diagrams.Seen.{suffix_at, suffix_from};
 ghost use Rattle.layer_build.specs.Layers.{diagram_of, last_depth, layer_at};
 ghost use Rattle.relaxed_dd.specs.Lengths.{arcs_at, raised, MayAdd, MayLead, MayFollow, lengths};
 
+use dp_laws::DdArc;
 use dp_model::DpModel;
-use layer_build::{DdArc, Workspace};
+use layer_build::Workspace;
 
 /// The greater of the greatest length so far and one more.
 fn greater(best: Option<i64>, length: Option<i64>) -> Option<i64>
