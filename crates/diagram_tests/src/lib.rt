@@ -1,11 +1,15 @@
 //! Tests of diagrams over real problems.
 //!
-//! It stands on `problems`, `layer_build` and `restricted_dd`. `beam_below_root` is the beam of a restricted diagram below the
-//! empty prefix.
+//! It stands on `problems`, `layer_build`, `restricted_dd`, `relaxed_dd` and `exact_cutset`. `beam_below_root` is the beam of a
+//! restricted diagram below the empty prefix, and `relax_root` the relaxed one with the children that it leaves.
 #![tactic(auto)]
 
 mod beams;
 #[cfg(test)]
+mod relaxed_tests;
+mod relaxing;
+#[cfg(test)]
 mod tests;
 
 pub use beams::{beam_below_root, root_of};
+pub use relaxing::{Left, Seen, relax_root};
