@@ -9,3 +9,4 @@ pub mod Changing
 pub mod Starting
 pub mod Walked
 pub mod Suffixed
+pub mod Reading

@@ -19,7 +19,7 @@ pub place-held : (s : Stack) (depth : ℕ) → HoldFew s → depth ≤ s.last �
 place-held s depth h low = let deep = h.last in let place = place-low s.vars s.first depth (omega arith) in let count = h.count in omega arith
 
 -- what is read of the node at a place
-some-is : {X : Type 0} (x y : X) → Some x ≡ Some y → x ≡ y
+pub some-is : {X : Type 0} (x y : X) → Some x ≡ Some y → x ≡ y
 some-is x y e = cc
 
 pub read-is : {X : Type 0} (f : NodeView → X) (nodes : List NodeView) (i : ℕ) (x : X) → i < length nodes → option_map f (slice_get nodes i) ≡ Some x → f (get_or nodes i no_node) ≡ x
