@@ -6,6 +6,8 @@ use Rattle.std.proofs.lemmas.List.Sums.{fails_before_first}
 use Rattle.std.proofs.lemmas.List.Quantifiers.{position-Some}
 use Rattle.std.proofs.lemmas.Option.{slice_get-get_or, slice_get_past}
 use Rattle.std.proofs.Math.ListN.{get_or-map}
+use Rattle.std.proofs.Math.Seq.{take-append_seam}
+use Rattle.std.proofs.lemmas.List.{length-append, length-drop}
 use Rattle.std.specs.List.{position_or_len}
 use Rattle.std.specs.Vec.{with_item}
 use Rattle.dp_model.specs.Dp.{Dp}
@@ -20,7 +22,7 @@ use Rattle.layer_build.specs.declared.workspace.Workspace.TheInside.{Inside}
 use Rattle.layer_build.specs.Layers.{SpaceView, diagram_of, last_depth, last_layer, suffix_in}
 use Rattle.layer_build.specs.UnderWay.{IsUnderWay}
 use Rattle.layer_build.specs.Stacked.{no_layer, place_of, room_of, nodes_in, path_in, shown_down, shown_stack, HoldFew, HaveDepth, HaveDepths, HaveRooms, HasStack, HasSpace}
-use Rattle.layer_build.proofs.Going.{last_paths, last-seen, lent}
+use Rattle.layer_build.proofs.Going.{deep, last_paths, last-seen, lent}
 use Rattle.layer_build.proofs.Shown.{length-down, length-shown}
 use Rattle.layer_build.proofs.Stacks.{at_depth, newest-at, above-at, kept-at, put-at, place-low, places-apart, count-of, rooms-set}
 use Rattle.layer_build.proofs.Suffixed.{like-in, depths-like, like-under-way, set-down, set-ranks}
@@ -360,3 +362,26 @@ layer-set i h v f depth node s stands at old d x e =
 -- it stays under way
 pub set-under-way : (dp : Dp) (v w : SpaceView) (j node : ℕ) (s : Option ℤ) → w ≡ record v { layers = suffix_in j node s v.layers } → IsUnderWay dp v → IsUnderWay dp w
 set-under-way dp v w j node s e u = subst (IsUnderWay dp) (sym e) (like-under-way dp v (suffix_in j node s v.layers) (like-in j node s v.layers) u)
+
+-- ---- the buffer of decisions
+
+-- what was written in front of a buffer
+pub written-size : (path buffer out : List ℕ) (d : ℕ) → out ≡ path ++ drop d buffer → length path ≡ d → d ≤ length buffer → length out ≡ length buffer
+written-size path buffer out d e deep fits =
+    let long = ap (λ (l : List ℕ). length l) e in
+    let both = length-append path (drop d buffer) in
+    let rest = length-drop d buffer in
+    omega arith
+
+pub written-front : (path buffer out : List ℕ) (d : ℕ) → out ≡ path ++ drop d buffer → length path ≡ d → take d out ≡ path
+written-front path buffer out d e deep = ap₂ (λ (n : ℕ) (l : List ℕ). take n l) (sym deep) e ∙ take-append_seam path (drop d buffer)
+
+pub taken-back : (out rest : List ℕ) (n : ℕ) → length out ≡ n → take n (out ++ rest) ≡ out
+taken-back out rest n e = ap (λ (m : ℕ). take m (out ++ rest)) (sym e) ∙ take-append_seam out rest
+
+pub cells-held : (i : Inside) → the_invariant i → (s : SpaceView) → the_view i ≡ s → last_depth s ≤ length s.path
+cells-held i h s e =
+    let at = deep i h in
+    let size = h.path in
+    let low = h.stack.last in
+    subst (λ (t : SpaceView). last_depth t ≤ length t.path) e (omega arith)
