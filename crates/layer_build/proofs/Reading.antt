@@ -1,5 +1,5 @@
 -- What the readers of a workspace find in its layers.
-use Rattle.std.proofs.Common.{◌≡◌, ◌≢◌, ℕ, zero, suc, ◌+◌, ◌-◌, ◌*◌, ◌^◌, ◌<◌, ◌≤◌, nat_lt, ℤ, Bool, true, false, cond, List, [], ◌∷◌, ◌++◌, map, set, take, drop, length, get_or, slice_index_or, slice_get, position, Option, Some, None, IsSome, IsTrue, option_map, option_and_then, ◌⊎◌, inl, inr, refl, sym, ap, ap₂, ◌∙◌, subst, arith}
+use Rattle.std.proofs.Common.{◌≡◌, ◌≢◌, ℕ, zero, suc, ◌+◌, ◌-◌, ◌^◌, ◌<◌, ◌≤◌, nat_lt, ℤ, Bool, true, false, cond, List, [], ◌∷◌, ◌++◌, map, set, take, drop, length, get_or, slice_index_or, slice_get, position, Option, Some, None, IsSome, IsTrue, option_map, option_and_then, ◌⊎◌, inl, inr, refl, sym, ap, ap₂, ◌∙◌, subst, arith}
 use Rattle.std.proofs.lemmas.Bool.Decides.{nat_tests}
 use Rattle.std.proofs.lemmas.List.{get_or-set_other}
 use Rattle.std.proofs.lemmas.List.Sums.{fails_before_first}
@@ -12,8 +12,7 @@ use Rattle.std.specs.List.{position_or_len}
 use Rattle.std.specs.Vec.{with_item}
 use Rattle.dp_model.specs.Dp.{Dp}
 use Rattle.dp_model.specs.Lists.{Each}
-use Rattle.dp_model.specs.Solution.{Solution}
-use Rattle.dp_laws.specs.Diagrams.Nodes.{DdNode, DdLayers, node_at}
+use Rattle.dp_laws.specs.Diagrams.Nodes.{DdNode, node_at}
 use Rattle.dp_laws.specs.Diagrams.Cutsets.{first_exact}
 use Rattle.layer_nodes.specs.Nodes.{NodeView, LayerView, shown, shown_from, shown_layer, suffix_set}
 use Rattle.layer_nodes.specs.Steps.{KeepsRoom}
@@ -21,7 +20,7 @@ use Rattle.layer_build.specs.contracts.workspace.Workspace.{the_view, the_invari
 use Rattle.layer_build.specs.declared.workspace.Workspace.TheInside.{Inside}
 use Rattle.layer_build.specs.Layers.{SpaceView, diagram_of, last_depth, last_layer, suffix_in}
 use Rattle.layer_build.specs.UnderWay.{IsUnderWay}
-use Rattle.layer_build.specs.Stacked.{no_layer, place_of, room_of, nodes_in, path_in, shown_down, shown_stack, HoldFew, HaveDepth, HaveDepths, HaveRooms, HasStack, HasSpace}
+use Rattle.layer_build.specs.Stacked.{no_layer, place_of, room_of, nodes_in, path_in, shown_down, shown_stack, HoldFew, HaveDepth, HaveDepths, HaveRooms}
 use Rattle.layer_build.proofs.Going.{deep, last_paths, last-seen, lent}
 use Rattle.layer_build.proofs.Shown.{length-down, length-shown}
 use Rattle.layer_build.proofs.Stacks.{at_depth, newest-at, above-at, kept-at, put-at, place-low, places-apart, count-of, rooms-set}

@@ -1,5 +1,5 @@
 -- Layers of which no more than suffixes differ, and a diagram in which a suffix is set.
-use Rattle.std.proofs.Common.{◌≡◌, ◌≢◌, ℕ, zero, suc, ◌+◌, ◌-◌, ◌*◌, ◌<◌, ◌≤◌, ℤ, Bool, true, false, List, [], ◌∷◌, map, set, length, get_or, slice_index_or, slice_get, Option, Some, None, IsTrue, ◌⊎◌, inl, inr, refl, sym, ap, ap₂, ◌∙◌, subst, arith}
+use Rattle.std.proofs.Common.{◌≡◌, ◌≢◌, ℕ, zero, suc, ◌+◌, ◌-◌, ◌*◌, ◌≤◌, ℤ, List, [], ◌∷◌, map, length, slice_get, Option, Some, None, IsTrue, refl, sym, ap, ap₂, ◌∙◌, subst, arith}
 use Rattle.dp_model.specs.Dp.{Dp}
 use Rattle.dp_model.specs.Gaps.{IsStateOf}
 use Rattle.dp_model.specs.Lists.{Each}
@@ -9,8 +9,8 @@ use Rattle.dp_laws.specs.Rules.Compiling.{TwoLayers}
 use Rattle.dp_laws.specs.Rules.Within.{IsBetween, IsLayerWithin, AreWithin, IsArcWithin, LeadsWithin, ReachesWithin}
 use Rattle.dp_model.proofs.Members.{Each-then}
 use Rattle.layer_nodes.specs.Nodes.{NodeView, shown, shown_from, shown_layer, suffix_set}
-use Rattle.layer_build.specs.Layers.{SpaceView, IsPreparedFor, last_depth, last_layer, suffix_at_node, suffix_in}
-use Rattle.layer_build.specs.Stacked.{path_in, paths_below, shown_down, HaveDepth, HaveDepths}
+use Rattle.layer_build.specs.Layers.{SpaceView, last_depth, last_layer, suffix_at_node, suffix_in}
+use Rattle.layer_build.specs.Stacked.{path_in, paths_below, shown_down, HaveDepths}
 use Rattle.layer_build.specs.UnderWay.{last_two, IsUnderWay}
 
 -- a node without its suffix

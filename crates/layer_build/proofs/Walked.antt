@@ -1,11 +1,11 @@
 -- Paths of nodes, walked back through the layers, and what a loop over layers or nodes has seen.
-use Rattle.std.proofs.Common.{◌≡◌, ◌≢◌, ℕ, zero, suc, ◌+◌, ◌-◌, ◌*◌, ◌^◌, ◌<◌, ◌≤◌, nat_eq, nat_lt, ℤ, pos, Bool, true, false, cond, List, [], ◌∷◌, ◌++◌, map, set, take, drop, length, get_or, slice_index_or, slice_get, position, sum_by, Option, Some, None, option_map, ◌⊎◌, inl, inr, refl, sym, ap, ap₂, ◌∙◌, subst, arith, append_assoc, length-append}
+use Rattle.std.proofs.Common.{◌≡◌, ℕ, zero, suc, ◌+◌, ◌-◌, ◌*◌, ◌^◌, ◌<◌, ◌≤◌, nat_eq, nat_lt, pos, Bool, true, false, cond, List, [], ◌∷◌, ◌++◌, set, drop, length, get_or, slice_index_or, slice_get, position, sum_by, Option, Some, None, option_map, ◌⊎◌, inl, inr, refl, sym, ap, ap₂, ◌∙◌, subst, arith, append_assoc}
 use Rattle.std.proofs.lemmas.Bool.Decides.{nat_tests}
 use Rattle.std.proofs.lemmas.List.{length-set, length-map, length_push, drop_all, drop_more, drop-set, get_or-map, get_or_past}
 use Rattle.std.proofs.lemmas.List.Sums.{position_or_len_is, sum_by-cons}
 use Rattle.std.proofs.lemmas.Option.{slice_get-get_or}
 use Rattle.dp_laws.specs.Diagrams.Nodes.{DdNode, path_below}
-use Rattle.layer_nodes.specs.Nodes.{NodeView, LayerView, shown_layer}
+use Rattle.layer_nodes.specs.Nodes.{NodeView, shown_layer}
 use Rattle.layer_build.specs.declared.stack.Stack.{Stack}
 use Rattle.layer_build.specs.Stacked.{no_layer, place_of, layer_in, nodes_in, path_in, paths_below, paths_at, shown_down, shown_stack, HoldFew}
 use Rattle.layer_build.proofs.Shown.{length-down, length-shown, paths-last}

@@ -1,4 +1,4 @@
-use Rattle.std.proofs.Common.{◌≡◌, ℕ, ap, ◌∙◌, sym}
+use Rattle.std.proofs.Common.{ℕ, ap, ◌∙◌, sym}
 use Rattle.layer_build.specs.contracts.workspace.Workspace.{the_view}
 use Rattle.layer_build.specs.Layers.{SpaceView, last_depth}
 use Rattle.layer_build.proofs.Going.{deep}

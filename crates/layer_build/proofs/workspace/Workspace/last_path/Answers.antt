@@ -1,4 +1,4 @@
-use Rattle.std.proofs.Common.{◌≡◌, ℕ, List, take, ap, ap₂, ◌∙◌, sym}
+use Rattle.std.proofs.Common.{ℕ, List, take, ap, ap₂, ◌∙◌, sym}
 use Rattle.layer_build.specs.Layers.{SpaceView, last_depth}
 use Rattle.layer_build.proofs.Going.{deep}
 use Rattle.layer_build.proofs.workspace.Workspace.last_path.Goals as goal

@@ -1,4 +1,4 @@
-use Rattle.std.proofs.Common.{◌≡◌, ◌≤◌, ◌-◌, true, ℕ, List, [], ◌∷◌, length, Some, Option, option_map, sym, ap, ◌∙◌, subst}
+use Rattle.std.proofs.Common.{◌≡◌, true, ℕ, List, length, Some, option_map, sym, ap, ◌∙◌, subst}
 use Rattle.dp_laws.specs.Diagrams.Nodes.{DdNode, node_at}
 use Rattle.layer_build.specs.Layers.{SpaceView, diagram_of}
 use Rattle.layer_build.specs.Stacked.{nodes_in}

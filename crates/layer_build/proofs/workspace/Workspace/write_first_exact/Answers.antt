@@ -1,10 +1,10 @@
-use Rattle.std.proofs.Common.{◌≡◌, ◌≤◌, ◌-◌, ◌++◌, ℕ, ℤ, List, [], ◌∷◌, take, drop, length, Option, Some, None, position, get_or, vec_len, w64, to_z, of_z, rules, refl, sym, ap, ◌∙◌, subst, arith}
+use Rattle.std.proofs.Common.{◌≡◌, ◌≤◌, ◌++◌, ℕ, ℤ, List, take, drop, length, Option, Some, None, get_or, w64, to_z, of_z, refl, sym, ap, ◌∙◌, subst, arith}
 use Rattle.std.proofs.lemmas.Int.{to_z-of_z}
 use Rattle.dp_model.specs.Solution.{Solution}
 use Rattle.layer_nodes.specs.Nodes.{NodeView}
 use Rattle.layer_build.specs.contracts.workspace.Workspace.{the_view}
 use Rattle.layer_build.specs.Finding.{IsFoundAs}
-use Rattle.layer_build.specs.Layers.{SpaceView, last_depth}
+use Rattle.layer_build.specs.Layers.{last_depth}
 use Rattle.layer_build.specs.Stacked.{nodes_in}
 use Rattle.layer_build.proofs.Going.{deep}
 use Rattle.layer_build.proofs.Reading.{held-few, not-found, found-at, IsFirstAt, written-size, written-front, taken-back, cells-held}
