@@ -8,3 +8,4 @@ pub mod Going
 pub mod Changing
 pub mod Starting
 pub mod Reading
+pub mod Memory
