@@ -7,6 +7,8 @@ pub mod Stacks
 pub mod Going
 pub mod Changing
 pub mod Starting
+pub mod Reading
+pub mod Memory
 pub mod Walked
 pub mod Suffixed
-pub mod Reading
+pub mod Standing

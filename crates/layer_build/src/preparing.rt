@@ -43,7 +43,8 @@ fn most_choices<M: DpModel>(model: &M) -> usize
 {
     let mut most = 0;
     'layers: for k in 0..model.vars() {
-        most = most.max(model.choices(k) as usize);
+        let choices = model.choices(k) as usize;
+        most = most.max(choices);
     }
     most
 }
@@ -55,7 +56,8 @@ pub(crate) fn choices_of<M: DpModel>(alloc: Global, model: &M) -> Result<Vec<u32
     let vars = model.vars();
     let mut all = Vec::with_capacity(alloc, vars)?;
     'layers: for k in 0..vars {
-        all.push_reserved(model.choices(k));
+        let choices = model.choices(k);
+        all.push_reserved(choices);
     }
     Ok(all)
 }
@@ -70,8 +72,9 @@ fn layers_for<M: DpModel>(alloc: Global, model: &M, width: usize) -> Result<Vec<
     let words = model.words();
     let mut layers = Vec::with_capacity(alloc, vars + 2)?;
     'layers: for k in 0..vars {
-        let arcs = width * model.choices(k) as usize;
-        layers.push_reserved(Layer::prepare(alloc, words, width, arcs)?);
+        let choices = model.choices(k) as usize;
+        let layer = Layer::prepare(alloc, words, width, width * choices)?;
+        layers.push_reserved(layer);
     }
     Ok(layers)
 }

@@ -138,10 +138,10 @@ impl Layer {
         );
     }
 
-    /// How many nodes it has: at most those for which there is room.
+    /// How many nodes it has.
     pub fn len(&self) -> usize
-        ensures nodes { result ≡ length self.now.nodes }
-        ensures few { result ≤ self.now.nodes_room }
+        ensures count { result ≡ length self.now.nodes }
+        ensures room { result ≤ self.now.nodes_room }
     {
         self.nodes.len()
     }

@@ -10,12 +10,6 @@ use Rattle.layer_build.proofs.Bare.{bare, bare-next, bare-above, shown-bare, bar
 use Rattle.layer_build.proofs.Shown.{as-below}
 use Rattle.layer_build.proofs.stack.expand_newest.Goals as goal
 
-pub copy_nodes-requires-clause-todo : goal.copy_nodes-requires-clause-todo
-copy_nodes-requires-clause-todo g c = ?
-
-pub expand-requires-clause-todo : goal.expand-requires-clause-todo
-expand-requires-clause-todo g c = ?
-
 pub expand-requires-clause-nodes : goal.expand-requires-clause-nodes
 expand-requires-clause-nodes g c κs within =
     let dp = g.M.DpModel.meaning (g.M.DpModel.numbers c.args.model.now) in

@@ -12,8 +12,8 @@ layers-preserved c =
     let more = c.layers-test.true in
     let room = room-few s c.layers.depth c.requires.stored (omega arith) in
     let same : c.layer_at.result.now.nodes_room ≡ (layer_in s c.layers.depth).nodes_room = ap (λ (l : LayerView). l.nodes_room) c.layer_at.ensures in
-    let few = c.len-rows.ensures.few in
-    let count : c.len-rows.result ≡ length (nodes_in s c.layers.depth) = c.len-rows.ensures.nodes ∙ ap (λ (l : LayerView). length l.nodes) c.layer_at.ensures in
+    let few = c.len-rows.ensures.room in
+    let count : c.len-rows.result ≡ length (nodes_in s c.layers.depth) = c.len-rows.ensures.count ∙ ap (λ (l : LayerView). length l.nodes) c.layer_at.ensures in
     counted-more s (max s.first c.args.held) c.layers.depth c.layers.rows c.len-rows.result c.layers.invariant (grind arith) (omega arith) count (omega arith)
 
 pub returns : goal.returns

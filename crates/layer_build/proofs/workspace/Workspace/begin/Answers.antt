@@ -49,9 +49,6 @@ write_all-requires g c =
     let fits = h.prefix_fits in
     omega arith
 
-pub start-requires-clause-todo : goal.start-requires-clause-todo
-start-requires-clause-todo g c = ?
-
 pub start-requires-clause-room : goal.start-requires-clause-room
 start-requires-clause-room g c =
     let some = c.requires.prepared.enough.some in

@@ -25,9 +25,6 @@ index_mut-requires c =
     let long : vec_len i.stack.layers ≡ length i.stack.layers.items = search rules in
     omega arith
 
-pub keep_first-requires-clause-todo : goal.keep_first-requires-clause-todo
-keep_first-requires-clause-todo c = ?
-
 pub keep_first-requires-clause-wide : goal.keep_first-requires-clause-wide
 keep_first-requires-clause-wide c =
     let dp = c.requires.under_way.0 in

@@ -1,4 +1,4 @@
-use Rattle.layer_build.proofs.Reading.{held-few}
+use Rattle.layer_build.proofs.Standing.{held-few}
 use Rattle.layer_build.proofs.workspace.Workspace.live_rows.Goals as goal
 
 pub live_rows-requires-clause-stored : goal.live_rows-requires-clause-stored

@@ -25,9 +25,6 @@ index_mut-requires g c =
     let long : vec_len i.stack.layers ≡ length i.stack.layers.items = search rules in
     omega arith
 
-pub merge_rest-requires-clause-todo : goal.merge_rest-requires-clause-todo
-merge_rest-requires-clause-todo g c = ?
-
 pub merge_rest-requires-clause-positive : goal.merge_rest-requires-clause-positive
 merge_rest-requires-clause-positive g c κs within =
     let dp = g.M.DpModel.meaning (g.M.DpModel.numbers c.args.model.now) in

@@ -2,7 +2,7 @@ use Rattle.std.proofs.Common.{◌≡◌, true, ℕ, List, length, Some, option_m
 use Rattle.dp_laws.specs.Diagrams.Nodes.{DdNode, node_at}
 use Rattle.layer_build.specs.Layers.{SpaceView, diagram_of}
 use Rattle.layer_build.specs.Stacked.{nodes_in}
-use Rattle.layer_build.proofs.Reading.{StandsAt, stands-so, held-few, whole-path}
+use Rattle.layer_build.proofs.Standing.{StandsAt, stands-so, held-few, whole-path}
 use Rattle.layer_build.proofs.Walked.{path_of, some-is}
 use Rattle.layer_build.proofs.workspace.Workspace.path.Goals as goal
 

@@ -1,7 +1,7 @@
 use Rattle.std.proofs.Common.{◌≡◌, ◌-◌, ◌<◌, List, length, vec_len, rules, sym, subst, arith}
 use Rattle.layer_nodes.specs.Nodes.{NodeView}
 use Rattle.layer_build.proofs.Stacks.{newest-at}
-use Rattle.layer_build.proofs.Reading.{stands-some, HasSet, newest-space, newest-seen, layer-space, layer-set, set-under-way, place-within, lent-nodes}
+use Rattle.layer_build.proofs.Standing.{stands-some, HasSet, newest-space, newest-seen, layer-space, layer-set, set-under-way, place-within, lent-nodes}
 use Rattle.layer_build.proofs.workspace.Workspace.set_suffix.Goals as goal
 
 pub set_suffix-requires : goal.set_suffix-requires

@@ -24,9 +24,6 @@ index_mut-requires g c =
     let long : vec_len i.stack.layers ≡ length i.stack.layers.items = search rules in
     omega arith
 
-pub strike-requires-clause-todo : goal.strike-requires-clause-todo
-strike-requires-clause-todo g c = ?
-
 pub strike-requires-clause-nodes : goal.strike-requires-clause-nodes
 strike-requires-clause-nodes g c κs within =
     let dp = g.M.DpModel.meaning (g.M.DpModel.numbers c.args.model.now) in

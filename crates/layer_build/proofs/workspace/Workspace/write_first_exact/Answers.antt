@@ -7,7 +7,7 @@ use Rattle.layer_build.specs.Finding.{IsFoundAs}
 use Rattle.layer_build.specs.Layers.{last_depth}
 use Rattle.layer_build.specs.Stacked.{nodes_in}
 use Rattle.layer_build.proofs.Going.{deep}
-use Rattle.layer_build.proofs.Reading.{held-few, not-found, found-at, IsFirstAt, written-size, written-front, taken-back, cells-held}
+use Rattle.layer_build.proofs.Standing.{held-few, not-found, found-at, IsFirstAt, written-size, written-front, taken-back, cells-held}
 use Rattle.layer_build.proofs.Walked.{path_of, no_node, read-is}
 use Rattle.layer_build.proofs.workspace.Workspace.write_first_exact.Goals as goal
 
