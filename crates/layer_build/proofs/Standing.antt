@@ -137,7 +137,7 @@ whole-path i h depth node above low within exact =
     let paths = path_of (nodes_in i.stack) i.prefix.items i.stack.first depth in
     let here : HaveDepth (i.stack.first + (depth - i.stack.first)) (slice_index_or layers (depth - i.stack.first) []) = depths-at i.stack.first layers (depth - i.stack.first) h.depths (omega arith) in
     let there : HaveDepth depth (shown_layer paths (nodes_in i.stack depth)) =
-        subst (λ (d : ℕ). HaveDepth d (shown_layer paths (nodes_in i.stack depth))) at (subst (HaveDepth (i.stack.first + (depth - i.stack.first))) (layer-seen i.stack i.prefix.items depth above low) here) in
+    subst (λ (d : ℕ). HaveDepth d (shown_layer paths (nodes_in i.stack depth))) at (subst (HaveDepth (i.stack.first + (depth - i.stack.first))) (layer-seen i.stack i.prefix.items depth above low) here) in
     ap (λ (j : ℕ). length (paths j)) (sym same) ∙ each-shown (λ (n : DdNode). IsTrue n.exact → length n.path ≡ depth) paths 0 (nodes_in i.stack depth) node there within exact
 
 -- ---- the first exact node of a layer
@@ -210,9 +210,9 @@ set-newest i h depth node s at last n nodes =
     let above = at.above in
     let ordered = h.stack.first in
     set-down (nodes_in i.stack) new depth i.stack.last node s
-        (λ j low other. above-at vars first i.stack.last items n j (λ e. absurd (omega arith)) ∙ sym (above-at vars first i.stack.last items i.stack.newest j (λ e. absurd (omega arith))))
-        (newest-at vars first i.stack.last items n depth last ∙ (nodes ∙ ap (λ (l : List NodeView). suffix_set l node s) (sym (newest-at vars first i.stack.last items i.stack.newest depth last))))
-        (i.prefix.items ∷ []) first (i.stack.last - first) (depth - first) (omega arith) (omega arith) (omega arith)
+    (λ j low other. above-at vars first i.stack.last items n j (λ e. absurd (omega arith)) ∙ sym (above-at vars first i.stack.last items i.stack.newest j (λ e. absurd (omega arith))))
+    (newest-at vars first i.stack.last items n depth last ∙ (nodes ∙ ap (λ (l : List NodeView). suffix_set l node s) (sym (newest-at vars first i.stack.last items i.stack.newest depth last))))
+    (i.prefix.items ∷ []) first (i.stack.last - first) (depth - first) (omega arith) (omega arith) (omega arith)
     ∙ ap (λ (b : ℕ). suffix_in (depth - b) node s (the_view i).layers) h.first
 
 down-to : (j last : ℕ) → j ≤ last → (j < last) ⊎ (j ≡ last)
@@ -221,7 +221,7 @@ down-to j last low = grind arith
 -- in a layer above it
 pub set-above : (i : Inside) → the_invariant i → (depth node : ℕ) (s : Option ℤ) → StandsAt i depth node → depth ≢ i.stack.last → (x : LayerView) → x.nodes ≡ suffix_set (nodes_in i.stack depth) node s
     → shown_down (at_depth i.stack.vars i.stack.first i.stack.last (set i.stack.layers.items (place_of i.stack.vars i.stack.first depth) x) i.stack.newest) (i.prefix.items ∷ []) i.stack.first (i.stack.last - i.stack.first)
-        ≡ suffix_in (depth - length i.prefix.items) node s (the_view i).layers
+    ≡ suffix_in (depth - length i.prefix.items) node s (the_view i).layers
 set-above i h depth node s at other x nodes =
     let above = at.above in
     let ordered = h.stack.first in
@@ -230,7 +230,7 @@ set-above i h depth node s at other x nodes =
     let place = place-low vars first depth (omega arith) in
     let count = count-of _ _ _ _ _ items h.stack.rooms in
     set-down (nodes_in i.stack) new depth last node s (λ j below apart. same j apart (down-to j last below)) (put-at vars first last items x i.stack.newest depth low (omega arith) ∙ nodes)
-        (i.prefix.items ∷ []) first (last - first) (depth - first) (omega arith) (omega arith) (omega arith)
+    (i.prefix.items ∷ []) first (last - first) (depth - first) (omega arith) (omega arith) (omega arith)
     ∙ ap (λ (b : ℕ). suffix_in (depth - b) node s (the_view i).layers) h.first
   where
     vars : ℕ
@@ -324,7 +324,7 @@ set-layers : (i : Inside) → the_invariant i → (depth node : ℕ) (s : Option
     → (the_view (with_layer i at x)).layers ≡ suffix_in (depth - length i.prefix.items) node s (the_view i).layers
 set-layers i h depth node s stands at old d x e =
     subst (λ (k : ℕ). shown_down (at_depth i.stack.vars i.stack.first i.stack.last (set i.stack.layers.items k x) i.stack.newest) (i.prefix.items ∷ []) i.stack.first (i.stack.last - i.stack.first)
-        ≡ suffix_in (depth - length i.prefix.items) node s (the_view i).layers) (sym e.place)
+    ≡ suffix_in (depth - length i.prefix.items) node s (the_view i).layers) (sym e.place)
     (set-above i h depth node s stands e.other x (e.nodes ∙ ap (λ (l : List NodeView). suffix_set l node s) (lent-nodes i h depth node stands e.other at old d e.place e.lent)))
 
 pub layer-space : (i : Inside) → the_invariant i → (depth node : ℕ) (s : Option ℤ) → StandsAt i depth node → (at : ℕ) (old d x : LayerView) → HasSet i depth node s at old d x → the_invariant (with_layer i at x)

@@ -94,7 +94,7 @@ walked-more s prefix out depth node k at h less nodes same d decision parent by 
     split : path_of (nodes_in s) prefix s.first k at ≡ path_below (path_of (nodes_in s) prefix s.first (k - 1)) parent d
     split =
         subst (λ (l : List NodeView). path_of (nodes_in s) prefix s.first k at ≡ path_below (path_of (nodes_in s) prefix s.first (k - 1)) (get_or l at no_node).parent (get_or l at no_node).decision) (sym same)
-            (path-by-parent (nodes_in s) prefix s.first k at less (h.place less))
+        (path-by-parent (nodes_in s) prefix s.first k at less (h.place less))
         ∙ ap₂ (path_below (path_of (nodes_in s) prefix s.first (k - 1))) (read-is (λ (n : NodeView). n.parent) nodes at parent within by) (read-is (λ (n : NodeView). n.decision) nodes at d within decision)
 
     go : (o : Option ℕ) → parent ≡ o → IsWalked s prefix (set out (k - 1) d) depth node (k - 1) place
@@ -107,7 +107,7 @@ walked-more s prefix out depth node k at h less nodes same d decision parent by 
         let to : place ≡ p = next p e in
         let rest = path_of (nodes_in s) prefix s.first (k - 1) place in
         let is : path_of (nodes_in s) prefix s.first k at ≡ rest ++ d ∷ [] =
-            split ∙ (ap (λ (o : Option ℕ). path_below (path_of (nodes_in s) prefix s.first (k - 1)) o d) e ∙ ap (λ (i : ℕ). path_of (nodes_in s) prefix s.first (k - 1) i ++ d ∷ []) (sym to)) in
+        split ∙ (ap (λ (o : Option ℕ). path_below (path_of (nodes_in s) prefix s.first (k - 1)) o d) e ∙ ap (λ (i : ℕ). path_of (nodes_in s) prefix s.first (k - 1) i ++ d ∷ []) (sym to)) in
         let one = ap (λ (l : List ℕ). length l) is in
         let more = length_push rest d in
         let long = h.long in
@@ -205,8 +205,8 @@ counted-more s a depth rows n h above low count small = record {
       let next : depth - s.first + 1 ≡ depth + 1 - s.first = omega arith in
       let here : length (slice_index_or layers (depth - s.first) []) ≡ n = ap (λ (l : List DdNode). length l) (layer-seen s prefix depth above low) ∙ (length-shown (path_of (nodes_in s) prefix s.first depth) 0 (nodes_in s depth) ∙ sym count) in
       let sum : count_all (drop (depth - s.first) layers) ≡ n + count_all (drop (depth + 1 - s.first) layers) =
-          ap count_all split ∙ (sum_by-cons (λ (layer : List DdNode). length layer) (slice_index_or layers (depth - s.first) []) (drop (depth - s.first + 1) layers)
-          ∙ ap₂ (λ (m i : ℕ). m + count_all (drop i layers)) here next) in
+      ap count_all split ∙ (sum_by-cons (λ (layer : List DdNode). length layer) (slice_index_or layers (depth - s.first) []) (drop (depth - s.first + 1) layers)
+      ∙ ap₂ (λ (m i : ℕ). m + count_all (drop i layers)) here next) in
       let so = h.all prefix in
       omega arith);
   few = let f = h.few in omega arith;

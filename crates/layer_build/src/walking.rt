@@ -9,13 +9,7 @@ use crate::stack::{Stack, layer_at};
 use layer_nodes::Layer;
 
 /// Writes the path of a node: the decisions from its ancestors down, behind the prefix.
-pub(crate) fn write_path(
-    stack: &Stack,
-    prefix: &[u32],
-    depth: usize,
-    node: usize,
-    out: &mut [u32],
-)
+pub(crate) fn write_path(stack: &Stack, prefix: &[u32], depth: usize, node: usize, out: &mut [u32])
     requires deep { stack.now.first ≤ depth }
     requires low { depth ≤ stack.now.last }
     requires stored { HoldFew stack.now }
@@ -37,13 +31,7 @@ pub(crate) fn write_path(
 }
 
 /// Writes the path of a node into the first cells; the others stay.
-pub(crate) fn write_front(
-    stack: &Stack,
-    prefix: &[u32],
-    depth: usize,
-    node: usize,
-    out: &mut [u32],
-)
+pub(crate) fn write_front(stack: &Stack, prefix: &[u32], depth: usize, node: usize, out: &mut [u32])
     requires deep { stack.now.first ≤ depth }
     requires low { depth ≤ stack.now.last }
     requires stored { HoldFew stack.now }

@@ -37,7 +37,7 @@ invariant_of-self-else-depth-self c =
     let at = stands-some i c.self.invariant c.args.self.now c.self.view_is c.args.depth c.args.node c.requires.first c.requires.place in
     let e = c.set_suffix-else-depth-self in
     let is : HasSet i c.args.depth c.args.node c.args.suffix c.place_of-at.result c.index_mut.result.now _ e.new.self =
-        record { other = c.if-depth-self.false; place = c.place_of-at.ensures; lent = c.index_mut.ensures.value; nodes = e.ensures.nodes; rooms = e.ensures.rooms } in
+    record { other = c.if-depth-self.false; place = c.place_of-at.ensures; lent = c.index_mut.ensures.value; nodes = e.ensures.nodes; rooms = e.ensures.rooms } in
     layer-space i c.self.invariant c.args.depth c.args.node c.args.suffix at c.place_of-at.result c.index_mut.result.now _ e.new.self is
 
 pub returns-then-depth-self-clause-layers : goal.returns-then-depth-self-clause-layers
@@ -60,7 +60,7 @@ returns-else-depth-self-clause-layers c =
     let at = stands-some i c.self.invariant c.args.self.now c.self.view_is c.args.depth c.args.node c.requires.first c.requires.place in
     let e = c.set_suffix-else-depth-self in
     let is : HasSet i c.args.depth c.args.node c.args.suffix c.place_of-at.result c.index_mut.result.now _ e.new.self =
-        record { other = c.if-depth-self.false; place = c.place_of-at.ensures; lent = c.index_mut.ensures.value; nodes = e.ensures.nodes; rooms = e.ensures.rooms } in
+    record { other = c.if-depth-self.false; place = c.place_of-at.ensures; lent = c.index_mut.ensures.value; nodes = e.ensures.nodes; rooms = e.ensures.rooms } in
     layer-set i c.self.invariant c.args.self.now c.self.view_is c.args.depth c.args.node c.args.suffix at c.place_of-at.result c.index_mut.result.now _ e.new.self is
 
 pub returns-else-depth-self-clause-under_way : goal.returns-else-depth-self-clause-under_way
@@ -70,6 +70,6 @@ returns-else-depth-self-clause-under_way c dp u =
     let at = stands-some i c.self.invariant v c.self.view_is c.args.depth c.args.node c.requires.first c.requires.place in
     let e = c.set_suffix-else-depth-self in
     let is : HasSet i c.args.depth c.args.node c.args.suffix c.place_of-at.result c.index_mut.result.now _ e.new.self =
-        record { other = c.if-depth-self.false; place = c.place_of-at.ensures; lent = c.index_mut.ensures.value; nodes = e.ensures.nodes; rooms = e.ensures.rooms } in
+    record { other = c.if-depth-self.false; place = c.place_of-at.ensures; lent = c.index_mut.ensures.value; nodes = e.ensures.nodes; rooms = e.ensures.rooms } in
     set-under-way dp v _ (c.args.depth - length v.prefix) c.args.node c.args.suffix
     (layer-set i c.self.invariant v c.self.view_is c.args.depth c.args.node c.args.suffix at c.place_of-at.result c.index_mut.result.now _ e.new.self is) u

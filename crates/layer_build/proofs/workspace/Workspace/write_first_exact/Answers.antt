@@ -90,9 +90,9 @@ returns-clause-found c =
     let long : length buffer ≡ i.path.len = c.as_mut_slice.ensures.len in
     let last : last_depth now ≡ i.stack.last = ap last_depth (sym c.self.view_is) ∙ deep i h in
     let value : to_z w64 (of_z w64 c.value.result) ≡ (get_or i.stack.newest.nodes node no_node).value =
-        to_z-of_z w64 c.value.result (record { sfits = c.value.type_inv }) ∙ sym (read-is (λ (n : NodeView). n.value) i.stack.newest.nodes node c.value.result first.within c.value.ensures) in
+    to_z-of_z w64 c.value.result (record { sfits = c.value.type_inv }) ∙ sym (read-is (λ (n : NodeView). n.value) i.stack.newest.nodes node c.value.result first.within c.value.ensures) in
     let decisions : take (last_depth now) (take i.path.len (out ++ drop (length out) i.path.items)) ≡ path_of (nodes_in i.stack) i.prefix.items i.stack.first i.stack.last node =
-        ap (take (last_depth now)) (taken-back out (drop (length out) i.path.items) i.path.len (size ∙ long))
-        ∙ (ap (λ (n : ℕ). take n out) last ∙ (written-front path buffer out i.stack.last c.write_front.ensures whole
-        ∙ ap (λ (p : List ℕ). path_of (nodes_in i.stack) p i.stack.first i.stack.last node) c.as_slice.ensures.value)) in
+    ap (take (last_depth now)) (taken-back out (drop (length out) i.path.items) i.path.len (size ∙ long))
+    ∙ (ap (λ (n : ℕ). take n out) last ∙ (written-front path buffer out i.stack.last c.write_front.ensures whole
+    ∙ ap (λ (p : List ℕ). path_of (nodes_in i.stack) p i.stack.first i.stack.last node) c.as_slice.ensures.value)) in
     subst (λ (o : Option Solution). IsFoundAs o (Some (to_z w64 (of_z w64 c.value.result))) (take (last_depth now) (take i.path.len (out ++ drop (length out) i.path.items)))) (sym first.found) (value, decisions)
