@@ -9,3 +9,4 @@ pub mod Changing
 pub mod Starting
 pub mod Reading
 pub mod Memory
+pub mod Ready
