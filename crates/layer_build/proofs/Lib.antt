@@ -12,3 +12,4 @@ pub mod Memory
 pub mod Walked
 pub mod Suffixed
 pub mod Standing
+pub mod Ready
