@@ -8,5 +8,8 @@ pub mod Going
 pub mod Changing
 pub mod Starting
 pub mod Reading
+pub mod Memory
 pub mod Walked
 pub mod Suffixed
+pub mod Standing
+pub mod Ready

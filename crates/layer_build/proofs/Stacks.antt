@@ -113,11 +113,11 @@ pub words-at : (vars words width room : ℕ) (choices : List ℕ) (layers : List
     → (slice_index_or layers i no_layer).words ≡ words
 words-at vars words width room choices layers h i low = ap (λ (l : LayerView). l.words) (sym (room-at layers i)) ∙ h.words_are i low
 
-length-below : (n : ℕ) → length (below n) ≡ n
+pub length-below : (n : ℕ) → length (below n) ≡ n
 length-below zero = refl
 length-below (suc n) = let e = length-append (below n) (n ∷ []) in let f = length-below n in omega arith
 
-map-append : {X Y : Type 0} (f : X → Y) (xs ys : List X) → map f (xs ++ ys) ≡ map f xs ++ map f ys
+pub map-append : {X Y : Type 0} (f : X → Y) (xs ys : List X) → map f (xs ++ ys) ≡ map f xs ++ map f ys
 map-append f [] ys = refl
 map-append f (x ∷ xs) ys = ap (λ l. f x ∷ l) (map-append f xs ys)
 

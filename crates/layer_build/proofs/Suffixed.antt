@@ -1,5 +1,5 @@
 -- Layers of which no more than suffixes differ, and a diagram in which a suffix is set.
-use Rattle.std.proofs.Common.{◌≡◌, ◌≢◌, ℕ, zero, suc, ◌+◌, ◌-◌, ◌<◌, ◌≤◌, ℤ, Bool, true, false, List, [], ◌∷◌, map, set, length, get_or, slice_index_or, slice_get, Option, Some, None, IsTrue, ◌⊎◌, inl, inr, refl, sym, ap, ap₂, ◌∙◌, subst, arith}
+use Rattle.std.proofs.Common.{◌≡◌, ◌≢◌, ℕ, zero, suc, ◌+◌, ◌-◌, ◌*◌, ◌≤◌, ℤ, List, [], ◌∷◌, map, length, slice_get, Option, Some, None, IsTrue, refl, sym, ap, ap₂, ◌∙◌, subst, arith}
 use Rattle.dp_model.specs.Dp.{Dp}
 use Rattle.dp_model.specs.Gaps.{IsStateOf}
 use Rattle.dp_model.specs.Lists.{Each}
@@ -9,8 +9,8 @@ use Rattle.dp_laws.specs.Rules.Compiling.{TwoLayers}
 use Rattle.dp_laws.specs.Rules.Within.{IsBetween, IsLayerWithin, AreWithin, IsArcWithin, LeadsWithin, ReachesWithin}
 use Rattle.dp_model.proofs.Members.{Each-then}
 use Rattle.layer_nodes.specs.Nodes.{NodeView, shown, shown_from, shown_layer, suffix_set}
-use Rattle.layer_build.specs.Layers.{SpaceView, IsPreparedFor, last_depth, last_layer, suffix_at_node, suffix_in}
-use Rattle.layer_build.specs.Stacked.{path_in, paths_below, shown_down, HaveDepth, HaveDepths}
+use Rattle.layer_build.specs.Layers.{SpaceView, last_depth, last_layer, suffix_at_node, suffix_in}
+use Rattle.layer_build.specs.Stacked.{path_in, paths_below, shown_down, HaveDepths}
 use Rattle.layer_build.specs.UnderWay.{last_two, IsUnderWay}
 
 -- a node without its suffix
@@ -19,9 +19,9 @@ plain node = record node { suffix = None }
 
 abbrev pub AreLike : List DdNode → List DdNode → Type 0
 AreLike [] [] = Unit {0}
-AreLike [] (b ∷ bs) = ⊥
-AreLike (a ∷ as) [] = ⊥
-AreLike (a ∷ as) (b ∷ bs) = (plain a ≡ plain b) × AreLike as bs
+AreLike [] (b ∷ ys) = ⊥
+AreLike (a ∷ xs) [] = ⊥
+AreLike (a ∷ xs) (b ∷ ys) = (plain a ≡ plain b) × AreLike xs ys
 
 abbrev pub AreAllLike : List (List DdNode) → List (List DdNode) → Type 0
 AreAllLike [] [] = Unit {0}
@@ -29,19 +29,19 @@ AreAllLike [] (y ∷ m) = ⊥
 AreAllLike (x ∷ l) [] = ⊥
 AreAllLike (x ∷ l) (y ∷ m) = AreLike x y × AreAllLike l m
 
-like-self : (as : List DdNode) → AreLike as as
+like-self : (xs : List DdNode) → AreLike xs xs
 like-self [] = tt
-like-self (a ∷ as) = (refl, like-self as)
+like-self (a ∷ xs) = (refl, like-self xs)
 
 all-like-self : (l : List (List DdNode)) → AreAllLike l l
 all-like-self [] = tt
 all-like-self (x ∷ l) = (like-self x, all-like-self l)
 
-like-set : (i : ℕ) (s : Option ℤ) (as : List DdNode) → AreLike as (suffix_at_node i s as)
+like-set : (i : ℕ) (s : Option ℤ) (xs : List DdNode) → AreLike xs (suffix_at_node i s xs)
 like-set zero s [] = tt
 like-set (suc i) s [] = tt
-like-set zero s (a ∷ as) = (refl, like-self as)
-like-set (suc i) s (a ∷ as) = (refl, like-set i s as)
+like-set zero s (a ∷ xs) = (refl, like-self xs)
+like-set (suc i) s (a ∷ xs) = (refl, like-set i s xs)
 
 pub like-in : (j i : ℕ) (s : Option ℤ) (l : List (List DdNode)) → AreAllLike l (suffix_in j i s l)
 like-in zero i s [] = tt
@@ -49,11 +49,11 @@ like-in (suc j) i s [] = tt
 like-in zero i s (x ∷ l) = (like-set i s x, all-like-self l)
 like-in (suc j) i s (x ∷ l) = (like-self x, like-in j i s l)
 
-length-like : (as bs : List DdNode) → AreLike as bs → length bs ≡ length as
+length-like : (xs ys : List DdNode) → AreLike xs ys → length ys ≡ length xs
 length-like [] [] h = refl
-length-like [] (b ∷ bs) h = absurd h
-length-like (a ∷ as) [] h = absurd h
-length-like (a ∷ as) (b ∷ bs) h = ap suc (length-like as bs h.1)
+length-like [] (b ∷ ys) h = absurd h
+length-like (a ∷ xs) [] h = absurd h
+length-like (a ∷ xs) (b ∷ ys) h = ap suc (length-like xs ys h.1)
 
 pub length-all-like : (l m : List (List DdNode)) → AreAllLike l m → length m ≡ length l
 length-all-like [] [] h = refl
@@ -61,28 +61,28 @@ length-all-like [] (y ∷ m) h = absurd h
 length-all-like (x ∷ l) [] h = absurd h
 length-all-like (x ∷ l) (y ∷ m) h = ap suc (length-all-like l m h.1)
 
-each-like : (P : DdNode → Type 0) → ((a b : DdNode) → plain a ≡ plain b → P a → P b) → (as bs : List DdNode) → AreLike as bs → Each P as → Each P bs
+each-like : (P : DdNode → Type 0) → ((a b : DdNode) → plain a ≡ plain b → P a → P b) → (xs ys : List DdNode) → AreLike xs ys → Each P xs → Each P ys
 each-like P move [] [] h all = tt
-each-like P move [] (b ∷ bs) h all = absurd h
-each-like P move (a ∷ as) [] h all = absurd h
-each-like P move (a ∷ as) (b ∷ bs) h all = (move a b h.0 all.0, each-like P move as bs h.1 all.1)
+each-like P move [] (b ∷ ys) h all = absurd h
+each-like P move (a ∷ xs) [] h all = absurd h
+each-like P move (a ∷ xs) (b ∷ ys) h all = (move a b h.0 all.0, each-like P move xs ys h.1 all.1)
 
-map-like : (f : DdNode → ℤ) → ((a b : DdNode) → plain a ≡ plain b → f a ≡ f b) → (as bs : List DdNode) → AreLike as bs → map f as ≡ map f bs
+map-like : (f : DdNode → ℤ) → ((a b : DdNode) → plain a ≡ plain b → f a ≡ f b) → (xs ys : List DdNode) → AreLike xs ys → map f xs ≡ map f ys
 map-like f same [] [] h = refl
-map-like f same [] (b ∷ bs) h = absurd h
-map-like f same (a ∷ as) [] h = absurd h
-map-like f same (a ∷ as) (b ∷ bs) h = ap₂ (λ (x : ℤ) (l : List ℤ). x ∷ l) (same a b h.0) (map-like f same as bs h.1)
+map-like f same [] (b ∷ ys) h = absurd h
+map-like f same (a ∷ xs) [] h = absurd h
+map-like f same (a ∷ xs) (b ∷ ys) h = ap₂ (λ (x : ℤ) (l : List ℤ). x ∷ l) (same a b h.0) (map-like f same xs ys h.1)
 
-reaches-like : (r : ℤ) (as bs : List DdNode) (i : ℕ) → AreLike as bs → ReachesWithin r (slice_get as i) → ReachesWithin r (slice_get bs i)
+reaches-like : (r : ℤ) (xs ys : List DdNode) (i : ℕ) → AreLike xs ys → ReachesWithin r (slice_get xs i) → ReachesWithin r (slice_get ys i)
 reaches-like r [] [] i h w = w
-reaches-like r [] (b ∷ bs) i h w = absurd h
-reaches-like r (a ∷ as) [] i h w = absurd h
-reaches-like r (a ∷ as) (b ∷ bs) zero h w = subst (λ (n : DdNode). ReachesWithin r (Some n)) h.0 w
-reaches-like r (a ∷ as) (b ∷ bs) (suc i) h w = reaches-like r as bs i h.1 w
+reaches-like r [] (b ∷ ys) i h w = absurd h
+reaches-like r (a ∷ xs) [] i h w = absurd h
+reaches-like r (a ∷ xs) (b ∷ ys) zero h w = subst (λ (n : DdNode). ReachesWithin r (Some n)) h.0 w
+reaches-like r (a ∷ xs) (b ∷ ys) (suc i) h w = reaches-like r xs ys i h.1 w
 
-leads-like : (r : ℤ) (as bs : List DdNode) (o : Option ℕ) → AreLike as bs → LeadsWithin r as o → LeadsWithin r bs o
-leads-like r as bs None h w = tt
-leads-like r as bs (Some i) h w = reaches-like r as bs i h w
+leads-like : (r : ℤ) (xs ys : List DdNode) (o : Option ℕ) → AreLike xs ys → LeadsWithin r xs o → LeadsWithin r ys o
+leads-like r xs ys None h w = tt
+leads-like r xs ys (Some i) h w = reaches-like r xs ys i h w
 
 last-like : (l m : List (List DdNode)) → AreAllLike l m → AreLike (last_layer l) (last_layer m)
 last-like [] [] h = tt
@@ -105,13 +105,13 @@ two-like (x ∷ w ∷ []) (y ∷ z ∷ v ∷ m) h = absurd h.1.1
 two-like (x ∷ w ∷ u ∷ l) (y ∷ z ∷ []) h = absurd h.1.1
 two-like (x ∷ w ∷ u ∷ l) (y ∷ z ∷ v ∷ m) h = two-like (w ∷ u ∷ l) (z ∷ v ∷ m) h.1
 
-within-like : (dp : Dp) (k w : ℕ) (as bs : List DdNode) → AreLike as bs → IsLayerWithin dp k w as → IsLayerWithin dp k w bs
-within-like dp k w as bs h x =
-    let long = length-like as bs h in
+within-like : (dp : Dp) (k w : ℕ) (xs ys : List DdNode) → AreLike xs ys → IsLayerWithin dp k w xs → IsLayerWithin dp k w ys
+within-like dp k w xs ys h x =
+    let long = length-like xs ys h in
     record {
-      states = each-like (λ (n : DdNode). IsStateOf dp k n.row) (λ a b e p. subst (λ (n : DdNode). IsStateOf dp k n.row) e p) as bs h x.states;
-      values = each-like (λ (n : DdNode). IsBetween (k + 1) (2 * k + 1) n.value) (λ a b e p. subst (λ (n : DdNode). IsBetween (k + 1) (2 * k + 1) n.value) e p) as bs h x.values;
-      wide = λ wider. each-like (λ (n : DdNode). IsBetween (k + 1) (2 * k) n.value) (λ a b e p. subst (λ (n : DdNode). IsBetween (k + 1) (2 * k) n.value) e p) as bs h (x.wide (omega arith));
+      states = each-like (λ (n : DdNode). IsStateOf dp k n.row) (λ a b e p. subst (λ (n : DdNode). IsStateOf dp k n.row) e p) xs ys h x.states;
+      values = each-like (λ (n : DdNode). IsBetween (k + 1) (2 * k + 1) n.value) (λ a b e p. subst (λ (n : DdNode). IsBetween (k + 1) (2 * k + 1) n.value) e p) xs ys h x.values;
+      wide = λ wider. each-like (λ (n : DdNode). IsBetween (k + 1) (2 * k) n.value) (λ a b e p. subst (λ (n : DdNode). IsBetween (k + 1) (2 * k) n.value) e p) xs ys h (x.wide (omega arith));
     }
 
 arcs-move : (k : ℕ) (next next' : List DdNode) → AreLike next next' → (n : DdNode) → Each (IsArcWithin k next n) n.arcs → Each (IsArcWithin k next' n) n.arcs

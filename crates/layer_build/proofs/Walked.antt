@@ -1,11 +1,11 @@
 -- Paths of nodes, walked back through the layers, and what a loop over layers or nodes has seen.
-use Rattle.std.proofs.Common.{◌≡◌, ◌≢◌, ℕ, zero, suc, ◌+◌, ◌-◌, ◌*◌, ◌^◌, ◌<◌, ◌≤◌, nat_eq, nat_lt, ℤ, pos, Bool, true, false, cond, List, [], ◌∷◌, ◌++◌, map, set, take, drop, length, get_or, slice_index_or, slice_get, position, sum_by, Option, Some, None, option_map, ◌⊎◌, inl, inr, refl, sym, ap, ap₂, ◌∙◌, subst, arith, append_assoc, length-append}
+use Rattle.std.proofs.Common.{◌≡◌, ℕ, zero, suc, ◌+◌, ◌-◌, ◌*◌, ◌^◌, ◌<◌, ◌≤◌, nat_eq, nat_lt, pos, Bool, true, false, cond, List, [], ◌∷◌, ◌++◌, set, drop, length, get_or, slice_index_or, slice_get, position, sum_by, Option, Some, None, option_map, ◌⊎◌, inl, inr, refl, sym, ap, ap₂, ◌∙◌, subst, arith, append_assoc}
 use Rattle.std.proofs.lemmas.Bool.Decides.{nat_tests}
 use Rattle.std.proofs.lemmas.List.{length-set, length-map, length_push, drop_all, drop_more, drop-set, get_or-map, get_or_past}
 use Rattle.std.proofs.lemmas.List.Sums.{position_or_len_is, sum_by-cons}
 use Rattle.std.proofs.lemmas.Option.{slice_get-get_or}
 use Rattle.dp_laws.specs.Diagrams.Nodes.{DdNode, path_below}
-use Rattle.layer_nodes.specs.Nodes.{NodeView, LayerView, shown_layer}
+use Rattle.layer_nodes.specs.Nodes.{NodeView, shown_layer}
 use Rattle.layer_build.specs.declared.stack.Stack.{Stack}
 use Rattle.layer_build.specs.Stacked.{no_layer, place_of, layer_in, nodes_in, path_in, paths_below, paths_at, shown_down, shown_stack, HoldFew}
 use Rattle.layer_build.proofs.Shown.{length-down, length-shown, paths-last}
@@ -19,7 +19,7 @@ pub place-held : (s : Stack) (depth : ℕ) → HoldFew s → depth ≤ s.last �
 place-held s depth h low = let deep = h.last in let place = place-low s.vars s.first depth (omega arith) in let count = h.count in omega arith
 
 -- what is read of the node at a place
-some-is : {X : Type 0} (x y : X) → Some x ≡ Some y → x ≡ y
+pub some-is : {X : Type 0} (x y : X) → Some x ≡ Some y → x ≡ y
 some-is x y e = cc
 
 pub read-is : {X : Type 0} (f : NodeView → X) (nodes : List NodeView) (i : ℕ) (x : X) → i < length nodes → option_map f (slice_get nodes i) ≡ Some x → f (get_or nodes i no_node) ≡ x
@@ -94,7 +94,7 @@ walked-more s prefix out depth node k at h less nodes same d decision parent by 
     split : path_of (nodes_in s) prefix s.first k at ≡ path_below (path_of (nodes_in s) prefix s.first (k - 1)) parent d
     split =
         subst (λ (l : List NodeView). path_of (nodes_in s) prefix s.first k at ≡ path_below (path_of (nodes_in s) prefix s.first (k - 1)) (get_or l at no_node).parent (get_or l at no_node).decision) (sym same)
-            (path-by-parent (nodes_in s) prefix s.first k at less (h.place less))
+        (path-by-parent (nodes_in s) prefix s.first k at less (h.place less))
         ∙ ap₂ (path_below (path_of (nodes_in s) prefix s.first (k - 1))) (read-is (λ (n : NodeView). n.parent) nodes at parent within by) (read-is (λ (n : NodeView). n.decision) nodes at d within decision)
 
     go : (o : Option ℕ) → parent ≡ o → IsWalked s prefix (set out (k - 1) d) depth node (k - 1) place
@@ -107,7 +107,7 @@ walked-more s prefix out depth node k at h less nodes same d decision parent by 
         let to : place ≡ p = next p e in
         let rest = path_of (nodes_in s) prefix s.first (k - 1) place in
         let is : path_of (nodes_in s) prefix s.first k at ≡ rest ++ d ∷ [] =
-            split ∙ (ap (λ (o : Option ℕ). path_below (path_of (nodes_in s) prefix s.first (k - 1)) o d) e ∙ ap (λ (i : ℕ). path_of (nodes_in s) prefix s.first (k - 1) i ++ d ∷ []) (sym to)) in
+        split ∙ (ap (λ (o : Option ℕ). path_below (path_of (nodes_in s) prefix s.first (k - 1)) o d) e ∙ ap (λ (i : ℕ). path_of (nodes_in s) prefix s.first (k - 1) i ++ d ∷ []) (sym to)) in
         let one = ap (λ (l : List ℕ). length l) is in
         let more = length_push rest d in
         let long = h.long in
@@ -205,8 +205,8 @@ counted-more s a depth rows n h above low count small = record {
       let next : depth - s.first + 1 ≡ depth + 1 - s.first = omega arith in
       let here : length (slice_index_or layers (depth - s.first) []) ≡ n = ap (λ (l : List DdNode). length l) (layer-seen s prefix depth above low) ∙ (length-shown (path_of (nodes_in s) prefix s.first depth) 0 (nodes_in s depth) ∙ sym count) in
       let sum : count_all (drop (depth - s.first) layers) ≡ n + count_all (drop (depth + 1 - s.first) layers) =
-          ap count_all split ∙ (sum_by-cons (λ (layer : List DdNode). length layer) (slice_index_or layers (depth - s.first) []) (drop (depth - s.first + 1) layers)
-          ∙ ap₂ (λ (m i : ℕ). m + count_all (drop i layers)) here next) in
+      ap count_all split ∙ (sum_by-cons (λ (layer : List DdNode). length layer) (slice_index_or layers (depth - s.first) []) (drop (depth - s.first + 1) layers)
+      ∙ ap₂ (λ (m i : ℕ). m + count_all (drop i layers)) here next) in
       let so = h.all prefix in
       omega arith);
   few = let f = h.few in omega arith;

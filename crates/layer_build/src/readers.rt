@@ -10,7 +10,7 @@ ghost use Rattle.layer_build.specs.Finding.{IsFound, IsFoundAs, StaysButPath, St
 ghost use Rattle.layer_build.specs.UnderWay.{IsUnderWay};
 
 use crate::stack::{layer_at, place_of};
-use crate::walking::{exact_place, live_rows, write_path};
+use crate::walking::{exact_place, live_rows, write_front, write_path};
 use crate::workspace::Workspace;
 use dp_laws::DdArc;
 use dp_model::Found;
@@ -155,16 +155,17 @@ impl Workspace {
     /// The value of the first exact node of the last layer, whose decisions are written.
     fn write_first_exact(&mut self) -> Option<i64>
         ensures kept { StaysButPath self.old self.new }
+        ensures cells { last_depth self.new ≤ length self.new.path }
         ensures found { IsFoundAs (first_exact (last_layer self.old.layers)) result (take (last_depth self.old) self.new.path) }
     {
         let node = exact_place(&self.stack.newest)?;
         let depth = self.stack.last;
-        write_path(
+        write_front(
             &self.stack,
             self.prefix.as_slice(),
             depth,
             node,
-            &mut self.path.as_mut_slice()[..depth],
+            self.path.as_mut_slice(),
         );
         Some(self.stack.newest.value(node))
     }

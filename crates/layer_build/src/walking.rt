@@ -1,6 +1,6 @@
 //! Paths of nodes, the first exact one of a layer, and how many rows are held.
 
-ghost use Rattle.std.specs.Prelude.{◌≡◌, ◌≢◌, ◌+◌, ◌-◌, ◌<◌, ◌≤◌, ℕ, List, [], ◌∷◌, length, drop, position, sum_by, Some};
+ghost use Rattle.std.specs.Prelude.{◌≡◌, ◌≢◌, ◌+◌, ◌-◌, ◌<◌, ◌≤◌, ℕ, List, [], ◌∷◌, ◌++◌, length, drop, position, sum_by, Some};
 ghost use Rattle.dp_laws.specs.Diagrams.Nodes.{DdNode};
 ghost use Rattle.layer_nodes.specs.Nodes.{NodeView};
 ghost use Rattle.layer_build.specs.Stacked.{place_of, nodes_in, path_in, paths_at, shown_stack, HoldFew};
@@ -9,13 +9,7 @@ use crate::stack::{Stack, layer_at};
 use layer_nodes::Layer;
 
 /// Writes the path of a node: the decisions from its ancestors down, behind the prefix.
-pub(crate) fn write_path(
-    stack: &Stack,
-    prefix: &[u32],
-    depth: usize,
-    node: usize,
-    out: &mut [u32],
-)
+pub(crate) fn write_path(stack: &Stack, prefix: &[u32], depth: usize, node: usize, out: &mut [u32])
     requires deep { stack.now.first ≤ depth }
     requires low { depth ≤ stack.now.last }
     requires stored { HoldFew stack.now }
@@ -34,6 +28,20 @@ pub(crate) fn write_path(
         at = place_or_first(layer.parent(at));
     }
     out[..prefix.len()].copy_from_slice(prefix);
+}
+
+/// Writes the path of a node into the first cells; the others stay.
+pub(crate) fn write_front(stack: &Stack, prefix: &[u32], depth: usize, node: usize, out: &mut [u32])
+    requires deep { stack.now.first ≤ depth }
+    requires low { depth ≤ stack.now.last }
+    requires stored { HoldFew stack.now }
+    requires prefix { length prefix.now ≡ stack.now.first }
+    requires place { node < length (nodes_in stack.now depth) }
+    requires whole { length (path_in (paths_at (nodes_in stack.now) (prefix.now ∷ []) stack.now.first (depth - stack.now.first)) node) ≡ depth }
+    requires cells { depth ≤ length out.old }
+    ensures { out.new ≡ path_in (paths_at (nodes_in stack.now) (prefix.now ∷ []) stack.now.first (depth - stack.now.first)) node ++ drop depth out.old }
+{
+    write_path(stack, prefix, depth, node, &mut out[..depth]);
 }
 
 /// The place, or 0.

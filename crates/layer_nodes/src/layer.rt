@@ -138,7 +138,7 @@ impl Layer {
         );
     }
 
-    /// How many nodes it has: at most those for which there is room.
+    /// How many nodes it has.
     pub fn len(&self) -> usize
         ensures count { result ≡ length self.now.nodes }
         ensures room { result ≤ self.now.nodes_room }

@@ -1,4 +1,4 @@
-use Rattle.std.proofs.Common.{◌≡◌, ◌<◌, ◌≤◌, length, Bool, true, false, Some, sym, ap, ◌∙◌, arith}
+use Rattle.std.proofs.Common.{◌<◌, length, Bool, true, false, Some, sym, ap, ◌∙◌, arith}
 use Rattle.layer_nodes.specs.Nodes.{NodeView}
 use Rattle.layer_build.proofs.Walked.{read-is, none-more, exact-at, none-exact}
 use Rattle.layer_build.proofs.walking.exact_place.Goals as goal

@@ -1,4 +1,4 @@
-use Rattle.std.proofs.Common.{◌≡◌, ℕ, ◌+◌, ◌-◌, ◌^◌, ◌<◌, ◌≤◌, max, drop, length, List, sym, ap, ◌∙◌, arith}
+use Rattle.std.proofs.Common.{◌≡◌, ℕ, ◌-◌, max, drop, length, ap, ◌∙◌, arith}
 use Rattle.layer_nodes.specs.Nodes.{LayerView}
 use Rattle.layer_build.specs.Stacked.{layer_in, nodes_in, shown_stack}
 use Rattle.layer_build.proofs.Walked.{counted-more, counted-end, count_all, room-few}
