@@ -39,16 +39,15 @@ fn the_last_exact_layer_is_left(rt: HostRuntime) -> Result<(), Fail> {
         [(1usize, 0usize, 121i64), (1, 1, 120)].as_slice()
     );
     assert_eq!(rt; left.found.is_none(), true);
-    for (i, want) in [(1u32, 5i64, 60i64, 121i64), (0, 10, 0, 120)]
+    assert_eq!(rt; left.subs.len(), 2);
+    for (i, (decision, cell, value, bound)) in [(1u32, 5i64, 60i64, 121i64), (0, 10, 0, 120)]
         .iter()
         .enumerate()
     {
         let sub = &left.subs[i];
-        assert_eq!(rt;
-            (sub.decisions[0], sub.row[0], sub.value, sub.bound),
-            *want,
-            "at {i}"
-        );
+        assert_eq!(rt; sub.decisions.as_slice(), [*decision].as_slice(), "at {i}");
+        assert_eq!(rt; sub.row.as_slice(), [*cell].as_slice(), "at {i}");
+        assert_eq!(rt; (sub.value, sub.bound), (*value, *bound), "at {i}");
     }
     Ok(())
 }
