@@ -1,6 +1,7 @@
 //! The worked relaxed diagrams, with what they leave.
 
 use crate::relaxing::{Left, relax_root};
+use crate::stepping::live_rows_below_root;
 use crate::tests::instance;
 use dp_model::DpModel;
 use exact_cutset::Children;
@@ -29,12 +30,24 @@ fn the_last_exact_layer_is_left(rt: HostRuntime) -> Result<(), Fail> {
     assert_eq!(rt; left.layers[2].len(), 1);
     let merged = &left.layers[2][0];
     assert_eq!(rt; merged.row.as_slice(), [6i64].as_slice());
-    assert_eq!(rt; (merged.value, merged.exact, merged.suffix), (110, false, Some(70)));
-    assert_eq!(rt; left.places.as_slice(), [(1usize, 0usize, 121i64), (1, 1, 120)].as_slice());
+    assert_eq!(rt;
+        (merged.value, merged.exact, merged.suffix),
+        (110, false, Some(70))
+    );
+    assert_eq!(rt;
+        left.places.as_slice(),
+        [(1usize, 0usize, 121i64), (1, 1, 120)].as_slice()
+    );
     assert_eq!(rt; left.found.is_none(), true);
-    for (i, want) in [(1u32, 5i64, 60i64, 121i64), (0, 10, 0, 120)].iter().enumerate() {
+    assert_eq!(rt; left.subs.len(), 2);
+    for (i, (decision, cell, value, bound)) in [(1u32, 5i64, 60i64, 121i64), (0, 10, 0, 120)]
+        .iter()
+        .enumerate()
+    {
         let sub = &left.subs[i];
-        assert_eq!(rt; (sub.decisions[0], sub.row[0], sub.value, sub.bound), *want, "at {i}");
+        assert_eq!(rt; sub.decisions.as_slice(), [*decision].as_slice(), "at {i}");
+        assert_eq!(rt; sub.row.as_slice(), [*cell].as_slice(), "at {i}");
+        assert_eq!(rt; (sub.value, sub.bound), (*value, *bound), "at {i}");
     }
     Ok(())
 }
@@ -61,6 +74,17 @@ fn children_of_a_width_of_zero_are_refused(rt: HostRuntime) -> Result<(), Fail> 
     for width in [0, greatest.saturating_add(1)] {
         let refused = Children::prepare(rt.alloc(), &model, width).err();
         assert_eq!(rt; refused, Some(PrepareError::Width), "at {width}");
+    }
+    Ok(())
+}
+
+#[test]
+fn rows_are_held_as_layers_are_made(rt: HostRuntime) -> Result<(), Fail> {
+    let model = instance::<Knapsack>(&rt, rt.alloc(), b"3 10\n60 5\n50 4\n70 6\n");
+    assert!(rt; model.vars() > 0);
+    match live_rows_below_root(rt.alloc(), &model, 1, Some(110)) {
+        Ok(live) => assert_eq!(rt; live.as_slice(), [1usize, 3, 7, 6, 4, 1].as_slice()),
+        Err(error) => assert_eq!(rt; Some(error), None),
     }
     Ok(())
 }
