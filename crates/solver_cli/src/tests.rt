@@ -96,6 +96,18 @@ fn prints_what_it_must(rt: HostRuntime) -> Result<(), Fail> {
             2,
         ),
         (
+            "solve knapsack --width 1 --budget 1",
+            THREE_ITEMS,
+            "stopped budget\nvalue 110\nassignment 1 1 0\nbound 121\n",
+            2,
+        ),
+        (
+            "solve knapsack --width 1 --stats",
+            THREE_ITEMS,
+            "proved\nvalue 120\nassignment 0 1 1\ntaken 3\nfinished 3\n",
+            0,
+        ),
+        (
             "solve maxcut",
             "3 3\n1 2 3\n2 3 1\n1 3 2\n",
             "proved\nvalue 5\nassignment 0 1 1\n",
@@ -218,6 +230,7 @@ fn refuses_at_the_place(rt: HostRuntime) -> Result<(), Fail> {
             "words number width\n",
             4,
         ),
+        ("solve knapsack --width 1242757", THREE_ITEMS, "width\n", 4),
         (
             "solve knapsack --width 3 --width 4",
             THREE_ITEMS,
@@ -251,8 +264,8 @@ fn refuses_at_the_place(rt: HostRuntime) -> Result<(), Fail> {
 #[test]
 fn solves_what_it_draws(rt: HostRuntime) -> Result<(), Fail> {
     let printed = run_line(rt.alloc(), "generate knapsack 2 0 --solve", "", &[0], &[])?;
-    let report = b"proved\nvalue 19\nassignment 1 1\ntaken ";
-    assert!(rt; printed.text.taken().starts_with(report));
+    let report = "proved\nvalue 19\nassignment 1 1\ntaken 1\nfinished 1\n";
+    assert_eq!(rt; printed.text.taken(), report.as_bytes());
     assert_eq!(rt; printed.status, 0);
     Ok(())
 }
