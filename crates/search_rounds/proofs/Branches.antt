@@ -22,7 +22,7 @@ use Rattle.dp_laws.proofs.Restricted.Found.{beams-feasible}
 use Rattle.dp_laws.proofs.Rules.Diagrams.{compiled-is-diagram}
 use Rattle.board_laws.specs.Board.{BoardState, reach}
 use Rattle.board_laws.specs.GoodBoard.{IncumbentHolds}
-use Rattle.layer_build.specs.Space.{IsWidth}
+use Rattle.layer_build.specs.Layers.{IsWidth}
 use Rattle.restricted_dd.specs.Beams.{ShowsBeam}
 use Rattle.exact_cutset.specs.Seen.{ShowsSolution}
 use Rattle.search_rounds.specs.Branched.{IsBranched}

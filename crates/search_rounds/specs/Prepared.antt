@@ -1,7 +1,7 @@
 -- What a desk keeps between rounds.
 use Rattle.std.specs.Prelude.{◌≡◌, ℕ, ◌≤◌, [], length, Result, Ok, Err}
 use Rattle.dp_model.specs.Dp.{Dp}
-use Rattle.layer_build.specs.Space.{IsWidth, IsPreparedFor}
+use Rattle.layer_build.specs.Layers.{IsWidth, IsPreparedFor}
 use Rattle.layer_build.specs.declared.workspace.PrepareError.{PrepareError}
 use Rattle.layer_build.specs.declared.workspace.PrepareError.TheVariants.{Width, OutOfMemory}
 use Rattle.exact_cutset.specs.Prepared as cutsets

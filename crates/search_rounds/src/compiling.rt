@@ -6,7 +6,7 @@ ghost use Rattle.dp_model.specs.Subproblem.{IsOwn};
 ghost use Rattle.dp_model.specs.declared.cut_kind.CutKind.TheVariants.{LastExactLayer};
 ghost use Rattle.dp_laws.specs.Diagrams.Cutsets.{children_of, found_in};
 ghost use Rattle.dp_laws.specs.Rules.Compiling.{relaxed};
-ghost use Rattle.layer_build.specs.Space.{IsPreparedFor};
+ghost use Rattle.layer_build.specs.Layers.{IsPreparedFor};
 ghost use Rattle.search_core.specs.View.{tag_of};
 ghost use Rattle.search_rounds.specs.Branched.{IsBranched};
 ghost use Rattle.search_rounds.specs.Offered.{IsOffered};

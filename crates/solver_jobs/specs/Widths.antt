@@ -2,7 +2,7 @@
 use Rattle.std.specs.Prelude.{◌≡◌, ℕ, min, Option, Some, None}
 use Rattle.dp_model.specs.Dp.{Dp}
 use Rattle.dp_laws.specs.Width.{IsGreatestWidth}
-use Rattle.layer_build.specs.Space.{IsWidth}
+use Rattle.layer_build.specs.Layers.{IsWidth}
 
 -- the default width: 100, or the greatest one where that is less
 pub record IsDefaultWidth (dp : Dp) (w : ℕ) : Type 0 where
