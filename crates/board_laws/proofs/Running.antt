@@ -129,7 +129,7 @@ back-others : (b : BoardState) (who : ℕ) (slot : Option Ticketed) (other : ℕ
 back-others b who None other differ = refl
 back-others b who (Some o) other differ = slot-other b.slots who other None differ
 
-step-others : (dp : Dp) (b : BoardState) (step : Step) (other : ℕ) → worker_of step ≢ Some other → slot_at (after dp b step) other ≡ slot_at b other
+pub step-others : (dp : Dp) (b : BoardState) (step : Step) (other : ℕ) → worker_of step ≢ Some other → slot_at (after dp b step) other ≡ slot_at b other
 step-others dp b (Take who) other differ = answer-others b who (take_gives b) other differ
 step-others dp b (Improve x) other differ = offered-is (λ later. slot_at later other ≡ slot_at b other) dp b x refl (λ up. refl)
 step-others dp b (Finish who threshold cs) other differ = slot-other b.slots who other None differ
