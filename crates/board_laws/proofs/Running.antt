@@ -176,7 +176,7 @@ pub record OfferRuns (dp : Dp) (b later : BoardState) : Type 0 where
   pub steps : List Step
   pub run : IsRun dp b steps later
 
-better-offered : (dp : Dp) (b : BoardState) (x : List ℕ) → (AtMost (value_of dp x) (incumbent_value b) → ⊥) → improved b (record { decisions = x; value = value_of dp x }) ≡ offered dp b x
+pub better-offered : (dp : Dp) (b : BoardState) (x : List ℕ) → (AtMost (value_of dp x) (incumbent_value b) → ⊥) → improved b (record { decisions = x; value = value_of dp x }) ≡ offered dp b x
 better-offered dp b x more =
     let later = improved b (record { decisions = x; value = value_of dp x }) in
     let go : (up : Bool) → is_above (incumbent_value b) (value_of dp x) ≡ up → later ≡ cond up later b = λ up. elim up as (λ up. is_above (incumbent_value b) (value_of dp x) ≡ up → later ≡ cond up later b) [

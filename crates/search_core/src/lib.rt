@@ -25,4 +25,4 @@ mod turned;
 
 pub use board::Board;
 pub use board_laws::{Cause, Fate, Improved, Settings, Taken};
-pub use tag::Tag;
+pub use tag::BoardTag;

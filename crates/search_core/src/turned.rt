@@ -3,7 +3,7 @@
 ghost use Rattle.std.specs.Prelude.{◌≡◌};
 
 use crate::board::Board;
-use crate::tag::Tag;
+use crate::tag::BoardTag;
 use board_lock::Turned;
 use dp_model::DpModel;
 
@@ -13,7 +13,7 @@ impl<M: DpModel> Turned for Board<M> {
     ghost use Rattle.search_core.specs.Moves.{out_at, IsMove};
     ghost use Rattle.search_core.specs.View.{tag_of};
 
-    type Tag = Tag;
+    type Tag = BoardTag;
 
     ghost tag = { tag_of };
 
