@@ -83,7 +83,7 @@ back-follows b who None = follows-self b
 back-follows b who (Some o) = record { settings = refl; better = option-self (incumbent_value b); taken = omega arith; finished = omega arith; next_ticket = omega arith }
 
 -- Improve by any solution: only a better one changes the board.
-offered-is : (P : BoardState → Type 0) (dp : Dp) (b : BoardState) (x : List ℕ) → P b
+pub offered-is : (P : BoardState → Type 0) (dp : Dp) (b : BoardState) (x : List ℕ) → P b
     → (is_above (incumbent_value b) (value_of dp x) ≡ true → P (improved b (record { decisions = x; value = value_of dp x }))) → P (offered dp b x)
 offered-is P dp b x same better =
     let later = improved b (record { decisions = x; value = value_of dp x }) in

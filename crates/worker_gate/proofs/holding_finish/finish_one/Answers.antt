@@ -57,7 +57,7 @@ leave-requires-2-clause-moves g c κs within =
     let fs = fates_on (g.M.DpModel.meaning v.numbers) v.board cs in
     let may = may-finish-at g.M.DpModel.meaning (first_of c.args.turn.now) v who c.args.seat.now.number _ _ c.args.threshold cs fs c.requires.may h.tag kept h.out h.seen c.number-who.ensures refl in
     one-step-at g.M.DpModel.meaning c.hold-guard.result.found.value v c.finish.new.self c.hold-guard.result.seat.now.number (Finish who c.args.threshold cs)
-    h.found (search rules) (c.number-who.ensures ∙ sym h.number) may
+    h.found (search rules) (c.number-who.ensures ∙ sym h.number) tt may
     (c.finish.ensures.step ∙ (ap (λ ns. finished_by (g.M.DpModel.meaning ns) w.board who cs) numbers ∙ ap (λ (b : BoardState). finished_by (g.M.DpModel.meaning v.numbers) b who cs) here))
 
 pub returns-clause-ok : goal.returns-clause-ok

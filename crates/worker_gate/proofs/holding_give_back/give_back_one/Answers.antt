@@ -14,7 +14,7 @@ leave-requires-clause-moves g c κs within =
     let who = c.number-who.result in
     let at : out_at b who ≡ out_of c.args.seat.now = ap (λ (k : ℕ). out_at b k) c.number-who.ensures ∙ h.out in
     one-step-at g.M.DpModel.meaning c.hold-guard.result.found.value c.hold-guard.result.value c.give_back.new.self c.hold-guard.result.seat.now.number (GiveBack who)
-    h.found (search rules) (c.number-who.ensures ∙ sym h.number) (record { full = full_slot b who _ c.requires.full at; halted = search rules }) (search rules)
+    h.found (search rules) (c.number-who.ensures ∙ sym h.number) tt (record { full = full_slot b who _ c.requires.full at; halted = search rules }) (search rules)
 
 pub returns-then-is_some-clause-out : goal.returns-then-is_some-clause-out
 returns-then-is_some-clause-out g c =
@@ -30,4 +30,4 @@ returns-then-is_some-clause-out g c =
 pub leave-requires-2-clause-moves : goal.leave-requires-2-clause-moves
 leave-requires-2-clause-moves g c κs within =
     one-step-at g.M.DpModel.meaning c.hold-guard.result.found.value c.hold-guard.result.value c.halt.new.self c.hold-guard.result.seat.now.number (Halt Memory)
-    c.hold-guard.ensures.found (search rules) tt tt (search rules)
+    c.hold-guard.ensures.found (search rules) tt tt tt (search rules)

@@ -39,7 +39,7 @@ leave-requires-clause-moves g c κs within =
     let none : out_at v.board who ≡ None = ap (λ (x : BoardView). out_at x.board who) same ∙ (ap (λ (k : ℕ). out_at c.hold-guard.result.value.board k) c.number-who.ensures ∙ (h.out ∙ c.requires.ready.nothing_out)) in
     let empty = empty_slot _ v.board who _ c.incumbent_value.ensures.kept count (let w = c.requires.ready.worker.within in let n = c.number-who.ensures in omega arith) none in
     one-step-at g.M.DpModel.meaning c.hold-guard.result.found.value v c.value-3.result.now c.hold-guard.result.seat.now.number (Take who)
-    (h.found ∙ sym same) (search rules) (c.number-who.ensures ∙ sym h.number) empty (search rules)
+    (h.found ∙ sym same) (search rules) (c.number-who.ensures ∙ sym h.number) tt empty (search rules)
 
 out_is : (g : given.Over) (c : goal.After-seat-1 g) → TakenOut (g.M.DpModel.meaning (g.M.DpModel.numbers c.args.model.now)) c.take-taken.result (out_at c.value-3.result.now.board c.number-who.result) c.take-taken.new.into.subproblem
 out_is g c =
