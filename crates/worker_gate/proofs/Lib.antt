@@ -1,0 +1,5 @@
+mod Calls
+mod Later
+mod Moves
+mod Slots
+mod Taking
