@@ -31,11 +31,7 @@ fn answer_text<P: Problem>(alloc: Global, job: TextJob, text: &[u8]) -> Answer
 {
     match P::read(alloc, text) {
         Ok(model) => match job {
-            TextJob::Solve {
-                model: _,
-                budget,
-                stats,
-            } => solve(alloc, model, budget, stats),
+            TextJob::Solve { model: _, search } => solve(alloc, model, search),
             TextJob::Digest { model: _ } => digest(alloc, &model),
         },
         Err(ReadModelError::Text(error)) => Answer::Refused(error),

@@ -3,13 +3,21 @@ ghost use Rattle.problems.specs.Theories.{theory_of};
 ghost use Rattle.solver_jobs.specs.Answers.{Prints, Draws};
 
 use crate::solving::solve;
+use crate::text_job::Search;
 use problem_names::ModelName;
 use problems::{Knapsack, MaxCut, MaxTwoSat, Problem, TspWindows};
 use solver_report::Answer;
 use std::alloc::Global;
 
+/// How a drawn instance is searched.
+const BY_DEFAULT: Search = Search {
+    width: None,
+    budget: u64::MAX,
+    stats: true,
+};
+
 /// Draws an instance of the problem, of size `n` from the seed. Its canonical text is answered, or where `solved` how a search of it ends,
-/// with no budget but the greatest, and with its counts.
+/// with the default width, with no budget but the greatest, and with its counts.
 pub fn generate(alloc: Global, problem: ModelName, n: u32, seed: u32, solved: bool) -> Answer
     requires least { (theory_of problem).least_size ≤ n }
     requires most { n ≤ (theory_of problem).most_size }
@@ -32,7 +40,7 @@ fn draw<P: Problem>(alloc: Global, n: u32, seed: u32, solved: bool) -> Answer
     ensures { Draws P.theory n seed solved result }
 {
     match P::generate(alloc, n, seed) {
-        Ok(model) if solved => solve(alloc, model, u64::MAX, true),
+        Ok(model) if solved => solve(alloc, model, BY_DEFAULT),
         Ok(model) => printed(alloc, &model),
         Err(_) => Answer::OutOfMemory,
     }

@@ -90,6 +90,8 @@ pub enum Answer {
     Refused(InstanceError),
     /// The input is longer than the limit.
     TooLong,
+    /// The width that is asked for is above the greatest one of the instance.
+    Width,
     /// The words are refused, or memory ran out for reading them.
     Words(WordsError),
     /// The input could not be read.

@@ -1,0 +1,57 @@
+ghost use Rattle.std.specs.Prelude.{◌≡◌, map, option_map, IfOk};
+ghost use Rattle.exact_cutset.specs.Kept.{AreChildrenPrepared};
+
+use dp_model::{DpModel, Found, OutOfMemory, Sub};
+use layer_build::{PrepareError, greatest_width};
+use std::alloc::Global;
+use std::marker::Model;
+
+/// The children of a diagram.
+#[derive(Drop)]
+pub struct Children {
+    width: usize,
+    vars: usize,
+    words: usize,
+}
+
+impl Model for Children {
+    ghost use Rattle.std.specs.Prelude.{[], None};
+    ghost use Rattle.exact_cutset.specs.Kept.{ChildrenView};
+
+    ghost Value = { ChildrenView };
+
+    ghost view = { λ c. record { places = []; subs = []; found = None; width = c.width; vars = c.vars; words = c.words } };
+}
+
+impl Children {
+    /// Children for the model and the width.
+    pub fn prepare<M: DpModel>(
+        _alloc: Global,
+        model: &M,
+        width: u32,
+    ) -> Result<Children, PrepareError>
+        ensures { AreChildrenPrepared (M.meaning (M.numbers model.now)) width result }
+    {
+        if width == 0 || width > greatest_width(model) {
+            return Err(PrepareError::Width);
+        }
+        Err(PrepareError::OutOfMemory)
+    }
+
+    /// The found solution.
+    pub fn found(&self) -> Option<Found<'_>>
+        ensures { option_map (λ f. record { decisions = f.decisions.now; value = f.value }) result ≡ self.now.found }
+    {
+        let _width = self.width;
+        None
+    }
+
+    /// The children as owned subproblems.
+    pub fn subs(&self, alloc: Global) -> Result<Vec<Sub>, OutOfMemory>
+        ensures { IfOk result (λ subs. map (λ s. s.subproblem) subs.items ≡ self.now.subs) }
+    {
+        let _width = self.width;
+        let subs = Vec::new(alloc);
+        Ok(subs)
+    }
+}

@@ -1,0 +1,24 @@
+ghost use Rattle.std.specs.Prelude.{◌≡◌};
+ghost use Rattle.dp_laws.specs.Diagrams.Cutsets.{children_at, children_of, found_in};
+ghost use Rattle.dp_model.specs.declared.cut_kind.CutKind.TheVariants.{LastExactLayer};
+ghost use Rattle.relaxed_dd.specs.Shown.{shown, width_of, IsDiagramOf};
+ghost use Rattle.exact_cutset.specs.Kept.{HasChildrenFor};
+
+use crate::buffer::Children;
+use dp_model::{CutKind, DpModel};
+use relaxed_dd::Diagram;
+
+/// Fills `out` with the children of the diagram.
+pub fn children<M: DpModel>(model: &M, diagram: &Diagram, kind: CutKind, out: &mut Children)
+    requires kind { kind ≡ LastExactLayer }
+    requires diagram { IsDiagramOf (M.meaning (M.numbers model.now)) diagram.now }
+    requires prepared { HasChildrenFor (M.meaning (M.numbers model.now)) out.old }
+    requires width { out.old.width ≡ width_of diagram.now }
+    ensures places { out.new.places ≡ children_at (M.meaning (M.numbers model.now)) (shown diagram.now) kind }
+    ensures subs { out.new.subs ≡ children_of (M.meaning (M.numbers model.now)) (shown diagram.now) kind }
+    ensures found { out.new.found ≡ found_in (M.meaning (M.numbers model.now)) (shown diagram.now) }
+    ensures prepared { HasChildrenFor (M.meaning (M.numbers model.now)) out.new }
+    ensures width { out.new.width ≡ out.old.width }
+{
+    let _ = model.vars();
+}
