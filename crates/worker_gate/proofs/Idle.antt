@@ -1,7 +1,7 @@
 -- Boards with nothing out.
-use Rattle.std.proofs.Common.{◌≡◌, ℕ, zero, suc, ◌<◌, ◌≤◌, List, [], ◌∷◌, map, length, slice_get, Option, Some, None, option_map, refl, sym, ap, subst, ◌∙◌, arith}
+use Rattle.std.proofs.Common.{◌≡◌, ℕ, zero, suc, List, [], ◌∷◌, map, length, slice_get, Option, Some, None, option_map, refl, ap, arith}
 use Rattle.std.specs.List.{All, range_with_len}
-use Rattle.board_lock.specs.Seats.{first_of, seats_of, number_of, out_of, IsFresh}
+use Rattle.board_lock.specs.Seats.{first_of, number_of, IsFresh}
 use Rattle.board_lock.specs.declared.turn.Seat.{Seat}
 use Rattle.board_lock.specs.declared.turn.Turn.{Turn}
 use Rattle.board_lock.proofs.Numbers.{all_within}
@@ -11,7 +11,7 @@ use Rattle.board_laws.specs.Board.{BoardState, slot_of, full_slots}
 use Rattle.search_core.specs.Moves.{out_at}
 use Rattle.search_core.specs.View.{BoardView, Tag}
 use Rattle.search_rounds.specs.Later.{IsLater}
-use Rattle.worker_gate.specs.Ready.{IsWorker, IsReady}
+use Rattle.worker_gate.specs.Ready.{IsReady}
 use Rattle.worker_gate.proofs.Histories.{HasRun}
 
 decisions_of : Option (Option Ticketed) → Option (List ℕ)
@@ -55,8 +55,8 @@ same_idle (Some o ∷ ss) (t ∷ ts) e f g = absurd (not_some o (full_slots ss) 
 same_idle (None ∷ ss) (Some o ∷ ts) e f g = absurd (not_some o (full_slots ts) g)
 
 -- a run between boards with nothing out
-pub idle-later : (dp : Dp) (b later : BoardState) → HasRun dp b later → length later.slots ≡ length b.slots → full_slots b.slots ≡ [] → full_slots later.slots ≡ [] → IsLater dp b later
-idle-later dp b later h long idle none = record { steps = h.steps; run = h.run; slots = same_idle later.slots b.slots long none idle; cause = h.cause }
+pub idle-later : (dp : Dp) (b later : BoardState) → HasRun dp b later → full_slots b.slots ≡ [] → full_slots later.slots ≡ [] → IsLater dp b later
+idle-later dp b later h idle none = record { steps = h.steps; run = h.run; slots = same_idle later.slots b.slots h.long none idle; cause = h.cause }
 
 -- seats that nobody took the turn by yet are ready
 pub ready : (turn : Turn BoardView Tag) (items : List (Seat BoardView)) (n : ℕ) → All (IsFresh turn) items → map number_of items ≡ range_with_len 0 n → (first_of turn).board.settings.workers ≡ n → All (IsReady turn) items

@@ -23,13 +23,17 @@ pub fn open<M: DpModel>(
     requires idle { full_slots board.board.slots ≡ [] }
     requires workers { board.board.settings.workers ≡ workers }
     ensures first { IfOk result (λ r. first_of r.0 ≡ board) }
+    ensures count { IfOk result (λ r. seats_of r.0 ≡ workers) }
     ensures ready { IfOk result (λ r. All (IsReady r.0) r.1.items) }
     ensures numbers { IfOk result (λ r. map number_of r.1.items ≡ range_with_len 0 (seats_of r.0)) }
     ensures err { IfErr result (λ n. n.value ≡ board) }
 {
     // What every board keeps of its workers.
     let _ = board.incumbent_value();
-    Turn::new(alloc, board, workers)
+    match Turn::new(alloc, board, workers) {
+        Ok((turn, seats)) => Ok((turn, seats)),
+        Err(refused) => Err(refused),
+    }
 }
 
 /// Ends the turn, where no worker has anything out. The board that comes back is later by steps of a run, and only want of memory may
@@ -41,8 +45,5 @@ pub fn close<M: DpModel>(turn: Turn<Board<M>>, seats: Vec<Seat<Board<M>>>) -> Bo
     ensures tag { tag_of result ≡ tag_of (first_of turn) }
     ensures later { IsLater (M.meaning (first_of turn).numbers) (first_of turn).board result.board }
 {
-    let board = turn.close(seats);
-    // What every board keeps of its slots.
-    let _ = board.incumbent_value();
-    board
+    turn.close(seats)
 }
