@@ -1,5 +1,6 @@
-ghost use Rattle.std.specs.Prelude.{◌≡◌, map, option_map, IfOk};
-ghost use Rattle.exact_cutset.specs.Kept.{AreChildrenPrepared};
+ghost use Rattle.std.specs.Prelude.{◌≡◌, IfOk};
+ghost use Rattle.exact_cutset.specs.Prepared.{IsPrepared};
+ghost use Rattle.exact_cutset.specs.Seen.{ShowsSolution, subproblems};
 
 use dp_model::{DpModel, Found, OutOfMemory, Sub};
 use layer_build::{PrepareError, greatest_width};
@@ -16,11 +17,11 @@ pub struct Children {
 
 impl Model for Children {
     ghost use Rattle.std.specs.Prelude.{[], None};
-    ghost use Rattle.exact_cutset.specs.Kept.{ChildrenView};
+    ghost use Rattle.exact_cutset.specs.Seen.{ChildrenView};
 
     ghost Value = { ChildrenView };
 
-    ghost view = { λ c. record { places = []; subs = []; found = None; width = c.width; vars = c.vars; words = c.words } };
+    ghost view = { λ c. record { places = []; subs = []; found = None; width = c.width; vars = c.vars; words = c.words; room = 0 } };
 }
 
 impl Children {
@@ -30,7 +31,7 @@ impl Children {
         model: &M,
         width: u32,
     ) -> Result<Children, PrepareError>
-        ensures { AreChildrenPrepared (M.meaning (M.numbers model.now)) width result }
+        ensures { IsPrepared (M.meaning (M.numbers model.now)) width result }
     {
         if width == 0 || width > greatest_width(model) {
             return Err(PrepareError::Width);
@@ -40,7 +41,7 @@ impl Children {
 
     /// The found solution.
     pub fn found(&self) -> Option<Found<'_>>
-        ensures { option_map (λ f. record { decisions = f.decisions.now; value = f.value }) result ≡ self.now.found }
+        ensures { ShowsSolution self.now.found result }
     {
         let _width = self.width;
         None
@@ -48,7 +49,7 @@ impl Children {
 
     /// The children as owned subproblems.
     pub fn subs(&self, alloc: Global) -> Result<Vec<Sub>, OutOfMemory>
-        ensures { IfOk result (λ subs. map (λ s. s.subproblem) subs.items ≡ self.now.subs) }
+        ensures { IfOk result (λ subs. subproblems subs.items ≡ self.now.subs) }
     {
         let _width = self.width;
         let subs = Vec::new(alloc);

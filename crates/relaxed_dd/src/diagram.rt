@@ -5,7 +5,7 @@ ghost use Rattle.dp_model.specs.Subproblem.{IsOwn};
 ghost use Rattle.dp_laws.specs.Rules.Compiling.{relaxed};
 ghost use Rattle.layer_build.specs.Space.{IsPreparedFor};
 ghost use Rattle.relaxed_dd.specs.Kept.{StaysPrepared};
-ghost use Rattle.relaxed_dd.specs.Shown.{Never, shown, width_of};
+ghost use Rattle.relaxed_dd.specs.Shown.{Never, layers_of, width_of, IsDiagramOf};
 
 use dp_model::{DpModel, Sub};
 use layer_build::Workspace;
@@ -27,8 +27,9 @@ pub fn relaxed<'w, M: DpModel>(
     requires own { IsOwn (M.meaning (M.numbers model.now)) sub.now.subproblem }
     requires todo { Never }
     ensures* kept { sem 𝓛 (StaysPrepared (M.meaning (M.numbers model.now)) space.entry) }
-    ensures shown { shown result ≡ relaxed (M.meaning (M.numbers model.now)) (reached (M.meaning (M.numbers model.now)) sub.now.subproblem.decisions) space.old.width threshold }
+    ensures shown { layers_of result ≡ relaxed (M.meaning (M.numbers model.now)) (reached (M.meaning (M.numbers model.now)) sub.now.subproblem.decisions) space.old.width threshold }
     ensures width { width_of result ≡ space.old.width }
+    ensures diagram { IsDiagramOf (M.meaning (M.numbers model.now)) result }
 {
     let _ = model.vars();
     let _ = sub.value;

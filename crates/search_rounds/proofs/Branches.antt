@@ -24,8 +24,15 @@ use Rattle.board_laws.specs.Board.{BoardState, reach}
 use Rattle.board_laws.specs.GoodBoard.{IncumbentHolds}
 use Rattle.layer_build.specs.Space.{IsWidth}
 use Rattle.restricted_dd.specs.Beams.{ShowsBeam}
+use Rattle.exact_cutset.specs.Seen.{ShowsSolution}
 use Rattle.search_rounds.specs.Branched.{AreBranched, IsBranched}
 use Rattle.search_rounds.specs.Offered.{solution_of}
+
+abbrev solution : List ℕ → ℤ → Solution
+solution x v = record { decisions = x; value = v }
+
+same-solution : (x y : List ℕ) (v w : ℤ) → x ≡ y → v ≡ w → solution x v ≡ solution y w
+same-solution x y v w same equal = ap (λ z. solution z v) same ∙ ap (solution y) equal
 
 -- The restricted diagram.
 
@@ -84,6 +91,13 @@ pub whole-branched : (dp : Dp) → IsLawful dp → (b : BoardState) (p : List �
 whole-branched dp laws b p w t found prefix whole shows low best = whole-branched-for dp laws b.settings.width (reach b) p w t found prefix whole shows low best
 
 -- The relaxed diagram.
+
+-- what is shown is the solution
+pub shown-solution : (s : Option Solution) (f : Option Found) → ShowsSolution s f → solution_of f ≡ s
+shown-solution None None shows = refl
+shown-solution None (Some f) shows = absurd shows
+shown-solution (Some s) None shows = absurd shows
+shown-solution (Some s) (Some f) shows = ap Some (same-solution f.decisions.now s.decisions f.value s.value shows.decisions shows.value)
 
 found-completes : (dp : Dp) (p : List ℕ) (found : Option Solution) → FoundCompletes dp p found → IncumbentHolds dp found
 found-completes dp p None h = tt

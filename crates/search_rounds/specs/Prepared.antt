@@ -4,8 +4,13 @@ use Rattle.dp_model.specs.Dp.{Dp}
 use Rattle.layer_build.specs.Space.{IsWidth, IsPreparedFor}
 use Rattle.layer_build.specs.declared.workspace.PrepareError.{PrepareError}
 use Rattle.layer_build.specs.declared.workspace.PrepareError.TheVariants.{Width, OutOfMemory}
-use Rattle.exact_cutset.specs.Kept.{HasChildrenFor}
+use Rattle.exact_cutset.specs.Prepared as cutsets
+use Rattle.exact_cutset.specs.Seen.{ChildrenView}
 use Rattle.search_rounds.specs.declared.desk.Desk.{Desk}
+
+-- the list has room for the children of diagrams of the width
+abbrev pub HoldsChildren : Dp → ℕ → ChildrenView → Type 0
+HoldsChildren dp w c = cutsets.IsPreparedFor dp w c
 
 -- the desk has room for a subproblem of the instance, and for diagrams of the width and their children
 pub record HasRoom (dp : Dp) (w : ℕ) (desk : Desk) : Type 0 where
@@ -13,8 +18,7 @@ pub record HasRoom (dp : Dp) (w : ℕ) (desk : Desk) : Type 0 where
   pub cells : length desk.taken.subproblem.row ≡ dp.words
   pub space : IsPreparedFor dp desk.space
   pub width : desk.space.width ≡ w
-  pub cutset : HasChildrenFor dp desk.cutset
-  pub children : desk.cutset.width ≡ w
+  pub cutset : HoldsChildren dp w desk.cutset
 
 -- a desk with room for the rounds on an instance, and nothing of an earlier round on it
 pub record IsPrepared (dp : Dp) (w : ℕ) (desk : Desk) : Type 0 where

@@ -7,10 +7,10 @@ ghost use Rattle.dp_model.specs.declared.cut_kind.CutKind.TheVariants.{LastExact
 ghost use Rattle.dp_laws.specs.Diagrams.Cutsets.{children_of, found_in};
 ghost use Rattle.dp_laws.specs.Rules.Compiling.{relaxed};
 ghost use Rattle.layer_build.specs.Space.{IsPreparedFor};
-ghost use Rattle.exact_cutset.specs.Kept.{HasChildrenFor};
 ghost use Rattle.search_core.specs.View.{tag_of};
 ghost use Rattle.search_rounds.specs.Branched.{IsBranched};
 ghost use Rattle.search_rounds.specs.Offered.{IsOffered};
+ghost use Rattle.search_rounds.specs.Prepared.{HoldsChildren};
 
 use crate::offering::offer;
 use dp_model::{CutKind, DpModel, Sub};
@@ -69,15 +69,13 @@ pub fn relax<M: DpModel>(
     requires own { IsOwn (M.meaning (M.numbers model.now)) taken.now.subproblem }
     requires prepared { IsPreparedFor (M.meaning (M.numbers model.now)) space.old }
     requires width { space.old.width ≡ board.old.board.settings.width }
-    requires cutset { HasChildrenFor (M.meaning (M.numbers model.now)) cutset.old }
-    requires same { cutset.old.width ≡ space.old.width }
+    requires cutset { HoldsChildren (M.meaning (M.numbers model.now)) space.old.width cutset.old }
     ensures branched { IsBranched (M.meaning (M.numbers model.now)) board.new.board taken.now.subproblem.decisions result cutset.new.subs }
     ensures offered { IsOffered (M.meaning (M.numbers model.now)) board.old.board board.new.board }
     ensures tag { tag_of board.new ≡ tag_of board.old }
     ensures prepared { IsPreparedFor (M.meaning (M.numbers model.now)) space.new }
     ensures width { space.new.width ≡ space.old.width }
-    ensures cutset { HasChildrenFor (M.meaning (M.numbers model.now)) cutset.new }
-    ensures same { cutset.new.width ≡ cutset.old.width }
+    ensures cutset { HoldsChildren (M.meaning (M.numbers model.now)) space.old.width cutset.new }
 {
     let threshold = board.incumbent_value();
     fill(space, cutset, taken, threshold, model);
@@ -95,14 +93,12 @@ pub fn fill<M: DpModel>(
 )
     requires own { IsOwn (M.meaning (M.numbers model.now)) taken.now.subproblem }
     requires prepared { IsPreparedFor (M.meaning (M.numbers model.now)) space.old }
-    requires cutset { HasChildrenFor (M.meaning (M.numbers model.now)) cutset.old }
-    requires same { cutset.old.width ≡ space.old.width }
+    requires cutset { HoldsChildren (M.meaning (M.numbers model.now)) space.old.width cutset.old }
     ensures subs { cutset.new.subs ≡ children_of (M.meaning (M.numbers model.now)) (relaxed (M.meaning (M.numbers model.now)) (reached (M.meaning (M.numbers model.now)) taken.now.subproblem.decisions) space.old.width threshold) LastExactLayer }
     ensures found { cutset.new.found ≡ found_in (M.meaning (M.numbers model.now)) (relaxed (M.meaning (M.numbers model.now)) (reached (M.meaning (M.numbers model.now)) taken.now.subproblem.decisions) space.old.width threshold) }
     ensures prepared { IsPreparedFor (M.meaning (M.numbers model.now)) space.new }
     ensures width { space.new.width ≡ space.old.width }
-    ensures cutset { HasChildrenFor (M.meaning (M.numbers model.now)) cutset.new }
-    ensures same { cutset.new.width ≡ cutset.old.width }
+    ensures cutset { HoldsChildren (M.meaning (M.numbers model.now)) space.old.width cutset.new }
 {
     let diagram = relaxed(space, model, taken, threshold);
     children(model, &diagram, CutKind::LastExactLayer, cutset);

@@ -18,11 +18,7 @@ pub struct Desk {
 
 impl Desk {
     /// A desk for the rounds on the model with diagrams of the width, which is at least 1 and at most the greatest one.
-    pub fn prepare<M: DpModel>(
-        alloc: Global,
-        model: &M,
-        width: u32,
-    ) -> Result<Desk, PrepareError>
+    pub fn prepare<M: DpModel>(alloc: Global, model: &M, width: u32) -> Result<Desk, PrepareError>
         ensures { AreDesks (M.meaning (M.numbers model.now)) width result }
     {
         let space = Workspace::prepare(alloc, model, width)?;

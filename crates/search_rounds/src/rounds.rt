@@ -117,13 +117,7 @@ fn branch<M: DpModel>(
             children: Vec::new(alloc),
         });
     }
-    let threshold = relax(
-        board,
-        &mut desk.space,
-        &mut desk.cutset,
-        &desk.taken,
-        model,
-    );
+    let threshold = relax(board, &mut desk.space, &mut desk.cutset, &desk.taken, model);
     let children = desk.cutset.subs(alloc)?;
     desk.fates.reserve(children.len())?;
     board.reserve_for(children.len())?;

@@ -8,9 +8,9 @@ use std::alloc::Global;
 
 /// Does what the words ask for with the input, writes the answer, and gives the exit status.
 ///
-/// `words` leave out the program's name. The order is words, reading, instance, search, report. Status 0 is a proved or
-/// done job, 1 an infeasible instance, 2 a search that stopped early, 3 a refused input, 4 refused words, 6 an input and 7 an
-/// output that failed, and 8 want of memory before the search or in printing. 7 goes before all others but 6.
+/// `words` leave out the program's name. The order is words, reading, instance, width, search, report. Status 0 is a proved or
+/// done job, 1 an infeasible instance, 2 a search that stopped early, 3 a refused input, 4 refused words or a refused width, 6 an
+/// input and 7 an output that failed, and 8 want of memory before the search or in printing. 7 goes before all others but 6.
 pub fn run<S: Source, K: Sink>(alloc: Global, words: &[String], input: &mut S, out: &mut K) -> u8
     ensures { HasEnded (map string_bytes words.now) (readings S.left S.faults input.old input.new) (writings K.taken K.faults K.idle out.old out.new) result }
 {

@@ -1,7 +1,6 @@
 //! What a worker does with the solutions of its diagrams, and the children that are left.
 
-ghost use Rattle.std.specs.Prelude.{◌≡◌, false, [], length, IfOk, vec_capacity};
-ghost use Rattle.std.specs.Prelude.{◌≤◌};
+ghost use Rattle.std.specs.Prelude.{◌≡◌, false, []};
 ghost use Rattle.board_lock.specs.Order.{NoLess};
 ghost use Rattle.board_lock.specs.Seats.{first_of, seen_of, out_of};
 ghost use Rattle.dp_model.specs.Numbers.{OptionAtMost};
@@ -9,9 +8,9 @@ ghost use Rattle.dp_model.specs.Subproblem.{IsOwn};
 ghost use Rattle.dp_laws.specs.Children.{found_value};
 ghost use Rattle.board_laws.specs.GoodBoard.{IncumbentHolds};
 ghost use Rattle.layer_build.specs.Space.{IsPreparedFor};
-ghost use Rattle.exact_cutset.specs.Kept.{HasChildrenFor};
 ghost use Rattle.search_rounds.specs.Branched.{AreBranched};
 ghost use Rattle.search_rounds.specs.Offered.{solution_of};
+ghost use Rattle.search_rounds.specs.Prepared.{HoldsChildren};
 ghost use Rattle.worker_gate.specs.Ready.{IsWorker};
 
 use crate::gate::{Gate, Step};
@@ -112,16 +111,14 @@ pub fn relax_one<M: DpModel, G: Gate, R: Wait>(
     requires own { IsOwn (M.meaning (M.numbers model.now)) taken.now.subproblem }
     requires prepared { IsPreparedFor (M.meaning (M.numbers model.now)) space.old }
     requires width { space.old.width ≡ (first_of turn.now).board.settings.width }
-    requires cutset { HasChildrenFor (M.meaning (M.numbers model.now)) cutset.old }
-    requires same { cutset.old.width ≡ space.old.width }
+    requires cutset { HoldsChildren (M.meaning (M.numbers model.now)) space.old.width cutset.old }
     ensures worker { IsWorker turn.now seat.new }
     ensures number { seat.new.number ≡ seat.old.number }
     ensures out { out_of seat.new ≡ out_of seat.old }
     ensures branched { AreBranched (M.meaning (M.numbers model.now)) (first_of turn.now).board.settings.width (seen_of seat.new) taken.now.subproblem.decisions seen cutset.new.subs }
     ensures prepared { IsPreparedFor (M.meaning (M.numbers model.now)) space.new }
     ensures width { space.new.width ≡ space.old.width }
-    ensures cutset { HasChildrenFor (M.meaning (M.numbers model.now)) cutset.new }
-    ensures same { cutset.new.width ≡ cutset.old.width }
+    ensures cutset { HoldsChildren (M.meaning (M.numbers model.now)) space.old.width cutset.new }
 {
     fill(space, cutset, taken, seen, model);
     let _ = offer_one(rt, turn, seat, gate, cutset.found(), seen);

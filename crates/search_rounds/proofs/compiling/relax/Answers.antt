@@ -9,7 +9,7 @@ use Rattle.board_laws.specs.GoodBoard.{IncumbentHolds}
 use Rattle.search_core.specs.View.{Tag}
 use Rattle.search_rounds.specs.Branched.{IsBranched}
 use Rattle.search_rounds.specs.Offered.{solution_of}
-use Rattle.search_rounds.proofs.Branches.{relaxed-held, relaxed-branched}
+use Rattle.search_rounds.proofs.Branches.{shown-solution, relaxed-held, relaxed-branched}
 use Rattle.search_rounds.proofs.compiling.relax.Given as given
 use Rattle.search_rounds.proofs.compiling.relax.Goals as goal
 
@@ -22,7 +22,7 @@ chain_of g m = (g.met.M.DpModel g.world.𝓛 g.world.𝓜 g.world.𝓡 ((λ s x.
 pub offer-requires-after_bounds : goal.offer-requires-after_bounds
 offer-requires-after_bounds g c κs within =
     let dp = g.M.DpModel.meaning (g.M.DpModel.numbers c.args.model.now) in
-    let found = c.found.ensures ∙ c.fill.ensures.found in
+    let found = shown-solution _ _ c.found.ensures ∙ c.fill.ensures.found in
     subst (λ ns. IncumbentHolds (g.M.DpModel.meaning ns) (solution_of c.found.result)) (sym c.requires.numbers)
     (subst (λ (f : Option Solution). IncumbentHolds dp f) (sym found)
     (relaxed-held dp (laws_of g c.args.model.now) (chain_of g c.args.model.now) c.args.taken.now.subproblem c.args.space.now.width c.incumbent_value-threshold.result c.requires.own c.requires.prepared.width))
@@ -32,7 +32,7 @@ returns-clause-branched g c =
     let dp = g.M.DpModel.meaning (g.M.DpModel.numbers c.args.model.now) in
     let b = c.offer.new.board.board in
     let t = c.incumbent_value-threshold.result in
-    let found = c.found.ensures ∙ c.fill.ensures.found in
+    let found = shown-solution _ _ c.found.ensures ∙ c.fill.ensures.found in
     let same = c.requires.width ∙ ap (λ (t : Tag). t.settings.width) (sym c.offer.ensures.tag) in
     subst (λ (cs : List Subproblem). IsBranched dp b c.args.taken.now.subproblem.decisions t cs) (sym c.fill.ensures.subs)
     (relaxed-branched dp (laws_of g c.args.model.now) (chain_of g c.args.model.now) b c.args.taken.now.subproblem c.args.space.now.width t c.requires.own c.requires.prepared.width same

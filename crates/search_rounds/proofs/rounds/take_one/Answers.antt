@@ -36,7 +36,6 @@ returns-in-Sub-clause-prepared g c =
         space = room.space;
         width = room.width;
         cutset = room.cutset;
-        children = room.children;
       };
       no_fates = c.requires.prepared.no_fates;
     }

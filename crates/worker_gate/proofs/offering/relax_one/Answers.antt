@@ -8,7 +8,7 @@ use Rattle.dp_laws.specs.Children.{found_value}
 use Rattle.board_laws.specs.GoodBoard.{IncumbentHolds}
 use Rattle.search_rounds.specs.Branched.{AreBranched}
 use Rattle.search_rounds.specs.Offered.{solution_of}
-use Rattle.search_rounds.proofs.Branches.{relaxed-held, relaxed-branched-for}
+use Rattle.search_rounds.proofs.Branches.{shown-solution, relaxed-held, relaxed-branched-for}
 use Rattle.worker_gate.proofs.Later.{at-most-of}
 use Rattle.worker_gate.proofs.offering.relax_one.Given as given
 use Rattle.worker_gate.proofs.offering.relax_one.Goals as goal
@@ -22,7 +22,7 @@ chain_of g m = (g.met.M.DpModel g.world.𝓛 g.world.𝓜 g.world.𝓡 ((λ s x.
 pub offer_one-requires-clause-held : goal.offer_one-requires-clause-held
 offer_one-requires-clause-held g c κs within =
     let dp = g.M.DpModel.meaning (g.M.DpModel.numbers c.args.model.now) in
-    let found = c.found.ensures ∙ c.fill.ensures.found in
+    let found = shown-solution _ _ c.found.ensures ∙ c.fill.ensures.found in
     subst (λ ns. IncumbentHolds (g.M.DpModel.meaning ns) (solution_of c.found.result)) (sym c.requires.numbers)
     (subst (λ (f : Option Solution). IncumbentHolds dp f) (sym found)
     (relaxed-held dp (laws_of g c.args.model.now) (chain_of g c.args.model.now) c.args.taken.now.subproblem c.args.space.now.width c.args.seen c.requires.own c.requires.prepared.width))
@@ -32,7 +32,7 @@ returns-clause-branched g c =
     let dp = g.M.DpModel.meaning (g.M.DpModel.numbers c.args.model.now) in
     let width = (first_of c.args.turn.now).board.settings.width in
     let seen = seen_of c.offer_one.new.seat in
-    let found = c.found.ensures ∙ c.fill.ensures.found in
+    let found = shown-solution _ _ c.found.ensures ∙ c.fill.ensures.found in
     subst (λ (cs : List Subproblem). AreBranched dp width seen c.args.taken.now.subproblem.decisions c.args.seen cs) (sym c.fill.ensures.subs)
     (relaxed-branched-for dp (laws_of g c.args.model.now) (chain_of g c.args.model.now) width seen c.args.taken.now.subproblem c.args.space.now.width c.args.seen c.requires.own
     c.requires.prepared.width c.requires.width
