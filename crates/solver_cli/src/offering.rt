@@ -72,8 +72,5 @@ fn offered(job: &Job) -> Result<Task, WordsError>
 fn is_plain(settings: JobSettings, journal: &Option<String>, cover_words: Option<u64>) -> bool
     ensures { result ≡ is_plain settings (option_map string_bytes journal.now) cover_words }
 {
-    settings.workers >= 1
-        && settings.workers <= 16
-        && journal.is_none()
-        && cover_words.is_none()
+    settings.workers >= 1 && settings.workers <= 16 && journal.is_none() && cover_words.is_none()
 }

@@ -17,12 +17,7 @@ pub struct Search {
 #[derive(Clone, Copy, Debug, PartialEq, Eq)]
 pub enum TextJob {
     /// Search for a best solution.
-    Solve {
-        model: ModelName,
-        search: Search,
-    },
+    Solve { model: ModelName, search: Search },
     /// Digest the canonical text.
-    Digest {
-        model: ModelName,
-    },
+    Digest { model: ModelName },
 }
