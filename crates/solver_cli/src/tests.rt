@@ -72,6 +72,12 @@ fn prints_what_it_must(rt: HostRuntime) -> Result<(), Fail> {
             0u8,
         ),
         (
+            "solve knapsack --workers 4 --width 1",
+            THREE_ITEMS,
+            "proved\nvalue 120\nassignment 0 1 1\n",
+            0,
+        ),
+        (
             "solve knapsack",
             "2 7\n10 3 2\n7 2 3\n",
             "proved\nvalue 24\nassignment 1 2\n",
@@ -244,12 +250,6 @@ fn refuses_at_the_place(rt: HostRuntime) -> Result<(), Fail> {
         ),
         ("generate knapsack 1001 0", "", "words number n\n", 4),
         ("check", THREE_ITEMS, "words usage\n", 4),
-        (
-            "solve knapsack --workers 4 --width 1",
-            THREE_ITEMS,
-            "proved\nvalue 120\nassignment 0 1 1\n",
-            0,
-        ),
         (
             "solve knapsack --workers 17",
             THREE_ITEMS,
