@@ -25,7 +25,7 @@ use Rattle.board_laws.specs.GoodBoard.{IncumbentHolds}
 use Rattle.layer_build.specs.Layers.{IsWidth}
 use Rattle.restricted_dd.specs.Beams.{ShowsBeam}
 use Rattle.exact_cutset.specs.Seen.{ShowsSolution}
-use Rattle.search_rounds.specs.Branched.{IsBranched}
+use Rattle.search_rounds.specs.Branched.{AreBranched, IsBranched}
 use Rattle.search_rounds.specs.Offered.{solution_of}
 
 abbrev solution : List ℕ → ℤ → Solution
@@ -65,9 +65,9 @@ not-some None h = refl
 not-some (Some x) h = absurd (cc)
 
 -- where the width took nothing away and the beam was offered, nothing is left to branch
-pub whole-branched : (dp : Dp) → IsLawful dp → (b : BoardState) (p : List ℕ) (w : ℕ) (t : Option ℤ) (found : Option Found) → IsPrefix dp p → false ≡ is_some (wide dp p w t) → ShowsBeam (beam dp p w t) found
-    → OptionAtMost t (reach b) → OptionAtMost (found_value (solution_of found)) (reach b) → IsBranched dp b p t []
-whole-branched dp laws b p w t found prefix whole shows low best =
+pub whole-branched-for : (dp : Dp) → IsLawful dp → (v : ℕ) (most : Option ℤ) (p : List ℕ) (w : ℕ) (t : Option ℤ) (found : Option Found) → IsPrefix dp p → false ≡ is_some (wide dp p w t) → ShowsBeam (beam dp p w t) found
+    → OptionAtMost t most → OptionAtMost (found_value (solution_of found)) most → AreBranched dp v most p t []
+whole-branched-for dp laws v most p w t found prefix whole shows low best =
     let same = beam-value-held (beam dp p w t) found shows in
     record {
       below = low;
@@ -78,13 +78,17 @@ whole-branched dp laws b p w t found prefix whole shows low best =
         differ = tt;
         far = tt;
         held = tt;
-        matched = λ x k. elim (whole_beams-best dp laws p w t prefix (not-some (wide dp p w t) whole) x k) as (λ _. AtMost (value_of dp x) (reach b) ⊎ ⊥) [
-          | inl a ↦ inl (at-most-raised (value_of dp x) t (reach b) low a)
-          | inr a ↦ inl (at-most-raised (value_of dp x) (found_value (solution_of found)) (reach b) best (subst (AtMost (value_of dp x)) same a))
+        matched = λ x k. elim (whole_beams-best dp laws p w t prefix (not-some (wide dp p w t) whole) x k) as (λ _. AtMost (value_of dp x) most ⊎ ⊥) [
+          | inl a ↦ inl (at-most-raised (value_of dp x) t most low a)
+          | inr a ↦ inl (at-most-raised (value_of dp x) (found_value (solution_of found)) most best (subst (AtMost (value_of dp x)) same a))
         ];
       };
-      deep = none-deep (wide dp p b.settings.width t);
+      deep = none-deep (wide dp p v t);
     }
+
+pub whole-branched : (dp : Dp) → IsLawful dp → (b : BoardState) (p : List ℕ) (w : ℕ) (t : Option ℤ) (found : Option Found) → IsPrefix dp p → false ≡ is_some (wide dp p w t) → ShowsBeam (beam dp p w t) found
+    → OptionAtMost t (reach b) → OptionAtMost (found_value (solution_of found)) (reach b) → IsBranched dp b p t []
+whole-branched dp laws b p w t found prefix whole shows low best = whole-branched-for dp laws b.settings.width (reach b) p w t found prefix whole shows low best
 
 -- The relaxed diagram.
 
@@ -108,16 +112,21 @@ relaxed-held dp laws chained c w t own fits =
     found-completes dp p (found_in dp d) (children-sound dp laws p w t d LastExactLayer is own.shorter).solution
 
 -- once that was offered, its children may take the place of the subproblem
-pub relaxed-branched : (dp : Dp) → IsLawful dp → IsChained dp → (b : BoardState) (c : Subproblem) (w : ℕ) (t : Option ℤ) → IsOwn dp c → IsWidth dp w → w ≡ b.settings.width
-    → OptionAtMost t (reach b) → OptionAtMost (found_value (found_in dp (relaxed dp (reached dp c.decisions) w t))) (reach b)
-    → IsBranched dp b c.decisions t (children_of dp (relaxed dp (reached dp c.decisions) w t) LastExactLayer)
-relaxed-branched dp laws chained b c w t own fits same low best =
+pub relaxed-branched-for : (dp : Dp) → IsLawful dp → IsChained dp → (v : ℕ) (most : Option ℤ) (c : Subproblem) (w : ℕ) (t : Option ℤ) → IsOwn dp c → IsWidth dp w → w ≡ v
+    → OptionAtMost t most → OptionAtMost (found_value (found_in dp (relaxed dp (reached dp c.decisions) w t))) most
+    → AreBranched dp v most c.decisions t (children_of dp (relaxed dp (reached dp c.decisions) w t) LastExactLayer)
+relaxed-branched-for dp laws chained v most c w t own fits same low best =
     let p = c.decisions in
     let d = relaxed dp (reached dp p) w t in
     let is = compiled-is-diagram dp laws chained p w t own.prefix own.shorter fits.positive in
     let fit = children-fit dp laws p w t d own.shorter is in
     record {
       below = low;
-      children = sound-follow dp (reach b) t (found_in dp d) p (children_of dp d LastExactLayer) low best (fit.few LastExactLayer fits.fits) (fit.far LastExactLayer) (children-sound dp laws p w t d LastExactLayer is own.shorter);
+      children = sound-follow dp most t (found_in dp d) p (children_of dp d LastExactLayer) low best (fit.few LastExactLayer fits.fits) (fit.far LastExactLayer) (children-sound dp laws p w t d LastExactLayer is own.shorter);
       deep = subst (λ v. StandDeep (wide dp p v t) (children_of dp d LastExactLayer)) same (subst (λ depth. StandDeep depth (children_of dp d LastExactLayer)) is.first_reduced (children-deep dp laws p w t d LastExactLayer is own.shorter));
     }
+
+pub relaxed-branched : (dp : Dp) → IsLawful dp → IsChained dp → (b : BoardState) (c : Subproblem) (w : ℕ) (t : Option ℤ) → IsOwn dp c → IsWidth dp w → w ≡ b.settings.width
+    → OptionAtMost t (reach b) → OptionAtMost (found_value (found_in dp (relaxed dp (reached dp c.decisions) w t))) (reach b)
+    → IsBranched dp b c.decisions t (children_of dp (relaxed dp (reached dp c.decisions) w t) LastExactLayer)
+relaxed-branched dp laws chained b c w t own fits same low best = relaxed-branched-for dp laws chained b.settings.width (reach b) c w t own fits same low best

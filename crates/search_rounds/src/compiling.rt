@@ -83,8 +83,8 @@ pub fn relax<M: DpModel>(
     threshold
 }
 
-/// Fills `cutset` from the relaxed diagram of a subproblem.
-fn fill<M: DpModel>(
+/// Fills `cutset` from the relaxed diagram of a subproblem. It takes no memory.
+pub fn fill<M: DpModel>(
     space: &mut Workspace,
     cutset: &mut Children,
     taken: &Sub,

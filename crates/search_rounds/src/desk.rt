@@ -10,10 +10,10 @@ use std::alloc::Global;
 /// children, and a buffer for fates, which grows to the size that rounds need and is used again.
 #[derive(Drop)]
 pub struct Desk {
-    pub(crate) taken: Sub,
-    pub(crate) space: Workspace,
-    pub(crate) cutset: Children,
-    pub(crate) fates: Vec<Fate>,
+    pub taken: Sub,
+    pub space: Workspace,
+    pub cutset: Children,
+    pub fates: Vec<Fate>,
 }
 
 impl Desk {

@@ -15,5 +15,7 @@ mod desk;
 mod offering;
 mod rounds;
 
+pub use branched::Branched;
+pub use compiling::fill;
 pub use desk::Desk;
 pub use rounds::explore;

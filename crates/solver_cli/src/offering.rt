@@ -32,8 +32,8 @@ pub fn asked(alloc: Global, words: &[String]) -> Result<Task, WordsError>
     offered(&job)
 }
 
-/// The task of a job. This is the one place that tells which words are still to come: a search with a journal, with a cover or by more
-/// than one worker, and the command `resume`. They are answered as words outside the grammar.
+/// The task of a job. This is the one place that tells which words are still to come: a search with a journal or with a cover, and the
+/// command `resume`. They are answered as words outside the grammar.
 fn offered(job: &Job) -> Result<Task, WordsError>
     requires { IsDrawable job.now }
     ensures answer { IsAnswer (λ task. task) (offered (job_view job.now)) result }
@@ -49,6 +49,7 @@ fn offered(job: &Job) -> Result<Task, WordsError>
             model: *model,
             search: Search {
                 width: settings.width,
+                workers: settings.workers,
                 budget: settings.budget,
                 stats: settings.stats,
             },
@@ -70,9 +71,9 @@ fn offered(job: &Job) -> Result<Task, WordsError>
     }
 }
 
-/// Whether a search asks for nothing that is still to come.
+/// Whether a search asks for nothing that is still to come. It has from 1 to 16 workers, as the grammar leaves it.
 fn is_plain(settings: JobSettings, journal: &Option<String>, cover_words: Option<u64>) -> bool
     ensures { result ≡ is_plain settings (option_map string_bytes journal.now) cover_words }
 {
-    settings.workers <= 1 && journal.is_none() && cover_words.is_none()
+    settings.workers >= 1 && settings.workers <= 16 && journal.is_none() && cover_words.is_none()
 }

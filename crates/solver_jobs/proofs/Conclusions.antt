@@ -128,10 +128,11 @@ pub over_exact : (dp : Dp) (search : Search) (b : BoardState) → IsOver dp sear
 over_exact dp search b over = ap (λ (s : Settings). s.within) (over_settings dp search b over) ∙ over.exact
 
 -- some rounds after the first board
-pub is_over : (dp : Dp) (search : Search) (settings : Settings) (first b : BoardState) → first ≡ first_board dp settings → IsSearchWidth dp search.width settings.width → settings.budget ≡ search.budget → settings.within ≡ pos 0
+pub is_over : (dp : Dp) (search : Search) (settings : Settings) (first b : BoardState) → first ≡ first_board dp settings → IsSearchWidth dp search.width settings.width → settings.workers ≡ search.workers → settings.budget ≡ search.budget → settings.within ≡ pos 0
     → IsLater dp first b → HasEnded b → IsComplete dp b → IsOver dp search b
-is_over dp search settings first b is wide within exact later ended complete = record {
+is_over dp search settings first b is wide crew within exact later ended complete = record {
   settings = settings;
+  crew = crew;
   steps = later.steps;
   run = subst (λ (f : BoardState). IsRun dp f later.steps b) is later.run;
   wide = wide;

@@ -94,7 +94,7 @@ IsCounted dp board true (Some counts) = AreCounts dp board counts
 IsCounted dp board false None = Unit {0}
 IsCounted dp board _ _ = ⊥
 
--- a run from the first board with that width and budget, and without a distance from the best, led to a good board with nothing out, of
+-- a run from the first board with that width, number of workers and budget, and without a distance from the best, led to a good board with nothing out, of
 -- which this outcome and these counts are told
 pub record HasSearched (dp : Dp) (own : List ℕ → Option ℤ) (search : Search) (outcome : Outcome) (counts : Option Counts) : Type 0 where
   pub settings : Settings
@@ -102,6 +102,7 @@ pub record HasSearched (dp : Dp) (own : List ℕ → Option ℤ) (search : Searc
   pub board : BoardState
   pub run : IsRun dp (first_board dp settings) steps board
   pub wide : IsSearchWidth dp search.width settings.width
+  pub crew : settings.workers ≡ search.workers
   pub within : settings.budget ≡ search.budget
   pub exact : settings.within ≡ pos 0
   pub kept : IsBoard dp board
@@ -117,9 +118,9 @@ Solves dp own search answers.Width = IsRefusedWidth dp search.width
 Solves dp own search answers.OutOfMemory = Unit {0}
 Solves dp own search _ = ⊥
 
--- how an instance that is drawn is searched: with the default width, the greatest budget, and its counts
+-- how an instance that is drawn is searched: with the default width, one worker, the greatest budget, and its counts
 abbrev pub by_default : Search
-by_default = record { width = None; budget = 2 ^ 64 - 1; stats = true }
+by_default = record { width = None; workers = 1; budget = 2 ^ 64 - 1; stats = true }
 
 -- what a digest may answer
 abbrev pub Digests : List ℕ → Answer → Type 0
@@ -137,6 +138,15 @@ Prints canonical _ = ⊥
 abbrev pub Draws : Theory → ℕ → ℕ → Bool → Answer → Type 0
 Draws t n seed false answer = Prints (t.canonical (t.drawn n seed)) answer
 Draws t n seed true answer = Solves (t.program (t.drawn n seed)) (t.own_value (t.drawn n seed)) by_default answer
+
+-- a search has from 1 to 16 workers
+abbrev pub HasCrew : Search → Type 0
+HasCrew search = (1 ≤ search.workers) × (search.workers ≤ 16)
+
+-- so many workers, where it is a search
+abbrev pub IsCrewed : TextJob → Type 0
+IsCrewed (Solve model search) = HasCrew search
+IsCrewed (Digest model) = Unit {0}
 
 -- the problem that a job is for
 abbrev pub model_in : TextJob → ModelName

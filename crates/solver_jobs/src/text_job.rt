@@ -5,6 +5,8 @@ use problem_names::ModelName;
 pub struct Search {
     /// The width of the diagrams, where one is given: at least 1 and at most the greatest one of the instance.
     pub width: Option<u32>,
+    /// How many workers search side by side, from 1 to 16.
+    pub workers: u32,
     /// The greatest number of subproblems.
     pub budget: u64,
     /// Whether the counts of the search are told.

@@ -50,6 +50,36 @@ module _ {F S K : Type 0} (g : Shared F (MutBor S × (MutBor K × Unit {0})) (Un
   unfolding HaveLeft
   have_left Q of ss ts ks ls h = each_left Q (λ s t k l x. of s t k l (changes_of s t k l x)) ss ts ks ls h
 
+  each_desk : (D : K → Type 0) → ((s t : S) (k l : K) → Leaves g f s t k l → D l) → (ss ts : List S) (ks ls : List K) → EachChanges g f ss ts ks ls → AllByRecursion D ls
+  each_desk D of [] [] [] [] h = tt
+  each_desk D of (s ∷ ss) (t ∷ ts) (k ∷ ks) (l ∷ ls) h = (of s t k l h.0, each_desk D of ss ts ks ls h.1)
+  each_desk D of [] [] [] (l ∷ ls) h = absurd h
+  each_desk D of [] [] (k ∷ ks) ls h = absurd h
+  each_desk D of [] (t ∷ ts) ks ls h = absurd h
+  each_desk D of (s ∷ ss) [] ks ls h = absurd h
+  each_desk D of (s ∷ ss) (t ∷ ts) [] ls h = absurd h
+  each_desk D of (s ∷ ss) (t ∷ ts) (k ∷ ks) [] h = absurd h
+
+  -- what a call leaves of each desk
+  pub desks_left : (D : K → Type 0) → ((s t : S) (k l : K) → Changes g f s t k l → D l) → (ss ts : List S) (ks ls : List K) → HaveLeft g f ss ts ks ls → All D ls
+  unfolding HaveLeft
+  desks_left D of ss ts ks ls h = All-from_recursion D ls (each_desk D (λ s t k l x. of s t k l (changes_of s t k l x)) ss ts ks ls h)
+
+  each_long : (ss ts : List S) (ks ls : List K) → EachChanges g f ss ts ks ls → length ls ≡ length ks
+  each_long [] [] [] [] h = refl
+  each_long (s ∷ ss) (t ∷ ts) (k ∷ ks) (l ∷ ls) h = let rest = each_long ss ts ks ls h.1 in omega arith
+  each_long [] [] [] (l ∷ ls) h = absurd h
+  each_long [] [] (k ∷ ks) ls h = absurd h
+  each_long [] (t ∷ ts) ks ls h = absurd h
+  each_long (s ∷ ss) [] ks ls h = absurd h
+  each_long (s ∷ ss) (t ∷ ts) [] ls h = absurd h
+  each_long (s ∷ ss) (t ∷ ts) (k ∷ ks) [] h = absurd h
+
+  -- there are as many desks
+  pub left_long : (ss ts : List S) (ks ls : List K) → HaveLeft g f ss ts ks ls → length ls ≡ length ks
+  unfolding HaveLeft
+  left_long ss ts ks ls h = each_long ss ts ks ls h
+
 module _ {S : Type 0} where
   pub pairs_right : (Q : S → S → Type 0) (P : S → Type 0) → ((s t : S) → Q s t → P t) → (ss ts : List S) → Pairwise Q ss ts → AllByRecursion P ts
   pairs_right Q P of [] [] h = tt

@@ -1,4 +1,6 @@
 mod Calls
+pub mod Histories
+mod Idle
 mod Later
 mod Moves
 mod Slots

@@ -12,6 +12,10 @@ mod holding_finish;
 mod holding_give_back;
 mod holding_improve;
 mod holding_take;
+mod offering;
+mod opening;
+mod together;
+mod working;
 
 pub use fanning::side_by_side;
 pub use gate::{Gate, NoGate, Step};
@@ -19,3 +23,6 @@ pub use holding_finish::finish_one;
 pub use holding_give_back::give_up;
 pub use holding_improve::improve_one;
 pub use holding_take::{Asked, take_one};
+pub use opening::{close, open};
+pub use together::{explore_together, fan_out};
+pub use working::work;

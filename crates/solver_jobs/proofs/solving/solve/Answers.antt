@@ -1,7 +1,7 @@
 use Rattle.std.proofs.Common.{Err, subst}
 use Rattle.dp_model.specs.Laws.{IsLawful}
 use Rattle.layer_build.specs.declared.workspace.PrepareError.{PrepareError}
-use Rattle.search_rounds.specs.Prepared.{AreDesks}
+use Rattle.solver_jobs.specs.Desks.{AreAllDesks}
 use Rattle.solver_jobs.proofs.Widths.{refused}
 use Rattle.solver_jobs.proofs.solving.solve.Given as given
 use Rattle.solver_jobs.proofs.solving.solve.Goals as goal
@@ -12,5 +12,5 @@ laws_of g m = (g.met.P.DpModel g.world.𝓛 g.world.𝓜 g.world.𝓡 ((λ s x. 
 pub returns-in-Err-Width : goal.returns-in-Err-Width
 returns-in-Err-Width g c =
     let dp = g.P.DpModel.meaning (g.P.DpModel.numbers c.args.model) in
-    let never = subst (λ (e : PrepareError). AreDesks dp c.width_for-width.result (Err e)) c.in-Err-Width.field-0-is c.in-Err-Width.ensures in
+    let never = subst (λ (e : PrepareError). AreAllDesks dp c.width_for-width.result c.args.search.workers (Err e)) c.in-Err-Width.field-0-is c.in-Err-Width.ensures in
     refused dp (laws_of g c.args.model) c.args.search.width c.width_for-width.result c.width_for-width.ensures never
