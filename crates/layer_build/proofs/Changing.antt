@@ -101,7 +101,7 @@ pub changed-layers : (rule : TwoLayers → TwoLayers) (i : Inside) → the_invar
 changed-layers rule i h less at old d x n redirects first_reduced e above next =
     subst (λ (k : ℕ). shown_down (at_depth i.stack.vars i.stack.first i.stack.last (set i.stack.layers.items k x) n) (i.prefix.items ∷ []) i.stack.first (i.stack.last - i.stack.first) ≡ on_last_two rule (the_view i).layers) (sym e.place)
     (two-view rule i h less x n (bare-above i at old d x n redirects e)
-        (λ paths below. above paths below ∙ ap (λ (l : LayerView). (rule (record { above = shown_layer paths l.nodes; next = shown_below below i.stack.newest.nodes })).above) e.above) next)
+    (λ paths below. above paths below ∙ ap (λ (l : LayerView). (rule (record { above = shown_layer paths l.nodes; next = shown_below below i.stack.newest.nodes })).above) e.above) next)
 
 -- the ranks of the new last layer
 pub changed-ranks : (dp : Dp) (rule : TwoLayers → TwoLayers) (i : Inside) → the_invariant i → IsUnderWay dp (the_view i) → (at : ℕ) (x n : LayerView) (redirects : ℕ) (first_reduced : Option ℕ) → the_invariant (changed i at x n redirects first_reduced)
@@ -159,14 +159,14 @@ struck-layers dp i h u t at old d x n redirects first_reduced e above next = go 
 
     alone : length i.stack.newest.nodes ≤ 1 → (m first : ℕ) → m ≡ 0 → first ≡ i.stack.last
         → shown_down (at_depth i.stack.vars i.stack.first i.stack.last (set i.stack.layers.items at x) n) (i.prefix.items ∷ []) first m
-            ≡ on_last_two (prune dp i.stack.last t) (shown_down (at_depth i.stack.vars i.stack.first i.stack.last i.stack.layers.items i.stack.newest) (i.prefix.items ∷ []) first m)
+        ≡ on_last_two (prune dp i.stack.last t) (shown_down (at_depth i.stack.vars i.stack.first i.stack.last i.stack.layers.items i.stack.newest) (i.prefix.items ∷ []) first m)
     alone few m first none same =
         subst (λ (j : ℕ). shown_down (at_depth i.stack.vars i.stack.first i.stack.last (set i.stack.layers.items at x) n) (i.prefix.items ∷ []) first j
-            ≡ on_last_two (prune dp i.stack.last t) (shown_down (at_depth i.stack.vars i.stack.first i.stack.last i.stack.layers.items i.stack.newest) (i.prefix.items ∷ []) first j)) (sym none)
+        ≡ on_last_two (prune dp i.stack.last t) (shown_down (at_depth i.stack.vars i.stack.first i.stack.last i.stack.layers.items i.stack.newest) (i.prefix.items ∷ []) first j)) (sym none)
         (ap (λ (l : List DdNode). l ∷ [])
-            (ap (shown_layer q) (newest-at i.stack.vars i.stack.first i.stack.last (set i.stack.layers.items at x) n first same)
-            ∙ (one-pruned dp i.stack.last t q i.stack.newest.nodes n.nodes few (next (λ _. []))
-            ∙ ap (λ (l : List NodeView). pruned_nodes dp i.stack.last t [] 0 (shown_layer q l)) (sym (newest-at i.stack.vars i.stack.first i.stack.last i.stack.layers.items i.stack.newest first same)))))
+        (ap (shown_layer q) (newest-at i.stack.vars i.stack.first i.stack.last (set i.stack.layers.items at x) n first same)
+        ∙ (one-pruned dp i.stack.last t q i.stack.newest.nodes n.nodes few (next (λ _. []))
+        ∙ ap (λ (l : List NodeView). pruned_nodes dp i.stack.last t [] 0 (shown_layer q l)) (sym (newest-at i.stack.vars i.stack.first i.stack.last i.stack.layers.items i.stack.newest first same)))))
 
     go : (i.stack.first < i.stack.last) ⊎ (i.stack.last ≡ i.stack.first) → (the_view (changed i at x n redirects first_reduced)).layers ≡ on_last_two (prune dp i.stack.last t) (the_view i).layers
     go (inl less) = changed-layers (prune dp i.stack.last t) i h less at old d x n redirects first_reduced e above (λ paths a. next paths)

@@ -90,7 +90,7 @@ two-seen i h less =
     ∙ (two-are (nodes_in i.stack) (i.prefix.items ∷ []) i.stack.first m (i.stack.last - 1) (omega arith)
     ∙ (ap (λ (l : List NodeView). record { above = shown_layer (path_in (above_paths i)) l; next = shown_below (path_in (above_paths i)) (nodes_in i.stack (i.stack.last - 1 + 1)) }) (above-is i less)
     ∙ ap (λ (l : List NodeView). record { above = shown_layer (path_in (above_paths i)) (above_of i).nodes; next = shown_below (path_in (above_paths i)) l })
-      (ap (nodes_in i.stack) next ∙ newest-at i.stack.vars i.stack.first i.stack.last i.stack.layers.items i.stack.newest i.stack.last refl)))
+    (ap (nodes_in i.stack) next ∙ newest-at i.stack.vars i.stack.first i.stack.last i.stack.layers.items i.stack.newest i.stack.last refl)))
 
 lengths-in : (k : ℕ) (next : List DdNode) (paths : ℕ → List ℕ) (j : ℕ) (nodes : List NodeView) → k < 1024 → Each (λ (n : DdNode). Each (IsArcWithin k next n) n.arcs) (shown_from paths j nodes) → Each MayBeLengthened nodes
 lengths-in k next paths j [] low h = tt
@@ -134,7 +134,7 @@ pub expanded-view : (rule : List DdNode → TwoLayers) (i : Inside) → the_inva
     → ((paths : ℕ → List ℕ) → shown_layer paths x.nodes ≡ (rule (shown_layer paths i.stack.newest.nodes)).above)
     → ((paths : ℕ → List ℕ) → shown_below paths n.nodes ≡ (rule (shown_layer paths i.stack.newest.nodes)).next)
     → shown_down (at_depth i.stack.vars i.stack.first (i.stack.last + 1) (set i.stack.layers.items (place_of i.stack.vars i.stack.first i.stack.last) x) n) (i.prefix.items ∷ []) i.stack.first (i.stack.last + 1 - i.stack.first)
-        ≡ expand_last rule (the_view i).layers
+    ≡ expand_last rule (the_view i).layers
 expanded-view rule i h low x n rest above next =
     let vars = i.stack.vars in let first = i.stack.first in let last = i.stack.last in let items = i.stack.layers.items in
     let ordered = h.stack.first in
@@ -148,16 +148,16 @@ expanded-view rule i h low x n rest above next =
     let more : last + 1 - first ≡ suc (last - first) = omega arith in
     ap (shown_down new (i.prefix.items ∷ []) first) more
     ∙ expand-shown rule (nodes_in i.stack) new last same (bare-all (nodes_in i.stack) new last same (ap (map without_arcs) here ∙ (rest ∙ ap (map without_arcs) (sym old))))
-      (λ paths. ap (shown_layer paths) here ∙ (above paths ∙ ap (λ (l : List NodeView). (rule (shown_layer paths l)).above) (sym old)))
-      (λ paths. ap (shown_below paths) below ∙ (next paths ∙ ap (λ (l : List NodeView). (rule (shown_layer paths l)).next) (sym old)))
-      (i.prefix.items ∷ []) first (last - first) (omega arith)
+    (λ paths. ap (shown_layer paths) here ∙ (above paths ∙ ap (λ (l : List NodeView). (rule (shown_layer paths l)).above) (sym old)))
+    (λ paths. ap (shown_below paths) below ∙ (next paths ∙ ap (λ (l : List NodeView). (rule (shown_layer paths l)).next) (sym old)))
+    (i.prefix.items ∷ []) first (last - first) (omega arith)
 
 pub two-view : (rule : TwoLayers → TwoLayers) (i : Inside) → the_invariant i → i.stack.first < i.stack.last → (x n : LayerView)
     → map without_arcs x.nodes ≡ map without_arcs (above_of i).nodes
     → ((paths below : ℕ → List ℕ) → shown_layer paths x.nodes ≡ (rule (record { above = shown_layer paths (above_of i).nodes; next = shown_below below i.stack.newest.nodes })).above)
     → ((paths : ℕ → List ℕ) (a : List DdNode) → shown_below paths n.nodes ≡ (rule (record { above = a; next = shown_below paths i.stack.newest.nodes })).next)
     → shown_down (at_depth i.stack.vars i.stack.first i.stack.last (set i.stack.layers.items (place_above i.stack.vars i.stack.first i.stack.last) x) n) (i.prefix.items ∷ []) i.stack.first (i.stack.last - i.stack.first)
-        ≡ on_last_two rule (the_view i).layers
+    ≡ on_last_two rule (the_view i).layers
 two-view rule i h less x n rest above next =
     let vars = i.stack.vars in let first = i.stack.first in let last = i.stack.last in let items = i.stack.layers.items in
     let low = h.stack.last in
@@ -166,7 +166,7 @@ two-view rule i h less x n rest above next =
     let place = place-low vars first (last - 1) (omega arith) in
     let new = at_depth vars first last (set items (place_above vars first last) x) n in
     let same : (j : ℕ) → j < last - 1 → new j ≡ nodes_in i.stack j = λ j deeper. kept-at vars first last last (place_above vars first last) items x i.stack.newest n j (omega arith) (omega arith)
-        (λ e. places-apart vars first (last - 1) j (omega arith) (omega arith) (λ f. absurd (omega arith)) (sym at ∙ e)) in
+    (λ e. places-apart vars first (last - 1) j (omega arith) (omega arith) (λ f. absurd (omega arith)) (sym at ∙ e)) in
     let here : new (last - 1) ≡ x.nodes = subst (λ (k : ℕ). at_depth vars first last (set items k x) n (last - 1) ≡ x.nodes) (sym at) (put-at vars first last items x n (last - 1) (omega arith) (omega arith)) in
     let old = above-is i less in
     let next-depth : last - 1 + 1 ≡ last = omega arith in
@@ -175,10 +175,10 @@ two-view rule i h less x n rest above next =
     let more : last - first ≡ suc (last - 1 - first) = omega arith in
     ap (shown_down new (i.prefix.items ∷ []) first) more
     ∙ (two-shown rule (nodes_in i.stack) new (last - 1) same (bare-all (nodes_in i.stack) new (last - 1) same (ap (map without_arcs) here ∙ (rest ∙ ap (map without_arcs) (sym old))))
-      (λ paths lower. ap (shown_layer paths) here ∙ (above paths lower ∙ (ap (λ (l : List NodeView). (rule (record { above = shown_layer paths l; next = shown_below lower i.stack.newest.nodes })).above) (sym old)
-          ∙ ap (λ (l : List NodeView). (rule (record { above = shown_layer paths (nodes_in i.stack (last - 1)); next = shown_below lower l })).above) (sym old-below))))
-      (λ paths a. ap (shown_below paths) below ∙ (next paths a ∙ ap (λ (l : List NodeView). (rule (record { above = a; next = shown_below paths l })).next) (sym old-below)))
-      (i.prefix.items ∷ []) first (last - 1 - first) (omega arith)
+    (λ paths lower. ap (shown_layer paths) here ∙ (above paths lower ∙ (ap (λ (l : List NodeView). (rule (record { above = shown_layer paths l; next = shown_below lower i.stack.newest.nodes })).above) (sym old)
+    ∙ ap (λ (l : List NodeView). (rule (record { above = shown_layer paths (nodes_in i.stack (last - 1)); next = shown_below lower l })).above) (sym old-below))))
+    (λ paths a. ap (shown_below paths) below ∙ (next paths a ∙ ap (λ (l : List NodeView). (rule (record { above = a; next = shown_below paths l })).next) (sym old-below)))
+    (i.prefix.items ∷ []) first (last - 1 - first) (omega arith)
     ∙ ap (λ (k : ℕ). on_last_two rule (shown_down (nodes_in i.stack) (i.prefix.items ∷ []) first k)) (sym more))
 
 -- ---- for the calls
@@ -298,7 +298,7 @@ pub expanded-seen : (dp : Dp) (i : Inside) → the_invariant i → i.stack.last 
     → ((paths : ℕ → List ℕ) → shown_below paths n.nodes ≡ (expand dp i.stack.last (shown_layer paths i.stack.newest.nodes)).next)
     → KeepsRoom i.stack.newest n
     → the_view (record i { stack = record { vars = i.stack.vars; first = i.stack.first; last = i.stack.last + 1; layers = with_item i.stack.layers at x; newest = n }; expansion = expansion })
-        ≡ record (the_view i) { layers = expand_last (expand dp (last_depth (the_view i))) (the_view i).layers; ranks = ranks_in n }
+    ≡ record (the_view i) { layers = expand_last (expand dp (last_depth (the_view i))) (the_view i).layers; ranks = ranks_in n }
 expanded-seen dp i h low x n at expansion same rest above next next_rooms =
     let seen = expanded-view (expand dp i.stack.last) i h low x n rest above next in
     ap₂ (λ (r : ℕ) (l : List (List DdNode)). record (the_view i) { room = r; layers = l; ranks = ranks_in n }) next_rooms.nodes_room
@@ -315,7 +315,7 @@ expanded-kept dp laws i h u low n narrow next ranked unmerged few =
     let ps = last_paths i in
     let at = deep i h in
     let is : (expand dp (last_depth V) (last_layer V.layers)).next ≡ shown_below (path_in ps) n.nodes =
-        ap (λ (k : ℕ). (expand dp k (last_layer V.layers)).next) at ∙ (ap (λ (l : List DdNode). (expand dp i.stack.last l).next) (last-seen i h) ∙ sym (next (path_in ps))) in
+    ap (λ (k : ℕ). (expand dp k (last_layer V.layers)).next) at ∙ (ap (λ (l : List DdNode). (expand dp i.stack.last l).next) (last-seen i h) ∙ sym (next (path_in ps))) in
     let vars = u.prepared.vars in
     let long = below-length (path_in ps) n.nodes in
     let count = count-seen i h in
@@ -325,10 +325,10 @@ expanded-kept dp laws i h u low n narrow next ranked unmerged few =
     let ranks = ranks-below dp (i.stack.last + 1) ps n ranked in
     expanded-under-way dp laws V (ranks_in n) u (omega arith)
     (subst (λ (k : ℕ). ranks_in n ≡ map (λ (node : DdNode). dp.rank (k + 1) node.row) (expand dp (last_depth V) (last_layer V.layers)).next) (sym at)
-        (subst (λ (l : List DdNode). ranks_in n ≡ map (λ (node : DdNode). dp.rank (i.stack.last + 1) node.row) l) (sym is) ranks))
+    (subst (λ (l : List DdNode). ranks_in n ≡ map (λ (node : DdNode). dp.rank (i.stack.last + 1) node.row) l) (sym is) ranks))
     (subst (Each (λ (node : DdNode). 1 ≤ length node.path)) (sym is) (have-paths (path_in ps) n.nodes unmerged))
     (subst (λ (l : List DdNode). length l ≤ length (last_layer V.layers) * dp.choices (last_depth V)) (sym is)
-        (subst (λ (c : ℕ). length (shown_below (path_in ps) n.nodes) ≤ c * dp.choices (last_depth V)) (sym count) (subst (λ (c : ℕ). length (shown_below (path_in ps) n.nodes) ≤ length i.stack.newest.nodes * c) (sym choices) (omega arith))))
+    (subst (λ (c : ℕ). length (shown_below (path_in ps) n.nodes) ≤ c * dp.choices (last_depth V)) (sym count) (subst (λ (c : ℕ). length (shown_below (path_in ps) n.nodes) ≤ length i.stack.newest.nodes * c) (sym choices) (omega arith))))
     (subst (λ (l : List DdNode). length l ≤ i.stack.newest.nodes_room) (sym is) (omega arith))
 
 -- a last layer that is wider than the width is not the first one

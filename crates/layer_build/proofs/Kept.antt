@@ -171,7 +171,7 @@ pruned-under-way dp s ranks t u ranked =
     (move (IsLayerWithin dp d s.width) (pruned-within dp d s.width d t (last_layer s.layers) u.within))
     ranked
     (move (λ (l : List DdNode). s.width < length l → Each (λ (n : DdNode). 1 ≤ length n.path) l)
-        (λ wide. each-of-all (λ (n : DdNode). 1 ≤ length n.path) (pruned_nodes dp d t [] 0 (last_layer s.layers)) (λ x has. each-has (λ (n : DdNode). 1 ≤ length n.path) (last_layer s.layers) x (u.unmerged (omega arith)) (pruned-has dp d t [] 0 (last_layer s.layers) x has))))
+    (λ wide. each-of-all (λ (n : DdNode). 1 ≤ length n.path) (pruned_nodes dp d t [] 0 (last_layer s.layers)) (λ x has. each-has (λ (n : DdNode). 1 ≤ length n.path) (last_layer s.layers) x (u.unmerged (omega arith)) (pruned-has dp d t [] 0 (last_layer s.layers) x has))))
     (move (λ (l : List DdNode). length l ≤ length (last_layer s.layers)) fewer)
 
 -- a wide layer stands below the first one
@@ -234,7 +234,7 @@ merged-under-way dp s ranks first_reduced u wide ranked =
     let last = ap (λ (l : List DdNode). length l) (last-of-two s.layers) in
     let same : d - 1 + 1 ≡ d = omega arith in
     let both : AreWithin dp (d - 1) s.width (merge_rest dp d s.width (last_two s.layers)) =
-        subst (λ (k : ℕ). AreWithin dp (d - 1) s.width (merge_rest dp k s.width (last_two s.layers))) same (merge-within dp u.lawful (d - 1) s.width (last_two s.layers) positive (omega arith) (u.two deeper)) in
+    subst (λ (k : ℕ). AreWithin dp (d - 1) s.width (merge_rest dp k s.width (last_two s.layers))) same (merge-within dp u.lawful (d - 1) s.width (last_two s.layers) positive (omega arith) (u.two deeper)) in
     let short = merged-length dp d s.width (last_two s.layers).next positive (omega arith) in
     two-under-way dp s ranks first_reduced (merge_rest dp d s.width) u (λ _. both) (subst (λ (k : ℕ). IsLayerWithin dp k s.width (merged_layer dp d s.width (last_two s.layers).next)) same both.next) ranked
     (λ wider. absurd (omega arith)) (omega arith)

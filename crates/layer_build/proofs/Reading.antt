@@ -59,7 +59,7 @@ depth-within i h depth node low some = go (grind arith)
         let begun = h.first in
         let ordered = h.stack.first in
         absurd (none-some (node_at (diagram_of (the_view i)) depth node)
-            (ap (λ (o : Option (List DdNode)). option_and_then (λ (l : List DdNode). slice_get l node) o) (past-down (nodes_in i.stack) (i.prefix.items ∷ []) i.stack.first (i.stack.last - i.stack.first) (depth - length i.prefix.items) (omega arith))) some)
+        (ap (λ (o : Option (List DdNode)). option_and_then (λ (l : List DdNode). slice_get l node) o) (past-down (nodes_in i.stack) (i.prefix.items ∷ []) i.stack.first (i.stack.last - i.stack.first) (depth - length i.prefix.items) (omega arith))) some)
 
 some-get : {X Y : Type 0} (f : X → Y) (l : List X) (j : ℕ) → IsSome (option_map f (slice_get l j)) → j < length l
 some-get f [] j some = absurd (let clash : false ≡ true = some in cc)

@@ -50,7 +50,7 @@ ready-stack dp laws width room words choices s w few r words-are e =
     let is-last = r.last in
     let newest-room = ap (λ (l : LayerView). l.nodes_room) r.newest in
     let any : (P : LayerView → Type 0) → ((k : ℕ) → k < dp.vars → P (f k)) → P second → P top → (i : ℕ) → i < dp.vars + 2 → P (slice_index_or (front ++ second ∷ top ∷ []) i no_layer) = λ P a b c i within.
-        any-of P (λ (k : ℕ). slice_index_or (front ++ second ∷ top ∷ []) k no_layer) dp.vars (λ k less. subst P (sym (low k less)) (a k less)) (subst P (sym at-second) b) (subst P (sym at-top) c) i within in
+    any-of P (λ (k : ℕ). slice_index_or (front ++ second ∷ top ∷ []) k no_layer) dp.vars (λ k less. subst P (sym (low k less)) (a k less)) (subst P (sym at-second) b) (subst P (sym at-top) c) i within in
     let plain : HaveRooms dp.vars dp.words width room choices (front ++ second ∷ top ∷ []) = record {
       count = length-append front (second ∷ top ∷ []) ∙ omega arith;
       words_are = any (λ (l : LayerView). l.words ≡ dp.words) (λ k less. refl) refl refl;

@@ -31,8 +31,8 @@ shown-each q front (n ∷ nodes) =
     let all : (front ++ q n ∷ []) ++ map q nodes ≡ front ++ q n ∷ map q nodes = simp append_assoc in
     let rest = shown-each q (front ++ q n ∷ []) nodes in
     let moved : shown_from (path_in (front ++ q n ∷ map q nodes)) (length front + 1) nodes ≡ map (λ (m : NodeView). shown (q m) m) nodes =
-        subst (λ (i : ℕ). shown_from (path_in (front ++ q n ∷ map q nodes)) i nodes ≡ map (λ (m : NodeView). shown (q m) m) nodes) longer
-        (subst (λ (ps : List (List ℕ)). shown_from (path_in ps) (length (front ++ q n ∷ [])) nodes ≡ map (λ (m : NodeView). shown (q m) m) nodes) all rest) in
+    subst (λ (i : ℕ). shown_from (path_in (front ++ q n ∷ map q nodes)) i nodes ≡ map (λ (m : NodeView). shown (q m) m) nodes) longer
+    (subst (λ (ps : List (List ℕ)). shown_from (path_in ps) (length (front ++ q n ∷ [])) nodes ≡ map (λ (m : NodeView). shown (q m) m) nodes) all rest) in
     ap₂ (λ (p : List ℕ) (l : List DdNode). shown p n ∷ l) here moved
 
 pub as-below : (above : List (List ℕ)) (nodes : List NodeView) → shown_layer (path_in (paths_below above nodes)) nodes ≡ shown_below (path_in above) nodes
@@ -182,7 +182,7 @@ two-shown rule old new d same bare above next ps k zero e =
     let paths = paths-same ps in
     subst (λ (j : ℕ). shown_down new ps j 1 ≡ on_last_two rule (shown_down old ps j 1)) (sym at)
     (subst (λ (l : List DdNode). shown_layer (path_in ps) (new d) ∷ shown_layer (path_in (paths_below ps (new (d + 1)))) (new (d + 1)) ∷ []
-        ≡ (rule (record { above = shown_layer (path_in ps) (old d); next = l })).above ∷ (rule (record { above = shown_layer (path_in ps) (old d); next = l })).next ∷ []) (sym (as-below ps (old (d + 1))))
+    ≡ (rule (record { above = shown_layer (path_in ps) (old d); next = l })).above ∷ (rule (record { above = shown_layer (path_in ps) (old d); next = l })).next ∷ []) (sym (as-below ps (old (d + 1))))
     (ap₂ (λ (a b : List DdNode). a ∷ b ∷ []) (above (path_in ps) (path_in ps)) (as-below ps (new (d + 1)) ∙ next (path_in ps) (shown_layer (path_in ps) (old d)))))
 two-shown rule old new d same bare above next ps k (suc m) e =
     let here = same k (omega arith) in

@@ -37,9 +37,9 @@ place-second vars first depth e = ap (λ (b : Bool). cond b vars depth) (eq-test
 
 is-or : (a b : ℕ) → (a ≡ b) ⊎ (a ≢ b)
 is-or a b = elim (nat_eq a b) as (λ v. nat_eq a b ≡ v → (a ≡ b) ⊎ (a ≢ b)) [
-    | true ↦ λ e. inl (grind (arith, nat_tests))
-    | false ↦ λ e. inr (λ same. let t = eq-test a b same in absurd (let clash : true ≡ false = sym t ∙ e in cc))
-  ] refl
+  | true ↦ λ e. inl (grind (arith, nat_tests))
+  | false ↦ λ e. inr (λ same. let t = eq-test a b same in absurd (let clash : true ≡ false = sym t ∙ e in cc))
+] refl
 
 pub place-low : (vars first depth : ℕ) → depth ≤ vars → place_of vars first depth ≤ vars
 place-low vars first depth low = go (is-or depth (first + 1))
@@ -171,7 +171,7 @@ fits-above dp vars words width room choices layers first last n h e v enough pos
         let nodes : dp.choices first ≤ (slice_index_or layers vars no_layer).nodes_room = subst (λ (l : LayerView). dp.choices first ≤ l.nodes_room) (room-at layers vars) (subst (λ (c : ℕ). c ≤ (slice_index_or (map room_of layers) vars no_layer).nodes_room) first-is (h.second_nodes first (omega arith))) in
         let pairs : slice_index_or choices first 0 * slice_index_or choices (first + 1) 0 ≤ (slice_index_or (map room_of layers) vars no_layer).arcs_room = h.second_arcs first (omega arith) in
         let arcs : dp.choices first * dp.choices last ≤ (slice_index_or layers vars no_layer).arcs_room = subst (λ (l : LayerView). dp.choices first * dp.choices last ≤ l.arcs_room) (room-at layers vars)
-            (subst (λ (c : ℕ). c * dp.choices last ≤ (slice_index_or (map room_of layers) vars no_layer).arcs_room) first-is (subst (λ (c : ℕ). slice_index_or choices first 0 * c ≤ (slice_index_or (map room_of layers) vars no_layer).arcs_room) next-is pairs)) in
+        (subst (λ (c : ℕ). c * dp.choices last ≤ (slice_index_or (map room_of layers) vars no_layer).arcs_room) first-is (subst (λ (c : ℕ). slice_index_or choices first 0 * c ≤ (slice_index_or (map room_of layers) vars no_layer).arcs_room) next-is pairs)) in
         let product : n * dp.choices last ≤ dp.choices first * dp.choices last = mul-le-mul_right (dp.choices last) few in
         let most : dp.choices first * dp.choices last ≤ room = subst (λ (j : ℕ). dp.choices first * dp.choices j ≤ room) (sym same) (enough.second first (omega arith)) in
         subst (λ (i : ℕ). FitsAbove n (dp.choices last) room (slice_index_or layers i no_layer)) (sym at) (record { nodes = omega arith; arcs = omega arith; candidates = omega arith })

@@ -92,12 +92,7 @@ pub(crate) fn prepare_stack<M: DpModel>(
 {
     let words = model.words();
     let mut layers = layers_for(alloc, model, width)?;
-    layers.push_reserved(Layer::prepare(
-        alloc,
-        words,
-        most_choices(model),
-        room_for(model, 1),
-    )?);
+    layers.push_reserved(Layer::prepare(alloc, words, most_choices(model), room_for(model, 1))?);
     layers.push_reserved(Layer::prepare(alloc, words, 0, 0)?);
     Ok(Stack {
         vars: model.vars(),

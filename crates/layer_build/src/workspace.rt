@@ -133,9 +133,7 @@ impl Workspace {
         write_all(&mut self.prefix, sub.decisions.as_slice());
         self.stack.first = first;
         self.stack.last = first;
-        self.stack
-            .newest
-            .start(sub.row.as_slice(), sub.value, rank);
+        self.stack.newest.start(sub.row.as_slice(), sub.value, rank);
         self.first_reduced = None;
         self.held = first;
     }

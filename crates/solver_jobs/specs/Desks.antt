@@ -3,7 +3,7 @@ use Rattle.std.specs.Prelude.{◌≡◌, ℕ, vec_len, Vec, Result, Ok, Err}
 use Rattle.std.specs.List.{All}
 use Rattle.std.specs.declared.alloc.Global.{Global}
 use Rattle.dp_model.specs.Dp.{Dp}
-use Rattle.layer_build.specs.Space.{IsWidth}
+use Rattle.layer_build.specs.Layers.{IsWidth}
 use Rattle.layer_build.specs.declared.workspace.PrepareError.{PrepareError}
 use Rattle.layer_build.specs.declared.workspace.PrepareError.TheVariants.{Width, OutOfMemory}
 use Rattle.search_rounds.specs.Prepared.{IsPrepared}

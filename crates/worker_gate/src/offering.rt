@@ -7,7 +7,7 @@ ghost use Rattle.dp_model.specs.Numbers.{OptionAtMost};
 ghost use Rattle.dp_model.specs.Subproblem.{IsOwn};
 ghost use Rattle.dp_laws.specs.Children.{found_value};
 ghost use Rattle.board_laws.specs.GoodBoard.{IncumbentHolds};
-ghost use Rattle.layer_build.specs.Space.{IsPreparedFor};
+ghost use Rattle.layer_build.specs.Layers.{IsPreparedFor};
 ghost use Rattle.search_rounds.specs.Branched.{AreBranched};
 ghost use Rattle.search_rounds.specs.Offered.{solution_of};
 ghost use Rattle.search_rounds.specs.Prepared.{HoldsChildren};

@@ -27,7 +27,7 @@ pub layers-preserved : goal.layers-preserved
 layers-preserved g c =
     let dp = g.M.DpModel.meaning (g.M.DpModel.numbers c.args.model.now) in
     let made : c.in_ok-layer.layer ≡ empty_layer dp.words c.args.width (c.args.width * dp.choices c.layers.k) =
-        c.in_ok-layer.ensures ∙ ap₂ (λ (words n : ℕ). empty_layer words c.args.width (c.args.width * n)) c.words-words.ensures c.choices-choices.ensures in
+    c.in_ok-layer.ensures ∙ ap₂ (λ (words n : ℕ). empty_layer words c.args.width (c.args.width * n)) c.words-words.ensures c.choices-choices.ensures in
     record {
       items = c.push_reserved.ensures.items ∙ (ap₂ (λ (l : List LayerView) (x : LayerView). l ++ x ∷ []) c.layers.invariant.items made ∙ sym (below-next (λ k. empty_layer dp.words c.args.width (c.args.width * dp.choices k)) c.layers.k));
       room = search rules;

@@ -21,15 +21,15 @@ pub returns-clause-above : goal.returns-clause-above
 returns-clause-above g c =
     let dp = g.M.DpModel.meaning (g.M.DpModel.numbers c.args.model.now) in
     λ paths. c.expand.ensures.above paths
-        ∙ (ap (λ (l : List NodeView). (expand dp c.args.k (shown_layer paths l)).above) c.copy_nodes.ensures.nodes
-        ∙ (ap (λ (l : List DdNode). (expand dp c.args.k l).above) (shown-bare paths c.args.newest.now.nodes) ∙ bare-above dp c.args.k (shown_layer paths c.args.newest.now.nodes)))
+    ∙ (ap (λ (l : List NodeView). (expand dp c.args.k (shown_layer paths l)).above) c.copy_nodes.ensures.nodes
+    ∙ (ap (λ (l : List DdNode). (expand dp c.args.k l).above) (shown-bare paths c.args.newest.now.nodes) ∙ bare-above dp c.args.k (shown_layer paths c.args.newest.now.nodes)))
 
 pub returns-clause-next : goal.returns-clause-next
 returns-clause-next g c =
     let dp = g.M.DpModel.meaning (g.M.DpModel.numbers c.args.model.now) in
     λ paths. c.expand.ensures.next paths
-        ∙ (ap (λ (l : List NodeView). (expand dp c.args.k (shown_layer paths l)).next) c.copy_nodes.ensures.nodes
-        ∙ (ap (λ (l : List DdNode). (expand dp c.args.k l).next) (shown-bare paths c.args.newest.now.nodes) ∙ bare-next dp c.args.k (shown_layer paths c.args.newest.now.nodes)))
+    ∙ (ap (λ (l : List NodeView). (expand dp c.args.k (shown_layer paths l)).next) c.copy_nodes.ensures.nodes
+    ∙ (ap (λ (l : List DdNode). (expand dp c.args.k l).next) (shown-bare paths c.args.newest.now.nodes) ∙ bare-next dp c.args.k (shown_layer paths c.args.newest.now.nodes)))
 
 pub returns-clause-rest : goal.returns-clause-rest
 returns-clause-rest g c = c.expand.ensures.rest.nodes ∙ (ap (map without_arcs) c.copy_nodes.ensures.nodes ∙ bare-twice c.args.newest.now.nodes)

@@ -1,6 +1,6 @@
 use Rattle.std.proofs.Common.{◌≡◌, ◌≤◌, vec_len, vec_capacity}
 use Rattle.std.specs.List.{All}
-use Rattle.layer_build.specs.Space.{IsWidth}
+use Rattle.layer_build.specs.Layers.{IsWidth}
 use Rattle.search_rounds.specs.Prepared.{IsPrepared}
 use Rattle.solver_jobs.proofs.solving.desks_for.Given as goal
 

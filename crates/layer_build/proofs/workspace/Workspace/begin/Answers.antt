@@ -108,11 +108,11 @@ returns-clause-layers g c =
     let written : c.write_all.new.to.items ≡ p = c.write_all.ensures.items ∙ (c.as_slice-2.ensures.value ∙ decisions) in
     let seen = started-layers dp i p c.len-first.result n c.as_slice-3.result.now (to_z w64 (of_z w64 c.sub.inside.value)) (to_z w64 (of_z w64 c.rank-rank.result)) c.start.ensures.node row value in
     let here : the_view (record i { prefix = c.write_all.new.to; stack = started i c.len-first.result n; first_reduced = None; held = c.len-first.result })
-        ≡ record c.args.self.now { prefix = p; layers = start_layer (reached dp p) ∷ []; ranks = map (λ (node : NodeView). node.rank) n.nodes; first_reduced = None; held = length p } =
-        ap (λ (q : List ℕ). record (the_view i) { room = n.nodes_room; prefix = q; layers = shown_stack q (started i c.len-first.result n); ranks = map (λ (node : NodeView). node.rank) n.nodes; first_reduced = None; held = c.len-first.result }) written
-        ∙ (ap (λ (k : ℕ). record (the_view i) { room = n.nodes_room; prefix = p; layers = shown_stack p (started i c.len-first.result n); ranks = map (λ (node : NodeView). node.rank) n.nodes; first_reduced = None; held = k }) first
-        ∙ (ap₂ (λ (r : ℕ) (l : List (List DdNode)). record (the_view i) { room = r; prefix = p; layers = l; ranks = map (λ (node : NodeView). node.rank) n.nodes; first_reduced = None; held = length p }) c.start.ensures.rooms.nodes_room seen
-        ∙ ap (λ (s : SpaceView). record s { prefix = p; layers = start_layer (reached dp p) ∷ []; ranks = map (λ (node : NodeView). node.rank) n.nodes; first_reduced = None; held = length p }) c.self.view_is)) in
+    ≡ record c.args.self.now { prefix = p; layers = start_layer (reached dp p) ∷ []; ranks = map (λ (node : NodeView). node.rank) n.nodes; first_reduced = None; held = length p } =
+    ap (λ (q : List ℕ). record (the_view i) { room = n.nodes_room; prefix = q; layers = shown_stack q (started i c.len-first.result n); ranks = map (λ (node : NodeView). node.rank) n.nodes; first_reduced = None; held = c.len-first.result }) written
+    ∙ (ap (λ (k : ℕ). record (the_view i) { room = n.nodes_room; prefix = p; layers = shown_stack p (started i c.len-first.result n); ranks = map (λ (node : NodeView). node.rank) n.nodes; first_reduced = None; held = k }) first
+    ∙ (ap₂ (λ (r : ℕ) (l : List (List DdNode)). record (the_view i) { room = r; prefix = p; layers = l; ranks = map (λ (node : NodeView). node.rank) n.nodes; first_reduced = None; held = length p }) c.start.ensures.rooms.nodes_room seen
+    ∙ ap (λ (s : SpaceView). record s { prefix = p; layers = start_layer (reached dp p) ∷ []; ranks = map (λ (node : NodeView). node.rank) n.nodes; first_reduced = None; held = length p }) c.self.view_is)) in
     here
 
 pub returns-clause-under_way : goal.returns-clause-under_way
@@ -132,14 +132,14 @@ returns-clause-under_way g c =
     let written : c.write_all.new.to.items ≡ p = c.write_all.ensures.items ∙ (c.as_slice-2.ensures.value ∙ decisions) in
     let seen = started-layers dp i p c.len-first.result n c.as_slice-3.result.now (to_z w64 (of_z w64 c.sub.inside.value)) (to_z w64 (of_z w64 c.rank-rank.result)) c.start.ensures.node row value in
     let here : the_view (record i { prefix = c.write_all.new.to; stack = started i c.len-first.result n; first_reduced = None; held = c.len-first.result })
-        ≡ record c.args.self.now { prefix = p; layers = start_layer (reached dp p) ∷ []; ranks = map (λ (node : NodeView). node.rank) n.nodes; first_reduced = None; held = length p } =
-        ap (λ (q : List ℕ). record (the_view i) { room = n.nodes_room; prefix = q; layers = shown_stack q (started i c.len-first.result n); ranks = map (λ (node : NodeView). node.rank) n.nodes; first_reduced = None; held = c.len-first.result }) written
-        ∙ (ap (λ (k : ℕ). record (the_view i) { room = n.nodes_room; prefix = p; layers = shown_stack p (started i c.len-first.result n); ranks = map (λ (node : NodeView). node.rank) n.nodes; first_reduced = None; held = k }) first
-        ∙ (ap₂ (λ (r : ℕ) (l : List (List DdNode)). record (the_view i) { room = r; prefix = p; layers = l; ranks = map (λ (node : NodeView). node.rank) n.nodes; first_reduced = None; held = length p }) c.start.ensures.rooms.nodes_room seen
-        ∙ ap (λ (s : SpaceView). record s { prefix = p; layers = start_layer (reached dp p) ∷ []; ranks = map (λ (node : NodeView). node.rank) n.nodes; first_reduced = None; held = length p }) c.self.view_is)) in
+    ≡ record c.args.self.now { prefix = p; layers = start_layer (reached dp p) ∷ []; ranks = map (λ (node : NodeView). node.rank) n.nodes; first_reduced = None; held = length p } =
+    ap (λ (q : List ℕ). record (the_view i) { room = n.nodes_room; prefix = q; layers = shown_stack q (started i c.len-first.result n); ranks = map (λ (node : NodeView). node.rank) n.nodes; first_reduced = None; held = c.len-first.result }) written
+    ∙ (ap (λ (k : ℕ). record (the_view i) { room = n.nodes_room; prefix = p; layers = shown_stack p (started i c.len-first.result n); ranks = map (λ (node : NodeView). node.rank) n.nodes; first_reduced = None; held = k }) first
+    ∙ (ap₂ (λ (r : ℕ) (l : List (List DdNode)). record (the_view i) { room = r; prefix = p; layers = l; ranks = map (λ (node : NodeView). node.rank) n.nodes; first_reduced = None; held = length p }) c.start.ensures.rooms.nodes_room seen
+    ∙ ap (λ (s : SpaceView). record s { prefix = p; layers = start_layer (reached dp p) ∷ []; ranks = map (λ (node : NodeView). node.rank) n.nodes; first_reduced = None; held = length p }) c.self.view_is)) in
     let laws = laws_of g c.args.model.now in
     let rank : c.rank-rank.result ≡ dp.rank (length p) (state_of dp p) = c.rank-rank.ensures ∙ (ap (λ (k : ℕ). dp.rank k c.as_slice.result.now) first
-        ∙ ap (dp.rank (length p)) (c.as_slice.ensures.value ∙ (ap (λ (s : SubView). s.subproblem.row) c.sub.view_is ∙ c.requires.row))) in
+    ∙ ap (dp.rank (length p)) (c.as_slice.ensures.value ∙ (ap (λ (s : SubView). s.subproblem.row) c.sub.view_is ∙ c.requires.row))) in
     let fits-rank : FitsSigned w64 c.rank-rank.result = search rules in
     let ranks : map (λ (node : NodeView). node.rank) n.nodes ≡ dp.rank (length p) (state_of dp p) ∷ [] = ap (map (λ (node : NodeView). node.rank)) c.start.ensures.node ∙ ap (λ (r : ℤ). r ∷ []) (to_z-of_z w64 c.rank-rank.result fits-rank ∙ rank) in
     subst (IsUnderWay dp) (sym here) (start-under-way dp laws c.args.self.now p (map (λ (node : NodeView). node.rank) n.nodes) (length p) c.requires.prepared c.requires.prefix ranks)

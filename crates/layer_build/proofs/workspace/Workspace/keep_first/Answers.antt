@@ -79,8 +79,8 @@ returns-clause-layers c =
     let seen = changed-layers (keep_first i.width) i h less at old _ x n r f is e.above (λ paths a. e.next paths) in
     let whole = changed-seen i at old _ x n r f is (on_last_two (keep_first i.width) (the_view i).layers) seen in
     let here : the_view (changed i at x n r f) ≡ record (the_view i) { layers = on_last_two (keep_first i.width) (the_view i).layers; ranks = map (λ (node : NodeView). node.rank) n.nodes; first_reduced = reduced_first i.first_reduced (last_depth (the_view i)) } =
-        whole ∙ (ap (λ (o : Option ℕ). record (the_view i) { layers = on_last_two (keep_first i.width) (the_view i).layers; ranks = map (λ (node : NodeView). node.rank) n.nodes; first_reduced = o }) c.reduced_first-self-inside.ensures
-        ∙ ap (λ (k : ℕ). record (the_view i) { layers = on_last_two (keep_first i.width) (the_view i).layers; ranks = map (λ (node : NodeView). node.rank) n.nodes; first_reduced = reduced_first i.first_reduced k }) (sym (deep i h))) in
+    whole ∙ (ap (λ (o : Option ℕ). record (the_view i) { layers = on_last_two (keep_first i.width) (the_view i).layers; ranks = map (λ (node : NodeView). node.rank) n.nodes; first_reduced = o }) c.reduced_first-self-inside.ensures
+    ∙ ap (λ (k : ℕ). record (the_view i) { layers = on_last_two (keep_first i.width) (the_view i).layers; ranks = map (λ (node : NodeView). node.rank) n.nodes; first_reduced = reduced_first i.first_reduced k }) (sym (deep i h))) in
     here ∙ ap (λ (s : SpaceView). record s { layers = on_last_two (keep_first s.width) s.layers; ranks = map (λ (node : NodeView). node.rank) n.nodes; first_reduced = reduced_first s.first_reduced (last_depth s) }) c.self.view_is
 
 pub returns-clause-under_way : goal.returns-clause-under_way
@@ -100,12 +100,12 @@ returns-clause-under_way c =
     let seen = changed-layers (keep_first i.width) i h less at old _ x n r f is e.above (λ paths a. e.next paths) in
     let whole = changed-seen i at old _ x n r f is (on_last_two (keep_first i.width) (the_view i).layers) seen in
     let here : the_view (changed i at x n r f) ≡ record (the_view i) { layers = on_last_two (keep_first i.width) (the_view i).layers; ranks = map (λ (node : NodeView). node.rank) n.nodes; first_reduced = reduced_first i.first_reduced (last_depth (the_view i)) } =
-        whole ∙ (ap (λ (o : Option ℕ). record (the_view i) { layers = on_last_two (keep_first i.width) (the_view i).layers; ranks = map (λ (node : NodeView). node.rank) n.nodes; first_reduced = o }) c.reduced_first-self-inside.ensures
-        ∙ ap (λ (k : ℕ). record (the_view i) { layers = on_last_two (keep_first i.width) (the_view i).layers; ranks = map (λ (node : NodeView). node.rank) n.nodes; first_reduced = reduced_first i.first_reduced k }) (sym (deep i h))) in
+    whole ∙ (ap (λ (o : Option ℕ). record (the_view i) { layers = on_last_two (keep_first i.width) (the_view i).layers; ranks = map (λ (node : NodeView). node.rank) n.nodes; first_reduced = o }) c.reduced_first-self-inside.ensures
+    ∙ ap (λ (k : ℕ). record (the_view i) { layers = on_last_two (keep_first i.width) (the_view i).layers; ranks = map (λ (node : NodeView). node.rank) n.nodes; first_reduced = reduced_first i.first_reduced k }) (sym (deep i h))) in
     let space = changed-space i h at old _ x n r f is (subst (HaveDepths i.stack.first) (sym seen) (keep-depths i.width i.stack.first _ h.depths)) in
     λ other way.
     let v = under other i c.args.self.now c.self.view_is way in
     let ranked = stays (IsRanked other i.stack.last) i.stack.newest.nodes n.nodes e.stay (ranked-of other i.stack.last i.stack.newest.nodes (nodes-seen other i h v)) in
     subst (IsUnderWay other) (sym here)
     (kept-under-way other (the_view i) (map (λ (node : NodeView). node.rank) n.nodes) (reduced_first i.first_reduced (last_depth (the_view i))) v wide
-        (changed-ranks other (keep_first i.width) i h v at x n r f space seen ranked))
+    (changed-ranks other (keep_first i.width) i h v at x n r f space seen ranked))

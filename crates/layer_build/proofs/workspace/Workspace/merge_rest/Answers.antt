@@ -127,8 +127,8 @@ returns-clause-layers g c =
     let seen = changed-layers (merge_rest dp i.stack.last i.width) i h less at old _ x n r f is e.above (λ paths a. e.next paths) in
     let whole = changed-seen i at old _ x n r f is (on_last_two (merge_rest dp i.stack.last i.width) (the_view i).layers) seen in
     let here : the_view (changed i at x n r f) ≡ record (the_view i) { layers = on_last_two (merge_rest dp (last_depth (the_view i)) i.width) (the_view i).layers; ranks = map (λ (node : NodeView). node.rank) n.nodes; first_reduced = reduced_first i.first_reduced (last_depth (the_view i)) } =
-        whole ∙ (ap (λ (o : Option ℕ). record (the_view i) { layers = on_last_two (merge_rest dp i.stack.last i.width) (the_view i).layers; ranks = map (λ (node : NodeView). node.rank) n.nodes; first_reduced = o }) c.reduced_first-self-inside.ensures
-        ∙ ap (λ (k : ℕ). record (the_view i) { layers = on_last_two (merge_rest dp k i.width) (the_view i).layers; ranks = map (λ (node : NodeView). node.rank) n.nodes; first_reduced = reduced_first i.first_reduced k }) (sym (deep i h))) in
+    whole ∙ (ap (λ (o : Option ℕ). record (the_view i) { layers = on_last_two (merge_rest dp i.stack.last i.width) (the_view i).layers; ranks = map (λ (node : NodeView). node.rank) n.nodes; first_reduced = o }) c.reduced_first-self-inside.ensures
+    ∙ ap (λ (k : ℕ). record (the_view i) { layers = on_last_two (merge_rest dp k i.width) (the_view i).layers; ranks = map (λ (node : NodeView). node.rank) n.nodes; first_reduced = reduced_first i.first_reduced k }) (sym (deep i h))) in
     here ∙ ap (λ (s : SpaceView). record s { layers = on_last_two (merge_rest dp (last_depth s) s.width) s.layers; ranks = map (λ (node : NodeView). node.rank) n.nodes; first_reduced = reduced_first s.first_reduced (last_depth s) }) c.self.view_is
 
 pub returns-clause-under_way : goal.returns-clause-under_way
@@ -148,10 +148,10 @@ returns-clause-under_way g c =
     let seen = changed-layers (merge_rest dp i.stack.last i.width) i h less at old _ x n r f is e.above (λ paths a. e.next paths) in
     let whole = changed-seen i at old _ x n r f is (on_last_two (merge_rest dp i.stack.last i.width) (the_view i).layers) seen in
     let here : the_view (changed i at x n r f) ≡ record (the_view i) { layers = on_last_two (merge_rest dp (last_depth (the_view i)) i.width) (the_view i).layers; ranks = map (λ (node : NodeView). node.rank) n.nodes; first_reduced = reduced_first i.first_reduced (last_depth (the_view i)) } =
-        whole ∙ (ap (λ (o : Option ℕ). record (the_view i) { layers = on_last_two (merge_rest dp i.stack.last i.width) (the_view i).layers; ranks = map (λ (node : NodeView). node.rank) n.nodes; first_reduced = o }) c.reduced_first-self-inside.ensures
-        ∙ ap (λ (k : ℕ). record (the_view i) { layers = on_last_two (merge_rest dp k i.width) (the_view i).layers; ranks = map (λ (node : NodeView). node.rank) n.nodes; first_reduced = reduced_first i.first_reduced k }) (sym (deep i h))) in
+    whole ∙ (ap (λ (o : Option ℕ). record (the_view i) { layers = on_last_two (merge_rest dp i.stack.last i.width) (the_view i).layers; ranks = map (λ (node : NodeView). node.rank) n.nodes; first_reduced = o }) c.reduced_first-self-inside.ensures
+    ∙ ap (λ (k : ℕ). record (the_view i) { layers = on_last_two (merge_rest dp k i.width) (the_view i).layers; ranks = map (λ (node : NodeView). node.rank) n.nodes; first_reduced = reduced_first i.first_reduced k }) (sym (deep i h))) in
     let space = changed-space i h at old _ x n r f is (subst (HaveDepths i.stack.first) (sym seen) (merge-depths dp i.stack.last i.width i.stack.first _ h.depths)) in
     let deep-seen : (the_view (changed i at x n r f)).layers ≡ on_last_two (merge_rest dp (last_depth (the_view i)) i.width) (the_view i).layers = ap (λ (s : SpaceView). s.layers) here in
     subst (IsUnderWay dp) (sym here)
     (merged-under-way dp (the_view i) (map (λ (node : NodeView). node.rank) n.nodes) (reduced_first i.first_reduced (last_depth (the_view i))) u wide
-        (changed-ranks dp (merge_rest dp (last_depth (the_view i)) i.width) i h u at x n r f space deep-seen e.ranked))
+    (changed-ranks dp (merge_rest dp (last_depth (the_view i)) i.width) i h u at x n r f space deep-seen e.ranked))

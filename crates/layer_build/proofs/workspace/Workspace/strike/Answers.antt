@@ -75,7 +75,7 @@ returns-clause-layers g c =
     let seen = struck-layers dp i h u c.args.threshold at old _ x n r i.first_reduced is e.above e.next in
     let whole = changed-seen i at old _ x n r i.first_reduced is (on_last_two (prune dp i.stack.last c.args.threshold) (the_view i).layers) seen in
     let here : the_view (changed i at x n r i.first_reduced) ≡ record (the_view i) { layers = on_last_two (prune dp (last_depth (the_view i)) c.args.threshold) (the_view i).layers; ranks = map (λ (node : NodeView). node.rank) n.nodes } =
-        whole ∙ ap (λ (k : ℕ). record (the_view i) { layers = on_last_two (prune dp k c.args.threshold) (the_view i).layers; ranks = map (λ (node : NodeView). node.rank) n.nodes }) (sym (deep i h)) in
+    whole ∙ ap (λ (k : ℕ). record (the_view i) { layers = on_last_two (prune dp k c.args.threshold) (the_view i).layers; ranks = map (λ (node : NodeView). node.rank) n.nodes }) (sym (deep i h)) in
     here ∙ ap (λ (s : SpaceView). record s { layers = on_last_two (prune dp (last_depth s) c.args.threshold) s.layers; ranks = map (λ (node : NodeView). node.rank) n.nodes }) c.self.view_is
 
 pub returns-clause-under_way : goal.returns-clause-under_way
@@ -92,10 +92,10 @@ returns-clause-under_way g c =
     let seen = struck-layers dp i h u c.args.threshold at old _ x n r i.first_reduced is e.above e.next in
     let whole = changed-seen i at old _ x n r i.first_reduced is (on_last_two (prune dp i.stack.last c.args.threshold) (the_view i).layers) seen in
     let here : the_view (changed i at x n r i.first_reduced) ≡ record (the_view i) { layers = on_last_two (prune dp (last_depth (the_view i)) c.args.threshold) (the_view i).layers; ranks = map (λ (node : NodeView). node.rank) n.nodes } =
-        whole ∙ ap (λ (k : ℕ). record (the_view i) { layers = on_last_two (prune dp k c.args.threshold) (the_view i).layers; ranks = map (λ (node : NodeView). node.rank) n.nodes }) (sym (deep i h)) in
+    whole ∙ ap (λ (k : ℕ). record (the_view i) { layers = on_last_two (prune dp k c.args.threshold) (the_view i).layers; ranks = map (λ (node : NodeView). node.rank) n.nodes }) (sym (deep i h)) in
     let space = changed-space i h at old _ x n r i.first_reduced is (subst (HaveDepths i.stack.first) (sym seen) (prune-depths dp i.stack.last c.args.threshold i.stack.first _ h.depths)) in
     let ranked = stays (IsRanked dp i.stack.last) i.stack.newest.nodes n.nodes e.stay (ranked-of dp i.stack.last i.stack.newest.nodes (nodes-seen dp i h u)) in
     let deep-seen : (the_view (changed i at x n r i.first_reduced)).layers ≡ on_last_two (prune dp (last_depth (the_view i)) c.args.threshold) (the_view i).layers = ap (λ (s : SpaceView). s.layers) here in
     subst (IsUnderWay dp) (sym here)
     (pruned-under-way dp (the_view i) (map (λ (node : NodeView). node.rank) n.nodes) c.args.threshold u
-        (changed-ranks dp (prune dp (last_depth (the_view i)) c.args.threshold) i h u at x n r i.first_reduced space deep-seen ranked))
+    (changed-ranks dp (prune dp (last_depth (the_view i)) c.args.threshold) i h u at x n r i.first_reduced space deep-seen ranked))
