@@ -17,7 +17,11 @@ use Rattle.board_laws.specs.Fates.{fates_on}
 use Rattle.board_laws.specs.Finishing.{MayFinish}
 use Rattle.board_laws.specs.GoodBoard.{IsBoard}
 use Rattle.board_laws.proofs.Carrying.{reach-above}
-use Rattle.board_laws.proofs.Running.{option-then}
+use Rattle.board_laws.proofs.Running.{option-then, better-offered, step-follows}
+use Rattle.board_laws.specs.Improving.{ImproveGives, after_offer}
+use Rattle.board_laws.specs.Runs.Step.{Improve}
+use Rattle.board_laws.specs.declared.improved.Improved.{Improved}
+use Rattle.board_laws.specs.declared.improved.Improved.TheVariants.{Yes, NotBetter, NoSolution}
 use Rattle.search_core.specs.Moves.{out_at}
 use Rattle.search_core.specs.View.{BoardView, tag_of}
 use Rattle.search_core.specs.declared.tag.BoardTag.{BoardTag}
@@ -33,6 +37,16 @@ pub no-less-of : (a b : Option ℤ) → OptionAtMost a b → NoLess a b
 no-less-of None b h = tt
 no-less-of (Some z) None h = h
 no-less-of (Some z) (Some y) h = h
+
+-- an offer leaves an incumbent that is no less, and so no less than what was seen
+pub offer-no-less : (dp : Dp) (b : BoardState) (x : List ℕ) (answer : Improved) (seen : Option ℤ) → ImproveGives dp b x answer → NoLess seen (incumbent_value b)
+    → NoLess seen (incumbent_value (after_offer dp answer b x))
+offer-no-less dp b x Yes seen gives less =
+    no-less-of seen (incumbent_value (after_offer dp Yes b x))
+    (option-then seen (incumbent_value b) (incumbent_value (after_offer dp Yes b x)) (at-most-of seen (incumbent_value b) less)
+    (subst (λ (later : BoardState). OptionAtMost (incumbent_value b) (incumbent_value later)) (sym (better-offered dp b x gives.1)) (step-follows dp b (Improve x)).better))
+offer-no-less dp b x NotBetter seen gives less = less
+offer-no-less dp b x NoSolution seen gives less = less
 
 -- what was seen is at most the reach of a board whose incumbent is no less
 seen-below : (dp : Dp) (b : BoardState) (seen : Option ℤ) → IsBoard dp b → NoLess seen (incumbent_value b) → OptionAtMost seen (reach b)
