@@ -3,7 +3,10 @@ use crate::run::run;
 use dd_io::{MemSink, MemSource};
 use std::alloc::{AllocError, Global};
 use std::process::Abort;
+use std::sync::Wait;
 use std::test::Fail;
+use std::thread::Threads;
+use worker_gate::NoGate;
 
 /// A report with its cover: one item of profit 4 and weight 1 in a room of 1.
 const COVER: &str =
@@ -197,19 +200,27 @@ fn flipped(alloc: Global, at: usize) -> Result<Vec<u8>, AllocError> {
 }
 
 /// Checks the bytes, and gives what is printed, and the status.
-fn checked(alloc: Global, bytes: Vec<u8>) -> Result<(MemSink, u8), AllocError> {
+fn checked<R: Threads + Wait + Sync>(
+    rt: &R,
+    alloc: Global,
+    bytes: Vec<u8>,
+) -> Result<(MemSink, u8), AllocError> {
     let words = [String::from_str(alloc, "check")?];
     let mut input = MemSource::new(bytes, Vec::new(alloc));
     let mut out = MemSink::new(alloc, Vec::new(alloc));
-    let status = run(alloc, &words, &mut input, &mut out);
+    let status = run(rt, alloc, &words, &mut input, &mut out, &NoGate);
     Ok((out, status))
 }
 
 /// Each flip is told as the cases say.
-fn tells_flips(rt: &impl Abort, alloc: Global, flips: Flips) -> Result<(), Fail> {
+fn tells_flips<R: Abort + Threads + Wait + Sync>(
+    rt: &R,
+    alloc: Global,
+    flips: Flips,
+) -> Result<(), Fail> {
     let (from, to, text, own) = flips;
     for at in from..to {
-        let (out, status) = checked(alloc, flipped(alloc, at)?)?;
+        let (out, status) = checked(rt, alloc, flipped(alloc, at)?)?;
         assert_eq!(rt; out.taken(), text.as_bytes(), "byte {at}");
         assert_eq!(rt; status, own, "byte {at}");
     }
