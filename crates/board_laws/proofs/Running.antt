@@ -83,7 +83,7 @@ back-follows b who None = follows-self b
 back-follows b who (Some o) = record { settings = refl; better = option-self (incumbent_value b); taken = omega arith; finished = omega arith; next_ticket = omega arith }
 
 -- Improve by any solution: only a better one changes the board.
-offered-is : (P : BoardState → Type 0) (dp : Dp) (b : BoardState) (x : List ℕ) → P b
+pub offered-is : (P : BoardState → Type 0) (dp : Dp) (b : BoardState) (x : List ℕ) → P b
     → (is_above (incumbent_value b) (value_of dp x) ≡ true → P (improved b (record { decisions = x; value = value_of dp x }))) → P (offered dp b x)
 offered-is P dp b x same better =
     let later = improved b (record { decisions = x; value = value_of dp x }) in
@@ -129,7 +129,7 @@ back-others : (b : BoardState) (who : ℕ) (slot : Option Ticketed) (other : ℕ
 back-others b who None other differ = refl
 back-others b who (Some o) other differ = slot-other b.slots who other None differ
 
-step-others : (dp : Dp) (b : BoardState) (step : Step) (other : ℕ) → worker_of step ≢ Some other → slot_at (after dp b step) other ≡ slot_at b other
+pub step-others : (dp : Dp) (b : BoardState) (step : Step) (other : ℕ) → worker_of step ≢ Some other → slot_at (after dp b step) other ≡ slot_at b other
 step-others dp b (Take who) other differ = answer-others b who (take_gives b) other differ
 step-others dp b (Improve x) other differ = offered-is (λ later. slot_at later other ≡ slot_at b other) dp b x refl (λ up. refl)
 step-others dp b (Finish who threshold cs) other differ = slot-other b.slots who other None differ
@@ -176,7 +176,7 @@ pub record OfferRuns (dp : Dp) (b later : BoardState) : Type 0 where
   pub steps : List Step
   pub run : IsRun dp b steps later
 
-better-offered : (dp : Dp) (b : BoardState) (x : List ℕ) → (AtMost (value_of dp x) (incumbent_value b) → ⊥) → improved b (record { decisions = x; value = value_of dp x }) ≡ offered dp b x
+pub better-offered : (dp : Dp) (b : BoardState) (x : List ℕ) → (AtMost (value_of dp x) (incumbent_value b) → ⊥) → improved b (record { decisions = x; value = value_of dp x }) ≡ offered dp b x
 better-offered dp b x more =
     let later = improved b (record { decisions = x; value = value_of dp x }) in
     let go : (up : Bool) → is_above (incumbent_value b) (value_of dp x) ≡ up → later ≡ cond up later b = λ up. elim up as (λ up. is_above (incumbent_value b) (value_of dp x) ≡ up → later ≡ cond up later b) [

@@ -149,20 +149,20 @@ module _ {V T : Type 0} (t : Turn V T) where
   joining_whole p (x ∷ xs) all j none = absurd (omega arith)
 
 -- what the slot holds once the turn is closed
-module _ {V T : Type 0} (tag : V → T) (seen : V → Option ℤ) (out : V → ℕ → Option (List ℕ)) where
+module _ {V T : Type 0} (tag : V → T) (seen : V → Option ℤ) (out : V → ℕ → Option (List ℕ)) (moves : V → V → ℕ → Type 0) where
   pub record IsClosed (key : TurnKey V) (v : SeatView V) (slot : Option V) : Type 0 where
     pub value : V
     pub slot_is : slot ≡ Some value
-    pub last : IsLast tag seen out key v value
+    pub last : IsLast tag seen out moves key v value
 
   pub closed : (key : TurnKey V) (id : ℕ) (v : SeatView V) (ws : List ℕ) (xs : List (Option V)) (slot : Option V) → v.parts ≡ key.seats → 1 ≤ key.seats → v.holds ≡ false
-      → Final (Seen (IsTurn tag seen out key) id v) ws xs → get_elem? xs 0 ≡ some slot → IsClosed key v slot
+      → Final (Seen (IsTurn tag seen out moves key) id v) ws xs → get_elem? xs 0 ≡ some slot → IsClosed key v slot
   closed key id v ws xs slot all some_seats idle f at =
-      let k = closes tag seen out key id v f.0 f.1.0 f.1.1 all (omega arith) idle in
+      let k = closes tag seen out moves key id v f.0 f.1.0 f.1.1 all (omega arith) idle in
       record { value = k.value; slot_is = some-injective slot (Some k.value) (sym at ∙ f.4 0 (Some k.value) k.home); last = k.last }
 
-  pub closed_as : (key : TurnKey V) (v : SeatView V) (slot : Option V) (value : V) → IsClosed key v slot → slot ≡ Some value → IsLast tag seen out key v value
-  closed_as key v slot value k e = subst (IsLast tag seen out key v) (some_is k.value value (sym k.slot_is ∙ e)) k.last
+  pub closed_as : (key : TurnKey V) (v : SeatView V) (slot : Option V) (value : V) → IsClosed key v slot → slot ≡ Some value → IsLast tag seen out moves key v value
+  closed_as key v slot value k e = subst (IsLast tag seen out moves key v) (some_is k.value value (sym k.slot_is ∙ e)) k.last
 
   pub closed_seen : (t : Turn V T) (p : Place (Option V) (SeatView V)) (all : List (Seat V)) (value : V) → IsWhole t p all → NoLess p.me.0.seen (seen value) → All (λ s. NoLess (seen_of s) (seen value)) all
   closed_seen t p all value w less = subst (λ xs. All (λ s. NoLess (seen_of s) (seen value)) xs) (sym w.all_is)
@@ -172,7 +172,7 @@ module _ {V T : Type 0} (tag : V → T) (seen : V → Option ℤ) (out : V → �
   pairs_out value [] h = tt
   pairs_out value (x ∷ xs) h = (h.0, pairs_out value xs h.1)
 
-  pub closed_out : (t : Turn V T) (p : Place (Option V) (SeatView V)) (all : List (Seat V)) (value : V) (key : TurnKey V) → IsWhole t p all → IsLast tag seen out key p.me.0 value → All (λ s. out value s.number ≡ out_of s) all
+  pub closed_out : (t : Turn V T) (p : Place (Option V) (SeatView V)) (all : List (Seat V)) (value : V) (key : TurnKey V) → IsWhole t p all → IsLast tag seen out moves key p.me.0 value → All (λ s. out value s.number ≡ out_of s) all
   closed_out t p all value key w k = subst (λ xs. All (λ s. out value s.number ≡ out_of s) xs) (sym w.all_is)
       (All-push (λ (s : Seat V). out value s.number ≡ out_of s) w.others w.first
       (All-from_recursion (λ (s : Seat V). out value s.number ≡ out_of s) w.others (pairs_out value w.others (subst (λ xs. AllByRecursion (λ (p : ℕ × Option (List ℕ)). out value p.0 ≡ p.1) xs) w.also_is k.also_out)))

@@ -1,5 +1,5 @@
 -- Each step of a turn keeps its rule.
-use Rattle.std.proofs.Common.{◌≡◌, ℕ, zero, suc, ℤ, ◌+◌, ◌<◌, ◌≤◌, ◌≢◌, ⊎_elim, Bool, true, false, eqb, List, [], ◌∷◌, ◌++◌, length, get_or, slice_index, set, Option, None, Some, subst, sym, refl, ap, ◌∙◌, arith, length-set, length-append, get_or-set_same}
+use Rattle.std.proofs.Common.{◌≡◌, ℕ, zero, suc, ℤ, ◌+◌, ◌<◌, ◌≤◌, ◌≢◌, ◌⊎◌, inl, ⊎_elim, Bool, true, false, eqb, List, [], ◌∷◌, ◌++◌, length, get_or, slice_index, set, Option, None, Some, subst, sym, refl, ap, ◌∙◌, arith, length-set, length-append, get_or-set_same}
 use Rattle.std.specs.List.{AllByRecursion}
 use mathlib.Core.Option.{some, some-injective, some-ne-none}
 use mathlib.Core.Logic.{dite}
@@ -8,10 +8,12 @@ use prog.Atomic.{either}
 use lib.ListN.{get_elem?}
 use Rattle.atomic_table.specs.Table.{State, Me, Valid, keeps, takes, gives, Allows, Splits, Joins, opening, stepped, carried_after}
 use Rattle.atomic_table.proofs.Lists.{at_set, at_longer, set_again, set_else, set_here, exchanged}
+use Rattle.board_lock.specs.History.{HasMoved}
 use Rattle.board_lock.specs.Order.{NoLess}
 use Rattle.board_lock.specs.Rule.{first_view, holding, lone_view, next_of, joined, spent_view, IsFree, IsHeld, IsStill, Knows, IsTurn, left_at, Finds, Takes, Leaves}
 use Rattle.board_lock.specs.declared.view.SeatView.{SeatView}
 use Rattle.board_lock.specs.declared.view.TurnKey.{TurnKey}
+use Rattle.board_lock.proofs.History.{not_moved, moved_once}
 use Rattle.board_lock.proofs.Order.{no_less-same, no_less-trans, no_less-greater}
 use Rattle.board_lock.proofs.Lists.{below, one_place, weaken, both_of, at_end, parts_set, parts_append, others_none}
 
@@ -42,9 +44,9 @@ only : {A : Type 0} (a b : A) (j : ℕ) → get_elem? (a ∷ []) j ≡ some b �
 only a b zero e = (refl, sym (some-injective a b e))
 only a b (suc j) e = absurd (some-ne-none b (sym e))
 
-module _ {V T : Type 0} (tag : V → T) (seen : V → Option ℤ) (out : V → ℕ → Option (List ℕ)) where
+module _ {V T : Type 0} (tag : V → T) (seen : V → Option ℤ) (out : V → ℕ → Option (List ℕ)) (moves : V → V → ℕ → Type 0) where
   Rule : TurnKey V → State (Option V) (SeatView V) → Type 0
-  Rule key s = IsTurn tag seen out key s
+  Rule key s = IsTurn tag seen out moves key s
 
   -- what is still out stays so where a seat that counts changes its view
   still_set : (value : V) (views : List (SeatView V)) (id : ℕ) (v w : SeatView V) → get_elem? views id ≡ some v → 0 < v.parts → (p : ℕ × Option (List ℕ)) → IsStill tag seen out value views p → IsStill tag seen out value (set views id w) p
@@ -78,8 +80,8 @@ module _ {V T : Type 0} (tag : V → T) (seen : V → Option ℤ) (out : V → �
   at_own key value views id j w' w k t = subst (Knows tag seen out key value views j) t.1 (subst (λ i. Knows tag seen out key value views i w') (sym t.0) k)
 
   -- after a take that won, the seat holds the turn
-  taken : (key : TurnKey V) (s : State (Option V) (SeatView V)) (id : ℕ) (v : SeatView V) (h : IsTurn tag seen out key s) → get_elem? s.views id ≡ some v → v.parts ≡ 1
-      → IsFree h.value s → IsTurn tag seen out key (stepped s 0 1 id [] (holding v h.value) (takes 0 (Some h.value)))
+  taken : (key : TurnKey V) (s : State (Option V) (SeatView V)) (id : ℕ) (v : SeatView V) (h : IsTurn tag seen out moves key s) → get_elem? s.views id ≡ some v → v.parts ≡ 1
+      → IsFree h.value s → IsTurn tag seen out moves key (stepped s 0 1 id [] (holding v h.value) (takes 0 (Some h.value)))
   taken key s id v h at one f =
       let w' = holding v h.value in
       let some_v : 0 < v.parts = omega arith in
@@ -91,6 +93,7 @@ module _ {V T : Type 0} (tag : V → T) (seen : V → Option ℤ) (out : V → �
         one_word = length-set s.words 0 1 ∙ h.one_word;
         value = h.value;
         tag_is = h.tag_is;
+        past = h.past;
         parts_are = (let p = parts_set s.views id v w' at in omega arith) ∙ h.parts_are;
         known = λ j w e some_parts. ⊎_elim
             (λ t. at_own key h.value (set s.views id w') id j w' w (on id w' (knows_holding key h.value s.views id v (h.known id v at some_v))) t)
@@ -112,24 +115,24 @@ module _ {V T : Type 0} (tag : V → T) (seen : V → Option ℤ) (out : V → �
       }
 
   -- a try that lost changes nothing
-  same : (key : TurnKey V) (s : State (Option V) (SeatView V)) (id n : ℕ) (v : SeatView V) (c : List (ℕ × Option V)) → get_elem? s.views id ≡ some v → IsTurn tag seen out key s
-      → set s.words 0 n ≡ s.words → IsTurn tag seen out key (stepped s 0 n id c v keeps)
-  same key s id n v c at h e = subst (λ (x : List (SeatView V)). IsTurn tag seen out key (record { words = set s.words 0 n; homes = s.homes; views = x })) (sym (set_again s.views id v at))
-      (subst (λ (x : List ℕ). IsTurn tag seen out key (record { words = x; homes = s.homes; views = s.views })) (sym e) h)
+  same : (key : TurnKey V) (s : State (Option V) (SeatView V)) (id n : ℕ) (v : SeatView V) (c : List (ℕ × Option V)) → get_elem? s.views id ≡ some v → IsTurn tag seen out moves key s
+      → set s.words 0 n ≡ s.words → IsTurn tag seen out moves key (stepped s 0 n id c v keeps)
+  same key s id n v c at h e = subst (λ (x : List (SeatView V)). IsTurn tag seen out moves key (record { words = set s.words 0 n; homes = s.homes; views = x })) (sym (set_again s.views id v at))
+      (subst (λ (x : List ℕ). IsTurn tag seen out moves key (record { words = x; homes = s.homes; views = s.views })) (sym e) h)
 
   -- what a free turn shows to a seat
   finds : (key : TurnKey V) (value : V) (views : List (SeatView V)) (j : ℕ) (v : SeatView V) → tag value ≡ tag key.first.value → Knows tag seen out key value views j v → Finds tag seen out v value
   finds key value views j v t k = record { first = key.first.value; first_is = k.first_is; tag_is = t; no_less = k.no_less; out_is = k.out_is }
 
   pub tries : (key : TurnKey V) (id : ℕ) (m : Me (Option V) (SeatView V)) → m.1 ≡ [] → m.0.parts ≡ 1
-      → Allows (IsTurn tag seen out key) 1 id m 0 (λ n. either (eqb n 0) 1 n) (Takes tag seen out m)
+      → Allows (IsTurn tag seen out moves key) 1 id m 0 (λ n. either (eqb n 0) 1 n) (Takes tag seen out m)
   tries key id m empty one s h wide at _ =
       let now = get_or s.words 0 0 in
-      let Ends : ℕ → Type 0 = λ n. (w : SeatView V) × (a : _) × Valid s.homes m.1 a × IsTurn tag seen out key (stepped s 0 n id m.1 w a) × Takes tag seen out m now (w, carried_after m.1 a) in
+      let Ends : ℕ → Type 0 = λ n. (w : SeatView V) × (a : _) × Valid s.homes m.1 a × IsTurn tag seen out moves key (stepped s 0 n id m.1 w a) × Takes tag seen out m now (w, carried_after m.1 a) in
       exchanged now 0 1 Ends
       (λ zero.
       let f = h.free zero in
-      subst (λ (c : List (ℕ × Option V)). (w : SeatView V) × (a : _) × Valid s.homes c a × IsTurn tag seen out key (stepped s 0 1 id c w a) × Takes tag seen out m now (w, carried_after c a)) (sym empty) (
+      subst (λ (c : List (ℕ × Option V)). (w : SeatView V) × (a : _) × Valid s.homes c a × IsTurn tag seen out moves key (stepped s 0 1 id c w a) × Takes tag seen out m now (w, carried_after c a)) (sym empty) (
         holding m.0 h.value,
         takes 0 (Some h.value),
         f.home,
@@ -138,17 +141,18 @@ module _ {V T : Type 0} (tag : V → T) (seen : V → Option ℤ) (out : V → �
       ))
       (λ busy. (m.0, keeps, tt, same key s id now m.0 m.1 at h (set_same s.words h.one_word), ((λ zero. absurd (busy zero)), λ _. refl)))
 
-  -- What the turn asks of a value that a seat of this number leaves where it found another: the tag is kept, the seen value is no less, and no other number's decisions changed
+  -- What the turn asks of a value that a seat of this number leaves where it found another: the tag is kept, the seen value is no less, no other number's decisions changed, and it is the same or one move away
   pub record MayLeave (found value : V) (number : ℕ) : Type 0 where
     pub tag_is : tag value ≡ tag found
     pub no_less : NoLess (seen found) (seen value)
     pub others : (other : ℕ) → other ≢ number → out value other ≡ out found other
+    pub moved : (value ≡ found) ⊎ moves found value number
 
   pub may_stay : (found : V) (number : ℕ) → MayLeave found found number
-  may_stay found number = record { tag_is = refl; no_less = no_less-same (seen found); others = λ other ne. refl }
+  may_stay found number = record { tag_is = refl; no_less = no_less-same (seen found); others = λ other ne. refl; moved = inl refl }
 
   pub leaves : (key : TurnKey V) (id : ℕ) (v : SeatView V) (found value : V) → v.holds ≡ true → v.parts ≡ 1 → v.found ≡ Some found → MayLeave found value v.number
-      → Allows (IsTurn tag seen out key) 1 id (v, (0, Some value) ∷ []) 0 (λ _. 0) (λ _. Leaves tag seen out (v, (0, Some value) ∷ []))
+      → Allows (IsTurn tag seen out moves key) 1 id (v, (0, Some value) ∷ []) 0 (λ _. 0) (λ _. Leaves tag seen out (v, (0, Some value) ∷ []))
   leaves key id v found value holds one found_here may s h wide at _ =
       let busy : slice_index s.words 0 ≢ 0 = λ e. true_not_false v.holds holds ((h.free e).idle id v at) in
       let held = h.held busy in
@@ -176,6 +180,7 @@ module _ {V T : Type 0} (tag : V → T) (seen : V → Option ℤ) (out : V → �
           one_word = length-set s.words 0 0 ∙ h.one_word;
           value = value;
           tag_is = may.tag_is ∙ (ap tag found_is ∙ h.tag_is);
+          past = moved_once moves key.first.value h.value value v.number h.past (subst (λ (x : V). (value ≡ x) ⊎ moves x value v.number) found_is may.moved);
           parts_are = (let p = parts_set s.views id v w' at in omega arith) ∙ h.parts_are;
           known = λ j w e some_parts. ⊎_elim
               (λ t. at_own key value new id j w' w (record {
@@ -211,11 +216,12 @@ module _ {V T : Type 0} (tag : V → T) (seen : V → Option ℤ) (out : V → �
       )
 
   -- the first seat, before the others are made
-  pub opens : (key : TurnKey V) → 1 ≤ key.seats → ((number : ℕ) → out key.first.value number ≡ None) → IsTurn tag seen out key (opening (0 ∷ []) (Some key.first.value ∷ []) (first_view key))
+  pub opens : (key : TurnKey V) → 1 ≤ key.seats → ((number : ℕ) → out key.first.value number ≡ None) → IsTurn tag seen out moves key (opening (0 ∷ []) (Some key.first.value ∷ []) (first_view key))
   opens key some_seats home = record {
     one_word = refl;
     value = key.first.value;
     tag_is = refl;
+    past = not_moved moves key.first.value;
     parts_are = omega arith;
     known = λ j w e some_parts. let t = only (first_view key) w j e in at_own key key.first.value (first_view key ∷ []) 0 j (first_view key) w
         (record { first_is = refl; no_less = tt; out_is = home 0; number_is = refl; still = tt; last_is = λ _. (refl, omega arith) }) (t.0, sym t.1);
@@ -228,7 +234,7 @@ module _ {V T : Type 0} (tag : V → T) (seen : V → Option ℤ) (out : V → �
 
   -- the next seat is made of the last one
   pub splits : (key : TurnKey V) (id : ℕ) (v : SeatView V) → v.last ≡ true → v.holds ≡ false → 1 < v.parts
-      → Splits (IsTurn tag seen out key) id v (lone_view v) (next_of v)
+      → Splits (IsTurn tag seen out moves key) id v (lone_view v) (next_of v)
   splits key id v last idle more s h at =
       let w' = lone_view v in
       let u' = next_of v in
@@ -245,6 +251,7 @@ module _ {V T : Type 0} (tag : V → T) (seen : V → Option ℤ) (out : V → �
         one_word = h.one_word;
         value = h.value;
         tag_is = h.tag_is;
+        past = h.past;
         parts_are = (let p = parts_set s.views id v w' at in let q = parts_append old (u' ∷ []) in omega arith) ∙ h.parts_are;
         known = λ j w e some_parts. ⊎_elim
             (λ t. ⊎_elim
@@ -293,7 +300,7 @@ module _ {V T : Type 0} (tag : V → T) (seen : V → Option ℤ) (out : V → �
 
   -- two seats become one, and the other is gone
   pub joins : (key : TurnKey V) (id : ℕ) (v : SeatView V) (other : ℕ) (u : SeatView V) → v.holds ≡ false → u.holds ≡ false → 0 < v.parts → 0 < u.parts
-      → Joins (IsTurn tag seen out key) id v other u (joined v u) spent_view
+      → Joins (IsTurn tag seen out moves key) id v other u (joined v u) spent_view
   joins key id v other u idle idle2 some_v some_u s h at apart there =
       let w' = joined v u in
       let old = set s.views id w' in
@@ -316,6 +323,7 @@ module _ {V T : Type 0} (tag : V → T) (seen : V → Option ℤ) (out : V → �
         one_word = h.one_word;
         value = h.value;
         tag_is = h.tag_is;
+        past = h.past;
         parts_are = (let p = parts_set s.views id v w' at in let q = parts_set old other u g' there in omega arith) ∙ h.parts_are;
         known = λ j w e some_parts. ⊎_elim
             (λ t. absurd (let p : g'.parts ≡ w.parts = ap (λ (x : SeatView V). x.parts) t.1 in omega arith))
@@ -360,7 +368,7 @@ module _ {V T : Type 0} (tag : V → T) (seen : V → Option ℤ) (out : V → �
       }
 
   -- where a seat stands for all, and does not hold the turn, none does
-  nobody : (key : TurnKey V) (id : ℕ) (v : SeatView V) (s : State (Option V) (SeatView V)) (h : IsTurn tag seen out key s) → get_elem? s.views id ≡ some v → v.parts ≡ key.seats → v.holds ≡ false
+  nobody : (key : TurnKey V) (id : ℕ) (v : SeatView V) (s : State (Option V) (SeatView V)) (h : IsTurn tag seen out moves key s) → get_elem? s.views id ≡ some v → v.parts ≡ key.seats → v.holds ≡ false
       → IsHeld h.value s → ⊥
   nobody key id v s h at all idle f =
       true_not_false f.view.holds f.holds_is (dite (ℕ_discrete f.holder id)
@@ -374,6 +382,7 @@ module _ {V T : Type 0} (tag : V → T) (seen : V → Option ℤ) (out : V → �
     pub out_is : out value v.number ≡ v.out
     pub also_out : AllByRecursion (λ (p : ℕ × Option (List ℕ)). out value p.0 ≡ p.1) v.also
     pub rest : (n : ℕ) → key.seats ≤ n → out value n ≡ None
+    pub past : HasMoved moves key.first.value value
 
   pub record Closes (key : TurnKey V) (v : SeatView V) (s : State (Option V) (SeatView V)) : Type 0 where
     pub value : V
@@ -381,7 +390,7 @@ module _ {V T : Type 0} (tag : V → T) (seen : V → Option ℤ) (out : V → �
     pub last : IsLast key v value
 
   -- then the value is at home, and it is no less than what the seat saw
-  pub closes : (key : TurnKey V) (id : ℕ) (v : SeatView V) (s : State (Option V) (SeatView V)) → IsTurn tag seen out key s → get_elem? s.views id ≡ some v → v.parts ≡ key.seats → 0 < key.seats → v.holds ≡ false
+  pub closes : (key : TurnKey V) (id : ℕ) (v : SeatView V) (s : State (Option V) (SeatView V)) → IsTurn tag seen out moves key s → get_elem? s.views id ≡ some v → v.parts ≡ key.seats → 0 < key.seats → v.holds ≡ false
       → Closes key v s
   closes key id v s h at all some_seats idle = dite (ℕ_discrete (get_or s.words 0 0) 0)
       (λ zero. let k = h.known id v at (omega arith) in record {
@@ -393,6 +402,7 @@ module _ {V T : Type 0} (tag : V → T) (seen : V → Option ℤ) (out : V → �
           out_is = k.out_is;
           also_out = weaken (IsStill tag seen out h.value s.views) (λ (p : ℕ × Option (List ℕ)). out h.value p.0 ≡ p.1) (λ p x. x.out_is) v.also k.still;
           rest = λ n far. h.rest n (let few = h.few in omega arith);
+          past = h.past;
         };
       })
       (λ busy. absurd (nobody key id v s h at all idle (h.held busy)))

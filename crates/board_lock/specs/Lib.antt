@@ -1,3 +1,4 @@
+pub mod History
 pub mod Lends
 pub mod Order
 pub mod Rule

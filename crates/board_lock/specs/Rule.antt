@@ -4,6 +4,7 @@ use Rattle.std.specs.List.{AllByRecursion}
 use mathlib.Core.Option.{some}
 use lib.ListN.{get_elem?}
 use Rattle.atomic_table.specs.Table.{State, Me}
+use Rattle.board_lock.specs.History.{HasMoved}
 use Rattle.board_lock.specs.Order.{NoLess, greater}
 use Rattle.board_lock.specs.declared.view.SeatView.{SeatView}
 use Rattle.board_lock.specs.declared.view.TurnKey.{TurnKey}
@@ -67,11 +68,12 @@ module _ {V : Type 0} where
       pub still : AllByRecursion (IsStill value views) w.also
       pub last_is : w.last ≡ true → (place + 1 ≡ length views) × (place + w.parts ≡ key.seats)
 
-    -- The value is what was left last. It is at home, or one seat holds the turn and found it.
-    pub record IsTurn (key : TurnKey V) (s : State (Option V) (SeatView V)) : Type 0 where
+    -- The value is what was left last, after moves from the first one. It is at home, or one seat holds the turn and found it.
+    pub record IsTurn (moves : V → V → ℕ → Type 0) (key : TurnKey V) (s : State (Option V) (SeatView V)) : Type 0 where
       pub one_word : length s.words ≡ 1
       pub value : V
       pub tag_is : tag value ≡ tag key.first.value
+      pub past : HasMoved moves key.first.value value
       pub parts_are : parts_of s.views ≡ key.seats
       pub known : (j : ℕ) (w : SeatView V) → get_elem? s.views j ≡ some w → 0 < w.parts → Knows key value s.views j w
       pub few : length s.views ≤ key.seats

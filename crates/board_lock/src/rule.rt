@@ -11,7 +11,7 @@ pub struct TurnRule<V> {
 impl<V: Turned> TableRule<Option<V>, SeatView<V>, TurnKey<V>> for TurnRule<V> {
     ghost use Rattle.board_lock.specs.Rule.{first_view, IsTurn};
 
-    ghost holds = { λ key. IsTurn V.tag V.seen V.out key };
+    ghost holds = { λ key. IsTurn V.tag V.seen V.out V.moves key };
 
     ghost first = { first_view };
 }

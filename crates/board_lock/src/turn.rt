@@ -49,6 +49,7 @@ impl<V> Seat<V> {
 impl<V: Turned> Turn<V> {
     ghost use Rattle.std.specs.Prelude.{◌≡◌, ◌⊎◌, ℕ, ◌≤◌, [], None, IfOk, IfErr, map, length, vec_len, vec_capacity};
     ghost use Rattle.std.specs.List.{All, range_with_len};
+    ghost use Rattle.board_lock.specs.History.{HasMoved};
     ghost use Rattle.board_lock.specs.Order.{NoLess};
     ghost use Rattle.board_lock.specs.Seats.{first_of, seats_of, seen_of, out_of, number_of, IsSeatOf, IsFresh, IsHolding, IsMaker, IsWhole};
 
@@ -221,6 +222,7 @@ impl<V: Turned> Turn<V> {
         ensures seen { All (λ s. NoLess (seen_of s) (V.seen result)) seats.items }
         ensures out { All (λ s. V.out result s.number ≡ out_of s) seats.items }
         ensures rest { (number : ℕ) → seats_of self ≤ number → V.out result number ≡ None }
+        ensures history { HasMoved V.moves (first_of self) result }
     {
         let place = self.join_seats(seats);
         let Turn { table } = self;

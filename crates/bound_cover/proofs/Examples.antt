@@ -45,24 +45,24 @@ with bound arcs = (row bound (pos 1 ∷ []) (Some arcs) ∷ []) ∷ last ∷ []
 abbrev both : List CoverArc
 both = arc 0 (Some 0) ∷ arc 1 (Some 0) ∷ []
 
-accepted : verdict one_item (Some (pos 4)) (1 ∷ []) (with (Some (pos 4)) both) ≡ Accepted
+accepted : verdict one_item (Some (pos 4)) (pos 0) (1 ∷ []) (with (Some (pos 4)) both) ≡ Accepted
 accepted = refl
 
 -- the row's bound 4 lowered to 3
-lowered : verdict one_item (Some (pos 4)) (1 ∷ []) (with (Some (pos 3)) both) ≡ Refused (Arc 0 0 1)
+lowered : verdict one_item (Some (pos 4)) (pos 0) (1 ∷ []) (with (Some (pos 3)) both) ≡ Refused (Arc 0 0 1)
 lowered = refl
 
 -- the order of the tests
-too_few_layers : verdict one_item (Some (pos 4)) (7 ∷ []) (last ∷ []) ≡ Refused Layers
+too_few_layers : verdict one_item (Some (pos 4)) (pos 0) (7 ∷ []) (last ∷ []) ≡ Refused Layers
 too_few_layers = refl
 
-no_solution : verdict one_item (Some (pos 5)) (2 ∷ []) (with (Some (pos 9)) both) ≡ Refused Assignment
+no_solution : verdict one_item (Some (pos 5)) (pos 0) (2 ∷ []) (with (Some (pos 9)) both) ≡ Refused Assignment
 no_solution = refl
 
-not_the_value : verdict one_item (Some (pos 5)) (1 ∷ []) (with (Some (pos 9)) both) ≡ Refused Value
+not_the_value : verdict one_item (Some (pos 5)) (pos 0) (1 ∷ []) (with (Some (pos 9)) both) ≡ Refused Value
 not_the_value = refl
 
-above_best : verdict one_item (Some (pos 4)) (1 ∷ []) (with (Some (pos 5)) both) ≡ Refused Root
+above_best : verdict one_item (Some (pos 4)) (pos 0) (1 ∷ []) (with (Some (pos 5)) both) ≡ Refused Root
 above_best = refl
 
 -- the capacity 0 covers no root of capacity 1, and 2 is no state

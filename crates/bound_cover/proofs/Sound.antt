@@ -1,5 +1,5 @@
 -- A cover without a failure bounds every feasible solution.
-use Rattle.std.proofs.Common.{◌≡◌, ℕ, ◌+◌, ◌≤◌, ◌<◌, nat_eq, nat_lt, ℤ, pos, ◌+ℤ◌, int_le, true, false, cond, ◌&&◌, ◌||◌, List, [], ◌∷◌, length, filter, slice_get, Option, Some, None, inl, inr, IsTrue, refl, sym, ◌∙◌, ap, subst, arith}
+use Rattle.std.proofs.Common.{◌≡◌, ℕ, ◌+◌, ◌≤◌, ◌<◌, nat_eq, nat_lt, ℤ, pos, ◌+ℤ◌, ◌≤ℤ◌, int_le, true, false, cond, ◌&&◌, ◌||◌, List, [], ◌∷◌, length, filter, slice_get, Option, Some, None, inl, inr, IsTrue, refl, sym, ◌∙◌, ap, subst, arith}
 use Rattle.std.proofs.lemmas.Int.{ints}
 use Rattle.std.proofs.lemmas.Bool.{and_parts}
 use Rattle.dp_model.specs.Dp.{Dp, IsAllowed}
@@ -8,11 +8,12 @@ use Rattle.dp_model.specs.Decisions.{below}
 use Rattle.dp_model.specs.Gaps.{IsStateOf, Matches}
 use Rattle.dp_model.specs.Laws.{IsLawful}
 use Rattle.dp_model.specs.NumberLaws.{int_le-is}
-use Rattle.dp_model.specs.Numbers.{AtMost, add_some}
+use Rattle.dp_model.specs.Numbers.{AtMost, IsFar, add_some}
 use Rattle.dp_model.specs.Prefixes.{IsPath, IsContinuation, IsSolution, gain_of, value_of}
 use Rattle.dp_model.specs.Solution.{IsSolutionWith}
 use Rattle.dp_model.proofs.Members.{Has, Has-filter, Has-below}
-use Rattle.dp_model.proofs.Solutions.{best-is_best, IsBest-unique}
+use Rattle.dp_model.proofs.Sizes.{value_of-far}
+use Rattle.dp_model.proofs.Solutions.{best-is_best}
 use Rattle.dp_laws.proofs.Diagrams.Places.{Has-at}
 use Rattle.bound_cover.specs.declared.cover.CoverArc.{CoverArc}
 use Rattle.bound_cover.specs.declared.cover.Why.{Why}
@@ -20,8 +21,9 @@ use Rattle.bound_cover.specs.declared.cover.Why.TheVariants.{Layers, Root, Row, 
 use Rattle.bound_cover.specs.declared.cover.Verdict.TheVariants.{Accepted, Refused}
 use Rattle.bound_cover.specs.Covers.{CoverRow}
 use Rattle.bound_cover.specs.Tests.{is_at_most, is_state_row, unless, first_of, tested, gap_fault, row_arc_fault, arc_fault, inner_fault, last_fault, row_fault}
-use Rattle.bound_cover.specs.Proved.{Shows, IsProved}
-use Rattle.bound_cover.specs.Verdicts.{first_layer, rows_fault, layers_fault, covers_root, has_root, cover_fault, checked_rows, worth_from, worth, value_fault, solution_fault, checked, verdict_of}
+use Rattle.bound_cover.specs.Clamping.{IsWritable}
+use Rattle.bound_cover.specs.Proved.{Shows, IsProved, LiesWithin, IsProvedWithin}
+use Rattle.bound_cover.specs.Verdicts.{first_layer, rows_fault, layers_fault, covers_root, has_root, cover_fault, checked_rows, worth_from, worth, value_fault, solution_fault, claim_of, checked, verdict_of}
 use Rattle.bound_cover.proofs.Faults.{first-none, unless-none, cond-none, at-most-over, add-at-most, at-most-below, at-most-zero, state-of-row, Has-with_listed, decision-of, arc-of}
 
 -- the row's claim: no continuation of its state gains more than its bound
@@ -192,23 +194,49 @@ value-of-fault dp x (Some z) v is e =
 
 -- ---- accepted
 
-pub checked-parts : (dp : Dp) (o : Option ℤ) (x : List ℕ) (layers : List (List CoverRow)) → checked dp o x layers ≡ None → (solution_fault dp o x ≡ None) × (checked_rows dp o layers ≡ None)
-checked-parts dp o x layers e =
-    let parts = cond-none (nat_eq (length layers) (dp.vars + 1)) (first_of (solution_fault dp o x) (cover_fault dp o layers)) Layers e in
-    let both = first-none (solution_fault dp o x) (cover_fault dp o layers) parts.1 in
-    (both.0, ap (λ b. cond b (cover_fault dp o layers) (Some Layers)) parts.0 ∙ both.1)
+pub checked-parts : (dp : Dp) (o : Option ℤ) (within : ℤ) (x : List ℕ) (layers : List (List CoverRow)) → checked dp o within x layers ≡ None → (solution_fault dp o x ≡ None) × (checked_rows dp (claim_of o within) layers ≡ None)
+checked-parts dp o within x layers e =
+    let parts = cond-none (nat_eq (length layers) (dp.vars + 1)) (first_of (solution_fault dp o x) (cover_fault dp (claim_of o within) layers)) Layers e in
+    let both = first-none (solution_fault dp o x) (cover_fault dp (claim_of o within) layers) parts.1 in
+    (both.0, ap (λ b. cond b (cover_fault dp (claim_of o within) layers) (Some Layers)) parts.0 ∙ both.1)
 
-proved-by : (dp : Dp) (x : List ℕ) (o : Option ℤ) → solution_fault dp o x ≡ None → ((y : List ℕ) → IsSolution dp y → AtMost (value_of dp y) o) → IsBest dp o × Shows dp x o
-proved-by dp x None e most = ((λ y h. most y h), tt)
-proved-by dp x (Some v) e most =
+-- a reported value that passes is that of a feasible solution
+pub reported-far : (dp : Dp) → IsLawful dp → (o : Option ℤ) (x : List ℕ) → solution_fault dp o x ≡ None → IsWritable o
+reported-far dp laws None x e = tt
+reported-far dp laws (Some v) x e =
     let w = value-of-fault dp x (worth dp x) v refl e in
-    (record { by = x; solution = w.solution; value = sym w.value; most = λ y h. most y h }, w)
+    subst IsFar (sym w.value) (value_of-far dp laws x w.solution.prefix)
 
-pub accepted-is-best : (dp : Dp) → IsLawful dp → (o : Option ℤ) (x : List ℕ) (layers : List (List CoverRow)) → checked dp o x layers ≡ None → IsProved dp x o
-accepted-is-best dp laws o x layers e =
-    let parts = checked-parts dp o x layers e in
-    let is = proved-by dp x o parts.0 (checked-rows-bound dp laws o layers parts.1) in
-    record { best = IsBest-unique dp o (best dp) is.0 (best-is_best dp); shown = is.1 }
+proved-by : (dp : Dp) (x : List ℕ) (o : Option ℤ) (within : ℤ) → solution_fault dp o x ≡ None → ((y : List ℕ) → IsSolution dp y → AtMost (value_of dp y) (claim_of o within)) → (b : Option ℤ) → IsBest dp b → LiesWithin b o within × Shows dp x o
+proved-by dp x None within e most None is = (refl, tt)
+proved-by dp x None within e most (Some b) is = absurd (most is.by is.solution)
+proved-by dp x (Some v) within e most None is = absurd (is x (value-of-fault dp x (worth dp x) v refl e).solution)
+proved-by dp x (Some v) within e most (Some b) is =
+    let w = value-of-fault dp x (worth dp x) v refl e in
+    let least : value_of dp x ≤ℤ b = is.most x w.solution in
+    let greatest : value_of dp is.by ≤ℤ (v +ℤ within) = most is.by is.solution in
+    let same = w.value in let at = is.value in
+    ((omega (arith, ints), omega (arith, ints)), w)
+
+-- accepted: the best value lies within the distance
+pub accepted-is-near : (dp : Dp) → IsLawful dp → (o : Option ℤ) (within : ℤ) (x : List ℕ) (layers : List (List CoverRow)) → checked dp o within x layers ≡ None → IsProvedWithin dp x o within
+accepted-is-near dp laws o within x layers e =
+    let parts = checked-parts dp o within x layers e in
+    let is = proved-by dp x o within parts.0 (checked-rows-bound dp laws (claim_of o within) layers parts.1) (best dp) (best-is_best dp) in
+    record { near = is.0; shown = is.1 }
+
+near-exact : (b o : Option ℤ) (within : ℤ) → within ≡ pos 0 → LiesWithin b o within → o ≡ b
+near-exact b None within zero near = sym near
+near-exact None (Some v) within zero near = absurd near
+near-exact (Some b) (Some v) within zero near =
+    let least = near.0 in let most = near.1 in
+    let same : v ≡ b = omega (arith, ints) in ap Some same
+
+-- without a distance it is the reported one
+pub accepted-is-best : (dp : Dp) → IsLawful dp → (o : Option ℤ) (within : ℤ) (x : List ℕ) (layers : List (List CoverRow)) → checked dp o within x layers ≡ None → within ≡ pos 0 → IsProved dp x o
+accepted-is-best dp laws o within x layers e zero =
+    let is = accepted-is-near dp laws o within x layers e in
+    record { best = near-exact (best dp) o within zero is.near; shown = is.shown }
 
 -- the verdict is Accepted only where there is no failure
 pub accepted-none : (o : Option Why) → verdict_of o ≡ Accepted → o ≡ None
@@ -216,7 +244,7 @@ accepted-none None e = refl
 accepted-none (Some why) e = absurd (let clash : Refused why ≡ Accepted = e in cc)
 
 -- the two parts of a check
-pub checked-by : (dp : Dp) (o : Option ℤ) (x : List ℕ) (layers : List (List CoverRow)) → solution_fault dp o x ≡ None → checked_rows dp o layers ≡ None → checked dp o x layers ≡ None
-checked-by dp o x layers e f =
-    let parts = cond-none (nat_eq (length layers) (dp.vars + 1)) (cover_fault dp o layers) Layers f in
-    ap (λ b. cond b (first_of (solution_fault dp o x) (cover_fault dp o layers)) (Some Layers)) parts.0 ∙ (ap (λ a. first_of a (cover_fault dp o layers)) e ∙ parts.1)
+pub checked-by : (dp : Dp) (o : Option ℤ) (within : ℤ) (x : List ℕ) (layers : List (List CoverRow)) → solution_fault dp o x ≡ None → checked_rows dp (claim_of o within) layers ≡ None → checked dp o within x layers ≡ None
+checked-by dp o within x layers e f =
+    let parts = cond-none (nat_eq (length layers) (dp.vars + 1)) (cover_fault dp (claim_of o within) layers) Layers f in
+    ap (λ b. cond b (first_of (solution_fault dp o x) (cover_fault dp (claim_of o within) layers)) (Some Layers)) parts.0 ∙ (ap (λ a. first_of a (cover_fault dp (claim_of o within) layers)) e ∙ parts.1)

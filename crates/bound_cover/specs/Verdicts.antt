@@ -64,15 +64,20 @@ abbrev pub solution_fault : Dp → Option ℤ → List ℕ → Option Why
 solution_fault dp None x = None
 solution_fault dp (Some best) x = value_fault (worth dp x) best
 
+-- what no feasible solution may exceed: the reported value and the distance, and none where no value is reported
+abbrev pub claim_of : Option ℤ → ℤ → Option ℤ
+claim_of None within = None
+claim_of (Some best) within = Some (best +ℤ within)
+
 -- the first failure of all
-abbrev pub checked : Dp → Option ℤ → List ℕ → List (List CoverRow) → Option Why
-checked dp best x layers =
-    cond (nat_eq (length layers) (dp.vars + 1)) (first_of (solution_fault dp best x) (cover_fault dp best layers)) (Some Layers)
+abbrev pub checked : Dp → Option ℤ → ℤ → List ℕ → List (List CoverRow) → Option Why
+checked dp best within x layers =
+    cond (nat_eq (length layers) (dp.vars + 1)) (first_of (solution_fault dp best x) (cover_fault dp (claim_of best within) layers)) (Some Layers)
 
 abbrev pub verdict_of : Option Why → Verdict
 verdict_of None = Accepted
 verdict_of (Some why) = Refused why
 
 -- what check answers
-abbrev pub verdict : Dp → Option ℤ → List ℕ → List (List CoverRow) → Verdict
-verdict dp best x layers = verdict_of (checked dp best x layers)
+abbrev pub verdict : Dp → Option ℤ → ℤ → List ℕ → List (List CoverRow) → Verdict
+verdict dp best within x layers = verdict_of (checked dp best within x layers)

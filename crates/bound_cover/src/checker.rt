@@ -1,8 +1,8 @@
 //! The checker of covers: what `check_rows` and `check` need beside a cover and a model.
 
-ghost use Rattle.std.specs.Prelude.{◌≡◌, ℕ, IfOk, length};
+ghost use Rattle.std.specs.Prelude.{◌≡◌, ◌^◌, pos, ◌≤ℤ◌, IfOk, length};
 ghost use Rattle.bound_cover.specs.Verdicts.{checked_rows, verdict};
-ghost use Rattle.bound_cover.specs.Proved.{IsProved};
+ghost use Rattle.bound_cover.specs.Proved.{IsProved, IsProvedWithin};
 ghost use Rattle.bound_cover.specs.declared.cover.Verdict.TheVariants.{Accepted};
 
 use crate::cover::{Verdict, Why};
@@ -58,26 +58,32 @@ impl Checker {
         check_rows(model, claim, cover, &mut self.root, &mut self.step)
     }
 
-    /// The verdict on a cover with its reported value and assignment: accepted, or refused by the first test that fails. An
-    /// accepted value is the greatest of all feasible solutions, and the assignment is a feasible solution of that value; where
-    /// no value is reported, there is no feasible solution.
+    /// The verdict on a cover with its reported value, distance and assignment: accepted, or refused by the first test that
+    /// fails. Where it is accepted, the assignment is a feasible solution of that value, and the greatest value of all feasible
+    /// solutions is at most `within` above it: with a distance of 0 it is the value. Where no value is reported, there is no
+    /// feasible solution.
     ///
-    /// The checker was prepared for the model. It takes no memory.
+    /// The checker was prepared for the model, and the distance is from 0 to 2^50. It takes no memory.
     pub fn check<M: DpModel>(
         &mut self,
         model: &M,
         best: Option<i64>,
+        within: i64,
         assignment: &[u32],
         cover: &Cover,
     ) -> Verdict
-        requires { self.old.words ≡ (M.meaning (M.numbers model.now)).words }
-        ensures verdict { result ≡ verdict (M.meaning (M.numbers model.now)) best assignment.now cover.now }
-        ensures sound { result ≡ Accepted → IsProved (M.meaning (M.numbers model.now)) assignment.now best }
+        requires prepared { self.old.words ≡ (M.meaning (M.numbers model.now)).words }
+        requires least { pos 0 ≤ℤ within }
+        requires most { within ≤ℤ pos (2 ^ 50) }
+        ensures verdict { result ≡ verdict (M.meaning (M.numbers model.now)) best within assignment.now cover.now }
+        ensures near { result ≡ Accepted → IsProvedWithin (M.meaning (M.numbers model.now)) assignment.now best within }
+        ensures sound { result ≡ Accepted → within ≡ pos 0 → IsProved (M.meaning (M.numbers model.now)) assignment.now best }
         ensures same { self.new ≡ self.old }
     {
         check(
             model,
             best,
+            within,
             assignment,
             cover,
             &mut self.root,

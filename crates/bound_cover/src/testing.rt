@@ -1,6 +1,6 @@
 //! The tests of a cover, each by a function of its own.
 
-ghost use Rattle.std.specs.Prelude.{◌≡◌, ℕ, ◌<◌, ◌≤◌, ◌+◌, ◌^◌, ◌+ℤ◌, List, length, slice_get, Option, Some, option_map, IsTrue, IfSome, int_le};
+ghost use Rattle.std.specs.Prelude.{◌≡◌, ℕ, ◌<◌, ◌≤◌, ◌+◌, ◌^◌, ℤ, pos, ◌+ℤ◌, ◌≤ℤ◌, List, length, slice_get, Option, Some, option_map, IsTrue, IfSome, int_le};
 ghost use Rattle.dp_model.specs.Dp.{Dp, IsAllowed};
 ghost use Rattle.dp_model.specs.Gaps.{IsStateOf};
 ghost use Rattle.dp_model.specs.Numbers.{add_some};
@@ -8,8 +8,9 @@ ghost use Rattle.bound_cover.specs.Covers.{CoverRow};
 ghost use Rattle.bound_cover.specs.Walking.{least_behind, lesser, at_hand, decision_of, step_fault};
 ghost use Rattle.bound_cover.specs.Tests.{is_at_most, is_state_row, arc_fault, tested, decisions_fault, row_fault};
 ghost use Rattle.bound_cover.specs.Stored.{shown_row, to_row_fault};
-ghost use Rattle.bound_cover.specs.Verdicts.{rows_fault, layers_fault, has_root, root_test, checked_rows, worth, solution_fault, verdict};
-ghost use Rattle.bound_cover.specs.Proved.{IsProved};
+ghost use Rattle.bound_cover.specs.Verdicts.{rows_fault, layers_fault, has_root, root_test, checked_rows, worth, solution_fault, claim_of, verdict};
+ghost use Rattle.bound_cover.specs.Clamping.{IsWritable};
+ghost use Rattle.bound_cover.specs.Proved.{IsProved, IsProvedWithin};
 ghost use Rattle.bound_cover.specs.declared.cover.Verdict.TheVariants.{Accepted};
 ghost use Rattle.bound_cover.specs.Exploring.{layer_of};
 
@@ -506,11 +507,25 @@ fn solution_fault<M: DpModel>(
     }
 }
 
-/// The verdict on a cover with its reported value and assignment; an accepted one proves that the value is the best. `root` and
-/// `step` are written over; it takes no memory.
+/// What no feasible solution may exceed: the reported value and the distance, and `None` where no value is reported.
+fn claim_of(best: Option<i64>, within: i64) -> Option<i64>
+    requires far { IsWritable best }
+    requires least { pos 0 ≤ℤ within }
+    requires most { within ≤ℤ pos (2 ^ 50) }
+    ensures { result ≡ claim_of best within }
+{
+    match best {
+        None => None,
+        Some(best) => Some(best + within),
+    }
+}
+
+/// The verdict on a cover with its reported value, distance and assignment; an accepted one proves that the best value lies
+/// within the distance. `root` and `step` are written over; it takes no memory.
 pub fn check<M: DpModel>(
     model: &M,
     best: Option<i64>,
+    within: i64,
     assignment: &[u32],
     cover: &Cover,
     root: &mut [i64],
@@ -518,8 +533,11 @@ pub fn check<M: DpModel>(
 ) -> Verdict
     requires root_cells { length root.old ≡ (M.meaning (M.numbers model.now)).words }
     requires cells { length step.old ≡ (M.meaning (M.numbers model.now)).words }
-    ensures verdict { result ≡ verdict (M.meaning (M.numbers model.now)) best assignment.now cover.now }
-    ensures sound { result ≡ Accepted → IsProved (M.meaning (M.numbers model.now)) assignment.now best }
+    requires least { pos 0 ≤ℤ within }
+    requires most { within ≤ℤ pos (2 ^ 50) }
+    ensures verdict { result ≡ verdict (M.meaning (M.numbers model.now)) best within assignment.now cover.now }
+    ensures near { result ≡ Accepted → IsProvedWithin (M.meaning (M.numbers model.now)) assignment.now best within }
+    ensures sound { result ≡ Accepted → within ≡ pos 0 → IsProved (M.meaning (M.numbers model.now)) assignment.now best }
 {
     if cover.layers() != model.vars() + 1 {
         return Verdict::Refused(Why::Layers);
@@ -527,7 +545,7 @@ pub fn check<M: DpModel>(
     if let Some(why) = solution_fault(model, best, assignment, root, step) {
         return Verdict::Refused(why);
     }
-    match check_rows(model, best, cover, root, step) {
+    match check_rows(model, claim_of(best, within), cover, root, step) {
         None => Verdict::Accepted,
         Some(why) => Verdict::Refused(why),
     }

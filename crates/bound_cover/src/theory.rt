@@ -1,6 +1,6 @@
 //! What accepted covers prove, and which covers are accepted, as functions whose contracts state it.
 
-ghost use Rattle.std.specs.Prelude.{◌≡◌, ℕ, ◌≤◌, ◌+◌, ℤ, List, length, Option, None};
+ghost use Rattle.std.specs.Prelude.{◌≡◌, ℕ, ◌≤◌, ◌+◌, ℤ, pos, List, length, Option, None};
 ghost use Rattle.dp_model.specs.Dp.{Dp};
 ghost use Rattle.dp_model.specs.Best.{best};
 ghost use Rattle.dp_model.specs.Laws.{IsLawful, IsChained};
@@ -8,14 +8,15 @@ ghost use Rattle.dp_laws.specs.Diagrams.Nodes.{DdLayers};
 ghost use Rattle.bound_cover.specs.declared.cover.Verdict.TheVariants.{Accepted};
 ghost use Rattle.bound_cover.specs.Covers.{CoverRow};
 ghost use Rattle.bound_cover.specs.Verdicts.{verdict, checked_rows};
-ghost use Rattle.bound_cover.specs.Proved.{IsProved};
+ghost use Rattle.bound_cover.specs.Proved.{IsProved, IsProvedWithin};
 ghost use Rattle.bound_cover.specs.Clamping.{clamped_layers, AreWritable, IsReachable};
 ghost use Rattle.bound_cover.specs.Exploring.{HoldsAll, Explores, IsExplored, start_cover, start_waiting};
 
-/// An accepted value is the best one, and the assignment is a feasible solution of that value; where none is reported there
-/// is no feasible solution.
+/// The best value lies within the distance of an accepted one, and the assignment is a feasible solution of that value; without
+/// a distance the accepted value is the best one. Where none is reported there is no feasible solution.
 pub fn accepted_values_are_best()
-    ensures { (dp : Dp) (value : Option ℤ) (x : List ℕ) (cover : List (List CoverRow)) → IsLawful dp → verdict dp value x cover ≡ Accepted → IsProved dp x value }
+    ensures near { (dp : Dp) (value : Option ℤ) (within : ℤ) (x : List ℕ) (cover : List (List CoverRow)) → IsLawful dp → verdict dp value within x cover ≡ Accepted → IsProvedWithin dp x value within }
+    ensures best { (dp : Dp) (value : Option ℤ) (x : List ℕ) (cover : List (List CoverRow)) → IsLawful dp → verdict dp value (pos 0) x cover ≡ Accepted → IsProved dp x value }
 {}
 
 /// Rows that pass hold every feasible solution within the claim.

@@ -209,7 +209,7 @@ fn verdict_of(alloc: Global, model: &Knapsack, case: &Case) -> Result<Verdict, O
     let (above, below, best, assignment, _) = *case;
     let cover = cover_of(alloc, above, below)?;
     let mut checker = Checker::prepare(alloc, model)?;
-    Ok(checker.check(model, best, assignment, &cover))
+    Ok(checker.check(model, best, 0, assignment, &cover))
 }
 
 #[test]
@@ -229,8 +229,31 @@ fn a_cover_without_layers_is_refused(rt: HostRuntime) -> Result<(), Fail> {
     assert!(rt; read.is_ok());
     let Ok(model) = read else { return Ok(()) };
     let mut checker = Checker::prepare(rt.alloc(), &model)?;
-    let verdict = checker.check(&model, BEST, TAKEN, &Cover::new(rt.alloc()));
+    let verdict = checker.check(&model, BEST, 0, TAKEN, &Cover::new(rt.alloc()));
     assert_eq!(rt; verdict, Verdict::Refused(Why::Layers));
+    Ok(())
+}
+
+#[test]
+fn a_distance_is_added_to_the_value(rt: HostRuntime) -> Result<(), Fail> {
+    let read = knapsack::read(rt.alloc(), b"1 1\n4 1\n");
+    assert!(rt; read.is_ok());
+    let Ok(model) = read else { return Ok(()) };
+    let mut checker = Checker::prepare(rt.alloc(), &model)?;
+    let above_by_two = cover_of(rt.alloc(), (Some(6), 1, Some(BOTH)), END)?;
+    assert_eq!(rt;
+        checker.check(&model, BEST, 2, TAKEN, &above_by_two),
+        Verdict::Accepted
+    );
+    let above_by_three = cover_of(rt.alloc(), (Some(7), 1, Some(BOTH)), END)?;
+    assert_eq!(rt;
+        checker.check(&model, BEST, 2, TAKEN, &above_by_three),
+        Verdict::Refused(Why::Root)
+    );
+    assert_eq!(rt;
+        checker.check(&model, Some(0), 4, &[0], &above_by_two),
+        Verdict::Refused(Why::Root)
+    );
     Ok(())
 }
 

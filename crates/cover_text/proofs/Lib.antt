@@ -1,3 +1,7 @@
 pub mod Chains
 pub mod LastLayers
 pub mod Places
+pub mod PrintedTokens
+pub mod PrintedRows
+pub mod PrintedLengths
+pub mod RoundTrip

@@ -5,3 +5,4 @@ pub mod Heads
 pub mod Instances
 pub mod Texts
 pub mod Printed
+pub mod Written

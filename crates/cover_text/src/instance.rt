@@ -61,6 +61,7 @@ pub(crate) fn part_text(bytes: &[u8], lines: u32, size: u32) -> Result<Parted<'_
     requires { length bytes.now < 2 ^ 32 - 1 }
     ensures parts { MatchResult result (λ p. parted bytes.now lines size ≡ Ok (p.instance.now, p.behind.now)) (λ e. parted bytes.now lines size ≡ Err e) }
     ensures within { IfOk result (λ p. length p.behind.now ≤ length bytes.now) }
+    ensures inside { IfOk result (λ p. length p.instance.now ≤ length bytes.now) }
 {
     let rest = behind_lines(bytes, lines);
     let size = size as usize;

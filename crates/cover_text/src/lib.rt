@@ -6,7 +6,7 @@
 //! state, and perhaps arcs.
 //!
 //! Promised: `read_cover` answers exactly what the grammar gives, the first fault with its place included, and `push_cover` appends
-//! exactly the sections of a cover. Only want of memory has no stated cause.
+//! exactly the sections of a cover, which are read as that cover (the law `pushed_is_read`). Only want of memory has no stated cause.
 #![tactic(auto)]
 
 mod cover_error;
@@ -18,8 +18,10 @@ mod layers;
 mod printing;
 mod reading;
 mod rows;
+mod theory;
 
 pub use cover_error::CoverError;
 pub use cover_text::CoverText;
 pub use printing::push_cover;
 pub use reading::read_cover;
+pub use theory::pushed_is_read;

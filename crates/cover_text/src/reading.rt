@@ -1,6 +1,6 @@
 //! The text of a cover, read.
 
-ghost use Rattle.std.specs.Prelude.{◌≡◌, ◌<◌, ◌≤◌, ◌-◌, ◌^◌, ◌++◌, length};
+ghost use Rattle.std.specs.Prelude.{◌≡◌, ◌<◌, ◌≤◌, ◌-◌, ◌^◌, ◌++◌, length, vec_len, IfOk};
 ghost use Rattle.cover_text.specs.Grammar.{Reads};
 ghost use Rattle.cover_text.specs.Texts.{cover_behind, text_in, text_of};
 
@@ -29,11 +29,13 @@ fn read_behind(alloc: Global, before: &[u8], behind: &[u8]) -> Result<Cover, Cov
 ///
 /// The first fault is answered, with its place: one of `Tokens::next_number`, `Tokens::next_word` and `Tokens::finish`, or `Word`
 /// at a word that may not stand there. Where a row's line ends too early, that is the next token. `EndOfText` where the instance
-/// has fewer bytes than are announced. `OutOfMemory` where there was no memory for the cover.
+/// has fewer bytes than are announced. `OutOfMemory` where there was no memory for the cover. The instance has no more bytes than
+/// the text.
 #[tactic(auto, unfolding(crate::specs::Texts::text_of))]
 pub fn read_cover(alloc: Global, bytes: &[u8]) -> Result<CoverText, CoverError>
     requires { length bytes.now < 2 ^ 32 - 1 }
-    ensures { Reads text_in result (text_of bytes.now) }
+    ensures read { Reads text_in result (text_of bytes.now) }
+    ensures inside { IfOk result (λ t. vec_len t.instance ≤ length bytes.now) }
 {
     let head = read_head(alloc, bytes)?;
     let parts = part_text(bytes, head.size.line, head.size.bytes)?;

@@ -12,7 +12,7 @@ use std::test::Fail;
 type Case = (u32, Option<i64>, Option<(i64, &'static [u32])>);
 
 /// The text's instance.
-fn instance<P: Problem>(rt: &impl Abort, alloc: Global, text: &[u8]) -> P {
+pub(crate) fn instance<P: Problem>(rt: &impl Abort, alloc: Global, text: &[u8]) -> P {
     assert!(rt; text.len() < 1000);
     let model = P::read(alloc, text);
     assert!(rt; model.is_ok(), "of {text:?}");

@@ -1,11 +1,15 @@
 -- A table at a put.
-use Rattle.std.proofs.Common.{◌≡◌, ℕ, ◌+◌, ◌-◌, ◌*◌, ◌<◌, ◌≤◌, ◌⊎◌, inl, inr, ℤ, List, [], ◌∷◌, ◌++◌, length, true, false, cond, sym, ◌∙◌, ap, subst, arith, add-one, Result, Ok, Err, IsOk, is_ok}
+use Rattle.std.proofs.Common.{◌≡◌, ℕ, ◌+◌, ◌-◌, ◌*◌, ◌<◌, ◌≤◌, ◌⊎◌, inl, inr, ℤ, pos, List, [], ◌∷◌, ◌++◌, length, true, false, cond, sym, ◌∙◌, ap, subst, arith, add-one, Result, Ok, Err, IsOk, is_ok}
 use Rattle.std.proofs.Math.Nat.{suc-mul, add-mul}
 use Rattle.std.proofs.lemmas.Bool.{eq-eqb, ne_eqb}
 use Rattle.std.proofs.lemmas.Nat.{mul-le}
+use Rattle.std.proofs.lemmas.List.{get_or_append_left, length-append}
+use Rattle.std.proofs.Math.Seq.{get_or-append_seam}
 use Rattle.dominance_table.specs.declared.entry.Entry.{Entry}
 use Rattle.dominance_table.specs.declared.put.Put.TheVariants.{Yes, AtLimit}
-use Rattle.dominance_table.specs.Entries.{TableEntry, TableView, HasRoom, is_full, put_gives, after_put, with_row, with_rows}
+use Rattle.dominance_table.specs.declared.groups.Link.{Link}
+use Rattle.dominance_table.specs.Groups.{HasEntered, fold_at}
+use Rattle.dominance_table.specs.Entries.{TableEntry, TableView, HasRoom, AreGrouped, AreRising, entry_at, group_fold, is_full, put_gives, after_put, with_row, with_rows}
 use Rattle.dominance_table.proofs.Rows.{length_with_rows, with_rows_more}
 
 -- a table as its fields show it
@@ -82,3 +86,40 @@ pub row_put : {E : Type 0} (r : Result (Unit {0}) E) (words cells capacity now :
     → items ≡ cond (is_ok r) (old ++ row) old → now ≡ cond (is_ok r) (cells + length row) cells → (items ≡ old ++ row) × (now ≡ cells + words)
 row_put (Ok x) words cells capacity now old row items may fits long is count = (is, count ∙ ap (λ n. cells + n) long)
 row_put (Err e) words cells capacity now old row items may fits long is count = let no : false ≡ true = may (omega arith) in absurd (cc)
+
+-- the entry at a place, with one more at the end
+entry_before : (es : List Entry) (e : Entry) (i : ℕ) → i < length es → entry_at (es ++ e ∷ []) i ≡ entry_at es i
+entry_before es e i less = get_or_append_left es (e ∷ []) (record { depth = 0; bucket = 0; value = pos 0; ticket = 0 }) i less
+
+entry_last : (es : List Entry) (e : Entry) (i : ℕ) → i ≡ length es → entry_at (es ++ e ∷ []) i ≡ e
+entry_last es e i here = ap (entry_at (es ++ e ∷ [])) here ∙ get_or-append_seam es e [] (record { depth = 0; bucket = 0; value = pos 0; ticket = 0 })
+
+before_or_last : (es : List Entry) (e : Entry) (i : ℕ) → i < length (es ++ e ∷ []) → (i < length es) ⊎ (i ≡ length es)
+before_or_last es e i less = let sum = length-append es (e ∷ []) in grind arith
+
+-- one more entry is grouped
+pub grouped_more : (es : List Entry) (e : Entry) (links links' : List Link) → AreGrouped es links → HasEntered links links' (group_fold e.depth e.bucket) → AreGrouped (es ++ e ∷ []) links'
+grouped_more es e links links' h more = record {
+  len = (let sum = length-append es (e ∷ []) in let len = more.len in let old = h.len in omega arith);
+  fold = λ i less. elim (before_or_last es e i less) as (λ _. fold_at links' i ≡ group_fold (entry_at (es ++ e ∷ []) i).depth (entry_at (es ++ e ∷ []) i).bucket) [
+    | inl there ↦ (let old = h.len in
+        more.kept i (omega arith) ∙ (h.fold i there ∙ sym (ap (λ (x : Entry). group_fold x.depth x.bucket) (entry_before es e i there))))
+    | inr here ↦ ap (fold_at links') (here ∙ sym h.len) ∙ (more.fold_is ∙ sym (ap (λ (x : Entry). group_fold x.depth x.bucket) (entry_last es e i here)))
+  ];
+}
+
+-- tickets rise with one more that is no less than the last
+pub rising_more : (es : List Entry) (e : Entry) → AreRising es → ((i : ℕ) → i + 1 ≡ length es → (entry_at es i).ticket ≤ e.ticket) → AreRising (es ++ e ∷ [])
+rising_more es e rising last i j before less = elim (before_or_last es e j less) as (λ _. (entry_at (es ++ e ∷ []) i).ticket ≤ (entry_at (es ++ e ∷ []) j).ticket) [
+  | inl there ↦ subst (λ (x : Entry). x.ticket ≤ (entry_at (es ++ e ∷ []) j).ticket) (sym (entry_before es e i (omega arith)))
+      (subst (λ (x : Entry). (entry_at es i).ticket ≤ x.ticket) (sym (entry_before es e j there)) (rising i j before there))
+  | inr here ↦ subst (λ (x : Entry). (entry_at (es ++ e ∷ []) i).ticket ≤ x.ticket) (sym (entry_last es e j here)) (
+      let side : (i < length es) ⊎ (i ≡ length es) = grind arith in
+      elim side as (λ _. (entry_at (es ++ e ∷ []) i).ticket ≤ e.ticket) [
+        | inl there ↦ subst (λ (x : Entry). x.ticket ≤ e.ticket) (sym (entry_before es e i there)) (
+            let end : length es - 1 + 1 ≡ length es = omega arith in
+            let one = rising i (length es - 1) (omega arith) (omega arith) in
+            let two = last (length es - 1) end in omega arith)
+        | inr same ↦ subst (λ (x : Entry). x.ticket ≤ e.ticket) (sym (entry_last es e i same)) (omega arith)
+      ])
+]

@@ -1,8 +1,12 @@
 -- The entries of a table, and the table as its callers see it.
-use Rattle.std.specs.Prelude.{◌≡◌, ℕ, ◌-◌, ◌*◌, ◌≤◌, ℤ, Bool, cond, nat_eq, List, [], ◌∷◌, ◌++◌, length, take, drop}
+use Rattle.std.specs.Prelude.{◌≡◌, ℕ, ◌-◌, ◌*◌, ◌<◌, ◌≤◌, ℤ, pos, Bool, cond, nat_eq, List, [], ◌∷◌, ◌++◌, length, take, drop, slice_index_or}
+use Rattle.std.specs.Int.{w64, cast_signed}
+use Rattle.dp_model.specs.Folds.{fold_of}
 use Rattle.dominance_table.specs.declared.entry.Entry.{Entry}
 use Rattle.dominance_table.specs.declared.put.Put.{Put}
 use Rattle.dominance_table.specs.declared.put.Put.TheVariants.{Yes, AtLimit}
+use Rattle.dominance_table.specs.declared.groups.Link.{Link}
+use Rattle.dominance_table.specs.Groups.{fold_at}
 
 -- a state that was reached: its depth, its bucket, its row, the value that it was reached with, and its ticket
 pub record TableEntry : Type 0 where
@@ -48,3 +52,23 @@ pub record HasRoom (words limit room len capacity cells cells_capacity : ℕ) : 
   pub entries : room ≤ capacity
   pub rows : cells ≡ len * words
   pub blocks : room * words ≤ cells_capacity
+
+-- the entry at a place, and the cells of its row
+abbrev pub entry_at : List Entry → ℕ → Entry
+entry_at entries i = slice_index_or entries i (record { depth = 0; bucket = 0; value = pos 0; ticket = 0 })
+
+abbrev pub row_at : List ℤ → ℕ → ℕ → List ℤ
+row_at cells words place = take words (drop (place * words) cells)
+
+-- the fold of a depth and a bucket
+abbrev pub group_fold : ℕ → ℕ → ℕ
+group_fold depth bucket = fold_of depth (cast_signed w64 bucket ∷ [])
+
+-- each entry is under the fold of its depth and bucket
+pub record AreGrouped (entries : List Entry) (links : List Link) : Type 0 where
+  pub len : length links ≡ length entries
+  pub fold : (i : ℕ) → i < length entries → fold_at links i ≡ group_fold (entry_at entries i).depth (entry_at entries i).bucket
+
+-- no ticket is less than one before it
+abbrev pub AreRising : List Entry → Type 0
+AreRising entries = (i j : ℕ) → i ≤ j → j < length entries → (entry_at entries i).ticket ≤ (entry_at entries j).ticket

@@ -1,3 +1,4 @@
+pub mod Groups
 pub mod Entries
 pub mod Dominator
 pub mod Boxes

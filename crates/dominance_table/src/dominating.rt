@@ -1,33 +1,38 @@
 //! Which entries dominate a new state.
 
-ghost use Rattle.std.specs.Prelude.{◌≡◌, ◌*◌, length, Option, Some};
+ghost use Rattle.std.specs.Prelude.{◌≡◌, ◌+◌, ◌*◌, ◌≤◌, length, true, Option, Some};
 ghost use Rattle.dp_model.specs.Gaps.{IsStateOf, covers_at};
 ghost use Rattle.dominance_table.specs.Dominator.{lesser, dominates, dominator, AreStates};
-ghost use Rattle.dominance_table.specs.Entries.{with_row, with_rows};
+ghost use Rattle.dominance_table.specs.Entries.{AreGrouped, AreRising, group_fold, row_at, with_row, with_rows};
 
 use crate::entry::Entry;
-use dp_model::DpModel;
+use crate::groups::Groups;
+use dp_model::{DpModel, fold};
 
-/// A new state: its depth, its bucket, its row, and the value that it is reached with.
+/// A new state: its depth, its bucket, its row with its rank, and the value that it is reached with.
 #[derive(Drop)]
 pub struct Sought<'a> {
     pub depth: usize,
     pub bucket: u64,
     pub row: &'a [i64],
+    pub rank: i64,
     pub value: i64,
 }
 
-/// Whether the gap lifts the value to at most the one above.
-fn covers_at(gap: Option<i64>, above: i64, value: i64) -> bool
-    ensures { result ≡ covers_at gap above value }
+/// The fold by which the entries of a depth and a bucket are found.
+pub fn group_fold(depth: usize, bucket: u64) -> u64
+    ensures { result ≡ group_fold depth bucket }
 {
-    let Some(gap) = gap else {
-        return false;
-    };
-    match value.checked_add(gap) {
-        Some(lifted) => lifted <= above,
-        None => gap < 0,
-    }
+    fold(depth as u64, &[bucket.cast_signed()])
+}
+
+/// The cells of the row at a place.
+fn row_at(cells: &[i64], words: usize, place: usize) -> &[i64]
+    requires { place * words + words ≤ length cells.now }
+    ensures { result.now ≡ row_at cells.now words place }
+{
+    let at = place * words;
+    &cells[at..at + words]
 }
 
 /// The lesser of two tickets.
@@ -40,42 +45,69 @@ fn lesser(least: Option<u64>, ticket: u64) -> Option<u64>
     }
 }
 
+/// Whether the gap of the row to the new state lifts that state's value to at most the row's. A gap is no less than zero, so
+/// the values alone often tell.
+fn covers<M: DpModel>(model: &M, row: &[i64], value: i64, sought: &Sought) -> bool
+    requires state { IsStateOf (M.meaning (M.numbers model.now)) sought.now.depth sought.now.row.now }
+    requires rank { sought.now.rank ≡ (M.meaning (M.numbers model.now)).rank sought.now.depth sought.now.row.now }
+    requires row { IsStateOf (M.meaning (M.numbers model.now)) sought.now.depth row.now }
+    ensures { result ≡ covers_at ((M.meaning (M.numbers model.now)).gap sought.now.depth row.now sought.now.row.now) value sought.now.value }
+{
+    if value < sought.value {
+        return false;
+    }
+    let most = value.saturating_sub(sought.value);
+    let rank = model.rank(sought.depth, row);
+    model
+        .covers_within(sought.depth, row, rank, sought.row, sought.rank, most)
+        .is_some()
+}
+
 /// Whether the entry, which has this row, is one of the depth and bucket that dominates.
 fn dominates<M: DpModel>(model: &M, entry: &Entry, row: &[i64], sought: &Sought) -> bool
     requires state { IsStateOf (M.meaning (M.numbers model.now)) sought.now.depth sought.now.row.now }
     requires bucket { sought.now.bucket ≡ (M.meaning (M.numbers model.now)).bucket sought.now.depth sought.now.row.now }
+    requires rank { sought.now.rank ≡ (M.meaning (M.numbers model.now)).rank sought.now.depth sought.now.row.now }
     requires row { entry.now.depth ≡ sought.now.depth → IsStateOf (M.meaning (M.numbers model.now)) sought.now.depth row.now }
     ensures { result ≡ dominates (M.meaning (M.numbers model.now)) sought.now.depth sought.now.row.now sought.now.value (with_row entry.now row.now) }
 {
     if entry.depth != sought.depth || entry.bucket != sought.bucket {
         return false;
     }
-    let gap = model.gap(sought.depth, row, sought.row);
-    covers_at(gap, entry.value, sought.value)
+    covers(model, row, entry.value, sought)
 }
 
-/// The least ticket of the entries that dominate, whose rows lie one after another in `cells`.
+/// The least ticket of the entries that dominate, whose rows lie one after another in `cells`. Where tickets rise, that is the
+/// ticket of the first one, at which the search ends.
 pub fn least_dominator<M: DpModel>(
     model: &M,
     entries: &[Entry],
     cells: &[i64],
     words: usize,
+    groups: &Groups,
+    rising: bool,
     sought: &Sought,
 ) -> Option<u64>
     requires state { IsStateOf (M.meaning (M.numbers model.now)) sought.now.depth sought.now.row.now }
     requires bucket { sought.now.bucket ≡ (M.meaning (M.numbers model.now)).bucket sought.now.depth sought.now.row.now }
+    requires rank { sought.now.rank ≡ (M.meaning (M.numbers model.now)).rank sought.now.depth sought.now.row.now }
     requires rows { AreStates (M.meaning (M.numbers model.now)) sought.now.depth (with_rows words entries.now cells.now) }
     requires cells { length cells.now ≡ length entries.now * words }
+    requires grouped { AreGrouped entries.now groups.now.links }
+    requires rising { rising ≡ true → AreRising entries.now }
     ensures { result ≡ dominator (M.meaning (M.numbers model.now)) (with_rows words entries.now cells.now) sought.now.depth sought.now.row.now sought.now.value }
 {
     let mut least = None;
-    let mut rest = cells;
-    for entry in entries {
-        let (row, later) = rest.split_at(words);
-        if dominates(model, entry, row, sought) {
+    let mut at = groups.first(group_fold(sought.depth, sought.bucket));
+    while at < entries.len() {
+        let entry = &entries[at];
+        if dominates(model, entry, row_at(cells, words, at), sought) {
             least = lesser(least, entry.ticket);
+            if rising {
+                return least;
+            }
         }
-        rest = later;
+        at = groups.next(at);
     }
     least
 }

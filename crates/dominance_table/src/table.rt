@@ -1,10 +1,11 @@
-ghost use Rattle.std.specs.Prelude.{◌≡◌, ◌≤◌, ◌<◌, ◌⊎◌, [], length, IfOk, OnOk, OnErr};
+ghost use Rattle.std.specs.Prelude.{◌≡◌, ℕ, ◌+◌, ◌≤◌, ◌<◌, ◌⊎◌, [], length, true, IfOk, OnOk, OnErr};
 ghost use Rattle.dp_model.specs.Gaps.{IsStateOf};
 ghost use Rattle.dominance_table.specs.Dominator.{dominator, AreStates};
-ghost use Rattle.dominance_table.specs.Entries.{put_gives, after_put};
+ghost use Rattle.dominance_table.specs.Entries.{put_gives, after_put, entry_at};
 
-use crate::dominating::{Sought, least_dominator};
+use crate::dominating::{Sought, group_fold, least_dominator};
 use crate::entry::Entry;
+use crate::groups::Groups;
 use crate::put::Put;
 use dp_model::{DpModel, OutOfMemory};
 use std::alloc::Global;
@@ -12,19 +13,22 @@ use std::marker::Model;
 
 /// States that were reached, each with its depth, bucket, value and ticket, in the order of their puts, up to a limit.
 ///
-/// The rows lie one after another in one block. There is memory for `room` entries, those that are there included.
+/// The rows lie one after another in one block. The entries of one fold of depth and bucket are in a chain.
 #[derive(Debug, Drop)]
 pub struct Table {
     words: usize,
     limit: u32,
-    room: usize,
+    // only where no ticket is less than one before it
+    rising: bool,
     entries: Vec<Entry>,
     cells: Vec<i64>,
+    groups: Groups,
 }
 
 impl Model for Table {
     ghost use Rattle.std.specs.Prelude.{◌-◌, vec_len, vec_capacity};
-    ghost use Rattle.dominance_table.specs.Entries.{TableView, HasRoom, with_rows};
+    ghost use Rattle.std.specs.Prelude.{◌≡◌, true};
+    ghost use Rattle.dominance_table.specs.Entries.{TableView, HasRoom, AreGrouped, AreRising, with_rows};
 
     ghost Value = { TableView };
 
@@ -32,10 +36,11 @@ impl Model for Table {
       entries = with_rows t.words t.entries.items t.cells.items;
       words = t.words;
       limit = t.limit;
-      spare = t.room - vec_len t.entries;
+      spare = t.groups.room - vec_len t.entries;
     } };
 
-    ghost invariant = { λ t. HasRoom t.words t.limit t.room (vec_len t.entries) (vec_capacity t.entries) (vec_len t.cells) (vec_capacity t.cells) };
+    ghost invariant = { λ t. HasRoom t.words t.limit t.groups.room (vec_len t.entries) (vec_capacity t.entries) (vec_len t.cells) (vec_capacity t.cells)
+        × (AreGrouped t.entries.items t.groups.links × (t.rising ≡ true → AreRising t.entries.items)) };
 }
 
 impl Table {
@@ -47,9 +52,10 @@ impl Table {
         Table {
             words,
             limit,
-            room: 0,
+            rising: true,
             entries: Vec::new(alloc),
             cells: Vec::new(alloc),
+            groups: Groups::new(alloc),
         }
     }
 
@@ -63,7 +69,7 @@ impl Table {
         let Some(room) = self.entries.len().checked_add(rows) else {
             return Err(OutOfMemory);
         };
-        if room <= self.room {
+        if room <= self.groups.room() {
             return Ok(());
         }
         let Some(cells) = rows.checked_mul(self.words) else {
@@ -71,7 +77,7 @@ impl Table {
         };
         self.entries.reserve(rows)?;
         self.cells.reserve(cells)?;
-        self.room = room;
+        self.groups.reserve(rows)?;
         Ok(())
     }
 
@@ -88,6 +94,8 @@ impl Table {
         if self.entries.len() == self.limit as usize {
             return Put::AtLimit;
         }
+        self.rising = rise_with(self.rising, self.entries.as_slice(), ticket);
+        self.groups.enter(group_fold(depth, bucket));
         self.entries.push_reserved(Entry {
             depth,
             bucket,
@@ -117,6 +125,7 @@ impl Table {
             depth,
             bucket: model.bucket(depth, row),
             row,
+            rank: model.rank(depth, row),
             value,
         };
         least_dominator(
@@ -124,6 +133,8 @@ impl Table {
             self.entries.as_slice(),
             self.cells.as_slice(),
             self.words,
+            &self.groups,
+            self.rising,
             &sought,
         )
     }
@@ -140,7 +151,7 @@ impl Table {
     pub fn spare(&self) -> usize
         ensures { result ≡ self.now.spare }
     {
-        self.room - self.entries.len()
+        self.groups.room() - self.entries.len()
     }
 
     /// How many entries there are at most.
@@ -156,5 +167,16 @@ impl Table {
         ensures some { 1 ≤ result }
     {
         self.words
+    }
+}
+
+/// Whether tickets rise, as they do or don't so far, with one more at the end.
+fn rise_with(rising: bool, entries: &[Entry], ticket: u64) -> bool
+    ensures so_far { result ≡ true → rising ≡ true }
+    ensures last { (i : ℕ) → result ≡ true → i + 1 ≡ length entries.now → (entry_at entries.now i).ticket ≤ ticket }
+{
+    match entries.last() {
+        Some(last) => rising && last.ticket <= ticket,
+        None => rising,
     }
 }

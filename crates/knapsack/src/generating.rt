@@ -5,8 +5,8 @@ ghost use Rattle.knapsack.specs.Instance.{is_small_item};
 ghost use Rattle.knapsack.specs.Shown.{instance_in};
 ghost use Rattle.knapsack.specs.Generating.{item_drawn, behind_item, generated};
 
-use crate::item::Item;
 use crate::instance::Knapsack;
+use crate::item::Item;
 use draws::Draws;
 use std::alloc::{AllocError, Global};
 

@@ -3,8 +3,8 @@ ghost use Rattle.knapsack.specs.Program.{left, is_left, item_at, rough_from};
 ghost use Rattle.knapsack.specs.Limits.{IsSmallItem};
 
 use crate::filling::filled;
-use crate::item::Item;
 use crate::instance::Knapsack;
+use crate::item::Item;
 use dp_model::DpModel;
 
 /// Writes a state of one cell.

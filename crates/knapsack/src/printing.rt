@@ -4,8 +4,8 @@ ghost use Rattle.knapsack.specs.Printing.{copies_text, line_of, text_of};
 ghost use Rattle.knapsack.specs.Reading.{instance_text};
 ghost use Rattle.std.specs.List.{flat_map};
 
-use crate::item::Item;
 use crate::instance::Knapsack;
+use crate::item::Item;
 use dd_text::{push_number, push_text};
 use std::alloc::{AllocError, Global};
 

@@ -5,8 +5,8 @@ ghost use Rattle.knapsack.specs.Instance.{is_small, is_small_item};
 ghost use Rattle.knapsack.specs.Shown.{instance_in};
 ghost use Rattle.knapsack.specs.Reading.{copies_at, item_behind, instance_text};
 
-use crate::item::Item;
 use crate::instance::Knapsack;
+use crate::item::Item;
 use dd_text::{Comment, InstanceError, InstanceFault, ReadModelError, Tokens};
 use std::alloc::Global;
 

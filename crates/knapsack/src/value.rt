@@ -4,8 +4,8 @@ ghost use Rattle.knapsack.specs.Limits.{AreSmall};
 ghost use Rattle.knapsack.specs.Shown.{instance_in, program_in};
 ghost use Rattle.dp_model.specs.Solution.{SolutionGives};
 
-use crate::item::Item;
 use crate::instance::Knapsack;
+use crate::item::Item;
 
 /// What copies weigh in all, and what they are worth in all.
 #[derive(Clone, Copy)]

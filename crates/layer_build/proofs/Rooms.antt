@@ -5,7 +5,7 @@ use Rattle.dp_model.specs.Laws.{IsLawful}
 use Rattle.dp_laws.specs.Width.{cost_below, FitsWidth, IsGreatestWidth}
 use Rattle.layer_candidates.specs.declared.beam.Beam.{Beam}
 use Rattle.layer_candidates.specs.Beaming.{HasLayers, HasMade}
-use Rattle.layer_build.specs.Space.{IsWidth, AreEnough}
+use Rattle.layer_build.specs.Layers.{IsWidth, AreEnough}
 
 last-of : (k n : ℕ) → k < suc n → (k ≡ n) ⊎ (k < n)
 last-of k n h = grind arith
@@ -49,9 +49,9 @@ pub record AreEnoughTo (dp : Dp) (w n room before : ℕ) : Type 0 where
   pub last : (k : ℕ) → k + 1 ≡ n → before ≡ dp.choices k
   pub before_few : before ≤ 1024
 
-pub enough-none : (dp : Dp) (w : ℕ) → AreEnoughTo dp w 0 0 0
+pub enough-none : (dp : Dp) (w : ℕ) → AreEnoughTo dp w 0 1 0
 enough-none dp w = record {
-  enough = record { first = λ k less. absurd (omega arith); second = λ k less. absurd (omega arith); later = λ k less. absurd (omega arith); few = omega arith };
+  enough = record { some = omega arith; first = λ k less. absurd (omega arith); second = λ k less. absurd (omega arith); later = λ k less. absurd (omega arith); few = omega arith };
   last = λ k e. absurd (omega arith);
   before_few = omega arith;
 }
@@ -60,6 +60,7 @@ pub enough-more : (dp : Dp) → IsLawful dp → (w n room before choices new : �
     → room ≤ new → w * choices ≤ new → before * choices ≤ new → new ≤ 2 ^ 25 → AreEnoughTo dp w (n + 1) new choices
 enough-more dp laws w n room before choices new h less e is a b c small = record {
   enough = record {
+    some = (let one = e.enough.some in omega arith);
     first = λ k low. first k (last-or k n low);
     second = λ k low. second k (last-or (k + 1) n low);
     later = λ k low. later k (last-or k n low);

@@ -1,194 +1,199 @@
--- What is made in memory is the layer of the rules, whatever the paths are.
-use Rattle.std.proofs.Common.{◌≡◌, ◌≢◌, ℕ, zero, suc, ◌+◌, ◌<◌, nat_lt, ℤ, pos, Bool, true, false, not, cond, ◌&&◌, ◌||◌, List, [], ◌∷◌, ◌++◌, length, map, slice_get, position, Option, Some, None, option_and_then, refl, sym, ◌∙◌, ap, ap₂, subst, append_assoc, length-append, arith}
-use Rattle.std.proofs.lemmas.List.{map-append, length-map}
-use Rattle.std.proofs.lemmas.Option.{slice_get-get_or}
+-- Layers in memory and how they are seen.
+use Rattle.std.proofs.Common.{◌≡◌, ℕ, zero, suc, ◌+◌, ◌-◌, ◌*◌, ◌^◌, ◌<◌, ◌≤◌, ℤ, List, [], ◌∷◌, ◌++◌, map, length, Bool, true, false, get_or, slice_get, Option, Some, None, IsSome, refl, sym, ◌⊎◌, inl, inr, ap, ap₂, ◌∙◌, subst, arith, append_assoc, length-append}
+use Rattle.std.proofs.Math.Seq.{get_or-append_seam}
+use Rattle.std.proofs.lemmas.Int.{ints}
 use Rattle.dp_model.specs.Dp.{Dp}
-use Rattle.dp_model.specs.Lists.{Each}
-use Rattle.dp_model.specs.Reached.{Reached}
-use Rattle.dp_model.specs.Rows.{row_same}
-use Rattle.dp_model.proofs.Members.{one-of-has, Each-append}
-use Rattle.dp_laws.specs.Restricted.Extensions.{extended, candidates, all_joined}
-use Rattle.dp_laws.specs.Pairs.{EachTwo}
-use Rattle.dp_laws.specs.Restricted.ReductionOrder.{in_order}
-use Rattle.dp_laws.specs.Restricted.Sorting.{at}
-use Rattle.dp_laws.proofs.Restricted.Differing.{differ-all_joined, differ-in_order}
-use Rattle.dp_laws.proofs.Restricted.Permutations.{two-map}
-use Rattle.dp_laws.specs.declared.arc.DdArc.{DdArc}
-use Rattle.dp_laws.specs.Diagrams.Nodes.{DdNode, prefix_at}
-use Rattle.dp_laws.specs.Diagrams.Seen.{decisions_at}
-use Rattle.dp_laws.proofs.Diagrams.Places.{same-Some, Has-at}
-use Rattle.dp_laws.specs.Rules.Expanding.{makes, is_exact_row, node_for, new_layer, arc_of, with_arcs}
-use Rattle.dp_laws.specs.Rules.Redirects.{Redirect, redirected_by, redirected}
-use Rattle.dp_laws.proofs.Rules.Expanded.{RowsApart, found-row, one-place, new-apart}
-use Rattle.layer_build.specs.Stored.{Stored, Made, shown, shown_from, prefix_of, pathless, made_at}
-use Rattle.layer_build.specs.Expanding.{node_from, kept_nodes}
-use Rattle.layer_build.specs.Extending.{made_from, allowed_below, made_by, all_made, arc_to, arcs_to, all_with_arcs_to}
-use Rattle.layer_build.specs.Following.{landing_of, with_landed}
-use Rattle.layer_build.specs.Joining.{row_at, rows_at, landing_at, AllLand, all_exact}
-use Rattle.layer_build.specs.Ordering.{KeepsRank, KeepsBest}
-use Rattle.layer_build.proofs.Exactness.{map-same}
-use Rattle.layer_build.proofs.Ordered.{prefixes, at-row}
+use Rattle.dp_model.specs.Gaps.{IsStateOf}
+use Rattle.dp_model.specs.Lists.{Each, OneOf}
+use Rattle.dp_model.specs.Numbers.{IsFar}
+use Rattle.dp_laws.specs.Diagrams.Nodes.{DdNode, path_below}
+use Rattle.dp_laws.specs.Rules.Compiling.{TwoLayers}
+use Rattle.dp_laws.specs.Rules.Within.{IsBetween}
+use Rattle.layer_candidates.specs.Ways.{IsNear, IsNearly}
+use Rattle.layer_nodes.specs.Nodes.{NodeView, shown, shown_from, shown_layer, shown_below, without_arcs}
+use Rattle.layer_nodes.specs.Steps.{IsParent, IsNodeOf, IsRanked, AreAmong}
+use Rattle.layer_build.specs.Layers.{last_layer, expand_last, on_last_two}
+use Rattle.layer_build.specs.Stacked.{path_in, paths_below, paths_at, shown_down}
+use Rattle.layer_build.specs.UnderWay.{last_two}
 
-map-map : {X Y Z : Type 0} (f : X → Y) (g : Y → Z) (xs : List X) → map g (map f xs) ≡ map (λ x. g (f x)) xs
-map-map f g [] = refl
-map-map f g (x ∷ xs) = ap (λ l. g (f x) ∷ l) (map-map f g xs)
+-- ---- one layer
 
--- the decisions of a layer above the last one
-pub allowed-at : (dp : Dp) (k : ℕ) (s : List ℤ) → k < dp.vars → allowed_below dp k s (dp.choices k) ≡ decisions_at dp k s
-allowed-at dp k s low = let inside : nat_lt k dp.vars ≡ true = grind arith in sym (ap (λ b. cond b (allowed_below dp k s (dp.choices k)) []) inside)
+map-of : {X Y Z : Type 0} (f : Y → Z) (g : X → Y) (xs : List X) → map f (map g xs) ≡ map (λ x. f (g x)) xs
+map-of f g [] = refl
+map-of f g (x ∷ xs) = ap (λ l. f (g x) ∷ l) (map-of f g xs)
 
--- The candidates are those of the rules.
+-- a layer whose nodes have their paths by their parents is seen as one below another
+shown-each : (q : NodeView → List ℕ) (front : List (List ℕ)) (nodes : List NodeView) → shown_from (path_in (front ++ map q nodes)) (length front) nodes ≡ map (λ (n : NodeView). shown (q n) n) nodes
+shown-each q front [] = refl
+shown-each q front (n ∷ nodes) =
+    let here : path_in (front ++ q n ∷ map q nodes) (length front) ≡ q n = get_or-append_seam front (q n) (map q nodes) [] in
+    let longer : length (front ++ q n ∷ []) ≡ length front + 1 = length-append front (q n ∷ []) in
+    let all : (front ++ q n ∷ []) ++ map q nodes ≡ front ++ q n ∷ map q nodes = simp append_assoc in
+    let rest = shown-each q (front ++ q n ∷ []) nodes in
+    let moved : shown_from (path_in (front ++ q n ∷ map q nodes)) (length front + 1) nodes ≡ map (λ (m : NodeView). shown (q m) m) nodes =
+    subst (λ (i : ℕ). shown_from (path_in (front ++ q n ∷ map q nodes)) i nodes ≡ map (λ (m : NodeView). shown (q m) m) nodes) longer
+    (subst (λ (ps : List (List ℕ)). shown_from (path_in ps) (length (front ++ q n ∷ [])) nodes ≡ map (λ (m : NodeView). shown (q m) m) nodes) all rest) in
+    ap₂ (λ (p : List ℕ) (l : List DdNode). shown p n ∷ l) here moved
 
-extended-by : (dp : Dp) (k : ℕ) (paths : ℕ → List ℕ) (i : ℕ) (node : Stored) (ds : List ℕ)
-    → prefixes paths (map (made_from dp k i node) ds) ≡ map (extended dp k (prefix_at (shown (paths i) node))) ds
-extended-by dp k paths i node [] = refl
-extended-by dp k paths i node (d ∷ ds) = ap (λ l. extended dp k (prefix_at (shown (paths i) node)) d ∷ l) (extended-by dp k paths i node ds)
+pub as-below : (above : List (List ℕ)) (nodes : List NodeView) → shown_layer (path_in (paths_below above nodes)) nodes ≡ shown_below (path_in above) nodes
+as-below above nodes = shown-each (λ (n : NodeView). path_below (path_in above) n.parent n.decision) [] nodes
 
-pub made-candidates : (dp : Dp) (k : ℕ) (paths : ℕ → List ℕ) (i : ℕ) (nodes : List Stored) → prefixes paths (all_made dp k i nodes) ≡ candidates dp k (map prefix_at (shown_from paths i nodes))
-made-candidates dp k paths i [] = refl
-made-candidates dp k paths i (node ∷ nodes) =
-    map-append (prefix_of paths) (made_by dp k i node) (all_made dp k (i + 1) nodes)
-    ∙ ap₂ (λ a b. a ++ b) (extended-by dp k paths i node (allowed_below dp k node.row (dp.choices k))) (made-candidates dp k paths (i + 1) nodes)
+pub length-shown : (paths : ℕ → List ℕ) (i : ℕ) (nodes : List NodeView) → length (shown_from paths i nodes) ≡ length nodes
+length-shown paths i [] = refl
+length-shown paths i (n ∷ nodes) = ap suc (length-shown paths (i + 1) nodes)
 
-ranked-by : (dp : Dp) (k i : ℕ) (node : Stored) (ds : List ℕ) → Each (KeepsRank dp (k + 1)) (map (made_from dp k i node) ds)
-ranked-by dp k i node [] = tt
-ranked-by dp k i node (d ∷ ds) = (refl, ranked-by dp k i node ds)
+-- the arcs of the nodes do not count for the paths below them
+pub paths-same : (above : List (List ℕ)) (a b : List NodeView) → map without_arcs a ≡ map without_arcs b → paths_below above a ≡ paths_below above b
+paths-same above a b e =
+    let q = λ (n : NodeView). path_below (path_in above) n.parent n.decision in
+    sym (map-of q without_arcs a) ∙ (ap (map q) e ∙ map-of q without_arcs b)
 
-pub made-ranked : (dp : Dp) (k i : ℕ) (nodes : List Stored) → Each (KeepsRank dp (k + 1)) (all_made dp k i nodes)
-made-ranked dp k i [] = tt
-made-ranked dp k i (node ∷ nodes) =
-    Each-append (KeepsRank dp (k + 1)) (made_by dp k i node) (all_made dp k (i + 1) nodes) (ranked-by dp k i node (allowed_below dp k node.row (dp.choices k))) (made-ranked dp k (i + 1) nodes)
+-- ---- what a layer in memory keeps, read from what is seen of it
 
--- no two kept ones have one state
-pub kept-apart : (dp : Dp) (k : ℕ) (cs : List Made) (kept : List ℕ) → Each (KeepsRank dp k) cs → KeepsBest cs kept → EachTwo (λ a b. a ≢ b) (rows_at cs kept)
-kept-apart dp k cs kept ranks best =
-    let differ = differ-in_order dp k (all_joined [] (pathless cs)) (differ-all_joined [] (pathless cs) tt) in
-    let rows = two-map (λ (r : Reached). r.row) (λ a b. a ≢ b) (map (at (pathless cs)) kept) (subst (EachTwo (λ (a b : Reached). a.row ≢ b.row)) (sym (best dp k (λ _. []) ranks)) differ) in
-    subst (EachTwo (λ a b. a ≢ b)) (map-map (at (pathless cs)) (λ (r : Reached). r.row) kept) rows
+pub ranks-of : (dp : Dp) (k : ℕ) (paths : ℕ → List ℕ) (i : ℕ) (nodes : List NodeView) → Each (IsRanked dp k) nodes
+    → map (λ (n : NodeView). n.rank) nodes ≡ map (λ (n : DdNode). dp.rank k n.row) (shown_from paths i nodes)
+ranks-of dp k paths i [] h = refl
+ranks-of dp k paths i (n ∷ nodes) h = ap₂ (λ (r : ℤ) (l : List ℤ). r ∷ l) h.0.rank (ranks-of dp k paths (i + 1) nodes h.1)
 
--- Exact rows.
+head-of : {X : Type 0} (a b : X) (xs ys : List X) → a ∷ xs ≡ b ∷ ys → a ≡ b
+head-of a b xs ys e = cc
 
-both-ways : (e s m r : Bool) → ((e || not s) && ((e || not m) && r)) ≡ ((e || not (s || m)) && r)
-both-ways true s m r = refl
-both-ways false true m r = refl
-both-ways false false m r = refl
+tail-of : {X : Type 0} (a b : X) (xs ys : List X) → a ∷ xs ≡ b ∷ ys → xs ≡ ys
+tail-of a b xs ys e = cc
 
-exact-by : (dp : Dp) (k i : ℕ) (node : Stored) (rest : List Made) (row : List ℤ) (ds : List ℕ)
-    → all_exact (map (made_from dp k i node) ds ++ rest) row ≡ ((node.exact || not (makes dp k node.row ds row)) && all_exact rest row)
-exact-by dp k i node rest row [] = elim node.exact as (λ b. all_exact rest row ≡ ((b || true) && all_exact rest row)) [ true ↦ refl | false ↦ refl ]
-exact-by dp k i node rest row (d ∷ ds) =
-    ap (λ b. (node.exact || not (row_same (dp.step k node.row d) row)) && b) (exact-by dp k i node rest row ds)
-    ∙ both-ways node.exact (row_same (dp.step k node.row d) row) (makes dp k node.row ds row) (all_exact rest row)
+near-of : (k : ℕ) (z : ℤ) → k < 1024 → IsBetween (k + 1) (2 * k + 1) z → IsNear z
+near-of k z low h = let a = h.low in let b = h.high in record { low = omega (arith, ints); high = omega (arith, ints) }
 
-pub made-exact : (dp : Dp) (k : ℕ) (paths : ℕ → List ℕ) (i : ℕ) (nodes : List Stored) (row : List ℤ) → k < dp.vars
-    → all_exact (all_made dp k i nodes) row ≡ is_exact_row dp k (shown_from paths i nodes) row
-made-exact dp k paths i [] row low = refl
-made-exact dp k paths i (node ∷ nodes) row low =
-    exact-by dp k i node (all_made dp k (i + 1) nodes) row (allowed_below dp k node.row (dp.choices k))
-    ∙ ap₂ (λ ds b. (node.exact || not (makes dp k node.row ds row)) && b) (allowed-at dp k node.row low) (made-exact dp k paths (i + 1) nodes row low)
+nearly-of : (k : ℕ) (z : ℤ) → k ≤ 1024 → IsBetween (k + 1) (2 * k + 1) z → IsNearly z
+nearly-of k z low h = let a = h.low in let b = h.high in record { low = omega (arith, ints); high = omega (arith, ints) }
 
--- The place of a row.
+pub far-of : (k : ℕ) (z : ℤ) → k < 1024 → IsBetween 0 (3 * k + 5) z → IsFar z
+far-of k z low h = let a = h.low in let b = h.high in record { low = omega (arith, ints); high = omega (arith, ints) }
 
-row-found : (next : List DdNode) (j : ℕ) (row : List ℤ) → slice_get (map (λ (n : DdNode). n.row) next) j ≡ Some row → (node : DdNode) × (slice_get next j ≡ Some node) × (node.row ≡ row)
-row-found [] j row h = absurd (let none : None ≡ Some row = h in cc)
-row-found (n ∷ next) zero row h = (n, refl, same-Some n.row row h)
-row-found (n ∷ next) (suc j) row h = row-found next j row h
+pub nodes-of : (dp : Dp) (k : ℕ) (paths : ℕ → List ℕ) (i : ℕ) (nodes : List NodeView) → k ≤ 1024
+    → Each (λ (n : DdNode). IsStateOf dp k n.row) (shown_from paths i nodes) → Each (λ (n : DdNode). IsBetween (k + 1) (2 * k + 1) n.value) (shown_from paths i nodes)
+    → map (λ (n : NodeView). n.rank) nodes ≡ map (λ (n : DdNode). dp.rank k n.row) (shown_from paths i nodes) → Each (IsNodeOf dp k) nodes
+nodes-of dp k paths i [] low states values ranks = tt
+nodes-of dp k paths i (n ∷ nodes) low states values ranks =
+    (record { state = states.0; rank = head-of _ _ _ _ ranks; value = nearly-of k n.value low values.0 }, nodes-of dp k paths (i + 1) nodes low states.1 values.1 (tail-of _ _ _ _ ranks))
 
-pub place-of : (next : List DdNode) (j : ℕ) (row : List ℤ) → RowsApart next → slice_get (map (λ (n : DdNode). n.row) next) j ≡ Some row
-    → position (λ (n : DdNode). row_same n.row row) next ≡ Some j
-place-of next j row apart h =
-    let at_j = row-found next j row h in
-    let found = found-row next row (one-of-has (λ (n : DdNode). n.row ≡ row) next at_j.0 at_j.2 (Has-at next j at_j.0 at_j.1)) in
-    found.found ∙ ap Some (one-place next found.place j found.node at_j.0 apart found.at at_j.1 (found.same ∙ sym at_j.2))
+pub parents-of : (dp : Dp) (k : ℕ) (paths : ℕ → List ℕ) (i : ℕ) (nodes : List NodeView) → k < 1024
+    → Each (λ (n : DdNode). IsStateOf dp k n.row) (shown_from paths i nodes) → Each (λ (n : DdNode). IsBetween (k + 1) (2 * k + 1) n.value) (shown_from paths i nodes)
+    → map (λ (n : NodeView). n.rank) nodes ≡ map (λ (n : DdNode). dp.rank k n.row) (shown_from paths i nodes) → Each (IsParent dp k) nodes
+parents-of dp k paths i [] low states values ranks = tt
+parents-of dp k paths i (n ∷ nodes) low states values ranks =
+    (record { state = states.0; rank = head-of _ _ _ _ ranks; value = near-of k n.value low values.0 }, parents-of dp k paths (i + 1) nodes low states.1 values.1 (tail-of _ _ _ _ ranks))
 
--- Arcs that land.
+-- a node with a parent has a path
+some-path : (paths : ℕ → List ℕ) (parent : Option ℕ) (d : ℕ) → IsSome parent → 1 ≤ length (path_below paths parent d)
+some-path paths None d h = absurd (let clash : false ≡ true = h in cc)
+some-path paths (Some p) d h = let e = length-append (paths p) (d ∷ []) in omega arith
 
-row-behind : (before : List Made) (c : Made) (rest : List Made) (place : ℕ) → length before ≡ place → row_at (before ++ c ∷ rest) place ≡ c.row
-row-behind [] c rest zero e = refl
-row-behind [] c rest (suc place) e = absurd (omega arith)
-row-behind (b ∷ before) c rest zero e = absurd (omega arith)
-row-behind (b ∷ before) c rest (suc place) e = row-behind before c rest place (omega arith)
+some-parent : (paths : ℕ → List ℕ) (parent : Option ℕ) (d : ℕ) → 1 ≤ length (path_below paths parent d) → IsSome parent
+some-parent paths None d h = absurd (omega arith)
+some-parent paths (Some p) d h = refl
 
-abbrev arc_with : ℕ → ℤ → Option ℕ → DdArc
-arc_with d gain target = record { decision = d; target = target; gain = gain; longer = pos 0 }
+pub have-paths : (paths : ℕ → List ℕ) (nodes : List NodeView) → Each (λ (n : NodeView). IsSome n.parent) nodes → Each (λ (n : DdNode). 1 ≤ length n.path) (shown_below paths nodes)
+have-paths paths [] h = tt
+have-paths paths (n ∷ nodes) h = (some-path paths n.parent n.decision h.0, have-paths paths nodes h.1)
 
-abbrev with_arcs_shown : List ℕ → Stored → List DdArc → DdNode
-with_arcs_shown path node arcs = record (shown path node) { arcs = arcs }
+pub have-parents : (paths : ℕ → List ℕ) (nodes : List NodeView) → Each (λ (n : DdNode). 1 ≤ length n.path) (shown_below paths nodes) → Each (λ (n : NodeView). IsSome n.parent) nodes
+have-parents paths [] h = tt
+have-parents paths (n ∷ nodes) h = (some-parent paths n.parent n.decision h.0, have-parents paths nodes h.1)
 
-module _ (dp : Dp) (k : ℕ) (next : List DdNode) (cs : List Made) (kept : List ℕ) (ls : List (Option Redirect)) (apart : RowsApart next)
-    (rows : map (λ (n : DdNode). n.row) next ≡ rows_at cs kept) (all : AllLand cs kept ls) (long : length ls ≡ length cs) where
-  arc-lands : (s : List ℤ) (place d : ℕ) → place < length cs → row_at cs place ≡ dp.step k s d → redirected ls (arc_to dp k s place d) ≡ arc_of dp k next s d
-  arc-lands s place d less row =
-      let h = all place less in
-      let there : slice_get ls place ≡ Some (landing_at h.place) = slice_get-get_or ls place None (omega arith) ∙ ap Some h.lands in
-      let lands : landing_of ls (Some place) ≡ landing_at h.place = ap (λ o. option_and_then (λ (l : Option Redirect). l) o) there in
-      let found = place-of next h.place (dp.step k s d) apart (ap (λ l. slice_get l h.place) rows ∙ (h.found ∙ ap Some row)) in
-      ap (redirected_by (arc_to dp k s place d)) lands ∙ ap (arc_with d (dp.gain k s d)) (sym found)
+-- what each of the old nodes is, each of those that stay is
+one-of : {X : Type 0} (P : X → Type 0) (x : X) (old : List X) → OneOf (λ (other : X). other ≡ x) old → Each P old → P x
+one-of P x [] h all = absurd h
+one-of P x (y ∷ old) (inl e) all = subst P e all.0
+one-of P x (y ∷ old) (inr later) all = one-of P x old later all.1
 
-  arcs-land : (i : ℕ) (node : Stored) (ds : List ℕ) (before rest : List Made) (place : ℕ) → cs ≡ before ++ (map (made_from dp k i node) ds ++ rest) → length before ≡ place
-      → map (redirected ls) (arcs_to dp k node.row place ds) ≡ map (arc_of dp k next node.row) ds
-  arcs-land i node [] before rest place is e = refl
-  arcs-land i node (d ∷ ds) before rest place is e =
-      let c = made_from dp k i node d in
-      let later = map (made_from dp k i node) ds ++ rest in
-      let sum = ap length is in
-      let parts = length-append before (c ∷ later) in
-      let row : row_at cs place ≡ dp.step k node.row d = ap (λ l. row_at l place) is ∙ row-behind before c later place e in
-      let moved : cs ≡ (before ++ c ∷ []) ++ later = is ∙ sym (append_assoc before (c ∷ []) later) in
-      let longer = length-append before (c ∷ []) in
-      ap₂ (λ a l. a ∷ l) (arc-lands node.row place d (omega arith) row) (arcs-land i node ds (before ++ c ∷ []) rest (place + 1) moved (omega arith))
+pub stays : (P : NodeView → Type 0) (old new : List NodeView) → AreAmong old new → Each P old → Each P new
+stays P old [] h all = tt
+stays P old (n ∷ new) h all = (one-of P n old h.0 all, stays P old new h.1 all)
 
-  pub layer-lands : (paths : ℕ → List ℕ) → k < dp.vars → (i : ℕ) (nodes : List Stored) (before : List Made) (place : ℕ) → cs ≡ before ++ all_made dp k i nodes → length before ≡ place
-      → shown_from paths i (map (with_landed ls) (all_with_arcs_to dp k place nodes)) ≡ with_arcs dp k next (shown_from paths i nodes)
-  layer-lands paths low i [] before place is e = refl
-  layer-lands paths low i (node ∷ nodes) before place is e =
-      let ds = allowed_below dp k node.row (dp.choices k) in
-      let mine = made_by dp k i node in
-      let arcs = arcs-land i node ds before (all_made dp k (i + 1) nodes) place is e ∙ ap (map (arc_of dp k next node.row)) (allowed-at dp k node.row low) in
-      let moved : cs ≡ (before ++ mine) ++ all_made dp k (i + 1) nodes = is ∙ sym (append_assoc before mine (all_made dp k (i + 1) nodes)) in
-      let longer = length-append before mine in
-      let count = length-map ds (made_from dp k i node) in
-      ap₂ (λ a l. a ∷ l) (ap (with_arcs_shown (paths i) node) arcs) (layer-lands paths low (i + 1) nodes (before ++ mine) (place + length ds) moved (omega arith))
+pub ranked-of : (dp : Dp) (k : ℕ) (nodes : List NodeView) → Each (IsNodeOf dp k) nodes → Each (IsRanked dp k) nodes
+ranked-of dp k [] h = tt
+ranked-of dp k (n ∷ nodes) h = (record { state = h.0.state; rank = h.0.rank }, ranked-of dp k nodes h.1)
 
--- The next layer.
+-- ---- layer below layer
 
-at-made : (paths : ℕ → List ℕ) (cs : List Made) (p : ℕ) → p < length cs → at (prefixes paths cs) p ≡ prefix_of paths (made_at cs p)
-at-made paths [] p less = absurd (omega arith)
-at-made paths (c ∷ cs) zero less = refl
-at-made paths (c ∷ cs) (suc p) less = at-made paths cs p (omega arith)
+pub expand-last-on : (rule : List DdNode → TwoLayers) (a : List DdNode) (nodes : ℕ → List NodeView) (ps : List (List ℕ)) (k m : ℕ)
+    → expand_last rule (a ∷ shown_down nodes ps k m) ≡ a ∷ expand_last rule (shown_down nodes ps k m)
+expand-last-on rule a nodes ps k zero = refl
+expand-last-on rule a nodes ps k (suc m) = refl
 
-module _ (dp : Dp) (k : ℕ) (paths : ℕ → List ℕ) (nodes : List Stored) (cs : List Made) (kept : List ℕ) (low : k < dp.vars) (made : cs ≡ all_made dp k 0 nodes) (best : KeepsBest cs kept) where
-  abbrev layer_of : List DdNode
-  layer_of = shown_from paths 0 nodes
+pub on-last-two-on : (rule : TwoLayers → TwoLayers) (a : List DdNode) (nodes : ℕ → List NodeView) (ps : List (List ℕ)) (k m : ℕ)
+    → on_last_two rule (a ∷ shown_down nodes ps k (suc m)) ≡ a ∷ on_last_two rule (shown_down nodes ps k (suc m))
+on-last-two-on rule a nodes ps k zero = refl
+on-last-two-on rule a nodes ps k (suc m) = refl
 
-  new-is : new_layer dp k layer_of ≡ map (λ p. node_for dp k layer_of (at (prefixes paths cs) p)) kept
-  new-is =
-      let ranks = subst (Each (KeepsRank dp (k + 1))) (sym made) (made-ranked dp k 0 nodes) in
-      let these : prefixes paths cs ≡ candidates dp k (map prefix_at layer_of) = ap (prefixes paths) made ∙ made-candidates dp k paths 0 nodes in
-      let order : map (at (prefixes paths cs)) kept ≡ in_order dp (k + 1) (all_joined [] (candidates dp k (map prefix_at layer_of))) =
-      best dp (k + 1) paths ranks ∙ ap (λ l. in_order dp (k + 1) (all_joined [] l)) these in
-      ap (map (node_for dp k layer_of)) (sym order) ∙ map-map (at (prefixes paths cs)) (node_for dp k layer_of) kept
+last-on : (a : List DdNode) (nodes : ℕ → List NodeView) (ps : List (List ℕ)) (k m : ℕ) → last_layer (a ∷ shown_down nodes ps k m) ≡ last_layer (shown_down nodes ps k m)
+last-on a nodes ps k zero = refl
+last-on a nodes ps k (suc m) = refl
 
-  pub new-rows : map (λ (n : DdNode). n.row) (new_layer dp k layer_of) ≡ rows_at cs kept
-  new-rows =
-      ap (map (λ (n : DdNode). n.row)) new-is ∙ (map-map (λ p. node_for dp k layer_of (at (prefixes paths cs) p)) (λ (n : DdNode). n.row) kept
-      ∙ map-same (λ p. (at (prefixes paths cs) p).row) (row_at cs) kept (λ p. at-row paths cs p))
+two-on : (a : List DdNode) (nodes : ℕ → List NodeView) (ps : List (List ℕ)) (k m : ℕ) → last_two (a ∷ shown_down nodes ps k (suc m)) ≡ last_two (shown_down nodes ps k (suc m))
+two-on a nodes ps k zero = refl
+two-on a nodes ps k (suc m) = refl
 
-  node-from : (p : ℕ) → p < length cs → node_from paths (made_at cs p) (all_exact cs (row_at cs p)) ≡ node_for dp k layer_of (at (prefixes paths cs) p)
-  node-from p less =
-      let row : (at (prefixes paths cs) p).row ≡ row_at cs p = at-row paths cs p in
-      let exact : all_exact cs (row_at cs p) ≡ is_exact_row dp k layer_of (made_at cs p).row =
-      ap (λ l. all_exact l (row_at cs p)) made ∙ (made-exact dp k paths 0 nodes (row_at cs p) low
-      ∙ ap (is_exact_row dp k layer_of) (sym row ∙ ap (λ (r : Reached). r.row) (at-made paths cs p less))) in
-      ap (node_from paths (made_at cs p)) exact ∙ ap (node_for dp k layer_of) (sym (at-made paths cs p less))
+pub length-down : (nodes : ℕ → List NodeView) (ps : List (List ℕ)) (k m : ℕ) → length (shown_down nodes ps k m) ≡ m + 1
+length-down nodes ps k zero = refl
+length-down nodes ps k (suc m) = let e = length-down nodes (paths_below ps (nodes (k + 1))) (k + 1) m in omega arith
 
-  nodes-from : (ps : List ℕ) → Each (λ p. p < length cs) ps → kept_nodes paths cs ps (map (all_exact cs) (rows_at cs ps)) ≡ map (λ p. node_for dp k layer_of (at (prefixes paths cs) p)) ps
-  nodes-from [] h = refl
-  nodes-from (p ∷ ps) h = ap₂ (λ a l. a ∷ l) (node-from p h.0) (nodes-from ps h.1)
+-- the last layer, and the one above it
+pub last-is : (nodes : ℕ → List NodeView) (ps : List (List ℕ)) (k m d : ℕ) → k + m ≡ d → last_layer (shown_down nodes ps k m) ≡ shown_layer (path_in (paths_at nodes ps k m)) (nodes d)
+last-is nodes ps k zero d e = let same : k ≡ d = omega arith in ap (λ (j : ℕ). shown_layer (path_in ps) (nodes j)) same
+last-is nodes ps k (suc m) d e =
+    last-on (shown_layer (path_in ps) (nodes k)) nodes (paths_below ps (nodes (k + 1))) (k + 1) m ∙ last-is nodes (paths_below ps (nodes (k + 1))) (k + 1) m d (omega arith)
 
-  pub next-is : Each (λ p. p < length cs) kept → (marks : List Bool) → marks ≡ map (all_exact cs) (rows_at cs kept) → kept_nodes paths cs kept marks ≡ new_layer dp k layer_of
-  next-is within marks h = ap (kept_nodes paths cs kept) h ∙ (nodes-from kept within ∙ sym new-is)
+pub paths-last : (nodes : ℕ → List NodeView) (ps : List (List ℕ)) (k m d : ℕ) → k + m + 1 ≡ d → paths_at nodes ps k (suc m) ≡ paths_below (paths_at nodes ps k m) (nodes d)
+paths-last nodes ps k zero d e = let same : k + 1 ≡ d = omega arith in ap (λ (j : ℕ). paths_below ps (nodes j)) same
+paths-last nodes ps k (suc m) d e = paths-last nodes (paths_below ps (nodes (k + 1))) (k + 1) m d (omega arith)
 
-  pub above-is : (ls : List (Option Redirect)) → AllLand cs kept ls → length ls ≡ length cs
-      → shown_from paths 0 (map (with_landed ls) (all_with_arcs_to dp k 0 nodes)) ≡ with_arcs dp k (new_layer dp k layer_of) layer_of
-  above-is ls all long = layer-lands dp k (new_layer dp k layer_of) cs kept ls (new-apart dp k layer_of) new-rows all long paths low 0 nodes [] 0 made refl
+pub two-are : (nodes : ℕ → List NodeView) (ps : List (List ℕ)) (k m d : ℕ) → k + m ≡ d
+    → last_two (shown_down nodes ps k (suc m)) ≡ record { above = shown_layer (path_in (paths_at nodes ps k m)) (nodes d); next = shown_below (path_in (paths_at nodes ps k m)) (nodes (d + 1)) }
+two-are nodes ps k zero d e =
+    let same : k ≡ d = omega arith in
+    subst (λ (j : ℕ). last_two (shown_down nodes ps j 1) ≡ record { above = shown_layer (path_in ps) (nodes d); next = shown_below (path_in ps) (nodes (d + 1)) }) (sym same)
+    (ap (λ (l : List DdNode). record { above = shown_layer (path_in ps) (nodes d); next = l }) (as-below ps (nodes (d + 1))))
+two-are nodes ps k (suc m) d e =
+    two-on (shown_layer (path_in ps) (nodes k)) nodes (paths_below ps (nodes (k + 1))) (k + 1) m ∙ two-are nodes (paths_below ps (nodes (k + 1))) (k + 1) m d (omega arith)
+
+-- layers that are the same but for the last one's arcs are seen in the same way, and one more below them
+pub expand-shown : (rule : List DdNode → TwoLayers) (old new : ℕ → List NodeView) (d : ℕ) → ((j : ℕ) → j < d → new j ≡ old j) → ((j : ℕ) → j ≤ d → map without_arcs (new j) ≡ map without_arcs (old j))
+    → ((paths : ℕ → List ℕ) → shown_layer paths (new d) ≡ (rule (shown_layer paths (old d))).above) → ((paths : ℕ → List ℕ) → shown_below paths (new (d + 1)) ≡ (rule (shown_layer paths (old d))).next)
+    → (ps : List (List ℕ)) (k m : ℕ) → k + m ≡ d → shown_down new ps k (suc m) ≡ expand_last rule (shown_down old ps k m)
+expand-shown rule old new d same bare above next ps k zero e =
+    let at : k ≡ d = omega arith in
+    subst (λ (j : ℕ). shown_down new ps j 1 ≡ expand_last rule (shown_down old ps j 0)) (sym at)
+    (ap₂ (λ (a b : List DdNode). a ∷ b ∷ []) (above (path_in ps)) (as-below ps (new (d + 1)) ∙ next (path_in ps)))
+expand-shown rule old new d same bare above next ps k (suc m) e =
+    let here = same k (omega arith) in
+    let paths = paths-same ps (new (k + 1)) (old (k + 1)) (bare (k + 1) (omega arith)) in
+    let rest = expand-shown rule old new d same bare above next (paths_below ps (new (k + 1))) (k + 1) m (omega arith) in
+    ap₂ (λ (a : List DdNode) (b : List (List DdNode)). a ∷ b) (ap (shown_layer (path_in ps)) here) (rest ∙ ap (λ (p : List (List ℕ)). expand_last rule (shown_down old p (k + 1) m)) paths)
+    ∙ sym (expand-last-on rule (shown_layer (path_in ps) (old k)) old (paths_below ps (old (k + 1))) (k + 1) m)
+
+pub two-shown : (rule : TwoLayers → TwoLayers) (old new : ℕ → List NodeView) (d : ℕ) → ((j : ℕ) → j < d → new j ≡ old j) → ((j : ℕ) → j ≤ d → map without_arcs (new j) ≡ map without_arcs (old j))
+    → ((paths below : ℕ → List ℕ) → shown_layer paths (new d) ≡ (rule (record { above = shown_layer paths (old d); next = shown_below below (old (d + 1)) })).above)
+    → ((paths : ℕ → List ℕ) (a : List DdNode) → shown_below paths (new (d + 1)) ≡ (rule (record { above = a; next = shown_below paths (old (d + 1)) })).next)
+    → (ps : List (List ℕ)) (k m : ℕ) → k + m ≡ d → shown_down new ps k (suc m) ≡ on_last_two rule (shown_down old ps k (suc m))
+two-shown rule old new d same bare above next ps k zero e =
+    let at : k ≡ d = omega arith in
+    let paths = paths-same ps in
+    subst (λ (j : ℕ). shown_down new ps j 1 ≡ on_last_two rule (shown_down old ps j 1)) (sym at)
+    (subst (λ (l : List DdNode). shown_layer (path_in ps) (new d) ∷ shown_layer (path_in (paths_below ps (new (d + 1)))) (new (d + 1)) ∷ []
+    ≡ (rule (record { above = shown_layer (path_in ps) (old d); next = l })).above ∷ (rule (record { above = shown_layer (path_in ps) (old d); next = l })).next ∷ []) (sym (as-below ps (old (d + 1))))
+    (ap₂ (λ (a b : List DdNode). a ∷ b ∷ []) (above (path_in ps) (path_in ps)) (as-below ps (new (d + 1)) ∙ next (path_in ps) (shown_layer (path_in ps) (old d)))))
+two-shown rule old new d same bare above next ps k (suc m) e =
+    let here = same k (omega arith) in
+    let paths = paths-same ps (new (k + 1)) (old (k + 1)) (bare (k + 1) (omega arith)) in
+    let rest = two-shown rule old new d same bare above next (paths_below ps (new (k + 1))) (k + 1) m (omega arith) in
+    ap₂ (λ (a : List DdNode) (b : List (List DdNode)). a ∷ b) (ap (shown_layer (path_in ps)) here) (rest ∙ ap (λ (p : List (List ℕ)). on_last_two rule (shown_down old p (k + 1) (suc m))) paths)
+    ∙ sym (on-last-two-on rule (shown_layer (path_in ps) (old k)) old (paths_below ps (old (k + 1))) (k + 1) m)
+
+pub bare-all : (old new : ℕ → List NodeView) (d : ℕ) → ((j : ℕ) → j < d → new j ≡ old j) → map without_arcs (new d) ≡ map without_arcs (old d) → (j : ℕ) → j ≤ d → map without_arcs (new j) ≡ map without_arcs (old j)
+bare-all old new d same here j low = go (grind arith)
+  where
+    go : (j < d) ⊎ (j ≡ d) → map without_arcs (new j) ≡ map without_arcs (old j)
+    go (inl less) = ap (map without_arcs) (same j less)
+    go (inr e) = subst (λ (i : ℕ). map without_arcs (new i) ≡ map without_arcs (old i)) (sym e) here

@@ -1,10 +1,6 @@
-pub mod Stored
-pub mod Extending
-pub mod Ordering
-pub mod Following
-pub mod Joining
-pub mod Expanding
-pub mod Bench
-pub mod Striking
-pub mod Keeping
+pub mod Layers
+pub mod Stacked
+pub mod Preparing
+pub mod UnderWay
 pub mod Space
+pub mod Finding

@@ -1,34 +1,19 @@
-//! The layers of a diagram in memory: nodes and candidates whose rows are made once and written in place.
+//! The layers of a diagram in memory, and the steps by which a diagram is compiled.
 //!
-//! It stands on `dp_laws`, whose rules of building say what each call does. A node in memory keeps the place of its parent in
-//! the layer above and its decision in place of a path, so contracts speak of all paths that the layer above may have.
-//! Promised so far, each in the contract of its call: `Bench::expand` gives a layer its arcs and makes the nodes of the next
-//! layer, of each state the best in the reduction order; `Bench::strike` takes out the nodes that are struck by their rough
-//! bound or dominated by a leader, and `Bench::keep_first` all but the first, as a restricted layer is reduced; the arcs
-//! follow. None of them takes memory. `greatest_width` is the greatest width whose layers stay within the cost formula.
+//! It stands on `layer_nodes`, whose steps it makes one after another: `Workspace::begin` starts from a prefix, `expand_layer`
+//! makes the next layer, `strike` takes nodes out of it, `keep_first` and `merge_rest` reduce it to the width, and the readers
+//! show the layers with the paths of their nodes. Each step is proved to be the one that is defined in `dp_laws` on plain lists
+//! of nodes. `beam` is the shorter way to a restricted diagram, over `layer_candidates`. Only `prepare` takes memory.
+//! `greatest_width` is the greatest width whose layers stay within the cost formula.
 #![tactic(auto)]
 
-mod arranging;
-mod bench;
-mod candidate;
-mod comparing;
-mod extending;
-mod following;
-mod joining;
-mod keeping;
-mod landing;
-mod leader;
-mod node;
-mod ordering;
-mod striking;
-#[cfg(test)]
-mod tests;
+mod preparing;
+mod readers;
+mod stack;
+mod walking;
 mod width;
 mod workspace;
-mod writing;
 
-pub use bench::Bench;
-pub use candidate::Candidate;
-pub use node::Node;
+pub use dp_laws::DdArc;
 pub use width::greatest_width;
 pub use workspace::{PrepareError, Workspace};

@@ -1,13 +1,23 @@
-ghost use Rattle.std.specs.Prelude.{◌≡◌, ◌+◌, ◌*◌, ◌<◌, ◌≤◌, ℕ, List, Option, IfOk, is_some, length, slice_index_or};
+ghost use Rattle.std.specs.Prelude.{◌≡◌, ◌+◌, ◌-◌, ◌*◌, ◌<◌, ◌≤◌, ℕ, List, [], ◌∷◌, Option, None, IfOk, is_some, length, map, vec_capacity};
+ghost use Rattle.dp_model.specs.Dp.{Dp};
+ghost use Rattle.dp_model.specs.Prefixes.{IsPrefix, state_of, value_of};
+ghost use Rattle.dp_model.specs.Reached.{reached};
 ghost use Rattle.dp_model.specs.Subproblem.{IsOwn};
 ghost use Rattle.dp_laws.specs.Restricted.Beams.{beam, wide};
+ghost use Rattle.dp_laws.specs.Rules.Compiling.{expand, prune, keep_first, merge_rest, start_layer};
 ghost use Rattle.layer_candidates.specs.Beaming.{IsFirst};
-ghost use Rattle.layer_build.specs.Space.{IsWidth, IsPreparedFor, IsPrepared, AreEnough};
+ghost use Rattle.layer_build.specs.Layers.{IsWidth, IsPreparedFor, last_depth, last_layer, expand_last, on_last_two, reduced_first};
+ghost use Rattle.layer_build.specs.Space.{IsPrepared};
+ghost use Rattle.layer_build.specs.UnderWay.{IsUnderWay};
 
+use crate::preparing::{choices_of, prepare_stack, room_for};
+use crate::stack::{Stack, expand_newest, place_above, place_of};
 use crate::width::greatest_width;
 use dp_model::{DpModel, OutOfMemory, Sub};
 use layer_candidates::{Beam, Beamed};
+use layer_nodes::{Expansion, Redirects, keep_first, merge_rest, strike};
 use std::alloc::Global;
+use std::marker::Model;
 
 /// Why a workspace was not prepared.
 #[derive(Clone, Copy, Debug, PartialEq, Eq)]
@@ -18,38 +28,45 @@ pub enum PrepareError {
     OutOfMemory,
 }
 
-/// The memory in which diagrams are compiled. After `prepare` no call takes memory.
+/// The memory in which diagrams are compiled, layer by layer. After `prepare` no call takes memory.
 #[derive(Debug, Drop)]
 pub struct Workspace {
-    width: usize,
-    beam: Beam,
-    path: Vec<u32>,
+    pub(crate) words: usize,
+    pub(crate) width: usize,
+    pub(crate) choices: Vec<u32>,
+    pub(crate) prefix: Vec<u32>,
+    pub(crate) stack: Stack,
+    pub(crate) first_reduced: Option<usize>,
+    pub(crate) held: usize,
+    pub(crate) expansion: Expansion,
+    pub(crate) redirects: Redirects,
+    pub(crate) beam: Beam,
+    pub(crate) path: Vec<u32>,
 }
 
-/// The greatest of three numbers.
-fn greatest(a: usize, b: usize, c: usize) -> usize
-    ensures first { a ≤ result }
-    ensures second { b ≤ result }
-    ensures third { c ≤ result }
-    ensures least { (n : ℕ) → a ≤ n → b ≤ n → c ≤ n → result ≤ n }
-{
-    a.max(b).max(c)
-}
+impl Model for Workspace {
+    ghost use Rattle.std.specs.Prelude.{map, vec_capacity};
+    ghost use Rattle.layer_nodes.specs.Nodes.{NodeView};
+    ghost use Rattle.layer_build.specs.Layers.{SpaceView};
+    ghost use Rattle.layer_build.specs.Stacked.{shown_stack, HasSpace};
 
-/// How many candidates a layer has at most: each layer has as many members as the width, and the one below the first as many
-/// as there are choices.
-fn room_for<M: DpModel>(model: &M, width: usize) -> usize
-    requires { IsWidth (M.meaning (M.numbers model.now)) width }
-    ensures { AreEnough (M.meaning (M.numbers model.now)) width (M.meaning (M.numbers model.now)).vars result }
-{
-    let mut room = 0;
-    let mut before = 0;
-    'layers: for k in 0..model.vars() {
-        let choices = model.choices(k) as usize;
-        room = greatest(room, width * choices, before * choices);
-        before = choices;
-    }
-    room
+    ghost Value = { SpaceView };
+
+    ghost view = { λ s. record {
+      vars = s.stack.vars;
+      words = s.words;
+      choices = s.choices.items;
+      width = s.width;
+      room = s.stack.newest.nodes_room;
+      prefix = s.prefix.items;
+      layers = shown_stack s.prefix.items s.stack;
+      ranks = map (λ (n : NodeView). n.rank) s.stack.newest.nodes;
+      first_reduced = s.first_reduced;
+      held = s.held;
+      path = s.path.items;
+    } };
+
+    ghost invariant = { λ s. HasSpace s.words s.width s.choices.items s.prefix.items (vec_capacity s.prefix) s.stack s.expansion s.redirects s.path.items s.beam };
 }
 
 impl Workspace {
@@ -78,23 +95,154 @@ impl Workspace {
     {
         let room = room_for(model, width);
         let vars = model.vars();
+        let words = model.words();
         let widest = width.max(1024);
-        let beam = Beam::prepare(alloc, model.words(), room, widest, widest + vars * width)?;
+        let beam = Beam::prepare(alloc, words, room, widest, widest + vars * width)?;
         Ok(Workspace {
+            words,
             width,
+            choices: choices_of(alloc, model)?,
+            prefix: Vec::with_capacity(alloc, vars)?,
+            stack: prepare_stack(alloc, model, width, room)?,
+            first_reduced: None,
+            held: 0,
+            expansion: Expansion::prepare(alloc, room)?,
+            redirects: Redirects::prepare(alloc, room)?,
             beam,
             path: vec![in alloc; 0u32; vars]?,
         })
     }
 
+    /// Starts a compilation from a prefix with its own state and value: the first layer has one exact node.
+    pub fn begin<M: DpModel>(&mut self, model: &M, sub: &Sub)
+        requires prepared { IsPreparedFor (M.meaning (M.numbers model.now)) self.old }
+        requires prefix { IsPrefix (M.meaning (M.numbers model.now)) sub.now.subproblem.decisions }
+        requires row { sub.now.subproblem.row ≡ state_of (M.meaning (M.numbers model.now)) sub.now.subproblem.decisions }
+        requires value { sub.now.subproblem.value ≡ value_of (M.meaning (M.numbers model.now)) sub.now.subproblem.decisions }
+        ensures layers { self.new ≡ record self.old {
+          prefix = sub.now.subproblem.decisions;
+          layers = start_layer (reached (M.meaning (M.numbers model.now)) sub.now.subproblem.decisions) ∷ [];
+          ranks = self.new.ranks;
+          first_reduced = None;
+          held = length sub.now.subproblem.decisions;
+        } }
+        ensures under_way { IsUnderWay (M.meaning (M.numbers model.now)) self.new }
+    {
+        let first = sub.decisions.len();
+        let rank = model.rank(first, sub.row.as_slice());
+        write_all(&mut self.prefix, sub.decisions.as_slice());
+        self.stack.first = first;
+        self.stack.last = first;
+        self.stack.newest.start(sub.row.as_slice(), sub.value, rank);
+        self.first_reduced = None;
+        self.held = first;
+    }
+
+    /// Extends each node of the last layer by each allowed decision. Of each state the best child, in the reduction order, is a
+    /// node of the new last layer, exact where all arcs to its state come from exact nodes.
+    pub fn expand_layer<M: DpModel>(&mut self, model: &M)
+        requires under_way { IsUnderWay (M.meaning (M.numbers model.now)) self.old }
+        requires below { last_depth self.old < (M.meaning (M.numbers model.now)).vars }
+        requires narrow { length self.old.prefix + 2 ≤ last_depth self.old → length (last_layer self.old.layers) ≤ self.old.width }
+        ensures layers { self.new ≡ record self.old {
+          layers = expand_last (expand (M.meaning (M.numbers model.now)) (last_depth self.old)) self.old.layers;
+          ranks = self.new.ranks;
+        } }
+        ensures under_way { IsUnderWay (M.meaning (M.numbers model.now)) self.new }
+    {
+        let at = place_of(self.stack.vars, self.stack.first, self.stack.last);
+        expand_newest(
+            model,
+            self.stack.last,
+            &mut self.stack.layers[at],
+            &mut self.stack.newest,
+            &mut self.expansion,
+        );
+        self.stack.last += 1;
+    }
+
+    /// Takes out the nodes of the last layer that are struck by their rough bound, or that one of the first 16 exact ones that
+    /// stay dominates; the arcs into it follow.
+    pub fn strike<M: DpModel>(&mut self, model: &M, threshold: Option<i64>)
+        requires under_way { IsUnderWay (M.meaning (M.numbers model.now)) self.old }
+        ensures layers { self.new ≡ record self.old {
+          layers = on_last_two (prune (M.meaning (M.numbers model.now)) (last_depth self.old) threshold) self.old.layers;
+          ranks = self.new.ranks;
+        } }
+        ensures under_way { IsUnderWay (M.meaning (M.numbers model.now)) self.new }
+    {
+        let at = place_above(self.stack.vars, self.stack.first, self.stack.last);
+        strike(
+            model,
+            self.stack.last,
+            threshold,
+            &mut self.stack.layers[at],
+            &mut self.stack.newest,
+            &mut self.redirects,
+        );
+    }
+
+    /// Keeps the first nodes of the last layer, as many as the width; the arcs into it follow.
+    pub fn keep_first(&mut self)
+        requires under_way { (dp : Dp) × IsUnderWay dp self.old }
+        requires wide { self.old.width < length (last_layer self.old.layers) }
+        ensures layers { self.new ≡ record self.old {
+          layers = on_last_two (keep_first self.old.width) self.old.layers;
+          ranks = self.new.ranks;
+          first_reduced = reduced_first self.old.first_reduced (last_depth self.old);
+        } }
+        ensures under_way { (dp : Dp) → IsUnderWay dp self.old → IsUnderWay dp self.new }
+    {
+        let at = place_above(self.stack.vars, self.stack.first, self.stack.last);
+        keep_first(
+            self.width,
+            &mut self.stack.layers[at],
+            &mut self.stack.newest,
+        );
+        self.first_reduced = reduced_first(self.first_reduced, self.stack.last);
+    }
+
+    /// Merges the nodes of the last layer, but for the first ones, one less than the width, into one that stands last; the arcs
+    /// into it follow, lengthened by the gaps.
+    pub fn merge_rest<M: DpModel>(&mut self, model: &M)
+        requires under_way { IsUnderWay (M.meaning (M.numbers model.now)) self.old }
+        requires wide { self.old.width < length (last_layer self.old.layers) }
+        ensures layers { self.new ≡ record self.old {
+          layers = on_last_two (merge_rest (M.meaning (M.numbers model.now)) (last_depth self.old) self.old.width) self.old.layers;
+          ranks = self.new.ranks;
+          first_reduced = reduced_first self.old.first_reduced (last_depth self.old);
+        } }
+        ensures under_way { IsUnderWay (M.meaning (M.numbers model.now)) self.new }
+    {
+        let at = place_above(self.stack.vars, self.stack.first, self.stack.last);
+        merge_rest(
+            model,
+            self.stack.last,
+            self.width,
+            &mut self.stack.layers[at],
+            &mut self.stack.newest,
+            &mut self.redirects,
+        );
+        self.first_reduced = reduced_first(self.first_reduced, self.stack.last);
+    }
+
+    /// The rows above the last layer are held no longer.
+    pub fn drop_above(&mut self)
+        ensures seen { self.new ≡ record self.old { held = last_depth self.old } }
+        ensures under_way { (dp : Dp) → IsUnderWay dp self.old → IsUnderWay dp self.new }
+    {
+        self.held = self.stack.last;
+    }
+
     /// The beam below a prefix with its own state and value: its value, or none where there is none, and whether the width took
-    /// something from a layer. `decisions` has its decisions then.
+    /// something from a layer. `decisions` has its decisions then. The layers stay as they are.
     pub fn beam<M: DpModel>(&mut self, model: &M, sub: &Sub, threshold: Option<i64>) -> Beamed
         requires prepared { IsPreparedFor (M.meaning (M.numbers model.now)) self.old }
         requires own { IsOwn (M.meaning (M.numbers model.now)) sub.now.subproblem }
+        ensures seen { self.new ≡ record self.old { path = self.new.path } }
         ensures prepared { IsPreparedFor (M.meaning (M.numbers model.now)) self.new }
         ensures width { self.new.width ≡ self.old.width }
-        ensures beam { IsFirst (beam (M.meaning (M.numbers model.now)) sub.now.subproblem.decisions self.old.width threshold) result.value self.new.path.items }
+        ensures beam { IsFirst (beam (M.meaning (M.numbers model.now)) sub.now.subproblem.decisions self.old.width threshold) result.value self.new.path }
         ensures reduced { result.reduced ≡ is_some (wide (M.meaning (M.numbers model.now)) sub.now.subproblem.decisions self.old.width threshold) }
     {
         self.beam.beam(
@@ -110,15 +258,28 @@ impl Workspace {
 
     /// The decisions of the last beam.
     pub fn decisions(&self) -> &[u32]
-        ensures { result.now ≡ self.now.path.items }
+        ensures { result.now ≡ self.now.path }
     {
         self.path.as_slice()
     }
+}
 
-    /// The width that it was prepared for.
-    pub fn width(&self) -> usize
-        ensures { result ≡ self.now.width }
-    {
-        self.width
+/// Becomes these decisions, in its own memory.
+fn write_all(to: &mut Vec<u32>, decisions: &[u32])
+    requires { length decisions.now ≤ vec_capacity to.old }
+    ensures items { to.new.items ≡ decisions.now }
+    ensures room { vec_capacity to.old ≤ vec_capacity to.new }
+{
+    to.clear();
+    let _ = to.extend_from_slice(decisions);
+}
+
+/// The least depth that was reduced, once the one at `depth` is.
+fn reduced_first(first: Option<usize>, depth: usize) -> Option<usize>
+    ensures { result ≡ reduced_first first depth }
+{
+    match first {
+        Some(first) => Some(first),
+        None => Some(depth),
     }
 }

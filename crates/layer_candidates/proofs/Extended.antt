@@ -45,6 +45,7 @@ pub record Written (dp : Dp) (k : ℕ) (s : List ℤ) (d : ℕ) (rows rows2 : Li
   pub row : row_at rows2 (length s) (length ways) ≡ dp.step k s d
   pub joined : (folds heads next : List ℕ) → AreJoined dp (k + 1) rows (length s) ways folds heads next → AreJoined dp (k + 1) rows2 (length s) ways folds heads next
   pub reached : (paths : ℕ → List ℕ) → all_reached paths rows2 (length s) ways ≡ all_reached paths rows (length s) ways
+  pub before : (i : ℕ) → i < length ways → row_at rows2 (length s) i ≡ row_at rows (length s) i
 
 pub written : (dp : Dp) → IsLawful dp → (k : ℕ) (s : List ℤ) (d count : ℕ) (rows rows2 : List ℤ) (ways : List Way) → count ≡ length ways → IsTrue (dp.is_state k s) → IsAllowed dp k s d → length s ≡ dp.words
     → (length ways + 1) * length s ≤ length rows → rows2 ≡ with_row rows (count * length s) (dp.step k s d) → Written dp k s d rows rows2 ways
@@ -61,6 +62,7 @@ written dp laws k s d count rows rows2 ways size test allowed cells hold are =
       row = ap (λ r. row_at r (length s) (length ways)) is ∙ here-with rows out (length s) (length ways) room long;
       joined = λ folds heads next j. subst (λ r. AreJoined dp (k + 1) r (length s) ways folds heads next) (sym is) (joined-with rows out (length s) ways room long dp (k + 1) folds heads next j);
       reached = λ paths. ap (λ r. all_reached paths r (length s) ways) is ∙ reached-with rows out (length s) ways room long paths;
+      before = λ i less. ap (λ r. row_at r (length s) i) is ∙ before-with rows out (length s) (length ways) room long i less;
     }
 
 -- A way by an allowed decision.

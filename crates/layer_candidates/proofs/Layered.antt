@@ -30,7 +30,7 @@ use Rattle.layer_candidates.proofs.Sorted.{keys-are, in-order}
 
 -- Each way's parent is a member of the layer above.
 
-has-table : {X : Type 0} (f : ℕ → X) (n i : ℕ) → i < n → Has (f i) (table f n)
+pub has-table : {X : Type 0} (f : ℕ → X) (n i : ℕ) → i < n → Has (f i) (table f n)
 has-table f zero i less = absurd (omega arith)
 has-table f (suc n) i less = elim (last_or i n less) as (λ _. Has (f i) (table f (suc n))) [
   | inl e ↦ Has-append-right (f i) (table f n) (f n ∷ []) (inl (ap f (sym e)))

@@ -1,5 +1,5 @@
 -- A table whose chains run through the places of the rows.
-use Rattle.std.specs.Prelude.{◌≡◌, ◌≢◌, ℕ, zero, suc, ◌-◌, ◌*◌, ◌<◌, ◌≤◌, nat_eq, ℤ, Bool, true, cond, List, length, slice_index_or, bit_and}
+use Rattle.std.specs.Prelude.{◌≡◌, ◌≢◌, ◌⊎◌, ℕ, zero, suc, ◌+◌, ◌-◌, ◌*◌, ◌<◌, ◌≤◌, nat_eq, ℤ, Bool, true, cond, List, length, slice_index_or, bit_and}
 use Rattle.layer_candidates.specs.Rows.{row_at}
 use Rattle.dp_model.specs.Folds.{fold_of}
 
@@ -31,6 +31,11 @@ pub record IsFound (rows : List ℤ) (words count place : ℕ) : Type 0 where
   pub within : place ≤ count
   pub same : place < count → row_at rows words place ≡ row_at rows words count
   pub none : place ≡ count → (k : ℕ) → k < count → row_at rows words k ≢ row_at rows words count
+
+-- of so many rows the new one was found at the place, or put in behind them
+pub record IsPlaced (rows : List ℤ) (words old new : ℕ) (row : List ℤ) (place : ℕ) : Type 0 where
+  pub same : row_at rows words place ≡ row
+  pub grown : ((place < old) × (new ≡ old)) ⊎ ((place ≡ old) × (new ≡ old + 1))
 
 -- the place before i has the slot of the fold, and no row from i on with that slot is the one at `count`
 pub record IsSearched (rows : List ℤ) (words count fold : ℕ) (folds : List ℕ) (size i : ℕ) : Type 0 where

@@ -7,6 +7,7 @@ ghost use Rattle.dp_model.specs.Lists.{Each};
 ghost use Rattle.dp_model.specs.Numbers.{IsSmall};
 ghost use Rattle.dp_laws.specs.Restricted.Extensions.{extended, candidates, joined, all_joined};
 ghost use Rattle.layer_candidates.specs.Rows.{row_at, with_row};
+ghost use Rattle.layer_candidates.specs.Table.{IsPlaced};
 ghost use Rattle.layer_candidates.specs.Ways.{all_reached, IsNear, IsNearly, AreJoined};
 ghost use Rattle.layer_candidates.specs.Members.{members_as, IsMemberOf};
 ghost use Rattle.layer_candidates.specs.Extending.{HasRoom, parent_as, HasExtended};
@@ -58,8 +59,18 @@ fn way_of(parent: Member, gained: Extended, decision: u32) -> Way
     }
 }
 
-/// Takes in the way by an allowed decision.
-fn extend_by<M: DpModel>(
+/// Where a way was taken in, and what its decision gains.
+#[derive(Clone, Copy, Debug)]
+pub struct Taken {
+    /// The place of the way to its state, and that of the state's row.
+    pub place: usize,
+    /// The gain.
+    pub gain: i64,
+}
+
+/// Takes in the way from a parent in the layer at depth `k`, with the state `s`, by an allowed decision: of each state the
+/// first way of greatest value is kept. The state's row is written behind those of the other ways.
+pub fn extend_by<M: DpModel>(
     model: &M,
     k: usize,
     parent: Member,
@@ -70,7 +81,7 @@ fn extend_by<M: DpModel>(
     folds: &mut [u64],
     heads: &mut [u32],
     next: &mut [u32],
-)
+) -> Taken
     requires state { IsTrue ((M.meaning (M.numbers model.now)).is_state k s.now) }
     requires cells { length s.now ≡ (M.meaning (M.numbers model.now)).words }
     requires value { IsNear parent.value }
@@ -80,6 +91,9 @@ fn extend_by<M: DpModel>(
     requires room { HasRoom (length s.now) (length ways.old.items + 1) rows.old (vec_capacity ways.old) folds.old next.old }
     ensures joined { AreJoined (M.meaning (M.numbers model.now)) (k + 1) rows.new (length s.now) ways.new.items folds.new heads.new next.new }
     ensures list { (paths : ℕ → List ℕ) → all_reached paths rows.new (length s.now) ways.new.items ≡ joined (all_reached paths rows.old (length s.now) ways.old.items) (extended (M.meaning (M.numbers model.now)) k (parent_as paths parent.step s.now parent.value) decision) }
+    ensures place { IsPlaced rows.new (length s.now) (length ways.old.items) (length ways.new.items) ((M.meaning (M.numbers model.now)).step k s.now decision) result.place }
+    ensures before { (i : ℕ) → i < length ways.old.items → row_at rows.new (length s.now) i ≡ row_at rows.old (length s.now) i }
+    ensures gain { result.gain ≡ (M.meaning (M.numbers model.now)).gain k s.now decision }
     ensures few { length ways.new.items ≤ length ways.old.items + 1 }
     ensures size { length rows.new ≡ length rows.old }
     ensures capacity { vec_capacity ways.new ≡ vec_capacity ways.old }
@@ -88,7 +102,11 @@ fn extend_by<M: DpModel>(
     let count = ways.len();
     let gained = write_state(model, k, s, parent.rank, decision, rows, count * words);
     let way = way_of(parent, gained, decision);
-    take_in(rows, words, way, ways, folds, heads, next);
+    let place = take_in(rows, words, way, ways, folds, heads, next);
+    Taken {
+        place,
+        gain: gained.gain,
+    }
 }
 
 /// Takes in the ways by all allowed decisions, the lesser first.

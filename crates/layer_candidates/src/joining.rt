@@ -4,7 +4,7 @@ ghost use Rattle.std.specs.Prelude.{◌≡◌, ℕ, ◌+◌, ◌*◌, ◌^◌, �
 ghost use Rattle.dp_model.specs.Dp.{Dp};
 ghost use Rattle.dp_laws.specs.Restricted.Extensions.{joined};
 ghost use Rattle.layer_candidates.specs.Rows.{row_at};
-ghost use Rattle.layer_candidates.specs.Table.{IsTable};
+ghost use Rattle.layer_candidates.specs.Table.{IsTable, IsPlaced};
 ghost use Rattle.layer_candidates.specs.Ways.{bettered, reached_by, all_reached, IsWay, AreApart, AreJoined};
 ghost use Rattle.layer_candidates.specs.declared.way.Way.{Way};
 
@@ -14,7 +14,7 @@ use crate::way::Way;
 use dp_model::fold;
 
 /// Takes a way in, whose row stands behind those of the others: where its state has a way already, the better one stays, and
-/// otherwise it is kept behind the others.
+/// otherwise it is kept behind the others. Answers the place of the state's way.
 pub fn take_in(
     rows: &[i64],
     words: usize,
@@ -23,7 +23,7 @@ pub fn take_in(
     folds: &mut [u64],
     heads: &mut [u32],
     next: &mut [u32],
-)
+) -> usize
     requires table { IsTable rows.now words (length ways.old.items) folds.old heads.old next.old }
     requires small { length ways.old.items + 1 < 2 ^ 32 }
     requires room { length ways.old.items * words + words ≤ length rows.now }
@@ -32,6 +32,7 @@ pub fn take_in(
     requires next_room { length ways.old.items < length next.old }
     ensures joined { (dp : Dp) (k : ℕ) → AreJoined dp k rows.now words ways.old.items folds.old heads.old next.old → IsWay dp k (row_at rows.now words (length ways.old.items)) way → AreJoined dp k rows.now words ways.new.items folds.new heads.new next.new }
     ensures list { (paths : ℕ → List ℕ) → AreApart rows.now words (length ways.old.items) → all_reached paths rows.now words ways.new.items ≡ joined (all_reached paths rows.now words ways.old.items) (reached_by paths (row_at rows.now words (length ways.old.items)) way) }
+    ensures place { IsPlaced rows.now words (length ways.old.items) (length ways.new.items) (row_at rows.now words (length ways.old.items)) result }
     ensures few { length ways.new.items ≤ length ways.old.items + 1 }
     ensures capacity { vec_capacity ways.new ≡ vec_capacity ways.old }
 {
@@ -44,6 +45,7 @@ pub fn take_in(
     } else {
         better(ways.as_mut_slice(), place, way);
     }
+    place
 }
 
 /// The way takes the place where its value is greater.

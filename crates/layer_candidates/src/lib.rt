@@ -25,5 +25,12 @@ mod way;
 
 pub use beam::{Beam, Beamed};
 pub use candidates::Candidates;
+pub use extending::{Taken, extend_by};
+pub use key::Key;
 pub use member::Member;
+pub use ordering::put_in_order;
+pub use pruning::{MOST_LEADERS, is_struck_by};
+pub use rows::row;
 pub use step::Step;
+pub use table::reset;
+pub use way::Way;

@@ -16,7 +16,7 @@ use dp_model::DpModel;
 pub const MOST_LEADERS: usize = 16;
 
 /// Whether the value and the rough bound are at most the threshold; no rough bound is at most each.
-fn is_struck_by(value: i64, rough: Option<i64>, threshold: Option<i64>) -> bool
+pub fn is_struck_by(value: i64, rough: Option<i64>, threshold: Option<i64>) -> bool
     requires near { IsNearly value }
     requires small { IfSome rough (λ r. IsSmall r) }
     ensures { result ≡ is_struck_by value rough threshold }

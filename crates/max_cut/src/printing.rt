@@ -5,8 +5,8 @@ ghost use Rattle.max_cut.specs.Edges.{instance_text};
 ghost use Rattle.max_cut.specs.EdgeLines.{text_of};
 ghost use Rattle.max_cut.specs.Shown.{instance_in};
 
-use crate::lines::{count_edges, push_ended, push_lines, push_spaced};
 use crate::instance::MaxCut;
+use crate::lines::{count_edges, push_ended, push_lines, push_spaced};
 use std::alloc::{AllocError, Global};
 
 /// The canonical text, which reads as the instance: the number of vertices and of edges, then a line for

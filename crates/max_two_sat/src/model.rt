@@ -1,7 +1,7 @@
 ghost use Rattle.std.specs.Prelude.{◌≡◌, length};
 
-use crate::limits::are_within_limits;
 use crate::instance::MaxTwoSat;
+use crate::limits::are_within_limits;
 use crate::row::{extend_row, is_zero_row, lesser_sum, step_gain, write_root, write_step};
 use benefit_rows::{gap, gap_within, merge_into, rank};
 use dp_model::{DpModel, Extended};

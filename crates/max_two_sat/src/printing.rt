@@ -11,8 +11,8 @@ ghost use Rattle.max_two_sat.specs.Model.{instance_in};
 ghost use Rattle.max_two_sat.specs.Printed.{first_line_of, line_of, text_of};
 
 use crate::clause::{Literal, Literals};
-use crate::lines::{count_pairs, count_units, push_clause, push_row, push_units, weighs};
 use crate::instance::MaxTwoSat;
+use crate::lines::{count_pairs, count_units, push_clause, push_row, push_units, weighs};
 use dd_text::{push_number, push_text};
 use std::alloc::{AllocError, Global};
 

@@ -5,8 +5,8 @@ ghost use Rattle.max_two_sat.specs.Instance.{pair_count, pair_total, pairs_total
 ghost use Rattle.max_two_sat.specs.Kept.{PairIsPositive, pairs_are_positive};
 ghost use Rattle.max_two_sat.specs.Shifts.{AreShifts, shift_of, shifts_of, stake_of, stakes_of};
 
-use crate::limits::pair_sum;
 use crate::instance::row_of;
+use crate::limits::pair_sum;
 use crate::row::{open_weights, settled_weight};
 use crate::weights::PairWeights;
 use std::alloc::{AllocError, Global};

@@ -3,8 +3,8 @@ ghost use Rattle.max_two_sat.specs.Instance.{pair_count, pairs_total, rows_of};
 ghost use Rattle.max_two_sat.specs.Kept.{pairs_are_positive};
 ghost use Rattle.max_two_sat.specs.Table.{later_totals};
 
-use crate::limits::pair_sum;
 use crate::instance::row_of;
+use crate::limits::pair_sum;
 use crate::weights::PairWeights;
 use std::alloc::{AllocError, Global};
 

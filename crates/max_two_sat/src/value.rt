@@ -8,8 +8,8 @@ ghost use Rattle.max_two_sat.specs.OwnWords.{all_truth_values, own_value, pair_l
 ghost use Rattle.dp_model.specs.Solution.{SolutionGives};
 ghost use Rattle.max_two_sat.specs.Program.{program_of};
 
-use crate::limits::pair_sum;
 use crate::instance::{MaxTwoSat, row_of};
+use crate::limits::pair_sum;
 use crate::weights::{PairWeights, UnitWeights};
 
 /// The weight of the satisfied clauses, where the decisions give each variable 0 (false) or 1 (true). `None` exactly where they do

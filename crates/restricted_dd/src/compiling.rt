@@ -4,7 +4,7 @@ ghost use Rattle.layer_candidates.specs.Beaming.{IsFirst};
 ghost use Rattle.std.specs.Borrow.{sem};
 ghost use Rattle.dp_model.specs.Subproblem.{IsOwn};
 ghost use Rattle.dp_laws.specs.Restricted.Beams.{beam, wide};
-ghost use Rattle.layer_build.specs.Space.{IsPreparedFor};
+ghost use Rattle.layer_build.specs.Layers.{IsPreparedFor};
 ghost use Rattle.restricted_dd.specs.Kept.{StaysPrepared};
 ghost use Rattle.restricted_dd.specs.Beams.{ShowsBeam};
 

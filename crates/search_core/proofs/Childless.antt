@@ -4,6 +4,8 @@ use Rattle.std.proofs.lemmas.Int.{ints}
 use Rattle.std.specs.Prelude.{IsSome}
 use Rattle.dp_model.specs.Numbers.{AtMost}
 use Rattle.dp_model.specs.Prefixes.{value_of}
+use Rattle.dp_laws.specs.Children.{StandDeep}
+use Rattle.dp_laws.specs.Restricted.Beams.{wide}
 use Rattle.dp_laws.proofs.Reaches.{at-most-raised}
 use Rattle.shared_fringe.specs.Tickets.{Ticketed}
 use Rattle.board_laws.specs.Board.{BoardState, incumbent_value, reach, slot_at}
@@ -15,6 +17,10 @@ use Rattle.search_core.specs.Ones.{ones, gains}
 some-is : (x : Option Ticketed) → IsSome x → (o : Ticketed) × (x ≡ Some o)
 some-is None h = absurd (cc)
 some-is (Some o) h = (o, refl)
+
+no_child_deep : (depth : Option ℕ) → StandDeep depth []
+no_child_deep None = refl
+no_child_deep (Some depth) = tt
 
 pub childless : (n : ℕ) (b : BoardState) (who : ℕ) → IsSome (slot_at b who) → incumbent_value b ≡ Some (pos n) → IsBoard (ones n) b → MayFinish (ones n) b who None [] []
 childless n b who full best g =
@@ -37,5 +43,6 @@ childless n b who full best g =
             inl (at-most-raised (value_of (ones n) x) (incumbent_value b) (reach b) (reach-above b.settings.within (incumbent_value b) g.settings.within_least)
             (subst (λ (i : Option ℤ). AtMost (value_of (ones n) x) i) (sym best) within));
       };
+      deep = no_child_deep (wide (ones n) out.0.subproblem.decisions b.settings.width None);
       fates = refl;
     }

@@ -1,4 +1,6 @@
 pub mod View
 pub mod Contents
 pub mod Kept
+pub mod MoveLaw
+pub mod Moves
 pub mod Ones

@@ -1,7 +1,7 @@
 -- A board as its callers see it.
 use Rattle.std.specs.Prelude.{ℕ, ℤ, List}
 use Rattle.board_laws.specs.Board.{BoardState}
-use Rattle.board_laws.specs.declared.settings.Settings.{Settings}
+use Rattle.search_core.specs.declared.tag.BoardTag.{BoardTag}
 
 -- the instance's numbers, the board as data, and for how many children more there is room
 pub record BoardView : Type 0 where
@@ -10,9 +10,8 @@ pub record BoardView : Type 0 where
   pub room : ℕ
 
 -- what stays through a search: the instance's numbers and the settings
-pub record Tag : Type 0 where
-  pub numbers : List ℤ
-  pub settings : Settings
+abbrev pub Tag : Type 0
+Tag = BoardTag
 
 abbrev pub tag_of : BoardView → Tag
 tag_of v = record { numbers = v.numbers; settings = v.board.settings }

@@ -286,7 +286,9 @@ impl<M: DpModel> Board<M> {
     /// this board. `threshold`, that of the diagram which the children come from, is none or at most the reach. Each child properly
     /// extends the slot's prefix, is shorter than a solution, and has its own state and value; no child begins with another, and
     /// those of one depth differ in state; each bound is at most 2^62 in size, and no completion of the child exceeds both it and
-    /// the reach. Each completion of the slot's prefix is at most the reach or matched by a child.
+    /// the reach. Each completion of the slot's prefix is at most the reach or matched by a child. The children stand where a
+    /// diagram of the prefix, the width of the settings and the threshold is last exact, or deeper; where the width takes nothing
+    /// from it there are none.
     pub fn finish(&mut self, who: u32, threshold: Option<i64>, subs: &mut Vec<Sub>, fates: &[Fate])
         requires may { MayFinish (M.meaning self.old.numbers) self.old.board who threshold (contents subs.old.items) fates.now }
         requires room { length subs.old.items ≤ self.old.room }

@@ -18,8 +18,11 @@ mod full;
 mod ones;
 mod solving;
 mod starting;
+mod tag;
 #[cfg(test)]
 mod tests;
+mod turned;
 
 pub use board::Board;
 pub use board_laws::{Cause, Fate, Improved, Settings, Taken};
+pub use tag::BoardTag;

@@ -1,9 +1,5 @@
-pub mod Apart
-pub mod Children
-pub mod Collected
-pub mod Extensions
 pub mod Finishing
-pub mod Joining
 pub mod LaterBoards
 pub mod Offers
+pub mod Branches
 pub mod Taking

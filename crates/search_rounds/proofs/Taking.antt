@@ -1,8 +1,11 @@
 -- What a Take hands out.
 use Rattle.std.proofs.Common.{◌≡◌, ◌≤◌, List, [], ◌∷◌, ◌++◌, length, slice_get, slice_set, drop, Bool, true, false, cond, Option, Some, None, refl, sym, ◌∙◌, ap, subst, arith}
 use Rattle.dp_model.specs.Dp.{Dp}
+use Rattle.dp_model.specs.Gaps.{IsStateOf}
+use Rattle.dp_model.specs.Laws.{IsLawful}
 use Rattle.dp_model.specs.Lists.{Each}
 use Rattle.dp_model.specs.Subproblem.{Subproblem, IsOwn}
+use Rattle.dp_model.proofs.Paths.{state_of-state}
 use Rattle.shared_fringe.specs.Firsts.{first_from, first_taken}
 use Rattle.shared_fringe.specs.Tickets.{Ticketed}
 use Rattle.board_laws.specs.Board.{BoardState, full_slots, slot_of, is_explored}
@@ -14,6 +17,10 @@ use Rattle.board_laws.specs.declared.taken.Taken.{Taken}
 use Rattle.board_laws.specs.declared.taken.Taken.TheVariants.{Sub, Finished}
 use Rattle.board_laws.proofs.Running.{run-one}
 use Rattle.search_rounds.specs.UnderWay.{IsUnderWay}
+
+-- the state of a subproblem has as many cells as the instance has words
+pub own_cells : (dp : Dp) → IsLawful dp → (c : Subproblem) → IsOwn dp c → length c.row ≡ dp.words
+own_cells dp laws c own = laws.sizes.cells (length c.decisions) c.row (subst (IsStateOf dp (length c.decisions)) (sym own.row) (state_of-state dp laws.states c.decisions own.prefix))
 
 -- The first slot.
 

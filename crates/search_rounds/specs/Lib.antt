@@ -1,4 +1,4 @@
-pub mod Branching
+pub mod Branched
 pub mod Later
 pub mod Offered
 pub mod Prepared

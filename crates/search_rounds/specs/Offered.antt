@@ -1,8 +1,14 @@
 -- What offered solutions change.
-use Rattle.std.specs.Prelude.{◌≡◌, List}
+use Rattle.std.specs.Prelude.{◌≡◌, List, Option, option_map}
 use Rattle.dp_model.specs.Dp.{Dp}
+use Rattle.dp_model.specs.Solution.{Solution}
+use Rattle.dp_model.specs.declared.found.Found.{Found}
 use Rattle.board_laws.specs.Board.{BoardState}
 use Rattle.board_laws.specs.Runs.{Step, IsRun}
+
+-- what was found, as data
+abbrev pub solution_of : Option Found → Option Solution
+solution_of found = option_map (λ (f : Found). record { decisions = f.decisions.now; value = f.value }) found
 
 -- a board after offers, which are steps of a run: beside the incumbent only what is open may have changed
 pub record IsOffered (dp : Dp) (b later : BoardState) : Type 0 where

@@ -1,8 +1,13 @@
 -- The greatest bound of a list.
-use Rattle.std.proofs.Common.{◌≡◌, ℤ, List, [], ◌∷◌, map, cond, int_lt, Some, None, refl}
+use Rattle.std.proofs.Common.{◌≡◌, ℤ, List, [], ◌∷◌, map, cond, int_lt, Option, Some, None, refl}
 use Rattle.dp_model.specs.Numbers.{greatest, greatest_from}
-use Rattle.shared_fringe.specs.Bounds.{raised_by}
+use Rattle.shared_fringe.specs.Bounds.{raised}
 use Rattle.shared_fringe.specs.Tickets.{Ticketed}
+
+-- the greatest of an option and the bounds of a list
+abbrev pub raised_by : Option ℤ → List Ticketed → Option ℤ
+raised_by most [] = most
+raised_by most (o ∷ os) = raised_by (raised most o.subproblem.bound) os
 
 raised_from : (z : ℤ) (os : List Ticketed) → raised_by (Some z) os ≡ Some (greatest_from z (map (λ o. o.subproblem.bound) os))
 raised_from z [] = refl

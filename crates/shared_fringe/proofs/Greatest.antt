@@ -2,9 +2,9 @@
 use Rattle.std.proofs.Common.{◌≡◌, ℕ, zero, suc, ◌≤◌, ℤ, List, [], ◌∷◌, length, map, drop, true, false, cond, int_lt, nat_lt, Option, Some, None, refl, sym, ◌∙◌, ap, arith}
 use Rattle.std.proofs.lemmas.Int.{ints}
 use Rattle.dp_model.specs.Numbers.{greatest}
-use Rattle.shared_fringe.specs.Bounds.{raised, raised_by}
+use Rattle.shared_fringe.specs.Bounds.{raised}
 use Rattle.shared_fringe.specs.Tickets.{Ticketed, by_ticket}
-use Rattle.shared_fringe.proofs.Bounds.{raised_greatest}
+use Rattle.shared_fringe.proofs.Bounds.{raised_by, raised_greatest}
 use Rattle.shared_fringe.specs.Slots.{in_slot, opened, raised_one, raised_slots}
 
 more : (a b : ℤ) → cond (int_lt a b) b a ≡ cond (int_lt b a) a b

@@ -1,4 +1,3 @@
-pub mod Firsts
 pub mod Tickets
 pub mod Rows
 pub mod Bounds

@@ -4,7 +4,7 @@ use Rattle.shared_fringe.specs.Tickets.{Ticketed}
 use Rattle.shared_fringe.specs.Fringe.{is_same}
 use Rattle.shared_fringe.proofs.Rows.{same-depth, same-row}
 use Rattle.shared_fringe.specs.declared.index.Node.{Node}
-use Rattle.shared_fringe.specs.Folds.{fold_of}
+use Rattle.dp_model.specs.Folds.{fold_of}
 use Rattle.shared_fringe.specs.Index.{fold_at, slot_at}
 use Rattle.shared_fringe.specs.Slots.{AreEntered, in_slot, is_same_in}
 

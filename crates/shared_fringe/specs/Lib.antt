@@ -4,11 +4,11 @@ pub mod Bounds
 pub mod Fringe
 pub mod Pushing
 pub mod Popping
-pub mod Folds
 pub mod Index
 pub mod Ranks
 pub mod Slots
 pub mod Stored
+pub use Rattle.dp_model.specs.Folds
 pub use Rattle.dp_model.specs.Lists
 pub use Rattle.dp_model.specs.Numbers
 pub use Rattle.dp_model.specs.Rows

@@ -8,7 +8,7 @@ use Rattle.shared_fringe.specs.Fringe.{is_same}
 use Rattle.shared_fringe.specs.declared.index.Node.{Node}
 use Rattle.shared_fringe.specs.declared.rank.Rank.{Rank}
 use Rattle.shared_fringe.specs.Index.{fold_at, slot_at}
-use Rattle.shared_fringe.specs.Folds.{fold_of}
+use Rattle.dp_model.specs.Folds.{fold_of}
 
 abbrev pub in_slot : List (Option Ticketed) → ℕ → Option Ticketed
 in_slot slots s = slice_index_or slots s None

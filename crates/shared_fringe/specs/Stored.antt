@@ -1,5 +1,5 @@
 -- What a fringe keeps of its slots, their keys, its ranks and its index.
-use Rattle.std.specs.Prelude.{◌≡◌, ℕ, ℤ, ◌+◌, ◌<◌, ◌≤◌, true, false, List, length, map, Option, Some, None}
+use Rattle.std.specs.Prelude.{◌≡◌, ℕ, ℤ, ◌+◌, ◌*◌, ◌<◌, ◌≤◌, true, false, List, length, map, Option, Some, None}
 use Rattle.row_region.specs.Region.{RegionView}
 use Rattle.shared_fringe.specs.Tickets.{Ticketed}
 use Rattle.shared_fringe.specs.Fringe.{is_same, same_at}
@@ -18,6 +18,10 @@ pub record IsStored (words spare : ℕ) (slots : List (Option Ticketed)) (keys :
   pub keys_room : spare ≤ keys.spare
   pub ranks_room : ranks.len + spare ≤ ranks.room
   pub index_room : 0 < length slots → length slots < index.room
+
+-- of those that are gone there are no more ranks than of those that are open, but for some
+pub record HasFewRanks (slots : List (Option Ticketed)) (ranks : RanksView) : Type 0 where
+  pub few : ranks.len ≤ 2 * length (opened slots) + 65
 
 -- the slot has the one of the depth and state, with this ticket and value
 pub record HasSame (slots : List (Option Ticketed)) (depth : ℕ) (row : List ℤ) (slot ticket : ℕ) (worth : ℤ) : Type 0 where

@@ -3,10 +3,10 @@
 ghost use Rattle.std.specs.Prelude.{◌≡◌, ℕ, true, false, map, MatchOption};
 ghost use Rattle.shared_fringe.specs.Slots.{AreEntered, is_same_in, in_slot, key_of};
 
-use crate::fold::fold_of;
 use crate::index::Index;
 use crate::listed::Listed;
 use crate::slots::is_same_in;
+use dp_model::fold;
 use row_region::Region;
 
 /// The slot of the one of the depth and state, or `None` exactly where there is none.
@@ -21,8 +21,8 @@ pub fn slot_of_same(
     requires entered { AreEntered slots.now index.now.nodes }
     ensures { MatchOption result ((s : ℕ) → is_same_in depth row.now (in_slot slots.now s) ≡ false) (λ s. is_same_in depth row.now (in_slot slots.now s) ≡ true) }
 {
-    let fold = fold_of(depth, row);
-    let mut at = index.last(fold);
+    let own = fold(depth as u64, row);
+    let mut at = index.last(own);
     while 0 < at {
         let node = index.node(at - 1);
         if is_same_in(slots, keys, node.slot, depth, row) {

@@ -1,4 +1,4 @@
-ghost use Rattle.std.specs.Prelude.{◌≡◌, ◌≢◌, ◌+◌, ◌<◌, ◌≤◌, [], map, length, nat_eq, Some, option_map, IfSome, OnOk, OnErr, OnSome};
+ghost use Rattle.std.specs.Prelude.{◌≡◌, ◌≢◌, ◌+◌, ◌*◌, ◌<◌, ◌≤◌, [], map, length, nat_eq, Some, option_map, IfSome, OnOk, OnErr, OnSome};
 ghost use Rattle.dp_model.specs.Lists.{Each};
 ghost use Rattle.dp_model.specs.Numbers.{greatest};
 ghost use Rattle.shared_fringe.specs.Firsts.{first_taken, IsFirst};
@@ -16,7 +16,7 @@ use crate::listed::Listed;
 use crate::pushing::{find_same, push_in};
 use crate::ranks::Ranks;
 use crate::same::Same;
-use crate::store::{Store, take_first};
+use crate::store::{Store, count_open, take_first};
 use dp_model::{OutOfMemory, Sub};
 use row_region::Region;
 use std::alloc::Global;
@@ -32,7 +32,7 @@ pub struct Fringe {
 impl Model for Fringe {
     ghost use Rattle.shared_fringe.specs.Fringe.{FringeView};
     ghost use Rattle.shared_fringe.specs.Slots.{opened};
-    ghost use Rattle.shared_fringe.specs.Stored.{IsStored};
+    ghost use Rattle.shared_fringe.specs.Stored.{IsStored, HasFewRanks};
 
     ghost Value = { FringeView };
 
@@ -42,7 +42,8 @@ impl Model for Fringe {
       spare = f.store.spare;
     } };
 
-    ghost invariant = { λ f. IsStored f.store.words f.store.spare f.store.slots.items f.store.keys f.store.ranks f.store.index };
+    ghost invariant = { λ f. IsStored f.store.words f.store.spare f.store.slots.items f.store.keys f.store.ranks f.store.index
+        × HasFewRanks f.store.slots.items f.store.ranks };
 }
 
 impl Fringe {
@@ -134,7 +135,14 @@ impl Fringe {
     pub fn len(&self) -> usize
         ensures { result ≡ length self.now.open_ones }
     {
-        self.store.slots.len() - self.store.keys.spare()
+        count_open(self.store.slots.as_slice(), &self.store.keys)
+    }
+
+    /// How many entries the heap has, those of subproblems that are gone included: at most twice as many as are open, and 65.
+    pub fn ranks(&self) -> usize
+        ensures { result ≤ 2 * length self.now.open_ones + 65 }
+    {
+        self.store.ranks.len()
     }
 
     /// Whether nothing is open.

@@ -2,7 +2,7 @@
 
 ghost use Rattle.std.specs.Prelude.{◌≡◌, ℕ, ◌+◌, ◌≤◌, ◌++◌, length, map, replicate, None, OnOk, OnErr, vec_len, vec_capacity};
 ghost use Rattle.shared_fringe.specs.Slots.{in_slot, key_of, opened};
-ghost use Rattle.shared_fringe.specs.Stored.{IsStored};
+ghost use Rattle.shared_fringe.specs.Stored.{IsStored, HasFewRanks};
 
 use crate::listed::Listed;
 use crate::reindexing::index_for;
@@ -50,7 +50,9 @@ fn more_slots(alloc: Global, store: &mut Store, count: usize) -> Result<(), Allo
 /// Makes room for so many more. A refusal leaves the open ones and `spare` as they were.
 pub fn make_room(alloc: Global, store: &mut Store, count: usize) -> Result<(), AllocError>
     requires stored { IsStored store.old.words store.old.spare store.old.slots.items store.old.keys store.old.ranks store.old.index }
+    requires few { HasFewRanks store.old.slots.items store.old.ranks }
     ensures stored { IsStored store.new.words store.new.spare store.new.slots.items store.new.keys store.new.ranks store.new.index }
+    ensures few { HasFewRanks store.new.slots.items store.new.ranks }
     ensures opened { opened store.new.slots.items ≡ opened store.old.slots.items }
     ensures words { store.new.words ≡ store.old.words }
     ensures spare { store.old.spare ≤ store.new.spare }

@@ -10,39 +10,30 @@
 //!
 //! The open ones stand in slots, and the row of each in a region at the place of its slot: a slot is free where the region's row
 //! is. A heap has the rank of each, and an index from folds of depth and state the slots that were entered under a fold, in a
-//! chain; rows are compared cell by cell, so the answers are exact. Heap and index may also name some that are gone: these are
-//! skipped as they come up, and dropped before they outnumber the others by more than a constant factor.
-//!
-//! The functions on lists that serve whoever keeps a list with tickets: `first_place`, `put_by_ticket`, `keep_above`, `raised`
-//! and `raised_by`.
+//! chain; rows are compared cell by cell, so the answers are exact. Heap and index may also name some that are gone, which are
+//! skipped as they come up. `ranks` tells how many the heap has: at most twice as many as are open, and 65.
 #![tactic(auto)]
 
 mod bounding;
 mod dropping;
 mod fate;
 mod finding;
-mod fold;
 mod fringe;
 mod growing;
 mod index;
 mod listed;
-mod placing;
 mod popping;
 mod pushing;
 mod rank;
 mod ranks;
 mod reindexing;
+mod reranking;
 mod same;
 mod slots;
 mod store;
-mod taking;
 #[cfg(test)]
 mod tests;
 
-pub use bounding::{keep_above, raised, raised_by};
 pub use fate::FringeFate;
 pub use fringe::Fringe;
-pub use listed::Listed;
-pub use placing::put_by_ticket;
 pub use same::Same;
-pub use taking::first_place;

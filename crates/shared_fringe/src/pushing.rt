@@ -4,7 +4,7 @@ ghost use Rattle.std.specs.Prelude.{◌≡◌, ◌≢◌, ◌+◌, ◌<◌, ◌�
 ghost use Rattle.dp_model.specs.Lists.{Each};
 ghost use Rattle.shared_fringe.specs.Pushing.{push_gives, after_push};
 ghost use Rattle.shared_fringe.specs.Slots.{opened};
-ghost use Rattle.shared_fringe.specs.Stored.{IsStored, HasSame, HasNone};
+ghost use Rattle.shared_fringe.specs.Stored.{IsStored, HasFewRanks, HasSame, HasNone};
 
 use crate::fate::FringeFate;
 use crate::finding::slot_of_same;
@@ -40,12 +40,14 @@ pub fn find_same(store: &Store, depth: usize, row: &[i64]) -> Option<(u32, Same)
 /// Pushes one.
 pub fn push_in(store: &mut Store, one: Listed) -> FringeFate
     requires stored { IsStored store.old.words store.old.spare store.old.slots.items store.old.keys store.old.ranks store.old.index }
+    requires few { HasFewRanks store.old.slots.items store.old.ranks }
     requires room { 0 < store.old.spare }
     requires fresh { Each (λ o. o.ticket ≢ one.ticket) (opened store.old.slots.items) }
     requires cells { length one.subproblem.row ≡ store.old.words }
     ensures answer { result ≡ push_gives one (opened store.old.slots.items) }
     ensures step { opened store.new.slots.items ≡ after_push one (opened store.old.slots.items) }
     ensures stored { IsStored store.new.words store.new.spare store.new.slots.items store.new.keys store.new.ranks store.new.index }
+    ensures few { HasFewRanks store.new.slots.items store.new.ranks }
     ensures words { store.new.words ≡ store.old.words }
     ensures spare { store.old.spare ≤ store.new.spare + 1 }
 {

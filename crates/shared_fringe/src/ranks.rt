@@ -82,6 +82,15 @@ impl Ranks {
         self.heap.pop()
     }
 
+    /// Drops all ranks and keeps the memory.
+    pub fn clear(&mut self)
+        ensures ranks { self.new.ranks ≡ [] }
+        ensures len { self.new.len ≡ 0 }
+        ensures room { self.new.room ≡ self.old.room }
+    {
+        self.heap.clear();
+    }
+
     /// Drops the ranks of those that are gone.
     pub fn keep_fresh(&mut self, slots: &[Option<Listed>])
         ensures kept { (rank : Rank) → Contains self.old.ranks rank → has_rank rank (in_slot slots.now rank.slot) ≡ true → Contains self.new.ranks rank }

@@ -1,21 +1,21 @@
 //! The index made anew.
 
 ghost use Rattle.std.specs.Prelude.{◌≡◌, ℕ, ◌+◌, ◌^◌, ◌<◌, ◌≤◌, length, Some, IfOk};
-ghost use Rattle.shared_fringe.specs.Folds.{fold_of};
+ghost use Rattle.dp_model.specs.Folds.{fold_of};
 ghost use Rattle.shared_fringe.specs.Slots.{AreEntered, IsEntered, in_slot};
 ghost use Rattle.shared_fringe.specs.Tickets.{Ticketed};
 
-use crate::fold::fold_of;
 use crate::index::Index;
 use crate::listed::Listed;
 use crate::slots::in_slot;
+use dp_model::fold;
 use std::alloc::{AllocError, Global};
 
 /// The fold of its depth and state.
 pub fn fold_of_one(one: &Listed) -> u64
     ensures { result ≡ fold_of (length one.now.subproblem.decisions) one.now.subproblem.row }
 {
-    fold_of(one.sub.decisions.len(), one.sub.row.as_slice())
+    fold(one.sub.decisions.len() as u64, one.sub.row.as_slice())
 }
 
 /// Enters the one in the slot, where it has one. It takes no memory.

@@ -4,15 +4,15 @@ ghost use Rattle.std.specs.Prelude.{◌≡◌, ◌≢◌, ℕ, ◌+◌, ◌<◌,
 ghost use Rattle.shared_fringe.specs.Firsts.{first_taken};
 ghost use Rattle.shared_fringe.specs.Popping.{after_pop};
 ghost use Rattle.shared_fringe.specs.Tickets.{Ticketed, by_ticket, without};
-ghost use Rattle.shared_fringe.specs.Slots.{in_slot, is_same_in, key_of, opened, rank_of, IsSet};
-ghost use Rattle.shared_fringe.specs.Stored.{IsStored};
+ghost use Rattle.shared_fringe.specs.Slots.{in_slot, is_same_in, key_of, opened, IsSet};
+ghost use Rattle.shared_fringe.specs.Stored.{IsStored, HasFewRanks};
 
 use crate::index::Index;
 use crate::listed::Listed;
 use crate::popping::first_slot;
-use crate::rank::Rank;
 use crate::ranks::Ranks;
 use crate::reindexing::{fold_of_one, ready_index};
+use crate::reranking::{rank_of, rerank};
 use row_region::{Region, RowId};
 
 /// The open ones in slots, a region with the row of each at the place of its slot, a heap with the rank of each, and an index
@@ -30,11 +30,13 @@ pub struct Store {
 /// One more. It takes no memory.
 pub fn put_in(store: &mut Store, one: Listed)
     requires stored { IsStored store.old.words store.old.spare store.old.slots.items store.old.keys store.old.ranks store.old.index }
+    requires few { HasFewRanks store.old.slots.items store.old.ranks }
     requires room { 0 < store.old.spare }
     requires fresh { (t : ℕ) (p : Ticketed) → in_slot store.old.slots.items t ≡ Some p → p.ticket ≢ one.ticket }
     requires alone { (t : ℕ) → is_same_in (length one.subproblem.decisions) one.subproblem.row (in_slot store.old.slots.items t) ≡ false }
     requires cells { length one.subproblem.row ≡ store.old.words }
     ensures stored { IsStored store.new.words store.new.spare store.new.slots.items store.new.keys store.new.ranks store.new.index }
+    ensures few { HasFewRanks store.new.slots.items store.new.ranks }
     ensures listed { opened store.new.slots.items ≡ by_ticket one (opened store.old.slots.items) }
     ensures words { store.new.words ≡ store.old.words }
     ensures spare { store.new.spare + 1 ≡ store.old.spare }
@@ -52,18 +54,6 @@ pub fn put_in(store: &mut Store, one: Listed)
     store.ranks.push(rank_of(&one, key.place));
     store.slots[key.place as usize] = Some(one);
     store.spare -= 1;
-}
-
-/// The rank of the one in a slot.
-fn rank_of(one: &Listed, slot: u32) -> Rank
-    ensures { result ≡ rank_of slot one.now }
-{
-    Rank {
-        bound: one.sub.bound,
-        value: one.sub.value,
-        ticket: one.ticket,
-        slot,
-    }
 }
 
 /// Empties the slot and answers what it had.
@@ -85,16 +75,30 @@ fn clear_slot(store: &mut Store, slot: u32) -> Listed
     one
 }
 
+/// How many are open.
+pub fn count_open(slots: &[Option<Listed>], keys: &Region) -> usize
+    requires keyed { keys.now.rows ≡ map key_of slots.now }
+    ensures count { result ≡ length (opened slots.now) }
+    ensures most { result ≤ length slots.now }
+{
+    slots.len() - keys.spare()
+}
+
 /// Where those that are gone have more than half of the ranks, drops the ranks of those: so they never outnumber the open ones
-/// by more than a constant factor, and each rank is dropped once.
+/// by more than a constant factor, and each rank is dropped once. Where equal ranks are left, it makes the ranks anew.
 fn trim_ranks(store: &mut Store)
     requires stored { IsStored store.old.words store.old.spare store.old.slots.items store.old.keys store.old.ranks store.old.index }
     ensures stored { IsStored store.new.words store.new.spare store.new.slots.items store.new.keys store.new.ranks store.new.index }
     ensures kept { store.new ≡ record store.old { ranks = store.new.ranks } }
+    ensures few { HasFewRanks store.new.slots.items store.new.ranks }
 {
-    let open = store.slots.len() - store.keys.spare();
-    if store.ranks.len() / 2 > open + 32 {
+    let _rows = store.keys.rows();
+    let most = count_open(store.slots.as_slice(), &store.keys) + 32;
+    if most < store.ranks.len() / 2 {
         store.ranks.keep_fresh(store.slots.as_slice());
+    }
+    if most < store.ranks.len() / 2 {
+        rerank(store.slots.as_slice(), &mut store.ranks);
     }
 }
 
@@ -104,6 +108,7 @@ pub fn take_out(store: &mut Store, slot: u32) -> Listed
     requires there { IsSome (in_slot store.old.slots.items slot) }
     ensures one { in_slot store.old.slots.items slot ≡ Some result }
     ensures stored { IsStored store.new.words store.new.spare store.new.slots.items store.new.keys store.new.ranks store.new.index }
+    ensures few { HasFewRanks store.new.slots.items store.new.ranks }
     ensures listed { opened store.new.slots.items ≡ without result.ticket (opened store.old.slots.items) }
     ensures slots { IsSet store.old.slots.items store.new.slots.items slot None }
     ensures len { length store.new.slots.items ≡ length store.old.slots.items }
@@ -118,8 +123,10 @@ pub fn take_out(store: &mut Store, slot: u32) -> Listed
 /// Takes out the one that is taken first; `None` exactly where there is none.
 pub fn take_first(store: &mut Store) -> Option<Listed>
     requires stored { IsStored store.old.words store.old.spare store.old.slots.items store.old.keys store.old.ranks store.old.index }
+    requires few { HasFewRanks store.old.slots.items store.old.ranks }
     ensures first { result ≡ first_taken (opened store.old.slots.items) }
     ensures stored { IsStored store.new.words store.new.spare store.new.slots.items store.new.keys store.new.ranks store.new.index }
+    ensures few { HasFewRanks store.new.slots.items store.new.ranks }
     ensures listed { opened store.new.slots.items ≡ after_pop (opened store.old.slots.items) }
     ensures words { store.new.words ≡ store.old.words }
     ensures spare { store.old.spare ≤ store.new.spare }

@@ -143,6 +143,7 @@ fn many_are_pushed_and_popped(rt: HostRuntime) -> Result<(), Fail> {
     let many = 200_000;
     let mut fringe = Fringe::new(rt.alloc(), 1);
     assert!(rt; push_many(rt.alloc(), &mut fringe, many)?);
+    assert!(rt; fringe.ranks() >= fringe.len());
     assert!(rt; pop_many(&mut fringe, many));
     assert!(rt; fringe.is_empty());
     Ok(())

@@ -3,15 +3,17 @@ use Rattle.std.specs.Prelude.{◌≡◌, ℕ, ◌+◌, ◌^◌, ◌≤◌, ◌==
 use Rattle.std.specs.Io.KnownBytes.{append_known}
 use Rattle.dd_io.specs.Counts.{Rose}
 use Rattle.dd_io.specs.Told.{IsAllOf, Ends, Skips, TakesSome}
+use Rattle.dd_io.specs.declared.reading.ReadError.{ReadError}
+use Rattle.dd_io.specs.declared.reading.ReadError.TheVariants.{Fault, TooLong, OutOfMemory}
 use Rattle.problems.specs.Theories.{theory_of}
 use Rattle.solver_words.specs.Words.{refusal_of}
 use Rattle.solver_report.specs.declared.answer.Answer.{Answer}
 use Rattle.solver_report.specs.declared.answer.Answer.TheVariants as answers
 use Rattle.solver_report.specs.Report.{report, status_of}
 use Rattle.solver_jobs.specs.Answers.{IsReply, Draws}
-use Rattle.solver_jobs.specs.declared.text_job.TextJob.{TextJob}
+use Rattle.solver_jobs.specs.Checks.{IsChecked}
 use Rattle.solver_cli.specs.declared.offering.Task.{Task}
-use Rattle.solver_cli.specs.declared.offering.Task.TheVariants.{OnInput, Draw}
+use Rattle.solver_cli.specs.declared.offering.Task.TheVariants.{OnInput, OnCover, Draw}
 use Rattle.solver_cli.specs.Offered.{asked}
 
 -- the source as the run found it and left it: the bytes that are left, where they are told, and how many calls have failed
@@ -38,15 +40,20 @@ readings left faults old new = record { before = left old; now = left new; fault
 abbrev pub writings : {K : Type 0} → (K → Option (List ℕ)) → (K → ℕ) → (K → ℕ) → K → K → Writings
 writings taken faults idle old new = record { before = taken old; now = taken new; faults_before = faults old; faults_now = faults new; idle_before = idle old; idle_now = idle new }
 
-abbrev pub input_limit : ℕ
-input_limit = 2 ^ 26
+-- how many bytes the text of an instance has at most
+abbrev pub text_limit : ℕ
+text_limit = 2 ^ 26
+
+-- how many bytes a whole output with its cover has at most
+abbrev pub cover_limit : ℕ
+cover_limit = 2 ^ 28
 
 -- these bytes are all that was left, nothing is left now, no call failed, and they are within the limit
-pub record WasRead (r : Readings) (bytes : List ℕ) : Type 0 where
+pub record WasRead (limit : ℕ) (r : Readings) (bytes : List ℕ) : Type 0 where
   pub all : IsAllOf r.before bytes
   pub ended : Ends r.before r.now
   pub sound : r.faults_now ≡ r.faults_before
-  pub short : length bytes ≤ input_limit
+  pub short : length bytes ≤ limit
 
 -- nothing was read
 pub record IsUntouched (r : Readings) : Type 0 where
@@ -54,33 +61,40 @@ pub record IsUntouched (r : Readings) : Type 0 where
   pub sound : r.faults_now ≡ r.faults_before
 
 -- one byte more than the limit was read, and no call failed
-pub record WasTooLong (r : Readings) : Type 0 where
-  pub gone : Skips r.before r.now (input_limit + 1)
+pub record WasTooLong (limit : ℕ) (r : Readings) : Type 0 where
+  pub gone : Skips r.before r.now (limit + 1)
   pub sound : r.faults_now ≡ r.faults_before
 
 -- a call failed, and what was read before it is gone
-pub record HasFailed (r : Readings) : Type 0 where
+pub record HasFailed (limit : ℕ) (r : Readings) : Type 0 where
   pub rose : Rose r.faults_before r.faults_now
   pub count : ℕ
-  pub short : count ≤ input_limit
+  pub short : count ≤ limit
   pub gone : Skips r.before r.now count
 
--- the bytes that were read get this answer
-pub record RepliesTo (job : TextJob) (r : Readings) (answer : Answer) : Type 0 where
+-- the answer is right for the bytes that were read
+pub record RepliesTo (limit : ℕ) (IsFor : List ℕ → Answer → Type 0) (r : Readings) (answer : Answer) : Type 0 where
   pub bytes : List ℕ
-  pub read : WasRead r bytes
-  pub replies : IsReply job bytes answer
+  pub read : WasRead limit r bytes
+  pub replies : IsFor bytes answer
 
--- what a job on the input may answer; want of memory may come at any time, but no fault is hidden by it
-abbrev pub IsInputAnswer : TextJob → Readings → Answer → Type 0
-IsInputAnswer job r answers.ReadFault = HasFailed r
-IsInputAnswer job r answers.TooLong = WasTooLong r
-IsInputAnswer job r answers.OutOfMemory = r.faults_now ≡ r.faults_before
-IsInputAnswer job r answer = RepliesTo job r answer
+-- what may be answered to an input; want of memory may come at any time, but no fault is hidden by it
+abbrev pub IsInputAnswer : ℕ → (List ℕ → Answer → Type 0) → Readings → Answer → Type 0
+IsInputAnswer limit IsFor r answers.ReadFault = HasFailed limit r
+IsInputAnswer limit IsFor r answers.TooLong = WasTooLong limit r
+IsInputAnswer limit IsFor r answers.OutOfMemory = r.faults_now ≡ r.faults_before
+IsInputAnswer limit IsFor r answer = RepliesTo limit IsFor r answer
+
+-- the answer to an input that was not read whole
+abbrev pub unread : ReadError → Answer
+unread Fault = answers.ReadFault
+unread TooLong = answers.TooLong
+unread OutOfMemory = answers.OutOfMemory
 
 -- what a task may answer; nothing is read for an instance that is drawn
 abbrev pub IsTaskAnswer : Task → Readings → Answer → Type 0
-IsTaskAnswer (OnInput job) r answer = IsInputAnswer job r answer
+IsTaskAnswer (OnInput job) r answer = IsInputAnswer text_limit (IsReply job) r answer
+IsTaskAnswer OnCover r answer = IsInputAnswer cover_limit IsChecked r answer
 IsTaskAnswer (Draw problem n seed solved) r answer = IsUntouched r × Draws (theory_of problem) n seed solved answer
 
 -- the words ask for a task, which may answer this

@@ -21,6 +21,7 @@ use std::alloc::AllocError;
 use std::env;
 use std::io::ErrorKind;
 use std::process::ExitCode;
+use worker_gate::NoGate;
 
 /// Lends `run` the command's words and standard input and output. Without memory for the words it says so.
 fn main(rt: HostRuntime) -> ExitCode {
@@ -29,7 +30,14 @@ fn main(rt: HostRuntime) -> ExitCode {
         return ExitCode::from(say(rt.alloc(), &mut out, &Answer::OutOfMemory));
     };
     let mut input = StdSource::new(rt.stdin());
-    ExitCode::from(run(rt.alloc(), words.as_slice(), &mut input, &mut out))
+    ExitCode::from(run(
+        &rt,
+        rt.alloc(),
+        words.as_slice(),
+        &mut input,
+        &mut out,
+        &NoGate,
+    ))
 }
 
 /// The command's words, without the program's name. Words that are no text are outside the grammar, as no words are.

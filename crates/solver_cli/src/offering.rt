@@ -3,7 +3,7 @@ ghost use Rattle.solver_words.specs.Words.{IsAnswer, IsDrawable, job_view};
 ghost use Rattle.solver_cli.specs.Offered.{IsDrawn, is_plain, offered, asked};
 
 use problem_names::ModelName;
-use solver_jobs::TextJob;
+use solver_jobs::{Search, TextJob};
 use solver_words::{Job, JobSettings, WordsError, read_words};
 use std::alloc::Global;
 
@@ -12,6 +12,8 @@ use std::alloc::Global;
 pub enum Task {
     /// A job on the instance that the input spells.
     OnInput(TextJob),
+    /// A whole output with its cover is checked.
+    OnCover,
     /// An instance of that size is drawn from the seed, and printed or solved.
     Draw {
         problem: ModelName,
@@ -30,8 +32,8 @@ pub fn asked(alloc: Global, words: &[String]) -> Result<Task, WordsError>
     offered(&job)
 }
 
-/// The task of a job. This is the one place that tells which words are still to come: a search with a journal, with a cover, by more than
-/// one worker or with a width of its own, and the commands `resume` and `check`. They are answered as words outside the grammar.
+/// The task of a job. This is the one place that tells which words are still to come: a search with a journal or with a cover, and the
+/// command `resume`. They are answered as words outside the grammar.
 fn offered(job: &Job) -> Result<Task, WordsError>
     requires { IsDrawable job.now }
     ensures answer { IsAnswer (λ task. task) (offered (job_view job.now)) result }
@@ -45,9 +47,14 @@ fn offered(job: &Job) -> Result<Task, WordsError>
             cover_words,
         } if is_plain(*settings, journal, *cover_words) => Ok(Task::OnInput(TextJob::Solve {
             model: *model,
-            budget: settings.budget,
-            stats: settings.stats,
+            search: Search {
+                width: settings.width,
+                workers: settings.workers,
+                budget: settings.budget,
+                stats: settings.stats,
+            },
         })),
+        Job::Check => Ok(Task::OnCover),
         Job::Digest { model } => Ok(Task::OnInput(TextJob::Digest { model: *model })),
         Job::Generate {
             model,
@@ -60,13 +67,13 @@ fn offered(job: &Job) -> Result<Task, WordsError>
             seed: *seed,
             solved: *solve,
         }),
-        Job::Solve { .. } | Job::Resume { .. } | Job::Check => Err(WordsError::Usage),
+        Job::Solve { .. } | Job::Resume { .. } => Err(WordsError::Usage),
     }
 }
 
-/// Whether a search asks for nothing that is still to come.
+/// Whether a search asks for nothing that is still to come. It has from 1 to 16 workers, as the grammar leaves it.
 fn is_plain(settings: JobSettings, journal: &Option<String>, cover_words: Option<u64>) -> bool
     ensures { result ≡ is_plain settings (option_map string_bytes journal.now) cover_words }
 {
-    settings.width.is_none() && settings.workers <= 1 && journal.is_none() && cover_words.is_none()
+    settings.workers >= 1 && settings.workers <= 16 && journal.is_none() && cover_words.is_none()
 }

@@ -1,8 +1,13 @@
+mod covers;
+
 use crate::run::run;
 use dd_io::{MemSink, MemSource};
 use std::alloc::{AllocError, Global};
 use std::process::Abort;
+use std::sync::Wait;
 use std::test::Fail;
+use std::thread::Threads;
+use worker_gate::NoGate;
 
 const THREE_ITEMS: &str = "3 10\n60 5\n50 4\n70 6\n";
 
@@ -29,7 +34,8 @@ struct Printed {
 }
 
 /// Runs the words of a line on an input, over a source and a sink of which these calls fail.
-fn run_line(
+fn run_line<R: Threads + Wait + Sync>(
+    rt: &R,
     alloc: Global,
     line: &str,
     input: &str,
@@ -40,14 +46,18 @@ fn run_line(
     let bytes = input.as_bytes().to_vec(alloc)?;
     let mut source = MemSource::new(bytes, failing_reads.to_vec(alloc)?);
     let mut text = MemSink::new(alloc, failing_writes.to_vec(alloc)?);
-    let status = run(alloc, words.as_slice(), &mut source, &mut text);
+    let status = run(rt, alloc, words.as_slice(), &mut source, &mut text, &NoGate);
     Ok(Printed { text, status })
 }
 
 /// Runs the words of each line on its input, and compares what is printed, and the status.
-fn prints(rt: &impl Abort, alloc: Global, cases: &[(&str, &str, &str, u8)]) -> Result<(), Fail> {
+fn prints<R: Abort + Threads + Wait + Sync>(
+    rt: &R,
+    alloc: Global,
+    cases: &[(&str, &str, &str, u8)],
+) -> Result<(), Fail> {
     for (line, input, text, status) in cases.iter().copied() {
-        let printed = run_line(alloc, line, input, &[], &[])?;
+        let printed = run_line(rt, alloc, line, input, &[], &[])?;
         assert_eq!(rt; printed.text.taken(), text.as_bytes(), "{line} on {input}");
         assert_eq!(rt; printed.status, status, "{line} on {input}");
     }
@@ -62,6 +72,12 @@ fn prints_what_it_must(rt: HostRuntime) -> Result<(), Fail> {
             THREE_ITEMS,
             "proved\nvalue 120\nassignment 0 1 1\n",
             0u8,
+        ),
+        (
+            "solve knapsack --workers 4 --width 1",
+            THREE_ITEMS,
+            "proved\nvalue 120\nassignment 0 1 1\n",
+            0,
         ),
         (
             "solve knapsack",
@@ -92,6 +108,18 @@ fn prints_what_it_must(rt: HostRuntime) -> Result<(), Fail> {
             THREE_ITEMS,
             "stopped budget\nvalue none\nbound 121\ntaken 0\nfinished 0\n",
             2,
+        ),
+        (
+            "solve knapsack --width 1 --budget 1",
+            THREE_ITEMS,
+            "stopped budget\nvalue 110\nassignment 1 1 0\nbound 121\n",
+            2,
+        ),
+        (
+            "solve knapsack --width 1 --stats",
+            THREE_ITEMS,
+            "proved\nvalue 120\nassignment 0 1 1\ntaken 3\nfinished 3\n",
+            0,
         ),
         (
             "solve maxcut",
@@ -216,6 +244,7 @@ fn refuses_at_the_place(rt: HostRuntime) -> Result<(), Fail> {
             "words number width\n",
             4,
         ),
+        ("solve knapsack --width 1242757", THREE_ITEMS, "width\n", 4),
         (
             "solve knapsack --width 3 --width 4",
             THREE_ITEMS,
@@ -235,11 +264,11 @@ fn refuses_at_the_place(rt: HostRuntime) -> Result<(), Fail> {
             4,
         ),
         ("generate knapsack 1001 0", "", "words number n\n", 4),
-        ("check", THREE_ITEMS, "words usage\n", 4),
+        ("check", THREE_ITEMS, "cover word 1 1\n", 3),
         (
-            "solve knapsack --workers 2",
+            "solve knapsack --workers 17",
             THREE_ITEMS,
-            "words usage\n",
+            "words number workers\n",
             4,
         ),
     ];
@@ -248,22 +277,29 @@ fn refuses_at_the_place(rt: HostRuntime) -> Result<(), Fail> {
 
 #[test]
 fn solves_what_it_draws(rt: HostRuntime) -> Result<(), Fail> {
-    let printed = run_line(rt.alloc(), "generate knapsack 2 0 --solve", "", &[0], &[])?;
-    let report = b"proved\nvalue 19\nassignment 1 1\ntaken ";
-    assert!(rt; printed.text.taken().starts_with(report));
+    let printed = run_line(
+        &rt,
+        rt.alloc(),
+        "generate knapsack 2 0 --solve",
+        "",
+        &[0],
+        &[],
+    )?;
+    let report = "proved\nvalue 19\nassignment 1 1\ntaken 1\nfinished 1\n";
+    assert_eq!(rt; printed.text.taken(), report.as_bytes());
     assert_eq!(rt; printed.status, 0);
     Ok(())
 }
 
 #[test]
 fn tells_faults_of_the_outside(rt: HostRuntime) -> Result<(), Fail> {
-    let unread = run_line(rt.alloc(), "solve knapsack", THREE_ITEMS, &[0], &[])?;
+    let unread = run_line(&rt, rt.alloc(), "solve knapsack", THREE_ITEMS, &[0], &[])?;
     assert_eq!(rt; unread.text.taken(), "read fault\n".as_bytes());
     assert_eq!(rt; unread.status, 6);
-    let unwritten = run_line(rt.alloc(), "solve knapsack", THREE_ITEMS, &[], &[0])?;
+    let unwritten = run_line(&rt, rt.alloc(), "solve knapsack", THREE_ITEMS, &[], &[0])?;
     assert_eq!(rt; unwritten.text.taken(), "".as_bytes());
     assert_eq!(rt; unwritten.status, 7);
-    let neither = run_line(rt.alloc(), "solve knapsack", THREE_ITEMS, &[0], &[0])?;
+    let neither = run_line(&rt, rt.alloc(), "solve knapsack", THREE_ITEMS, &[0], &[0])?;
     assert_eq!(rt; neither.text.taken(), "".as_bytes());
     assert_eq!(rt; neither.status, 6);
     Ok(())
@@ -273,7 +309,7 @@ fn tells_faults_of_the_outside(rt: HostRuntime) -> Result<(), Fail> {
 fn one_instance_has_one_digest(rt: HostRuntime) -> Result<(), Fail> {
     let digest = "88b310997f4897e8b02cdec421c4964c734a77532e09709e47d7dbfee26f1db5\n";
     for input in [THREE_ITEMS, "3  10\n60  5  1\n50  4  1\n70  6  1\n"] {
-        let printed = run_line(rt.alloc(), "digest knapsack", input, &[], &[])?;
+        let printed = run_line(&rt, rt.alloc(), "digest knapsack", input, &[], &[])?;
         assert_eq!(rt; printed.text.taken(), digest.as_bytes(), "{input}");
         assert_eq!(rt; printed.status, 0);
     }

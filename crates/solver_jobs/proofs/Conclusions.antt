@@ -26,6 +26,8 @@ use Rattle.solver_report.specs.declared.answer.Stop.{Stop}
 use Rattle.solver_report.specs.declared.answer.Stop.TheVariants.{Budget}
 use Rattle.solver_jobs.specs.Answers.{IsFound, FoundHolds, NoneIsWorthMore, IsProved, IsInfeasible, StopHolds, IsStopped}
 use Rattle.solver_jobs.specs.Over.{IsOver}
+use Rattle.solver_jobs.specs.Widths.{IsSearchWidth}
+use Rattle.solver_jobs.specs.declared.text_job.Search.{Search}
 
 -- an incumbent is a solution in the problem's own words too
 pub found_one : (dp : Dp) (own : List ℕ → Option ℤ) → Agrees dp own → (found : Solution) → IsSolutionWith dp found.decisions found.value → IsFound dp own found
@@ -91,16 +93,16 @@ no_append : {X : Type 0} (xs ys : List X) → ys ≢ [] → xs ++ ys ≡ [] → 
 no_append [] ys some h = some h
 no_append (x ∷ xs) ys some h = absurd (cc)
 
-pub bound_there : (dp : Dp) (budget : ℕ) (b : BoardState) → IsOver dp budget b → is_explored b ≡ false → bound_of b ≡ None → ⊥
-bound_there dp budget b over left h =
+pub bound_there : (dp : Dp) (search : Search) (b : BoardState) → IsOver dp search b → is_explored b ≡ false → bound_of b ≡ None → ⊥
+bound_there dp search b over left h =
     let some = open_left b.open_ones (full_slots b.slots) over.idle left in
     raised_by-open (reach b) (full_slots b.slots ++ b.open_ones) (no_append (full_slots b.slots) b.open_ones some) h
 
 -- a search that is over with something open is stopped, for the reason that holds
-pub is_stopped : (dp : Dp) (own : List ℕ → Option ℤ) → Agrees dp own → (budget : ℕ) (b : BoardState) (stop : Stop) (found : Option Solution) (bound : ℤ)
-    → IsBoard dp b → IsOver dp budget b → is_explored b ≡ false → found ≡ b.incumbent → bound_of b ≡ Some bound → ((x : List ℕ) → IsSolution dp x → AtMost (value_of dp x) (Some bound))
-    → StopHolds b stop → (stop ≡ Budget → tree dp ≤ budget → tree dp ≤ 2 ^ 63 → ⊥) → IsStopped dp own budget b stop found bound
-is_stopped dp own agrees budget b stop found bound kept over left same bound_is most holds incomplete = record {
+pub is_stopped : (dp : Dp) (own : List ℕ → Option ℤ) → Agrees dp own → (search : Search) (b : BoardState) (stop : Stop) (found : Option Solution) (bound : ℤ)
+    → IsBoard dp b → IsOver dp search b → is_explored b ≡ false → found ≡ b.incumbent → bound_of b ≡ Some bound → ((x : List ℕ) → IsSolution dp x → AtMost (value_of dp x) (Some bound))
+    → StopHolds b stop → (stop ≡ Budget → tree dp ≤ search.budget → tree dp ≤ 2 ^ 63 → ⊥) → IsStopped dp own search.budget b stop found bound
+is_stopped dp own agrees search b stop found bound kept over left same bound_is most holds incomplete = record {
   something_open = open_left b.open_ones (full_slots b.slots) over.idle left;
   holds = holds;
   held = sym same;
@@ -119,19 +121,22 @@ memory_held (Some x) cause after is = ap Some after
 -- The search that is over.
 
 -- the settings are those of the first board
-pub over_settings : (dp : Dp) (budget : ℕ) (b : BoardState) → (over : IsOver dp budget b) → b.settings ≡ over.settings
-over_settings dp budget b over = (run-follows dp (first_board dp over.settings) over.steps b over.run).settings
+pub over_settings : (dp : Dp) (search : Search) (b : BoardState) → (over : IsOver dp search b) → b.settings ≡ over.settings
+over_settings dp search b over = (run-follows dp (first_board dp over.settings) over.steps b over.run).settings
 
-pub over_exact : (dp : Dp) (budget : ℕ) (b : BoardState) → IsOver dp budget b → b.settings.within ≡ pos 0
-over_exact dp budget b over = ap (λ (s : Settings). s.within) (over_settings dp budget b over) ∙ over.exact
+pub over_exact : (dp : Dp) (search : Search) (b : BoardState) → IsOver dp search b → b.settings.within ≡ pos 0
+over_exact dp search b over = ap (λ (s : Settings). s.within) (over_settings dp search b over) ∙ over.exact
 
 -- some rounds after the first board
-pub is_over : (dp : Dp) (settings : Settings) (first b : BoardState) → first ≡ first_board dp settings → settings.within ≡ pos 0 → IsLater dp first b → HasEnded b → IsComplete dp b → IsOver dp settings.budget b
-is_over dp settings first b is exact later ended complete = record {
+pub is_over : (dp : Dp) (search : Search) (settings : Settings) (first b : BoardState) → first ≡ first_board dp settings → IsSearchWidth dp search.width settings.width → settings.workers ≡ search.workers → settings.budget ≡ search.budget → settings.within ≡ pos 0
+    → IsLater dp first b → HasEnded b → IsComplete dp b → IsOver dp search b
+is_over dp search settings first b is wide crew within exact later ended complete = record {
   settings = settings;
+  crew = crew;
   steps = later.steps;
   run = subst (λ (f : BoardState). IsRun dp f later.steps b) is later.run;
-  within = refl;
+  wide = wide;
+  within = within;
   exact = exact;
   idle = ap full_slots later.slots ∙ (ap (λ (f : BoardState). full_slots f.slots) is ∙ full-none settings.workers);
   ended = ended;
@@ -140,13 +145,13 @@ is_over dp settings first b is exact later ended complete = record {
 }
 
 -- a search that is over with something open and without a cause is stopped for its budget
-pub budget_up : (dp : Dp) (budget : ℕ) (b : BoardState) → IsOver dp budget b → is_explored b ≡ false → b.cause ≡ None → StopHolds b Budget
-budget_up dp budget b over left none = (over.ended left none, none)
+pub budget_up : (dp : Dp) (search : Search) (b : BoardState) → IsOver dp search b → is_explored b ≡ false → b.cause ≡ None → StopHolds b Budget
+budget_up dp search b over left none = (over.ended left none, none)
 
 -- and then the budget or the tickets do not suffice for every prefix
-pub incomplete_for : (dp : Dp) (budget : ℕ) (b : BoardState) → IsOver dp budget b → is_explored b ≡ false → b.cause ≡ None → tree dp ≤ budget → tree dp ≤ 2 ^ 63 → ⊥
-incomplete_for dp budget b over left none most tickets =
-    let same : budget ≡ b.settings.budget = sym over.within ∙ ap (λ (s : Settings). s.budget) (sym (over_settings dp budget b over)) in
+pub incomplete_for : (dp : Dp) (search : Search) (b : BoardState) → IsOver dp search b → is_explored b ≡ false → b.cause ≡ None → tree dp ≤ search.budget → tree dp ≤ 2 ^ 63 → ⊥
+incomplete_for dp search b over left none most tickets =
+    let same : search.budget ≡ b.settings.budget = sym over.within ∙ ap (λ (s : Settings). s.budget) (sym (over_settings dp search b over)) in
     let up : tree dp ≤ b.settings.budget = omega arith in
     let all : is_explored b ≡ true = over.complete up tickets none in
     cc

@@ -26,8 +26,10 @@ use Rattle.solver_report.specs.declared.answer.Outcome.{Outcome}
 use Rattle.solver_report.specs.declared.answer.Outcome.TheVariants.{Proved, Infeasible, Stopped}
 use Rattle.solver_report.specs.declared.answer.Answer.{Answer}
 use Rattle.solver_report.specs.declared.answer.Answer.TheVariants as answers
+use Rattle.solver_jobs.specs.declared.text_job.Search.{Search}
 use Rattle.solver_jobs.specs.declared.text_job.TextJob.{TextJob}
 use Rattle.solver_jobs.specs.declared.text_job.TextJob.TheVariants.{Solve, Digest}
+use Rattle.solver_jobs.specs.Widths.{IsSearchWidth, IsRefusedWidth}
 
 -- a feasible solution with its value, in the states and gains and in the problem's own words
 pub record IsFound (dp : Dp) (own : List ℕ → Option ℤ) (found : Solution) : Type 0 where
@@ -92,26 +94,33 @@ IsCounted dp board true (Some counts) = AreCounts dp board counts
 IsCounted dp board false None = Unit {0}
 IsCounted dp board _ _ = ⊥
 
--- a run from the first board with that budget, and without a distance from the best, led to a good board with nothing out, of which this
--- outcome and these counts are told
-pub record HasSearched (dp : Dp) (own : List ℕ → Option ℤ) (budget : ℕ) (stats : Bool) (outcome : Outcome) (counts : Option Counts) : Type 0 where
+-- a run from the first board with that width, number of workers and budget, and without a distance from the best, led to a good board with nothing out, of
+-- which this outcome and these counts are told
+pub record HasSearched (dp : Dp) (own : List ℕ → Option ℤ) (search : Search) (outcome : Outcome) (counts : Option Counts) : Type 0 where
   pub settings : Settings
   pub steps : List Step
   pub board : BoardState
   pub run : IsRun dp (first_board dp settings) steps board
-  pub within : settings.budget ≡ budget
+  pub wide : IsSearchWidth dp search.width settings.width
+  pub crew : settings.workers ≡ search.workers
+  pub within : settings.budget ≡ search.budget
   pub exact : settings.within ≡ pos 0
   pub kept : IsBoard dp board
   pub good : IsGood dp board
   pub nothing_out : full_slots board.slots ≡ []
-  pub ends : Ends dp own budget board outcome
-  pub counted : IsCounted dp board stats counts
+  pub ends : Ends dp own search.budget board outcome
+  pub counted : IsCounted dp board search.stats counts
 
 -- what a search of an instance may answer
-abbrev pub Solves : Dp → (List ℕ → Option ℤ) → ℕ → Bool → Answer → Type 0
-Solves dp own budget stats (answers.Searched outcome counts) = HasSearched dp own budget stats outcome counts
-Solves dp own budget stats answers.OutOfMemory = Unit {0}
-Solves dp own budget stats _ = ⊥
+abbrev pub Solves : Dp → (List ℕ → Option ℤ) → Search → Answer → Type 0
+Solves dp own search (answers.Searched outcome counts) = HasSearched dp own search outcome counts
+Solves dp own search answers.Width = IsRefusedWidth dp search.width
+Solves dp own search answers.OutOfMemory = Unit {0}
+Solves dp own search _ = ⊥
+
+-- how an instance that is drawn is searched: with the default width, one worker, the greatest budget, and its counts
+abbrev pub by_default : Search
+by_default = record { width = None; workers = 1; budget = 2 ^ 64 - 1; stats = true }
 
 -- what a digest may answer
 abbrev pub Digests : List ℕ → Answer → Type 0
@@ -125,20 +134,28 @@ Prints canonical (answers.Drawn text) = text.items ≡ canonical
 Prints canonical answers.OutOfMemory = Unit {0}
 Prints canonical _ = ⊥
 
--- what may be answered for an instance that is drawn: its canonical text, or where it is to be solved how a search of it ends, with the
--- greatest budget and with its counts
+-- what may be answered for an instance that is drawn: its canonical text, or where it is to be solved how a search of it ends
 abbrev pub Draws : Theory → ℕ → ℕ → Bool → Answer → Type 0
 Draws t n seed false answer = Prints (t.canonical (t.drawn n seed)) answer
-Draws t n seed true answer = Solves (t.program (t.drawn n seed)) (t.own_value (t.drawn n seed)) (2 ^ 64 - 1) true answer
+Draws t n seed true answer = Solves (t.program (t.drawn n seed)) (t.own_value (t.drawn n seed)) by_default answer
+
+-- a search has from 1 to 16 workers
+abbrev pub HasCrew : Search → Type 0
+HasCrew search = (1 ≤ search.workers) × (search.workers ≤ 16)
+
+-- so many workers, where it is a search
+abbrev pub IsCrewed : TextJob → Type 0
+IsCrewed (Solve model search) = HasCrew search
+IsCrewed (Digest model) = Unit {0}
 
 -- the problem that a job is for
 abbrev pub model_in : TextJob → ModelName
-model_in (Solve model budget stats) = model
+model_in (Solve model search) = model
 model_in (Digest model) = model
 
 -- what the job may answer for an instance
 abbrev pub Does : Theory → TextJob → List ℤ → Answer → Type 0
-Does t (Solve model budget stats) numbers answer = Solves (t.program numbers) (t.own_value numbers) budget stats answer
+Does t (Solve model search) numbers answer = Solves (t.program numbers) (t.own_value numbers) search answer
 Does t (Digest model) numbers answer = Digests (t.canonical numbers) answer
 
 -- the first fault is answered, or want of memory

@@ -1,2 +1,5 @@
 pub mod Answers
+pub mod Checks
+pub mod Desks
 pub mod Over
+pub mod Widths

@@ -4,6 +4,7 @@ ghost use Rattle.board_laws.specs.GoodBoard.{IsBoard, IsGood};
 ghost use Rattle.solver_jobs.specs.Answers.{Solves, Ends, IsCounted};
 ghost use Rattle.solver_jobs.specs.Over.{IsOver};
 
+use crate::text_job::Search;
 use dp_model::{DpModel, OutOfMemory};
 use problems::Problem;
 use search_core::Board;
@@ -15,16 +16,15 @@ pub fn conclude<P: Problem>(
     alloc: Global,
     board: &Board<P>,
     model: &P,
-    budget: u64,
-    stats: bool,
+    search: Search,
 ) -> Result<Answer, OutOfMemory>
     requires numbers { board.now.numbers ≡ P.numbers model.now }
-    requires over { IsOver (P.meaning (P.numbers model.now)) budget board.now.board }
-    ensures { IfOk result (Solves (P.meaning (P.numbers model.now)) (P.theory.own_value (P.numbers model.now)) budget stats) }
+    requires over { IsOver (P.meaning (P.numbers model.now)) search board.now.board }
+    ensures { IfOk result (Solves (P.meaning (P.numbers model.now)) (P.theory.own_value (P.numbers model.now)) search) }
 {
     let found = held_solution(alloc, board)?;
-    let outcome = outcome_of(board, model, found, budget);
-    let counts = counts_of(board, stats);
+    let outcome = outcome_of(board, model, found, search);
+    let counts = counts_of(board, search.stats);
     Ok(Answer::Searched(outcome, counts))
 }
 
@@ -63,17 +63,17 @@ fn outcome_of<P: Problem>(
     board: &Board<P>,
     model: &P,
     found: Option<Solution>,
-    budget: u64,
+    search: Search,
 ) -> Outcome
     requires numbers { board.now.numbers ≡ P.numbers model.now }
-    requires over { IsOver (P.meaning (P.numbers model.now)) budget board.now.board }
+    requires over { IsOver (P.meaning (P.numbers model.now)) search board.now.board }
     requires copied { found ≡ board.now.board.incumbent }
-    ensures { Ends (P.meaning (P.numbers model.now)) (P.theory.own_value (P.numbers model.now)) budget board.now.board result }
+    ensures { Ends (P.meaning (P.numbers model.now)) (P.theory.own_value (P.numbers model.now)) search.budget board.now.board result }
 {
     if board.is_explored() {
         return explored(board, model, found);
     }
-    stopped(board, model, found, budget)
+    stopped(board, model, found, search)
 }
 
 /// How a search with nothing open or out ended: the incumbent is best, or there is no feasible solution.
@@ -94,12 +94,17 @@ fn explored<P: Problem>(board: &Board<P>, model: &P, found: Option<Solution>) ->
 }
 
 /// How a search ended while something was open.
-fn stopped<P: Problem>(board: &Board<P>, model: &P, found: Option<Solution>, budget: u64) -> Outcome
+fn stopped<P: Problem>(
+    board: &Board<P>,
+    model: &P,
+    found: Option<Solution>,
+    search: Search,
+) -> Outcome
     requires numbers { board.now.numbers ≡ P.numbers model.now }
-    requires over { IsOver (P.meaning (P.numbers model.now)) budget board.now.board }
+    requires over { IsOver (P.meaning (P.numbers model.now)) search board.now.board }
     requires left { is_explored board.now.board ≡ false }
     requires copied { found ≡ board.now.board.incumbent }
-    ensures { Ends (P.meaning (P.numbers model.now)) (P.theory.own_value (P.numbers model.now)) budget board.now.board result }
+    ensures { Ends (P.meaning (P.numbers model.now)) (P.theory.own_value (P.numbers model.now)) search.budget board.now.board result }
 {
     // What the board keeps of its incumbent.
     let _ = board.incumbent_value();

@@ -3,10 +3,11 @@
 //! It stands on `problems` for instances, on `search_core` and `search_rounds` for the search, on `sha2` for digests and on
 //! `solver_report` for answers. A proved answer is a best solution, an infeasible one says that there is no feasible solution,
 //! and a search that stopped early tells its incumbent and a bound that no feasible solution exceeds; it stops for the budget
-//! only where that is less than the number of prefixes.
+//! only where that is less than the number of prefixes. A width is refused exactly where it is 0 or above the greatest one.
 #![tactic(auto)]
 
 mod answering;
+mod checking;
 mod concluding;
 mod digesting;
 mod drawing;
@@ -14,5 +15,6 @@ mod solving;
 mod text_job;
 
 pub use answering::reply;
+pub use checking::check;
 pub use drawing::generate;
-pub use text_job::TextJob;
+pub use text_job::{Search, TextJob};

@@ -7,6 +7,10 @@ use Rattle.dd_text.specs.declared.instance_error.InstanceError.{InstanceError}
 use Rattle.dd_text.specs.declared.instance_error.InstanceFault.{InstanceFault}
 use Rattle.dd_text.specs.declared.place.Place.{Place}
 use Rattle.dd_text.specs.declared.instance_error.InstanceFault.TheVariants.{NotNumber, OutOfRange, EndOfText, Trailing, NotAscii, Count, Limit, ThreeLiterals, Hard, Vertex, Window, Word}
+use Rattle.bound_cover.specs.declared.cover.Why.{Why}
+use Rattle.bound_cover.specs.declared.cover.Why.TheVariants as whys
+use Rattle.bound_cover.specs.declared.cover.Verdict.{Verdict}
+use Rattle.bound_cover.specs.declared.cover.Verdict.TheVariants as verdicts
 use Rattle.dp_model.specs.Solution.{Solution}
 use Rattle.hex.specs.Hex.{encode_lower}
 use Rattle.solver_report.specs.declared.answer.Stop.{Stop}
@@ -26,7 +30,7 @@ line text = text ++ 10 ∷ []
 abbrev pub number_line : List ℕ → ℤ → List ℕ
 number_line word z = line (word ++ 32 ∷ decimal_of z)
 
--- each decision behind a space
+-- each number behind a space
 abbrev pub spaced : List ℕ → List ℕ
 spaced ds = flat_map (λ d. 32 ∷ decimal_of (pos d)) ds
 
@@ -61,8 +65,25 @@ fault_word Word = codes "word"
 abbrev pub place_words : Place → List ℕ
 place_words p = decimal_of (pos p.line) ++ 32 ∷ decimal_of (pos p.column)
 
-abbrev pub fault_line : InstanceError → List ℕ
-fault_line e = line (codes "instance " ++ fault_word e.fault ++ 32 ∷ place_words e.place)
+-- a fault of a text, behind what the text is of
+abbrev pub fault_line : List ℕ → InstanceError → List ℕ
+fault_line subject e = line (subject ++ fault_word e.fault ++ 32 ∷ place_words e.place)
+
+-- the test of a cover that fails, and where
+abbrev pub why_words : Why → List ℕ
+why_words whys.Layers = codes "layers"
+why_words whys.Assignment = codes "assignment"
+why_words whys.Value = codes "value"
+why_words whys.Root = codes "root"
+why_words (whys.Row layer row) = codes "row" ++ spaced (layer ∷ row ∷ [])
+why_words (whys.Rough layer row) = codes "rough" ++ spaced (layer ∷ row ∷ [])
+why_words (whys.Target layer row decision) = codes "target" ++ spaced (layer ∷ row ∷ decision ∷ [])
+why_words (whys.Arc layer row decision) = codes "arc" ++ spaced (layer ∷ row ∷ decision ∷ [])
+why_words (whys.Terminal row) = codes "terminal" ++ spaced (row ∷ [])
+
+abbrev pub verdict_line : Verdict → List ℕ
+verdict_line verdicts.Accepted = line (codes "accepted")
+verdict_line (verdicts.Refused why) = line (codes "refused " ++ why_words why)
 
 abbrev pub outcome_lines : Outcome → List ℕ
 outcome_lines (Proved best) = line (codes "proved") ++ solution_lines best
@@ -90,8 +111,11 @@ abbrev pub report : Answer → List ℕ
 report (answers.Searched outcome counts) = outcome_lines outcome ++ count_lines counts
 report (answers.Digest digest) = line (encode_lower digest)
 report (answers.Drawn text) = text.items
-report (answers.Refused e) = fault_line e
+report (answers.Checked verdict) = verdict_line verdict
+report (answers.Refused e) = fault_line (codes "instance ") e
+report (answers.CoverRefused e) = fault_line (codes "cover ") e
 report answers.TooLong = line (codes "input too-long")
+report answers.Width = line (codes "width")
 report (answers.Words e) = words_line e
 report answers.ReadFault = line (codes "read fault")
 report answers.OutOfMemory = line (codes "out of memory")
@@ -105,13 +129,20 @@ abbrev pub words_status : WordsError → ℕ
 words_status errors.OutOfMemory = 8
 words_status _ = 4
 
+abbrev pub verdict_status : Verdict → ℕ
+verdict_status verdicts.Accepted = 0
+verdict_status (verdicts.Refused why) = 9
+
 -- the status that goes with an answer
 abbrev pub status_of : Answer → ℕ
 status_of (answers.Searched outcome counts) = outcome_status outcome
 status_of (answers.Digest digest) = 0
 status_of (answers.Drawn text) = 0
+status_of (answers.Checked verdict) = verdict_status verdict
 status_of (answers.Refused e) = 3
+status_of (answers.CoverRefused e) = 3
 status_of answers.TooLong = 3
+status_of answers.Width = 4
 status_of (answers.Words e) = words_status e
 status_of answers.ReadFault = 6
 status_of answers.OutOfMemory = 8

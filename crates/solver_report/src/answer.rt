@@ -1,5 +1,6 @@
 ghost use Rattle.std.specs.Prelude.{◌≡◌, IfOk};
 
+use bound_cover::Verdict;
 use dd_text::InstanceError;
 use dp_model::{Found, OutOfMemory};
 use solver_words::WordsError;
@@ -86,10 +87,16 @@ pub enum Answer {
     Digest([u8; 32]),
     /// The canonical text of an instance that was drawn.
     Drawn(Vec<u8>),
-    /// The input spells no instance.
+    /// The verdict on a cover.
+    Checked(Verdict),
+    /// The input, or what a cover holds of one, spells no instance.
     Refused(InstanceError),
+    /// The input spells no cover.
+    CoverRefused(InstanceError),
     /// The input is longer than the limit.
     TooLong,
+    /// The width that is asked for is above the greatest one of the instance.
+    Width,
     /// The words are refused, or memory ran out for reading them.
     Words(WordsError),
     /// The input could not be read.

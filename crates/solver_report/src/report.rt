@@ -1,9 +1,10 @@
 ghost use Rattle.std.specs.Prelude.{◌≡◌, ◌∷◌, [], ◌++◌, pos, IfOk, OnOk, codes, option_map};
 ghost use Rattle.std.specs.Fmt.{decimal};
 ghost use Rattle.hex.specs.Hex.{encode_lower};
-ghost use Rattle.solver_report.specs.Report.{report, status_of, outcome_status, words_status, line, number_line, spaced, assignment_line, solution_lines, outcome_lines, count_line, count_lines, words_line, incumbent_lines, stop_line, fault_word, fault_line};
+ghost use Rattle.solver_report.specs.Report.{report, status_of, outcome_status, words_status, line, number_line, spaced, assignment_line, solution_lines, outcome_lines, count_line, count_lines, words_line, incumbent_lines, stop_line, fault_word, fault_line, why_words, verdict_line, verdict_status};
 
 use crate::answer::{Answer, Counts, Outcome, Solution, Stop};
+use bound_cover::{Verdict, Why};
 use dd_text::{InstanceError, InstanceFault, push_number, push_text};
 use dp_model::OutOfMemory;
 use itoa::Buffer;
@@ -17,7 +18,9 @@ pub fn status(answer: &Answer) -> u8
     match answer {
         Answer::Searched(outcome, _) => outcome_status(outcome),
         Answer::Digest(_) | Answer::Drawn(_) => 0,
-        Answer::Refused(_) | Answer::TooLong => 3,
+        Answer::Checked(verdict) => verdict_status(*verdict),
+        Answer::Refused(_) | Answer::CoverRefused(_) | Answer::TooLong => 3,
+        Answer::Width => 4,
         Answer::Words(error) => words_status(*error),
         Answer::ReadFault => 6,
         Answer::OutOfMemory => 8,
@@ -32,6 +35,16 @@ fn outcome_status(outcome: &Outcome) -> u8
         Outcome::Proved(_) => 0,
         Outcome::Infeasible => 1,
         Outcome::Stopped(_, _, _) => 2,
+    }
+}
+
+/// The exit status of a check.
+fn verdict_status(verdict: Verdict) -> u8
+    ensures { result ≡ verdict_status verdict }
+{
+    match verdict {
+        Verdict::Accepted => 0,
+        Verdict::Refused(_) => 9,
     }
 }
 
@@ -54,8 +67,11 @@ pub fn report_text(alloc: Global, answer: &Answer) -> Result<Vec<u8>, OutOfMemor
         Answer::Searched(outcome, counts) => push_search(&mut out, outcome, *counts)?,
         Answer::Digest(digest) => push_digest(&mut out, alloc, digest)?,
         Answer::Drawn(text) => out.extend_from_slice(text.as_slice())?,
-        Answer::Refused(error) => push_fault(&mut out, error)?,
+        Answer::Checked(verdict) => push_verdict(&mut out, *verdict)?,
+        Answer::Refused(error) => push_fault(&mut out, "instance ", error)?,
+        Answer::CoverRefused(error) => push_fault(&mut out, "cover ", error)?,
         Answer::TooLong => push_line(&mut out, "input too-long")?,
+        Answer::Width => push_line(&mut out, "width")?,
         Answer::Words(error) => push_words(&mut out, *error)?,
         Answer::ReadFault => push_line(&mut out, "read fault")?,
         Answer::OutOfMemory => push_line(&mut out, "out of memory")?,
@@ -154,11 +170,11 @@ fn push_number_line(out: &mut Vec<u8>, word: &str, value: i64) -> Result<(), Out
     push_text(out, "\n")
 }
 
-/// Appends each decision behind a space.
-fn push_spaced(out: &mut Vec<u8>, decisions: &[u32]) -> Result<(), OutOfMemory>
-    ensures { OnOk result (out.new.items ≡ out.old.items ++ spaced decisions.now) }
+/// Appends each number behind a space.
+fn push_spaced(out: &mut Vec<u8>, numbers: &[u32]) -> Result<(), OutOfMemory>
+    ensures { OnOk result (out.new.items ≡ out.old.items ++ spaced numbers.now) }
 {
-    for d in decisions {
+    for d in numbers {
         push_text(out, " ")?;
         push_number(out, i64::from(*d))?;
     }
@@ -225,11 +241,63 @@ fn push_digest(out: &mut Vec<u8>, alloc: Global, digest: &[u8; 32]) -> Result<()
     push_line(out, digits.as_str())
 }
 
-/// Appends a fault of an instance text and its place.
-fn push_fault(out: &mut Vec<u8>, error: &InstanceError) -> Result<(), OutOfMemory>
-    ensures { OnOk result (out.new.items ≡ out.old.items ++ fault_line error.now) }
+/// Appends the verdict on a cover.
+fn push_verdict(out: &mut Vec<u8>, verdict: Verdict) -> Result<(), OutOfMemory>
+    ensures { OnOk result (out.new.items ≡ out.old.items ++ verdict_line verdict) }
 {
-    push_text(out, "instance ")?;
+    match verdict {
+        Verdict::Accepted => push_line(out, "accepted"),
+        Verdict::Refused(why) => push_refusal(out, why),
+    }
+}
+
+/// Appends that a cover is refused, and why.
+fn push_refusal(out: &mut Vec<u8>, why: Why) -> Result<(), OutOfMemory>
+    ensures { OnOk result (out.new.items ≡ out.old.items ++ line (codes "refused " ++ why_words why)) }
+{
+    push_text(out, "refused ")?;
+    push_why(out, why)?;
+    push_text(out, "\n")
+}
+
+/// Appends the test that fails, and where.
+fn push_why(out: &mut Vec<u8>, why: Why) -> Result<(), OutOfMemory>
+    ensures { OnOk result (out.new.items ≡ out.old.items ++ why_words why) }
+{
+    match why {
+        Why::Layers => push_text(out, "layers"),
+        Why::Assignment => push_text(out, "assignment"),
+        Why::Value => push_text(out, "value"),
+        Why::Root => push_text(out, "root"),
+        Why::Row { layer, row } => push_at(out, "row", &[layer, row]),
+        Why::Rough { layer, row } => push_at(out, "rough", &[layer, row]),
+        Why::Target {
+            layer,
+            row,
+            decision,
+        } => push_at(out, "target", &[layer, row, decision]),
+        Why::Arc {
+            layer,
+            row,
+            decision,
+        } => push_at(out, "arc", &[layer, row, decision]),
+        Why::Terminal { row } => push_at(out, "terminal", &[row]),
+    }
+}
+
+/// Appends a word, and each number behind a space.
+fn push_at(out: &mut Vec<u8>, word: &str, numbers: &[u32]) -> Result<(), OutOfMemory>
+    ensures { OnOk result (out.new.items ≡ out.old.items ++ (word.now ++ spaced numbers.now)) }
+{
+    push_text(out, word)?;
+    push_spaced(out, numbers)
+}
+
+/// Appends a fault of a text and its place.
+fn push_fault(out: &mut Vec<u8>, subject: &str, error: &InstanceError) -> Result<(), OutOfMemory>
+    ensures { OnOk result (out.new.items ≡ out.old.items ++ fault_line subject.now error.now) }
+{
+    push_text(out, subject)?;
     push_text(out, word_of(error.fault))?;
     push_text(out, " ")?;
     push_number(out, i64::from(error.place.line))?;

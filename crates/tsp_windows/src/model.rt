@@ -6,8 +6,8 @@ ghost use Rattle.tsp_windows.specs.States.{shown, row_for, is_state_row};
 ghost use Rattle.tsp_windows.specs.Apart.{IsApart};
 ghost use Rattle.tsp_windows.specs.Shown.{instance_in};
 
-use crate::parts::{parts_of, sets_of};
 use crate::instance::TspWindows;
+use crate::parts::{parts_of, sets_of};
 use crate::ways::{least_leg, ways_within};
 use dp_model::{DpModel, Extended};
 use node_sets::{

@@ -272,7 +272,7 @@ or-not true h = refl
 or-not false h = absurd (let clash : false ≡ true = h in cc)
 
 -- a node that makes the row is exact where the row is
-exact-maker : (dp : Dp) (k : ℕ) (above : List DdNode) (row : List ℤ) → IsTrue (is_exact_row dp k above row) → (node : DdNode) → Has node above → IsTrue (makes dp k node.row (decisions_at dp k node.row) row) → IsTrue node.exact
+pub exact-maker : (dp : Dp) (k : ℕ) (above : List DdNode) (row : List ℤ) → IsTrue (is_exact_row dp k above row) → (node : DdNode) → Has node above → IsTrue (makes dp k node.row (decisions_at dp k node.row) row) → IsTrue node.exact
 exact-maker dp k [] row h node has made = absurd has
 exact-maker dp k (one ∷ above) row h node (inl same) made =
     let first = (and_parts (one.exact || not (makes dp k one.row (decisions_at dp k one.row) row)) (is_exact_row dp k above row) h).0 in
@@ -283,7 +283,7 @@ exact-maker dp k (one ∷ above) row h node (inr later) made =
     exact-maker dp k above row (and_parts (one.exact || not (makes dp k one.row (decisions_at dp k one.row) row)) (is_exact_row dp k above row) h).1 node later made
 
 -- a decision that makes the row is found
-makes-by : (dp : Dp) (k : ℕ) (s : List ℤ) (ds : List ℕ) (d : ℕ) (row : List ℤ) → Has d ds → dp.step k s d ≡ row → IsTrue (makes dp k s ds row)
+pub makes-by : (dp : Dp) (k : ℕ) (s : List ℤ) (ds : List ℕ) (d : ℕ) (row : List ℤ) → Has d ds → dp.step k s d ≡ row → IsTrue (makes dp k s ds row)
 makes-by dp k s [] d row h e = absurd h
 makes-by dp k s (e0 ∷ ds) d row (inl same) e =
     let step : dp.step k s e0 ≡ row = ap (dp.step k s) same ∙ e in

@@ -1,5 +1,14 @@
-use Rattle.search_rounds.proofs.Offers.{offered_by}
+use Rattle.std.proofs.Common.{sym, subst}
+use Rattle.search_core.specs.View.{BoardView}
+use Rattle.search_rounds.specs.Offered.{IsOffered}
+use Rattle.search_rounds.proofs.Offers.{IsOffered-refl, offered_by}
 use Rattle.search_rounds.proofs.offering.offer.Goals as goal
+use Rattle.search_rounds.proofs.offering.offer.Goals.{in-Some, in_default}
 
 pub returns-clause-offered : goal.returns-clause-offered
-returns-clause-offered g c = offered_by _ _ _ _ _ c.improve.ensures.answer c.improve.ensures.step
+returns-clause-offered g c =
+    let dp = g.M.DpModel.meaning c.args.board.now.numbers in
+    elim c.match-found.branch [
+      | in-Some w ↦ subst (λ (v : BoardView). IsOffered dp c.args.board.now.board v.board) (sym w.board-is) (offered_by _ _ _ _ _ w.improve.ensures.answer w.improve.ensures.step)
+      | in_default w ↦ subst (λ (v : BoardView). IsOffered dp c.args.board.now.board v.board) (sym w.board-is) (IsOffered-refl _ _)
+    ]

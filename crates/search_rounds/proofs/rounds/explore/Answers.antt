@@ -4,6 +4,7 @@ use Rattle.board_laws.specs.Board.{full_slots}
 use Rattle.board_laws.specs.GoodBoard.{IsGood}
 use Rattle.search_core.specs.View.{Tag}
 use Rattle.search_rounds.specs.Later.{HasEnded}
+use Rattle.search_rounds.specs.Prepared.{IsPrepared}
 use Rattle.search_rounds.proofs.LaterBoards.{later_refl, later_trans, complete}
 use Rattle.search_rounds.proofs.rounds.explore.Goals as goal
 
@@ -20,7 +21,8 @@ pub round-requires-clause-idle : goal.round-requires-clause-idle
 round-requires-clause-idle g c κs within = ap full_slots c.rounds.invariant.later.slots ∙ c.requires.idle
 
 pub round-requires-clause-prepared : goal.round-requires-clause-prepared
-round-requires-clause-prepared g c κs within = c.rounds.invariant.prepared
+round-requires-clause-prepared g c κs within =
+    subst (λ w. IsPrepared (g.M.DpModel.meaning (g.M.DpModel.numbers c.args.model.now)) w c.rounds.desk) (sym (ap (λ (t : Tag). t.settings.width) c.rounds.invariant.tag)) c.rounds.invariant.prepared
 
 falls : (before : ℕ) {after budget same : ℕ} → same ≡ budget → before + 1 ≤ after → after ≤ same → same - after < budget - before
 falls n e a b = omega arith
@@ -32,7 +34,7 @@ pub rounds-preserved : goal.rounds-preserved
 rounds-preserved g c = record {
   tag = c.round.ensures.tag ∙ c.rounds.invariant.tag;
   later = later_trans _ _ _ _ c.rounds.invariant.later c.round.ensures.later;
-  prepared = c.round.ensures.prepared;
+  prepared = subst (λ w. IsPrepared (g.M.DpModel.meaning (g.M.DpModel.numbers c.args.model.now)) w c.round.new.desk) (ap (λ (t : Tag). t.settings.width) c.rounds.invariant.tag) c.round.ensures.prepared;
 }
 
 pub returns-clause-tag : goal.returns-clause-tag

@@ -10,7 +10,7 @@ use Rattle.search_rounds.proofs.rounds.explore.Given as goal
 pub record IsBetweenRounds (dp : Dp) (first now : BoardView) (desk : Desk) : Type 0 where
   pub tag : tag_of now ≡ tag_of first
   pub later : IsLater dp first.board now.board
-  pub prepared : IsPrepared dp desk
+  pub prepared : IsPrepared dp first.board.settings.width desk
 
 abbrev pub invariant-rounds : goal.invariant-rounds
 invariant-rounds g l = IsBetweenRounds (g.M.DpModel.meaning (g.M.DpModel.numbers l.model)) l.initial.board l.board l.desk

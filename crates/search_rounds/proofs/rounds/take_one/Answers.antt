@@ -3,8 +3,7 @@ use Rattle.dp_model.specs.Laws.{IsLawful}
 use Rattle.board_laws.specs.GoodBoard.{IsBoard}
 use Rattle.search_core.specs.View.{Tag}
 use Rattle.search_rounds.specs.UnderWay.{IsUnderWay}
-use Rattle.search_rounds.proofs.Extensions.{own_state}
-use Rattle.search_rounds.proofs.Taking.{first_empty, taken_under_way}
+use Rattle.search_rounds.proofs.Taking.{own_cells, first_empty, taken_under_way}
 use Rattle.search_rounds.proofs.rounds.take_one.Given as given
 use Rattle.search_rounds.proofs.rounds.take_one.Goals as goal
 
@@ -33,9 +32,10 @@ returns-in-Sub-clause-prepared g c =
     record {
       room = record {
         decisions = omega arith;
-        cells = laws.sizes.cells _ _ (own_state _ laws _ own _ _ refl refl);
-        row = room.row;
+        cells = own_cells _ laws _ own;
+        space = room.space;
+        width = room.width;
+        cutset = room.cutset;
       };
-      no_children = c.requires.prepared.no_children;
       no_fates = c.requires.prepared.no_fates;
     }

@@ -1,6 +1,6 @@
 use Rattle.std.proofs.Common.{◌≡◌, ◌≤◌, ◌<◌, ℕ, Some, length}
 use Rattle.shared_fringe.specs.Tickets.{Ticketed}
-use Rattle.shared_fringe.specs.Folds.{fold_of}
+use Rattle.dp_model.specs.Folds.{fold_of}
 use Rattle.shared_fringe.specs.Slots.{IsEntered, in_slot}
 use Rattle.shared_fringe.proofs.reindexing.reindex.Given as goal
 

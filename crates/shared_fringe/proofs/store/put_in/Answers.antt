@@ -1,7 +1,9 @@
-use Rattle.std.proofs.Common.{rules, ◌-◌, ◌∙◌, arith, sym, ap, List, Option, ℤ, slice_get}
+use Rattle.std.proofs.Common.{rules, ◌-◌, ◌∙◌, arith, sym, ap, List, length, Option, ℤ, slice_get}
 use Rattle.row_region.specs.Region.{HasTaken}
 use Rattle.row_region.proofs.Callers.{taken_live}
 use Rattle.shared_fringe.proofs.Keys.{key_free, keyed_more, set_of}
+use Rattle.shared_fringe.specs.Slots.{opened}
+use Rattle.shared_fringe.proofs.Lengths.{put_count}
 use Rattle.shared_fringe.proofs.Openeds.{opened_entered}
 use Rattle.shared_fringe.proofs.Stores.{stored_more}
 use Rattle.shared_fringe.proofs.store.put_in.Goals as goal
@@ -28,3 +30,11 @@ returns-clause-listed c =
     let has : HasTaken s.keys c.in-Some.key.place c.take.new.self = c.in-Some.ensures.taken in
     let free = key_free s.slots.items c.in-Some.key.place (ap (λ (rows : List (Option (List ℤ))). slice_get rows c.in-Some.key.place) (sym c.requires.stored.keyed) ∙ has.was_free) in
     opened_entered s.slots.items _ c.in-Some.key.place c.args.one (set_of s.slots.items c.in-Some.key.place _ free.0) free.1 c.requires.stored.held.apart c.requires.fresh
+
+pub returns-clause-few : goal.returns-clause-few
+returns-clause-few c =
+    let more = ap length (returns-clause-listed c) in
+    let one = put_count c.args.one (opened c.args.store.now.slots.items) in
+    let len = c.push.ensures.len in
+    let few = c.requires.few.few in
+    record { few = omega arith }

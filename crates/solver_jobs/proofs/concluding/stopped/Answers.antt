@@ -26,10 +26,10 @@ returns-in-Some-cause g c =
     subst (λ (o : Option ℤ). (x : List ℕ) → IsSolution dp x → AtMost (value_of dp x) o) c.in-Some.is
     (subst (λ n. (x : List ℕ) → IsSolution (g.P.DpModel.meaning n) x → AtMost (value_of (g.P.DpModel.meaning n) x) c.bound.result) numbers c.bound.ensures.holds) in
     let held = memory_held b.cause c.in-Some-cause.field-0 c.requires.over.cause (sym c.cause.ensures ∙ c.in-Some-cause.is) in
-    let base : IsStopped dp own c.args.budget b Memory c.args.found c.in-Some.bound =
-    is_stopped dp own (agrees_of g c.args.model.now) c.args.budget b Memory c.args.found c.in-Some.bound kept c.requires.over c.requires.left c.requires.copied (sym c.bound.ensures.bound ∙ c.in-Some.is) most held (λ e. absurd (cc)) in
+    let base : IsStopped dp own c.args.search.budget b Memory c.args.found c.in-Some.bound =
+    is_stopped dp own (agrees_of g c.args.model.now) c.args.search b Memory c.args.found c.in-Some.bound kept c.requires.over c.requires.left c.requires.copied (sym c.bound.ensures.bound ∙ c.in-Some.is) most held (λ e. absurd (cc)) in
     let read : to_z w64 (of_z w64 c.in-Some.bound) ≡ c.in-Some.bound = search rules in
-    subst (λ z. IsStopped dp own c.args.budget b Memory c.args.found z) (sym read) base
+    subst (λ z. IsStopped dp own c.args.search.budget b Memory c.args.found z) (sym read) base
 
 pub returns-in-None : goal.returns-in-None
 returns-in-None g c =
@@ -42,8 +42,8 @@ returns-in-None g c =
     subst (λ (o : Option ℤ). (x : List ℕ) → IsSolution dp x → AtMost (value_of dp x) o) c.in-Some.is
     (subst (λ n. (x : List ℕ) → IsSolution (g.P.DpModel.meaning n) x → AtMost (value_of (g.P.DpModel.meaning n) x) c.bound.result) numbers c.bound.ensures.holds) in
     let none = sym c.cause.ensures ∙ c.in-None.is in
-    let base : IsStopped dp own c.args.budget b Budget c.args.found c.in-Some.bound =
-    is_stopped dp own (agrees_of g c.args.model.now) c.args.budget b Budget c.args.found c.in-Some.bound kept c.requires.over c.requires.left c.requires.copied (sym c.bound.ensures.bound ∙ c.in-Some.is) most
-    (budget_up dp c.args.budget b c.requires.over c.requires.left none) (λ _. incomplete_for dp c.args.budget b c.requires.over c.requires.left none) in
+    let base : IsStopped dp own c.args.search.budget b Budget c.args.found c.in-Some.bound =
+    is_stopped dp own (agrees_of g c.args.model.now) c.args.search b Budget c.args.found c.in-Some.bound kept c.requires.over c.requires.left c.requires.copied (sym c.bound.ensures.bound ∙ c.in-Some.is) most
+    (budget_up dp c.args.search b c.requires.over c.requires.left none) (λ _. incomplete_for dp c.args.search b c.requires.over c.requires.left none) in
     let read : to_z w64 (of_z w64 c.in-Some.bound) ≡ c.in-Some.bound = search rules in
-    subst (λ z. IsStopped dp own c.args.budget b Budget c.args.found z) (sym read) base
+    subst (λ z. IsStopped dp own c.args.search.budget b Budget c.args.found z) (sym read) base

@@ -15,7 +15,7 @@ join_seat-requires g c =
       mine.table_is,
       mine.empty,
       omega (arith, c.args.self.now.sized.0),
-      joins g.V.Turned.tag g.V.Turned.seen g.V.Turned.out c.args.self.now.table.shared.key c.loop-seat.one.id c.loop-seat.one.me.0 s.place.id s.place.me.0 j.idle mine.idle j.some_parts (let o = mine.one_part in omega arith),
+      joins g.V.Turned.tag g.V.Turned.seen g.V.Turned.out g.V.Turned.moves c.args.self.now.table.shared.key c.loop-seat.one.id c.loop-seat.one.me.0 s.place.id s.place.me.0 j.idle mine.idle j.some_parts (let o = mine.one_part in omega arith),
     )
 
 pub loop-seat-preserved : goal.loop-seat-preserved

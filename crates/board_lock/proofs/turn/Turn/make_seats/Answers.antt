@@ -13,7 +13,7 @@ split_seat-next-requires g c =
     let parts_is = ap (λ x. x.0.parts) m.me_is in (
       m.table_is,
       omega (arith, c.args.self.now.sized.0),
-      splits g.V.Turned.tag g.V.Turned.seen g.V.Turned.out c.args.self.now.table.shared.key p.id p.me.0 (ap (λ x. x.0.last) m.me_is) (ap (λ x. x.0.holds) m.me_is)
+      splits g.V.Turned.tag g.V.Turned.seen g.V.Turned.out g.V.Turned.moves c.args.self.now.table.shared.key p.id p.me.0 (ap (λ x. x.0.last) m.me_is) (ap (λ x. x.0.holds) m.me_is)
           (let t = c.loop-number-test.true in omega arith),
     )
 

@@ -10,13 +10,14 @@ compare_exchange-requires g c =
     let tag = g.V.Turned.tag in
     let seen = g.V.Turned.seen in
     let out = g.V.Turned.out in
+    let moves = g.V.Turned.moves in
     let turn = c.args.self.now in
     let place = c.loop.seat.place in
     let same = c.loop.invariant.1 in (
       c.loop.invariant.0 ∙ c.requires.table_is,
       omega (arith, turn.sized.0),
-      subst (λ n. Allows (IsTurn tag seen out turn.table.shared.key) n place.id place.me 0 (λ n. either (n == 0) 1 n) (Takes tag seen out place.me)) (sym turn.sized.1)
-          (tries tag seen out turn.table.shared.key place.id place.me (ap (λ m. m.1) same ∙ c.requires.empty) (ap (λ m. m.0.parts) same ∙ c.requires.one_part)),
+      subst (λ n. Allows (IsTurn tag seen out moves turn.table.shared.key) n place.id place.me 0 (λ n. either (n == 0) 1 n) (Takes tag seen out place.me)) (sym turn.sized.1)
+          (tries tag seen out moves turn.table.shared.key place.id place.me (ap (λ m. m.1) same ∙ c.requires.empty) (ap (λ m. m.0.parts) same ∙ c.requires.one_part)),
     )
 
 pub exchange-requires : goal.exchange-requires

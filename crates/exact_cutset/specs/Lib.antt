@@ -1,0 +1,4 @@
+pub mod Seen
+pub mod Stored
+pub mod Ready
+pub mod Prepared

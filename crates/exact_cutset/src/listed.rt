@@ -1,0 +1,135 @@
+ghost use Rattle.std.specs.Prelude.{◌≡◌, ◌<◌, ◌≤◌, [], None, Some, length, option_map, slice_get, IfOk};
+ghost use Rattle.dp_laws.specs.Diagrams.Nodes.{node_at};
+ghost use Rattle.relaxed_dd.specs.Shown.{layers_of, last_of};
+ghost use Rattle.exact_cutset.specs.Seen.{ShowsSolution, MayKeep, IsExactNode, with_child, with_solution, subproblems};
+
+use crate::appending::{append_path, append_row};
+use crate::child::Child;
+use crate::making::make_subs;
+use dp_model::{Found, OutOfMemory, Sub};
+use relaxed_dd::Diagram;
+use std::alloc::Global;
+use std::marker::Model;
+
+/// The children of a diagram, in order, and the solution that it finds. Its memory is made once and used again.
+#[derive(Debug, Drop)]
+pub struct Children {
+    pub(crate) width: usize,
+    pub(crate) words: usize,
+    pub(crate) vars: usize,
+    pub(crate) room: usize,
+    pub(crate) places: Vec<Child>,
+    // the rows of the children and their decisions, one after another
+    pub(crate) rows: Vec<i64>,
+    pub(crate) paths: Vec<u32>,
+    pub(crate) found: Option<i64>,
+    // the decisions of the solution, and those of one child
+    pub(crate) decisions: Vec<u32>,
+    pub(crate) path: Vec<u32>,
+}
+
+impl Model for Children {
+    ghost use Rattle.std.specs.Prelude.{map, vec_capacity};
+    ghost use Rattle.exact_cutset.specs.Seen.{ChildrenView};
+
+    ghost Value = { ChildrenView };
+
+    ghost use Rattle.exact_cutset.specs.Stored.{place_of, shown_subs, shown_solution, HasChildren};
+
+    ghost view = { λ c. record {
+      places = map place_of c.places.items;
+      subs = shown_subs c.words c.places.items c.rows.items c.paths.items;
+      found = shown_solution c.found c.decisions.items;
+      width = c.width;
+      vars = c.vars;
+      words = c.words;
+      room = c.room;
+    } };
+
+    ghost invariant = { λ c. HasChildren c.words c.vars c.room c.places.items (vec_capacity c.places) c.rows.items (vec_capacity c.rows) c.paths.items (vec_capacity c.paths) c.decisions.items c.path.items };
+}
+
+impl Children {
+    /// Takes out all children, and the solution.
+    pub(crate) fn clear(&mut self)
+        ensures { self.new ≡ record self.old { places = []; subs = []; found = None } }
+    {
+        self.places.clear();
+        self.rows.clear();
+        self.paths.clear();
+        self.found = None;
+    }
+
+    /// Puts a node in as the last child.
+    pub(crate) fn keep(&mut self, diagram: &Diagram, depth: usize, node: usize, bound: i64)
+        requires first { (layers_of diagram.now).first ≤ depth }
+        requires depth { depth ≤ self.old.vars }
+        requires node { MayKeep self.old.words (node_at (layers_of diagram.now) depth node) }
+        requires room { length self.old.places < self.old.room }
+        ensures { self.new ≡ with_child (layers_of diagram.now) (record { depth = depth; place = node; bound = bound }) self.old }
+    {
+        let value = diagram.value(depth, node);
+        append_row(&mut self.rows, diagram.row(depth, node));
+        append_path(&mut self.paths, &mut self.path, diagram, depth, node);
+        let child = Child::at(depth, node, value, bound);
+        self.places.push_reserved(child);
+    }
+
+    /// Puts in an exact node of the last layer as the solution.
+    pub(crate) fn keep_solution(&mut self, diagram: &Diagram, node: usize)
+        requires depth { last_of (layers_of diagram.now) ≡ self.old.vars }
+        requires node { IsExactNode (node_at (layers_of diagram.now) self.old.vars node) }
+        ensures { self.new ≡ with_solution (layers_of diagram.now) node self.old }
+    {
+        diagram.path(self.vars, node, &mut self.decisions);
+        self.found = Some(diagram.value(self.vars, node));
+    }
+
+    /// How many children there are.
+    pub fn len(&self) -> usize
+        ensures { result ≡ length self.now.places }
+    {
+        self.places.len()
+    }
+
+    /// The depth and the place of a child's node in the diagram.
+    pub fn node(&self, i: usize) -> (usize, usize)
+        requires { i < length self.now.places }
+        ensures { option_map (λ c. (c.depth, c.place)) (slice_get self.now.places i) ≡ Some result }
+    {
+        let child = self.places[i];
+        (child.depth, child.node)
+    }
+
+    /// A bound on the completions of a child.
+    pub fn bound(&self, i: usize) -> i64
+        requires { i < length self.now.places }
+        ensures { option_map (λ c. c.bound) (slice_get self.now.places i) ≡ Some result }
+    {
+        self.places[i].bound
+    }
+
+    /// The solution that the diagram finds, or none where its last layer has no exact node.
+    pub fn found(&self) -> Option<Found<'_>>
+        ensures { ShowsSolution self.now.found result }
+    {
+        let value = self.found?;
+        Some(Found {
+            value,
+            decisions: self.decisions.as_slice(),
+        })
+    }
+
+    /// The children as subproblems of their own, in order.
+    pub fn subs(&self, alloc: Global) -> Result<Vec<Sub>, OutOfMemory>
+        ensures { IfOk result (λ subs. subproblems subs.items ≡ self.now.subs) }
+    {
+        make_subs(
+            alloc,
+            self.words,
+            self.places.as_slice(),
+            self.rows.as_slice(),
+            self.paths.as_slice(),
+        )
+    }
+}

@@ -1,0 +1,178 @@
+-- A workspace whose last two layers were changed by a step.
+use Rattle.std.proofs.Common.{◌≡◌, ◌≢◌, ℕ, zero, suc, ◌+◌, ◌-◌, ◌*◌, ◌<◌, ◌≤◌, ℤ, Bool, true, false, cond, ◌||◌, List, [], ◌∷◌, map, set, length, get_or, slice_index_or, Option, ◌⊎◌, inl, inr, refl, sym, ap, ap₂, ◌∙◌, subst, arith}
+use Rattle.std.specs.Vec.{with_item}
+use Rattle.std.proofs.lemmas.List.{get_or-set_other, get_or-set_same}
+use Rattle.dp_model.specs.Dp.{Dp}
+use Rattle.dp_model.specs.Lists.{Each}
+use Rattle.dp_laws.specs.Diagrams.Nodes.{DdNode, path_below}
+use Rattle.dp_laws.specs.Rules.Compiling.{TwoLayers, prune}
+use Rattle.dp_laws.specs.Rules.Pruning.{is_struck, pruned_nodes, prune_redirects}
+use Rattle.dp_laws.specs.Rules.Redirects.{with_redirected}
+use Rattle.layer_nodes.specs.Nodes.{NodeView, LayerView, shown, shown_layer, shown_below, without_arcs}
+use Rattle.layer_nodes.specs.Steps.{IsRanked, KeepsNodes, KeepsRoom}
+use Rattle.dp_laws.proofs.Rules.Pruned.{few-pruned}
+use Rattle.layer_build.specs.contracts.workspace.Workspace.{the_view, the_invariant}
+use Rattle.layer_build.specs.declared.workspace.Workspace.TheInside.{Inside}
+use Rattle.layer_build.specs.Layers.{SpaceView, last_depth, last_layer, on_last_two}
+use Rattle.layer_build.specs.Stacked.{no_layer, place_of, place_above, room_of, HaveRooms, HasStack, HaveDepths, path_in, shown_down}
+use Rattle.layer_build.specs.UnderWay.{IsUnderWay, last_two}
+use Rattle.layer_build.proofs.Kept.{last-two}
+use Rattle.layer_build.proofs.Shown.{ranks-of}
+use Rattle.layer_build.proofs.Stacks.{at_depth, newest-at, above-low, above-first, above-later, place-low, count-of, rooms-set, map-length}
+use Rattle.layer_build.proofs.Going.{above_of, last_paths, deep, last-seen, count-seen, first-or, top-empty, two-view, above-within}
+
+-- the workspace with its last two layers changed
+abbrev pub changed : Inside → ℕ → LayerView → LayerView → ℕ → Option ℕ → Inside
+changed i at x n redirects first_reduced = record i {
+  stack = record { vars = i.stack.vars; first = i.stack.first; last = i.stack.last; layers = with_item i.stack.layers at x; newest = n };
+  redirects = redirects;
+  first_reduced = first_reduced;
+}
+
+nil-of : (nodes : List NodeView) → map without_arcs nodes ≡ [] → nodes ≡ []
+nil-of [] e = refl
+nil-of (n ∷ nodes) e = absurd (let clash : without_arcs n ∷ map without_arcs nodes ≡ [] = e in cc)
+
+top-kept : (i : Inside) → the_invariant i → (at : ℕ) (x : LayerView) → at ≡ place_above i.stack.vars i.stack.first i.stack.last → map without_arcs x.nodes ≡ map without_arcs (above_of i).nodes
+    → (slice_index_or (set i.stack.layers.items at x) (i.stack.vars + 1) no_layer).nodes ≡ []
+top-kept i h at x same bare = go (first-or i h)
+  where
+    count : length i.stack.layers.items ≡ i.stack.vars + 2
+    count = count-of _ _ _ _ _ i.stack.layers.items h.stack.rooms
+
+    go : (i.stack.first < i.stack.last) ⊎ (i.stack.last ≡ i.stack.first) → (slice_index_or (set i.stack.layers.items at x) (i.stack.vars + 1) no_layer).nodes ≡ []
+    go (inl less) =
+        let later = above-later i.stack.vars i.stack.first i.stack.last less in
+        let low = h.stack.last in
+        let place = place-low i.stack.vars i.stack.first (i.stack.last - 1) (omega arith) in
+        ap (λ (l : LayerView). l.nodes) (get_or-set_other i.stack.layers.items at (i.stack.vars + 1) x no_layer (λ f. absurd (omega arith))) ∙ h.stack.top
+    go (inr e) =
+        let here = above-first i.stack.vars i.stack.first i.stack.last e in
+        let size = count in
+        let empty : x.nodes ≡ [] = nil-of x.nodes (bare ∙ ap (map without_arcs) (top-empty i h e)) in
+        subst (λ (k : ℕ). (slice_index_or (set i.stack.layers.items k x) (i.stack.vars + 1) no_layer).nodes ≡ []) (sym (same ∙ here))
+        (ap (λ (l : LayerView). l.nodes) (get_or-set_same i.stack.layers.items (i.stack.vars + 1) x no_layer (omega arith)) ∙ empty)
+
+-- the layer above was lent, and came back with other arcs
+pub record HasChanged (i : Inside) (at : ℕ) (old d x n : LayerView) (redirects : ℕ) : Type 0 where
+  pub place : at ≡ place_above i.stack.vars i.stack.first i.stack.last
+  pub lent : old ≡ get_or i.stack.layers.items at d
+  pub above : old ≡ above_of i
+  pub rest : KeepsNodes old x
+  pub rooms : KeepsRoom i.stack.newest n
+  pub redirects_stay : redirects ≡ i.redirects
+
+pub bare-above : (i : Inside) (at : ℕ) (old d x n : LayerView) (redirects : ℕ) → HasChanged i at old d x n redirects → map without_arcs x.nodes ≡ map without_arcs (above_of i).nodes
+bare-above i at old d x n redirects e = e.rest.nodes ∙ ap (λ (l : LayerView). map without_arcs l.nodes) e.above
+
+pub changed-space : (i : Inside) → the_invariant i → (at : ℕ) (old d x n : LayerView) (redirects : ℕ) (first_reduced : Option ℕ) → HasChanged i at old d x n redirects
+    → HaveDepths i.stack.first (the_view (changed i at x n redirects first_reduced)).layers → the_invariant (changed i at x n redirects first_reduced)
+changed-space i h at old d x n redirects first_reduced e depths = record {
+  stack = record {
+    small = h.stack.small;
+    first = h.stack.first;
+    last = h.stack.last;
+    rooms = subst (λ (r : ℕ). HaveRooms i.stack.vars i.words i.width r i.choices.items (map room_of (set i.stack.layers.items at x))) (sym e.rooms.nodes_room)
+        (subst (HaveRooms i.stack.vars i.words i.width i.stack.newest.nodes_room i.choices.items) (sym (rooms-set i.stack.layers.items at x old d e.lent (record { words = e.rest.words; nodes_room = e.rest.nodes_room; arcs_room = e.rest.arcs_room }))) h.stack.rooms);
+    newest_words = e.rooms.words ∙ h.stack.newest_words;
+    top = top-kept i h at x e.place (bare-above i at old d x n redirects e);
+  };
+  first = h.first;
+  prefix_fits = h.prefix_fits;
+  expands = h.expands ∙ sym e.rooms.nodes_room;
+  redirects_fit = e.redirects_stay ∙ (h.redirects_fit ∙ sym e.rooms.nodes_room);
+  path = h.path;
+  depths = depths;
+  has_layers = h.has_layers;
+}
+
+-- what is seen of it
+pub changed-seen : (i : Inside) (at : ℕ) (old d x n : LayerView) (redirects : ℕ) (first_reduced : Option ℕ) → HasChanged i at old d x n redirects → (layers : List (List DdNode))
+    → (the_view (changed i at x n redirects first_reduced)).layers ≡ layers
+    → the_view (changed i at x n redirects first_reduced) ≡ record (the_view i) { layers = layers; ranks = map (λ (node : NodeView). node.rank) n.nodes; first_reduced = first_reduced }
+changed-seen i at old d x n redirects first_reduced e layers seen =
+    ap₂ (λ (r : ℕ) (l : List (List DdNode)). record (the_view i) { room = r; layers = l; ranks = map (λ (node : NodeView). node.rank) n.nodes; first_reduced = first_reduced }) e.rooms.nodes_room seen
+
+-- a rule on the last two layers
+pub changed-layers : (rule : TwoLayers → TwoLayers) (i : Inside) → the_invariant i → i.stack.first < i.stack.last → (at : ℕ) (old d x n : LayerView) (redirects : ℕ) (first_reduced : Option ℕ) → HasChanged i at old d x n redirects
+    → ((paths below : ℕ → List ℕ) → shown_layer paths x.nodes ≡ (rule (record { above = shown_layer paths old.nodes; next = shown_below below i.stack.newest.nodes })).above)
+    → ((paths : ℕ → List ℕ) (a : List DdNode) → shown_below paths n.nodes ≡ (rule (record { above = a; next = shown_below paths i.stack.newest.nodes })).next)
+    → (the_view (changed i at x n redirects first_reduced)).layers ≡ on_last_two rule (the_view i).layers
+changed-layers rule i h less at old d x n redirects first_reduced e above next =
+    subst (λ (k : ℕ). shown_down (at_depth i.stack.vars i.stack.first i.stack.last (set i.stack.layers.items k x) n) (i.prefix.items ∷ []) i.stack.first (i.stack.last - i.stack.first) ≡ on_last_two rule (the_view i).layers) (sym e.place)
+    (two-view rule i h less x n (bare-above i at old d x n redirects e)
+    (λ paths below. above paths below ∙ ap (λ (l : LayerView). (rule (record { above = shown_layer paths l.nodes; next = shown_below below i.stack.newest.nodes })).above) e.above) next)
+
+-- the ranks of the new last layer
+pub changed-ranks : (dp : Dp) (rule : TwoLayers → TwoLayers) (i : Inside) → the_invariant i → IsUnderWay dp (the_view i) → (at : ℕ) (x n : LayerView) (redirects : ℕ) (first_reduced : Option ℕ) → the_invariant (changed i at x n redirects first_reduced)
+    → (the_view (changed i at x n redirects first_reduced)).layers ≡ on_last_two rule (the_view i).layers → Each (IsRanked dp i.stack.last) n.nodes
+    → map (λ (node : NodeView). node.rank) n.nodes ≡ map (λ (node : DdNode). dp.rank (last_depth (the_view i)) node.row) (rule (last_two (the_view i).layers)).next
+changed-ranks dp rule i h u at x n redirects first_reduced hn seen ranked =
+    let new = changed i at x n redirects first_reduced in
+    let last : shown_layer (path_in (last_paths new)) n.nodes ≡ (rule (last_two (the_view i).layers)).next = sym (last-seen new hn) ∙ (ap last_layer seen ∙ last-two rule (the_view i).layers u.some) in
+    subst (λ (k : ℕ). map (λ (node : NodeView). node.rank) n.nodes ≡ map (λ (node : DdNode). dp.rank k node.row) (rule (last_two (the_view i).layers)).next) (sym (deep i h))
+    (ranks-of dp i.stack.last (path_in (last_paths new)) 0 n.nodes ranked ∙ ap (map (λ (node : DdNode). dp.rank i.stack.last node.row)) last)
+
+-- ---- the first layer alone is struck
+
+some-of : (nodes : List NodeView) → length nodes ≤ 1 → (q : ℕ → List ℕ) → shown_layer q nodes ≡ map (λ (n : DdNode). record n { path = q 0 }) (shown_below (λ _. []) nodes)
+some-of [] few q = refl
+some-of (n ∷ []) few q = refl
+some-of (n ∷ m ∷ nodes) few q = absurd (omega arith)
+
+cond-one : (b : Bool) (f : DdNode → DdNode) (x : DdNode) → cond b [] (f x ∷ []) ≡ map f (cond b [] (x ∷ []))
+cond-one true f x = refl
+cond-one false f x = refl
+
+or-none : (b : Bool) (x : DdNode) → cond (b || false) [] (x ∷ []) ≡ cond b [] (x ∷ [])
+or-none true x = refl
+or-none false x = refl
+
+pruned-one : (dp : Dp) (k : ℕ) (t : Option ℤ) (path : List ℕ) (l : List DdNode) → length l ≤ 1
+    → pruned_nodes dp k t [] 0 (map (λ (n : DdNode). record n { path = path }) l) ≡ map (λ (n : DdNode). record n { path = path }) (pruned_nodes dp k t [] 0 l)
+pruned-one dp k t path [] few = refl
+pruned-one dp k t path (x ∷ []) few =
+    or-none (is_struck dp k t x) (record x { path = path }) ∙ (cond-one (is_struck dp k t x) (λ (n : DdNode). record n { path = path }) x ∙ ap (map (λ (n : DdNode). record n { path = path })) (sym (or-none (is_struck dp k t x) x)))
+pruned-one dp k t path (x ∷ y ∷ l) few = absurd (omega arith)
+
+pub one-pruned : (dp : Dp) (k : ℕ) (t : Option ℤ) (q : ℕ → List ℕ) (old new : List NodeView) → length old ≤ 1
+    → shown_below (λ _. []) new ≡ pruned_nodes dp k t [] 0 (shown_below (λ _. []) old) → shown_layer q new ≡ pruned_nodes dp k t [] 0 (shown_layer q old)
+one-pruned dp k t q old new few e =
+    let f = λ (n : DdNode). record n { path = q 0 } in
+    let long = below-count old in
+    let short = below-count new in
+    let fewer = few-pruned dp k t [] 0 (shown_below (λ _. []) old) in
+    let size = ap (λ (l : List DdNode). length l) e in
+    some-of new (omega arith) q ∙ (ap (map f) e ∙ (sym (pruned-one dp k t (q 0) (shown_below (λ _. []) old) (omega arith)) ∙ ap (pruned_nodes dp k t [] 0) (sym (some-of old few q))))
+  where
+    below-count : (nodes : List NodeView) → length (shown_below (λ _. []) nodes) ≡ length nodes
+    below-count nodes = map-length (λ (node : NodeView). shown (path_below (λ _. []) node.parent node.decision) node) nodes
+
+pub struck-layers : (dp : Dp) (i : Inside) → the_invariant i → IsUnderWay dp (the_view i) → (t : Option ℤ) (at : ℕ) (old d x n : LayerView) (redirects : ℕ) (first_reduced : Option ℕ) → HasChanged i at old d x n redirects
+    → ((paths below : ℕ → List ℕ) → shown_layer paths x.nodes ≡ with_redirected (prune_redirects dp i.stack.last t [] 0 (shown_below below i.stack.newest.nodes)) (shown_layer paths old.nodes))
+    → ((paths : ℕ → List ℕ) → shown_below paths n.nodes ≡ pruned_nodes dp i.stack.last t [] 0 (shown_below paths i.stack.newest.nodes))
+    → (the_view (changed i at x n redirects first_reduced)).layers ≡ on_last_two (prune dp i.stack.last t) (the_view i).layers
+struck-layers dp i h u t at old d x n redirects first_reduced e above next = go (first-or i h)
+  where
+    q : ℕ → List ℕ
+    q = path_in (i.prefix.items ∷ [])
+
+    alone : length i.stack.newest.nodes ≤ 1 → (m first : ℕ) → m ≡ 0 → first ≡ i.stack.last
+        → shown_down (at_depth i.stack.vars i.stack.first i.stack.last (set i.stack.layers.items at x) n) (i.prefix.items ∷ []) first m
+        ≡ on_last_two (prune dp i.stack.last t) (shown_down (at_depth i.stack.vars i.stack.first i.stack.last i.stack.layers.items i.stack.newest) (i.prefix.items ∷ []) first m)
+    alone few m first none same =
+        subst (λ (j : ℕ). shown_down (at_depth i.stack.vars i.stack.first i.stack.last (set i.stack.layers.items at x) n) (i.prefix.items ∷ []) first j
+        ≡ on_last_two (prune dp i.stack.last t) (shown_down (at_depth i.stack.vars i.stack.first i.stack.last i.stack.layers.items i.stack.newest) (i.prefix.items ∷ []) first j)) (sym none)
+        (ap (λ (l : List DdNode). l ∷ [])
+        (ap (shown_layer q) (newest-at i.stack.vars i.stack.first i.stack.last (set i.stack.layers.items at x) n first same)
+        ∙ (one-pruned dp i.stack.last t q i.stack.newest.nodes n.nodes few (next (λ _. []))
+        ∙ ap (λ (l : List NodeView). pruned_nodes dp i.stack.last t [] 0 (shown_layer q l)) (sym (newest-at i.stack.vars i.stack.first i.stack.last i.stack.layers.items i.stack.newest first same)))))
+
+    go : (i.stack.first < i.stack.last) ⊎ (i.stack.last ≡ i.stack.first) → (the_view (changed i at x n redirects first_reduced)).layers ≡ on_last_two (prune dp i.stack.last t) (the_view i).layers
+    go (inl less) = changed-layers (prune dp i.stack.last t) i h less at old d x n redirects first_reduced e above (λ paths a. next paths)
+    go (inr same) =
+        let begun = h.first in
+        let here = deep i h in
+        let count = count-seen i h in
+        let few = u.one (here ∙ (same ∙ begun)) in
+        alone (omega arith) (i.stack.last - i.stack.first) i.stack.first (omega arith) (sym same)

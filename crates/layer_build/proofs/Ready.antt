@@ -1,0 +1,74 @@
+-- A workspace that was made has its rooms.
+use Rattle.std.proofs.Common.{◌≡◌, ℕ, zero, suc, ◌+◌, ◌-◌, ◌*◌, ◌^◌, ◌<◌, ◌≤◌, List, [], ◌∷◌, ◌++◌, map, length, get_or, slice_index_or, refl, sym, ap, ap₂, ◌∙◌, subst, arith, length-append, mul-le-mul_right, ◌⊎◌, inl, inr}
+use Rattle.std.proofs.lemmas.List.{get_or_append_left, get_or-append-add}
+use Rattle.dp_model.specs.Decisions.{below}
+use Rattle.dp_model.specs.Dp.{Dp}
+use Rattle.dp_model.specs.Laws.{IsLawful}
+use Rattle.dp_laws.specs.Width.{cost_below}
+use Rattle.layer_nodes.specs.Nodes.{LayerView}
+use Rattle.layer_build.specs.Layers.{IsWidth}
+use Rattle.layer_build.specs.Stacked.{empty_layer, no_layer, room_of, HaveRooms, HasStack}
+use Rattle.layer_build.specs.Preparing.{IsReady}
+use Rattle.layer_build.specs.declared.stack.Stack.{Stack}
+use Rattle.layer_build.proofs.Stacks.{choice-at, map-append, below-at}
+use Rattle.layer_build.proofs.Memory.{count-below}
+
+pub width-one : (dp : Dp) (w : ℕ) → IsWidth dp w → IsWidth dp 1
+width-one dp w h =
+    let cost = h.fits.cost in
+    let more : 1 * cost_below dp dp.vars ≤ w * cost_below dp dp.vars = mul-le-mul_right (cost_below dp dp.vars) h.positive in
+    record { positive = omega arith; fits = record { most = omega arith; cost = omega arith } }
+
+rooms-below : (f : ℕ → LayerView) → ((k : ℕ) → room_of (f k) ≡ f k) → (xs : List ℕ) → map room_of (map f xs) ≡ map f xs
+rooms-below f same [] = refl
+rooms-below f same (x ∷ xs) = ap₂ (λ (a : LayerView) (l : List LayerView). a ∷ l) (same x) (rooms-below f same xs)
+
+any-of : (P : LayerView → Type 0) (at : ℕ → LayerView) (n : ℕ) → ((k : ℕ) → k < n → P (at k)) → P (at n) → P (at (n + 1)) → (i : ℕ) → i < n + 2 → P (at i)
+any-of P at n a b c i within = go (grind arith)
+  where
+    go : (i < n) ⊎ ((i ≡ n) ⊎ (i ≡ n + 1)) → P (at i)
+    go (inl less) = a i less
+    go (inr (inl same)) = subst (λ (k : ℕ). P (at k)) (sym same) b
+    go (inr (inr same)) = subst (λ (k : ℕ). P (at k)) (sym same) c
+
+pub ready-stack : (dp : Dp) → IsLawful dp → (width room words : ℕ) (choices : List ℕ) (s : Stack) → IsWidth dp width → room ≤ 2 ^ 25 → IsReady dp width room s → words ≡ dp.words → choices ≡ map dp.choices (below dp.vars) → HasStack words width choices s
+ready-stack dp laws width room words choices s w few r words-are e =
+    let f = λ (k : ℕ). empty_layer dp.words width (width * dp.choices k) in
+    let second = empty_layer dp.words r.nodes r.arcs in
+    let top = empty_layer dp.words 0 0 in
+    let front = map f (below dp.vars) in
+    let size : length front ≡ dp.vars = count-below f dp.vars in
+    let all : map room_of s.layers.items ≡ front ++ second ∷ top ∷ [] = ap (map room_of) r.layers ∙ (map-append room_of front (second ∷ top ∷ []) ∙ ap (λ (l : List LayerView). l ++ second ∷ top ∷ []) (rooms-below f (λ k. refl) (below dp.vars))) in
+    let low : (k : ℕ) → k < dp.vars → slice_index_or (front ++ second ∷ top ∷ []) k no_layer ≡ f k = λ k less. get_or_append_left front (second ∷ top ∷ []) no_layer k (omega arith) ∙ below-at f dp.vars k no_layer less in
+    let at-second : slice_index_or (front ++ second ∷ top ∷ []) dp.vars no_layer ≡ second = ap (λ (k : ℕ). slice_index_or (front ++ second ∷ top ∷ []) k no_layer) (let g : dp.vars ≡ length front + 0 = omega arith in g) ∙ get_or-append-add front (second ∷ top ∷ []) 0 no_layer in
+    let at-top : slice_index_or (front ++ second ∷ top ∷ []) (dp.vars + 1) no_layer ≡ top = ap (λ (k : ℕ). slice_index_or (front ++ second ∷ top ∷ []) k no_layer) (let g : dp.vars + 1 ≡ length front + 1 = omega arith in g) ∙ get_or-append-add front (second ∷ top ∷ []) 1 no_layer in
+    let most = w.fits.most in
+    let narrow = r.few in
+    let vars = laws.sizes.vars in
+    let is-vars = r.vars in
+    let is-first = r.first in
+    let is-last = r.last in
+    let newest-room = ap (λ (l : LayerView). l.nodes_room) r.newest in
+    let any : (P : LayerView → Type 0) → ((k : ℕ) → k < dp.vars → P (f k)) → P second → P top → (i : ℕ) → i < dp.vars + 2 → P (slice_index_or (front ++ second ∷ top ∷ []) i no_layer) = λ P a b c i within.
+    any-of P (λ (k : ℕ). slice_index_or (front ++ second ∷ top ∷ []) k no_layer) dp.vars (λ k less. subst P (sym (low k less)) (a k less)) (subst P (sym at-second) b) (subst P (sym at-top) c) i within in
+    let plain : HaveRooms dp.vars dp.words width room choices (front ++ second ∷ top ∷ []) = record {
+      count = length-append front (second ∷ top ∷ []) ∙ omega arith;
+      words_are = any (λ (l : LayerView). l.words ≡ dp.words) (λ k less. refl) refl refl;
+      nodes = λ k less. ap (λ (l : LayerView). l.nodes_room) (low k less);
+      arcs = λ k less. ap (λ (l : LayerView). l.arcs_room) (low k less) ∙ ap (λ (n : ℕ). width * n) (sym (choice-at dp choices dp.vars k e refl less));
+      second_nodes = λ k less. subst (λ (l : LayerView). slice_index_or choices k 0 ≤ l.nodes_room) (sym at-second) (subst (λ (n : ℕ). n ≤ r.nodes) (sym (choice-at dp choices dp.vars k e refl less)) (r.choices k less));
+      few = any (λ (l : LayerView). l.nodes_room ≤ 2 ^ 25) (λ k less. omega arith) (omega arith) (omega arith);
+      newest_few = few;
+      second_arcs = λ k less. subst (λ (l : LayerView). slice_index_or choices k 0 * slice_index_or choices (k + 1) 0 ≤ l.arcs_room) (sym at-second)
+          (subst (λ (n : ℕ). n * slice_index_or choices (k + 1) 0 ≤ r.arcs) (sym (choice-at dp choices dp.vars k e refl (omega arith))) (subst (λ (n : ℕ). dp.choices k * n ≤ r.arcs) (sym (choice-at dp choices dp.vars (k + 1) e refl less)) (r.pairs k less)));
+    } in
+    record {
+      small = omega arith;
+      first = omega arith;
+      last = omega arith;
+      rooms = subst (λ (v : ℕ). HaveRooms v words width s.newest.nodes_room choices (map room_of s.layers.items)) (sym r.vars)
+          (subst (λ (n : ℕ). HaveRooms dp.vars n width s.newest.nodes_room choices (map room_of s.layers.items)) (sym words-are)
+          (subst (λ (n : ℕ). HaveRooms dp.vars dp.words width n choices (map room_of s.layers.items)) (sym newest-room) (subst (HaveRooms dp.vars dp.words width room choices) (sym all) plain)));
+      newest_words = ap (λ (l : LayerView). l.words) r.newest ∙ sym words-are;
+      top = ap (λ (v : ℕ). (slice_index_or s.layers.items (v + 1) no_layer).nodes) r.vars ∙ (ap (λ (l : List LayerView). (slice_index_or l (dp.vars + 1) no_layer).nodes) r.layers ∙ ap (λ (l : LayerView). l.nodes) at-top);
+    }

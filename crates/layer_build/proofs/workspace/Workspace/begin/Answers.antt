@@ -1,0 +1,145 @@
+use Rattle.std.proofs.Common.{◌≡◌, ℕ, ◌+◌, ◌≤◌, ℤ, List, [], ◌∷◌, None, map, length, vec_capacity, to_z, of_z, w64, FitsSigned, refl, rules, sym, ap, ap₂, ◌∙◌, subst, arith}
+use Rattle.std.proofs.lemmas.Int.{to_z-of_z}
+use Rattle.dp_model.specs.Dp.{Dp}
+use Rattle.dp_model.specs.Gaps.{IsStateOf}
+use Rattle.dp_model.specs.Laws.{IsLawful}
+use Rattle.dp_model.specs.Prefixes.{state_of, value_of}
+use Rattle.dp_model.specs.Reached.{reached}
+use Rattle.dp_model.specs.Subproblem.{SubView}
+use Rattle.dp_model.proofs.Paths.{state_of-state, IsPrefix-length}
+use Rattle.dp_laws.specs.Diagrams.Nodes.{DdNode}
+use Rattle.dp_laws.specs.Rules.Compiling.{start_layer}
+use Rattle.layer_nodes.specs.Nodes.{NodeView}
+use Rattle.layer_build.specs.Layers.{SpaceView, IsPreparedFor}
+use Rattle.layer_build.specs.Stacked.{HasSpace, shown_stack}
+use Rattle.layer_build.specs.UnderWay.{IsUnderWay}
+use Rattle.layer_build.specs.contracts.workspace.Workspace.{the_view}
+use Rattle.layer_build.proofs.Kept.{start-under-way}
+use Rattle.layer_build.proofs.Starting.{started, started-layers, started-space, start_node}
+use Rattle.layer_build.proofs.workspace.Workspace.begin.Given as given
+use Rattle.layer_build.proofs.workspace.Workspace.begin.Goals as goal
+
+laws_of : (g : given.Over) (m : g.row.M.Denot) → IsLawful (g.M.DpModel.meaning (g.M.DpModel.numbers m))
+laws_of g m = (g.met.M.DpModel g.world.𝓛 g.world.𝓜 g.world.𝓡 ((λ s x. x), (λ x. x), (λ x. x), λ x. x)).lawful m
+
+pub rank-rank-requires : goal.rank-rank-requires
+rank-rank-requires g c =
+    let dp = g.M.DpModel.meaning (g.M.DpModel.numbers c.args.model.now) in
+    let p = c.args.sub.now.subproblem.decisions in
+    let low = IsPrefix-length dp p c.requires.prefix in
+    let decisions : c.sub.inside.decisions.items ≡ p = ap (λ (s : SubView). s.subproblem.decisions) c.sub.view_is in
+    let size : c.len-first.result ≡ length c.sub.inside.decisions.items = search rules in
+    let first : c.len-first.result ≡ length p = size ∙ ap (λ (l : List ℕ). length l) decisions in
+    let laws = laws_of g c.args.model.now in
+    let row : c.as_slice.result.now ≡ state_of dp p = c.as_slice.ensures.value ∙ (ap (λ (s : SubView). s.subproblem.row) c.sub.view_is ∙ c.requires.row) in
+    subst (λ (k : ℕ). IsStateOf dp k c.as_slice.result.now) (sym first) (subst (IsStateOf dp (length p)) (sym row) (state_of-state dp laws.states p c.requires.prefix))
+
+pub write_all-requires : goal.write_all-requires
+write_all-requires g c =
+    let dp = g.M.DpModel.meaning (g.M.DpModel.numbers c.args.model.now) in
+    let p = c.args.sub.now.subproblem.decisions in
+    let low = IsPrefix-length dp p c.requires.prefix in
+    let decisions : c.sub.inside.decisions.items ≡ p = ap (λ (s : SubView). s.subproblem.decisions) c.sub.view_is in
+    let size : c.len-first.result ≡ length c.sub.inside.decisions.items = search rules in
+    let first : c.len-first.result ≡ length p = size ∙ ap (λ (l : List ℕ). length l) decisions in
+    let i = c.self.inside in let h = c.self.invariant in
+    let vars : i.stack.vars ≡ dp.vars = ap (λ (s : SpaceView). s.vars) c.self.view_is ∙ c.requires.prepared.vars in
+    let same = ap (λ (l : List ℕ). length l) c.as_slice-2.ensures.value in
+    let long = ap (λ (l : List ℕ). length l) decisions in
+    let fits = h.prefix_fits in
+    omega arith
+
+pub start-requires-clause-room : goal.start-requires-clause-room
+start-requires-clause-room g c =
+    let some = c.requires.prepared.enough.some in
+    let room = ap (λ (s : SpaceView). s.room) c.self.view_is in
+    omega arith
+
+pub start-requires-clause-cells : goal.start-requires-clause-cells
+start-requires-clause-cells g c =
+    let dp = g.M.DpModel.meaning (g.M.DpModel.numbers c.args.model.now) in
+    let p = c.args.sub.now.subproblem.decisions in
+    let low = IsPrefix-length dp p c.requires.prefix in
+    let decisions : c.sub.inside.decisions.items ≡ p = ap (λ (s : SubView). s.subproblem.decisions) c.sub.view_is in
+    let size : c.len-first.result ≡ length c.sub.inside.decisions.items = search rules in
+    let first : c.len-first.result ≡ length p = size ∙ ap (λ (l : List ℕ). length l) decisions in
+    let i = c.self.inside in let h = c.self.invariant in
+    let vars : i.stack.vars ≡ dp.vars = ap (λ (s : SpaceView). s.vars) c.self.view_is ∙ c.requires.prepared.vars in
+    let laws = laws_of g c.args.model.now in
+    let row : c.as_slice-3.result.now ≡ state_of dp p = c.as_slice-3.ensures.value ∙ (ap (λ (s : SubView). s.subproblem.row) c.sub.view_is ∙ c.requires.row) in
+    ap (λ (l : List ℤ). length l) row ∙ (laws.sizes.cells (length p) (state_of dp p) (state_of-state dp laws.states p c.requires.prefix)
+    ∙ (sym (ap (λ (s : SpaceView). s.words) c.self.view_is ∙ c.requires.prepared.words) ∙ sym h.stack.newest_words))
+
+pub invariant_of-self : goal.invariant_of-self
+invariant_of-self g c =
+    let dp = g.M.DpModel.meaning (g.M.DpModel.numbers c.args.model.now) in
+    let p = c.args.sub.now.subproblem.decisions in
+    let low = IsPrefix-length dp p c.requires.prefix in
+    let decisions : c.sub.inside.decisions.items ≡ p = ap (λ (s : SubView). s.subproblem.decisions) c.sub.view_is in
+    let size : c.len-first.result ≡ length c.sub.inside.decisions.items = search rules in
+    let first : c.len-first.result ≡ length p = size ∙ ap (λ (l : List ℕ). length l) decisions in
+    let i = c.self.inside in let h = c.self.invariant in
+    let vars : i.stack.vars ≡ dp.vars = ap (λ (s : SpaceView). s.vars) c.self.view_is ∙ c.requires.prepared.vars in
+    let n = c.start.new.self in
+    let row : c.as_slice-3.result.now ≡ state_of dp p = c.as_slice-3.ensures.value ∙ (ap (λ (s : SubView). s.subproblem.row) c.sub.view_is ∙ c.requires.row) in
+    let fits-value : FitsSigned w64 c.sub.inside.value = search rules in
+    let value : to_z w64 (of_z w64 c.sub.inside.value) ≡ value_of dp p = to_z-of_z w64 c.sub.inside.value fits-value ∙ (ap (λ (s : SubView). s.subproblem.value) c.sub.view_is ∙ c.requires.value) in
+    let written : c.write_all.new.to.items ≡ p = c.write_all.ensures.items ∙ (c.as_slice-2.ensures.value ∙ decisions) in
+    let seen = started-layers dp i p c.len-first.result n c.as_slice-3.result.now (to_z w64 (of_z w64 c.sub.inside.value)) (to_z w64 (of_z w64 c.rank-rank.result)) c.start.ensures.node row value in
+    let room = c.write_all.ensures.room in
+    let fits = h.prefix_fits in
+    subst (λ (q : List ℕ). HasSpace i.words i.width i.choices.items q (vec_capacity c.write_all.new.to) (started i c.len-first.result n) i.expansion i.redirects i.path.items i.beam) (sym written)
+    (started-space dp i h p (vec_capacity c.write_all.new.to) c.len-first.result n (omega arith) first (omega arith) c.start.ensures.rooms seen)
+
+pub returns-clause-layers : goal.returns-clause-layers
+returns-clause-layers g c =
+    let dp = g.M.DpModel.meaning (g.M.DpModel.numbers c.args.model.now) in
+    let p = c.args.sub.now.subproblem.decisions in
+    let low = IsPrefix-length dp p c.requires.prefix in
+    let decisions : c.sub.inside.decisions.items ≡ p = ap (λ (s : SubView). s.subproblem.decisions) c.sub.view_is in
+    let size : c.len-first.result ≡ length c.sub.inside.decisions.items = search rules in
+    let first : c.len-first.result ≡ length p = size ∙ ap (λ (l : List ℕ). length l) decisions in
+    let i = c.self.inside in let h = c.self.invariant in
+    let vars : i.stack.vars ≡ dp.vars = ap (λ (s : SpaceView). s.vars) c.self.view_is ∙ c.requires.prepared.vars in
+    let n = c.start.new.self in
+    let row : c.as_slice-3.result.now ≡ state_of dp p = c.as_slice-3.ensures.value ∙ (ap (λ (s : SubView). s.subproblem.row) c.sub.view_is ∙ c.requires.row) in
+    let fits-value : FitsSigned w64 c.sub.inside.value = search rules in
+    let value : to_z w64 (of_z w64 c.sub.inside.value) ≡ value_of dp p = to_z-of_z w64 c.sub.inside.value fits-value ∙ (ap (λ (s : SubView). s.subproblem.value) c.sub.view_is ∙ c.requires.value) in
+    let written : c.write_all.new.to.items ≡ p = c.write_all.ensures.items ∙ (c.as_slice-2.ensures.value ∙ decisions) in
+    let seen = started-layers dp i p c.len-first.result n c.as_slice-3.result.now (to_z w64 (of_z w64 c.sub.inside.value)) (to_z w64 (of_z w64 c.rank-rank.result)) c.start.ensures.node row value in
+    let here : the_view (record i { prefix = c.write_all.new.to; stack = started i c.len-first.result n; first_reduced = None; held = c.len-first.result })
+    ≡ record c.args.self.now { prefix = p; layers = start_layer (reached dp p) ∷ []; ranks = map (λ (node : NodeView). node.rank) n.nodes; first_reduced = None; held = length p } =
+    ap (λ (q : List ℕ). record (the_view i) { room = n.nodes_room; prefix = q; layers = shown_stack q (started i c.len-first.result n); ranks = map (λ (node : NodeView). node.rank) n.nodes; first_reduced = None; held = c.len-first.result }) written
+    ∙ (ap (λ (k : ℕ). record (the_view i) { room = n.nodes_room; prefix = p; layers = shown_stack p (started i c.len-first.result n); ranks = map (λ (node : NodeView). node.rank) n.nodes; first_reduced = None; held = k }) first
+    ∙ (ap₂ (λ (r : ℕ) (l : List (List DdNode)). record (the_view i) { room = r; prefix = p; layers = l; ranks = map (λ (node : NodeView). node.rank) n.nodes; first_reduced = None; held = length p }) c.start.ensures.rooms.nodes_room seen
+    ∙ ap (λ (s : SpaceView). record s { prefix = p; layers = start_layer (reached dp p) ∷ []; ranks = map (λ (node : NodeView). node.rank) n.nodes; first_reduced = None; held = length p }) c.self.view_is)) in
+    here
+
+pub returns-clause-under_way : goal.returns-clause-under_way
+returns-clause-under_way g c =
+    let dp = g.M.DpModel.meaning (g.M.DpModel.numbers c.args.model.now) in
+    let p = c.args.sub.now.subproblem.decisions in
+    let low = IsPrefix-length dp p c.requires.prefix in
+    let decisions : c.sub.inside.decisions.items ≡ p = ap (λ (s : SubView). s.subproblem.decisions) c.sub.view_is in
+    let size : c.len-first.result ≡ length c.sub.inside.decisions.items = search rules in
+    let first : c.len-first.result ≡ length p = size ∙ ap (λ (l : List ℕ). length l) decisions in
+    let i = c.self.inside in let h = c.self.invariant in
+    let vars : i.stack.vars ≡ dp.vars = ap (λ (s : SpaceView). s.vars) c.self.view_is ∙ c.requires.prepared.vars in
+    let n = c.start.new.self in
+    let row : c.as_slice-3.result.now ≡ state_of dp p = c.as_slice-3.ensures.value ∙ (ap (λ (s : SubView). s.subproblem.row) c.sub.view_is ∙ c.requires.row) in
+    let fits-value : FitsSigned w64 c.sub.inside.value = search rules in
+    let value : to_z w64 (of_z w64 c.sub.inside.value) ≡ value_of dp p = to_z-of_z w64 c.sub.inside.value fits-value ∙ (ap (λ (s : SubView). s.subproblem.value) c.sub.view_is ∙ c.requires.value) in
+    let written : c.write_all.new.to.items ≡ p = c.write_all.ensures.items ∙ (c.as_slice-2.ensures.value ∙ decisions) in
+    let seen = started-layers dp i p c.len-first.result n c.as_slice-3.result.now (to_z w64 (of_z w64 c.sub.inside.value)) (to_z w64 (of_z w64 c.rank-rank.result)) c.start.ensures.node row value in
+    let here : the_view (record i { prefix = c.write_all.new.to; stack = started i c.len-first.result n; first_reduced = None; held = c.len-first.result })
+    ≡ record c.args.self.now { prefix = p; layers = start_layer (reached dp p) ∷ []; ranks = map (λ (node : NodeView). node.rank) n.nodes; first_reduced = None; held = length p } =
+    ap (λ (q : List ℕ). record (the_view i) { room = n.nodes_room; prefix = q; layers = shown_stack q (started i c.len-first.result n); ranks = map (λ (node : NodeView). node.rank) n.nodes; first_reduced = None; held = c.len-first.result }) written
+    ∙ (ap (λ (k : ℕ). record (the_view i) { room = n.nodes_room; prefix = p; layers = shown_stack p (started i c.len-first.result n); ranks = map (λ (node : NodeView). node.rank) n.nodes; first_reduced = None; held = k }) first
+    ∙ (ap₂ (λ (r : ℕ) (l : List (List DdNode)). record (the_view i) { room = r; prefix = p; layers = l; ranks = map (λ (node : NodeView). node.rank) n.nodes; first_reduced = None; held = length p }) c.start.ensures.rooms.nodes_room seen
+    ∙ ap (λ (s : SpaceView). record s { prefix = p; layers = start_layer (reached dp p) ∷ []; ranks = map (λ (node : NodeView). node.rank) n.nodes; first_reduced = None; held = length p }) c.self.view_is)) in
+    let laws = laws_of g c.args.model.now in
+    let rank : c.rank-rank.result ≡ dp.rank (length p) (state_of dp p) = c.rank-rank.ensures ∙ (ap (λ (k : ℕ). dp.rank k c.as_slice.result.now) first
+    ∙ ap (dp.rank (length p)) (c.as_slice.ensures.value ∙ (ap (λ (s : SubView). s.subproblem.row) c.sub.view_is ∙ c.requires.row))) in
+    let fits-rank : FitsSigned w64 c.rank-rank.result = search rules in
+    let ranks : map (λ (node : NodeView). node.rank) n.nodes ≡ dp.rank (length p) (state_of dp p) ∷ [] = ap (map (λ (node : NodeView). node.rank)) c.start.ensures.node ∙ ap (λ (r : ℤ). r ∷ []) (to_z-of_z w64 c.rank-rank.result fits-rank ∙ rank) in
+    subst (IsUnderWay dp) (sym here) (start-under-way dp laws c.args.self.now p (map (λ (node : NodeView). node.rank) n.nodes) (length p) c.requires.prepared c.requires.prefix ranks)

@@ -1,0 +1,180 @@
+//! What the layers of a workspace are, as its readers show them.
+
+ghost use Rattle.std.specs.Prelude.{◌≡◌, ◌+◌, ◌-◌, ◌<◌, ◌≤◌, true, Some, IsSome, length, take, slice_get, option_map, option_and_then};
+ghost use Rattle.std.specs.Borrow.{sem};
+ghost use Rattle.dp_model.specs.Dp.{Dp};
+ghost use Rattle.dp_laws.specs.Diagrams.Nodes.{node_at};
+ghost use Rattle.dp_laws.specs.Diagrams.Cutsets.{first_exact};
+ghost use Rattle.layer_build.specs.Layers.{diagram_of, last_depth, layer_at, last_layer, suffix_in, live_in};
+ghost use Rattle.layer_build.specs.Finding.{IsFound, IsFoundAs, StaysButPath, StaysSeen};
+ghost use Rattle.layer_build.specs.UnderWay.{IsUnderWay};
+
+use crate::stack::{layer_at, place_of};
+use crate::walking::{exact_place, live_rows, write_front, write_path};
+use crate::workspace::Workspace;
+use dp_laws::DdArc;
+use dp_model::Found;
+
+impl Workspace {
+    /// The width that it was prepared for.
+    pub fn width(&self) -> usize
+        ensures { result ≡ self.now.width }
+    {
+        self.width
+    }
+
+    /// The depth of the first layer.
+    pub fn first_depth(&self) -> usize
+        ensures { result ≡ length self.now.prefix }
+    {
+        self.stack.first
+    }
+
+    /// The depth of the last layer.
+    pub fn last_depth(&self) -> usize
+        ensures { result ≡ last_depth self.now }
+    {
+        self.stack.last
+    }
+
+    /// The least depth that was reduced.
+    pub fn first_reduced(&self) -> Option<usize>
+        ensures { result ≡ self.now.first_reduced }
+    {
+        self.first_reduced
+    }
+
+    /// How many nodes there are at the depth.
+    pub fn nodes(&self, depth: usize) -> usize
+        requires first { length self.now.prefix ≤ depth }
+        requires last { depth ≤ last_depth self.now }
+        ensures { result ≡ length (layer_at self.now depth) }
+    {
+        layer_at(&self.stack, depth).len()
+    }
+
+    /// The state of a node, where the rows of its layer are held.
+    pub fn row(&self, depth: usize, node: usize) -> &[i64]
+        requires first { length self.now.prefix ≤ depth }
+        requires held { self.now.held ≤ depth }
+        requires place { IsSome (node_at (diagram_of self.now) depth node) }
+        ensures { option_map (λ n. n.row) (node_at (diagram_of self.now) depth node) ≡ Some result.now }
+    {
+        layer_at(&self.stack, depth).row(node)
+    }
+
+    /// The greatest length of a path to a node.
+    pub fn value(&self, depth: usize, node: usize) -> i64
+        requires first { length self.now.prefix ≤ depth }
+        requires place { IsSome (node_at (diagram_of self.now) depth node) }
+        ensures { option_map (λ n. n.value) (node_at (diagram_of self.now) depth node) ≡ Some result }
+    {
+        layer_at(&self.stack, depth).value(node)
+    }
+
+    /// Whether a node stands for one state exactly.
+    pub fn exact(&self, depth: usize, node: usize) -> bool
+        requires first { length self.now.prefix ≤ depth }
+        requires place { IsSome (node_at (diagram_of self.now) depth node) }
+        ensures { option_map (λ n. n.exact) (node_at (diagram_of self.now) depth node) ≡ Some result }
+    {
+        layer_at(&self.stack, depth).exact(node)
+    }
+
+    /// The suffix of a node, or none where it is not set yet.
+    pub fn suffix(&self, depth: usize, node: usize) -> Option<i64>
+        requires first { length self.now.prefix ≤ depth }
+        requires place { IsSome (node_at (diagram_of self.now) depth node) }
+        ensures { option_map (λ n. n.suffix) (node_at (diagram_of self.now) depth node) ≡ Some result }
+    {
+        layer_at(&self.stack, depth).suffix(node)
+    }
+
+    /// Sets the suffix of a node.
+    pub fn set_suffix(&mut self, depth: usize, node: usize, suffix: Option<i64>)
+        requires first { length self.old.prefix ≤ depth }
+        requires place { IsSome (node_at (diagram_of self.old) depth node) }
+        ensures layers { self.new ≡ record self.old { layers = suffix_in (depth - length self.old.prefix) node suffix self.old.layers } }
+        ensures under_way { (dp : Dp) → IsUnderWay dp self.old → IsUnderWay dp self.new }
+    {
+        if depth == self.stack.last {
+            self.stack.newest.set_suffix(node, suffix);
+        } else {
+            let at = place_of(self.stack.vars, self.stack.first, depth);
+            self.stack.layers[at].set_suffix(node, suffix);
+        }
+    }
+
+    /// How many arcs a node has.
+    pub fn arcs(&self, depth: usize, node: usize) -> usize
+        requires first { length self.now.prefix ≤ depth }
+        requires place { IsSome (node_at (diagram_of self.now) depth node) }
+        ensures { option_map (λ n. length n.arcs) (node_at (diagram_of self.now) depth node) ≡ Some result }
+    {
+        layer_at(&self.stack, depth).arcs(node)
+    }
+
+    /// An arc of a node, by the place among its arcs, which stand by decision.
+    pub fn arc(&self, depth: usize, node: usize, i: usize) -> DdArc
+        requires first { length self.now.prefix ≤ depth }
+        requires place { IsSome (option_and_then (λ n. slice_get n.arcs i) (node_at (diagram_of self.now) depth node)) }
+        ensures { option_and_then (λ n. slice_get n.arcs i) (node_at (diagram_of self.now) depth node) ≡ Some result }
+    {
+        layer_at(&self.stack, depth).arc(node, i)
+    }
+
+    /// Writes the kept decisions of an exact node, from the root.
+    pub fn path(&self, depth: usize, node: usize, out: &mut [u32])
+        requires first { length self.now.prefix ≤ depth }
+        requires exact { option_map (λ n. n.exact) (node_at (diagram_of self.now) depth node) ≡ Some true }
+        requires cells { length out.old ≡ depth }
+        ensures { option_map (λ n. n.path) (node_at (diagram_of self.now) depth node) ≡ Some out.new }
+    {
+        write_path(&self.stack, self.prefix.as_slice(), depth, node, out);
+    }
+
+    /// How many rows are held.
+    pub fn live_rows(&self) -> usize
+        ensures { result ≡ live_in self.now }
+    {
+        live_rows(&self.stack, self.held)
+    }
+
+    /// The first exact node of the last layer with its kept decisions from the root; none exactly where it has no exact node.
+    pub fn first_exact(&mut self) -> Option<Found<'_>>
+        ensures* kept { sem 𝓛 (StaysSeen self.entry) }
+        ensures found { IsFound (first_exact (last_layer self.old.layers)) result }
+    {
+        let value = self.write_first_exact()?;
+        Some(Found {
+            value,
+            decisions: self.last_path(),
+        })
+    }
+
+    /// The value of the first exact node of the last layer, whose decisions are written.
+    fn write_first_exact(&mut self) -> Option<i64>
+        ensures kept { StaysButPath self.old self.new }
+        ensures cells { last_depth self.new ≤ length self.new.path }
+        ensures found { IsFoundAs (first_exact (last_layer self.old.layers)) result (take (last_depth self.old) self.new.path) }
+    {
+        let node = exact_place(&self.stack.newest)?;
+        let depth = self.stack.last;
+        write_front(
+            &self.stack,
+            self.prefix.as_slice(),
+            depth,
+            node,
+            self.path.as_mut_slice(),
+        );
+        Some(self.stack.newest.value(node))
+    }
+
+    /// So many decisions that were written last as the last layer is deep.
+    fn last_path(&self) -> &[u32]
+        requires { last_depth self.now ≤ length self.now.path }
+        ensures { result.now ≡ take (last_depth self.now) self.now.path }
+    {
+        &self.path.as_slice()[..self.stack.last]
+    }
+}

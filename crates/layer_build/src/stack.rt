@@ -1,0 +1,87 @@
+//! The layers of a diagram in memory.
+
+ghost use Rattle.std.specs.Prelude.{◌≡◌, ◌≢◌, ◌+◌, ◌-◌, ◌*◌, ◌<◌, ◌≤◌, ℕ, List, IsSome, length, map};
+ghost use Rattle.dp_model.specs.Lists.{Each};
+ghost use Rattle.dp_laws.specs.Rules.Compiling.{expand};
+ghost use Rattle.layer_nodes.specs.Nodes.{shown_layer, shown_below, without_arcs};
+ghost use Rattle.layer_nodes.specs.Steps.{IsParent, IsRanked, KeepsRoom};
+ghost use Rattle.layer_build.specs.Stacked.{place_of, place_above, layer_in};
+
+use dp_model::DpModel;
+use layer_nodes::{Expansion, Layer, expand};
+
+/// A layer for each depth, then the one just below the first, and an empty one, which stands above the first; and the last
+/// layer of all, which is wide before it is reduced. `first` and `last` are the depths of the first and the last one.
+#[derive(Debug, Drop)]
+pub(crate) struct Stack {
+    pub(crate) vars: usize,
+    pub(crate) first: usize,
+    pub(crate) last: usize,
+    pub(crate) layers: Vec<Layer>,
+    pub(crate) newest: Layer,
+}
+
+/// The place of the layer at the depth. The layer just below the first is never reduced, so it has a place of its own.
+pub(crate) fn place_of(vars: usize, first: usize, depth: usize) -> usize
+    requires { first ≤ 1024 }
+    ensures { result ≡ place_of vars first depth }
+{
+    if depth == first + 1 { vars } else { depth }
+}
+
+/// The place of the layer above the last one.
+pub(crate) fn place_above(vars: usize, first: usize, last: usize) -> usize
+    requires first { first ≤ last }
+    requires low { last ≤ 1024 }
+    requires few { vars ≤ 1024 }
+    ensures { result ≡ place_above vars first last }
+{
+    if last == first {
+        vars + 1
+    } else {
+        place_of(vars, first, last - 1)
+    }
+}
+
+/// The layer at the depth.
+pub(crate) fn layer_at(stack: &Stack, depth: usize) -> &Layer
+    requires few { stack.now.first ≤ 1024 }
+    requires place { depth ≢ stack.now.last → place_of stack.now.vars stack.now.first depth < length stack.now.layers.items }
+    ensures { result.now ≡ layer_in stack.now depth }
+{
+    if depth == stack.last {
+        &stack.newest
+    } else {
+        &stack.layers[place_of(stack.vars, stack.first, depth)]
+    }
+}
+
+/// The last layer, at depth `k`, is written to its place above and expanded into the next one.
+pub(crate) fn expand_newest<M: DpModel>(
+    model: &M,
+    k: usize,
+    above: &mut Layer,
+    newest: &mut Layer,
+    expansion: &mut Expansion,
+)
+    requires layer { k < (M.meaning (M.numbers model.now)).vars }
+    requires above_words { above.old.words ≡ (M.meaning (M.numbers model.now)).words }
+    requires next_words { newest.old.words ≡ (M.meaning (M.numbers model.now)).words }
+    requires nodes { Each (IsParent (M.meaning (M.numbers model.now)) k) newest.old.nodes }
+    requires copy_room { length newest.old.nodes ≤ above.old.nodes_room }
+    requires arcs_room { length newest.old.nodes * (M.meaning (M.numbers model.now)).choices k ≤ above.old.arcs_room }
+    requires nodes_room { length newest.old.nodes * (M.meaning (M.numbers model.now)).choices k ≤ newest.old.nodes_room }
+    requires room { length newest.old.nodes * (M.meaning (M.numbers model.now)).choices k ≤ expansion.old }
+    ensures above { (paths : ℕ → List ℕ) → shown_layer paths above.new.nodes ≡ (expand (M.meaning (M.numbers model.now)) k (shown_layer paths newest.old.nodes)).above }
+    ensures next { (paths : ℕ → List ℕ) → shown_below paths newest.new.nodes ≡ (expand (M.meaning (M.numbers model.now)) k (shown_layer paths newest.old.nodes)).next }
+    ensures ranked { Each (IsRanked (M.meaning (M.numbers model.now)) (k + 1)) newest.new.nodes }
+    ensures unmerged { Each (λ n. IsSome n.parent) newest.new.nodes }
+    ensures few { length newest.new.nodes ≤ length newest.old.nodes * (M.meaning (M.numbers model.now)).choices k }
+    ensures rest { map without_arcs above.new.nodes ≡ map without_arcs newest.old.nodes }
+    ensures above_rooms { KeepsRoom above.old above.new }
+    ensures next_rooms { KeepsRoom newest.old newest.new }
+    ensures expansion { expansion.new ≡ expansion.old }
+{
+    above.copy_nodes(newest);
+    expand(model, k, above, newest, expansion);
+}

@@ -1,0 +1,80 @@
+//! Paths of nodes, the first exact one of a layer, and how many rows are held.
+
+ghost use Rattle.std.specs.Prelude.{◌≡◌, ◌≢◌, ◌+◌, ◌-◌, ◌<◌, ◌≤◌, ℕ, List, [], ◌∷◌, ◌++◌, length, drop, position, sum_by, Some};
+ghost use Rattle.dp_laws.specs.Diagrams.Nodes.{DdNode};
+ghost use Rattle.layer_nodes.specs.Nodes.{NodeView};
+ghost use Rattle.layer_build.specs.Stacked.{place_of, nodes_in, path_in, paths_at, shown_stack, HoldFew};
+
+use crate::stack::{Stack, layer_at};
+use layer_nodes::Layer;
+
+/// Writes the path of a node: the decisions from its ancestors down, behind the prefix.
+pub(crate) fn write_path(stack: &Stack, prefix: &[u32], depth: usize, node: usize, out: &mut [u32])
+    requires deep { stack.now.first ≤ depth }
+    requires low { depth ≤ stack.now.last }
+    requires stored { HoldFew stack.now }
+    requires prefix { length prefix.now ≡ stack.now.first }
+    requires place { node < length (nodes_in stack.now depth) }
+    requires whole { length (path_in (paths_at (nodes_in stack.now) (prefix.now ∷ []) stack.now.first (depth - stack.now.first)) node) ≡ depth }
+    requires cells { length out.old ≡ depth }
+    ensures { out.new ≡ path_in (paths_at (nodes_in stack.now) (prefix.now ∷ []) stack.now.first (depth - stack.now.first)) node }
+{
+    let mut k = depth;
+    let mut at = node;
+    'steps: while k > stack.first {
+        let layer = layer_at(stack, k);
+        k -= 1;
+        out[k] = layer.decision(at);
+        at = place_or_first(layer.parent(at));
+    }
+    out[..prefix.len()].copy_from_slice(prefix);
+}
+
+/// Writes the path of a node into the first cells; the others stay.
+pub(crate) fn write_front(stack: &Stack, prefix: &[u32], depth: usize, node: usize, out: &mut [u32])
+    requires deep { stack.now.first ≤ depth }
+    requires low { depth ≤ stack.now.last }
+    requires stored { HoldFew stack.now }
+    requires prefix { length prefix.now ≡ stack.now.first }
+    requires place { node < length (nodes_in stack.now depth) }
+    requires whole { length (path_in (paths_at (nodes_in stack.now) (prefix.now ∷ []) stack.now.first (depth - stack.now.first)) node) ≡ depth }
+    requires cells { depth ≤ length out.old }
+    ensures { out.new ≡ path_in (paths_at (nodes_in stack.now) (prefix.now ∷ []) stack.now.first (depth - stack.now.first)) node ++ drop depth out.old }
+{
+    write_path(stack, prefix, depth, node, &mut out[..depth]);
+}
+
+/// The place, or 0.
+fn place_or_first(place: Option<u32>) -> usize
+    ensures { (i : ℕ) → place ≡ Some i → result ≡ i }
+{
+    match place {
+        Some(place) => place as usize,
+        None => 0,
+    }
+}
+
+/// The place of the first exact node.
+pub(crate) fn exact_place(layer: &Layer) -> Option<usize>
+    ensures { result ≡ position (λ (n : NodeView). n.exact) layer.now.nodes }
+{
+    'nodes: for i in 0..layer.len() {
+        if layer.exact(i) {
+            return Some(i);
+        }
+    }
+    None
+}
+
+/// How many nodes the layers have from the depth on.
+pub(crate) fn live_rows(stack: &Stack, held: usize) -> usize
+    requires order { stack.now.first ≤ stack.now.last }
+    requires stored { HoldFew stack.now }
+    ensures { (prefix : List ℕ) → result ≡ sum_by (λ (layer : List DdNode). length layer) (drop (held - stack.now.first) (shown_stack prefix stack.now)) }
+{
+    let mut rows = 0;
+    'layers: for depth in stack.first.max(held)..stack.last + 1 {
+        rows += layer_at(stack, depth).len();
+    }
+    rows
+}

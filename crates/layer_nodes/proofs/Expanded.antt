@@ -1,0 +1,330 @@
+-- A layer that was expanded in memory is that of the rules, whatever the paths are.
+use Rattle.std.proofs.Common.{◌≡◌, ℕ, zero, suc, ◌+◌, ◌*◌, ◌<◌, ◌≤◌, nat_lt, ℤ, Bool, true, false, not, cond, ◌&&◌, ◌||◌, List, [], ◌∷◌, ◌++◌, length, map, take, drop, get_or, slice_get, position, Option, Some, None, IsSome, option_and_then, refl, sym, ◌∙◌, ap, ap₂, subst, append_assoc, length-append, arith}
+use Rattle.std.proofs.Math.Seq.{drop-append_seam}
+use Rattle.std.proofs.lemmas.List.{map-append, length-map, take-append-drop}
+use Rattle.std.proofs.lemmas.Option.{slice_get-map, slice_get-get_or}
+use Rattle.std.specs.List.{take-map}
+use Rattle.dp_model.specs.Dp.{Dp}
+use Rattle.dp_model.specs.Lists.{Each}
+use Rattle.dp_model.specs.Rows.{row_same}
+use Rattle.dp_model.proofs.Members.{one-of-has, each-has}
+use Rattle.dp_laws.specs.Restricted.Beam.{expanded}
+use Rattle.dp_laws.specs.Restricted.Extensions.{candidates, all_joined}
+use Rattle.dp_laws.specs.Restricted.ReductionOrder.{in_order}
+use Rattle.dp_laws.proofs.Restricted.Permutations.{each-at, Has-permutation}
+use Rattle.dp_laws.specs.declared.arc.DdArc.{DdArc}
+use Rattle.dp_laws.specs.Diagrams.Nodes.{DdNode, prefix_at}
+use Rattle.dp_laws.specs.Diagrams.Seen.{decisions_at}
+use Rattle.dp_laws.proofs.Diagrams.Places.{same-Some, Has-at}
+use Rattle.dp_laws.specs.Rules.Expanding.{makes, is_exact_row, node_for, new_layer, arc_of, with_arcs}
+use Rattle.dp_laws.proofs.Rules.Expanded.{RowsApart, found-row, one-place, new-apart}
+use Rattle.layer_candidates.specs.declared.key.Key.{Key}
+use Rattle.layer_candidates.specs.declared.way.Way.{Way}
+use Rattle.layer_candidates.specs.Extending.{allowed_below}
+use Rattle.layer_candidates.specs.KeyOrder.{key_at, keys_of, reached_of, all_of, IsKeyOf}
+use Rattle.layer_candidates.specs.Members.{member_as, members_as, IsMemberOf}
+use Rattle.layer_candidates.specs.Rows.{row_at}
+use Rattle.layer_candidates.specs.Ways.{way_at, all_reached, AreJoined}
+use Rattle.layer_candidates.proofs.Blocks.{row_before}
+use Rattle.layer_candidates.proofs.Layered.{has-table}
+use Rattle.layer_candidates.proofs.Sorted.{keys-are, in-order, length-keys}
+use Rattle.layer_nodes.specs.declared.node.Node.{Node}
+use Rattle.layer_nodes.specs.Nodes.{NodeView, shown, shown_from, shown_layer, shown_below, without_arcs}
+use Rattle.layer_nodes.specs.Stored.{node_view, IsStored}
+use Rattle.layer_nodes.specs.Steps.{IsParent, IsRanked}
+use Rattle.layer_nodes.specs.Expanding.{Trial, trial, trials_at, trials_of, all_spanned, arc_to, LeadsToRow, AreArcsOf, all_exact, mark_at, AreTried, key_in, IsNumbered, led, node_of, member_of, members_from, AreArranged, IsExpanded}
+use Rattle.layer_nodes.proofs.Spans.{length-spanned}
+use Rattle.layer_nodes.proofs.Tried.{length-arcs}
+
+map-map : {X Y Z : Type 0} (f : X → Y) (g : Y → Z) (xs : List X) → map g (map f xs) ≡ map (λ x. g (f x)) xs
+map-map f g [] = refl
+map-map f g (x ∷ xs) = ap (λ l. g (f x) ∷ l) (map-map f g xs)
+
+-- the decisions of a layer above the last one
+allowed-at : (dp : Dp) (k : ℕ) (s : List ℤ) → k < dp.vars → allowed_below dp k s (dp.choices k) ≡ decisions_at dp k s
+allowed-at dp k s low = let inside : nat_lt k dp.vars ≡ true = grind arith in sym (ap (λ b. cond b (allowed_below dp k s (dp.choices k)) []) inside)
+
+-- Exact rows.
+
+both-ways : (e s m r : Bool) → ((e || not s) && ((e || not m) && r)) ≡ ((e || not (s || m)) && r)
+both-ways true s m r = refl
+both-ways false true m r = refl
+both-ways false false m r = refl
+
+exact-by : (dp : Dp) (k : ℕ) (s : List ℤ) (exact : Bool) (rest : List Trial) (row : List ℤ) (ds : List ℕ)
+    → all_exact dp k (map (trial s exact) ds ++ rest) row ≡ ((exact || not (makes dp k s ds row)) && all_exact dp k rest row)
+exact-by dp k s exact rest row [] = elim exact as (λ b. all_exact dp k rest row ≡ ((b || true) && all_exact dp k rest row)) [ true ↦ refl | false ↦ refl ]
+exact-by dp k s exact rest row (d ∷ ds) =
+    ap (λ b. (exact || not (row_same (dp.step k s d) row)) && b) (exact-by dp k s exact rest row ds)
+    ∙ both-ways exact (row_same (dp.step k s d) row) (makes dp k s ds row) (all_exact dp k rest row)
+
+trials-exact : (dp : Dp) (k : ℕ) (cells : List ℤ) (words : ℕ) (arcs : List DdArc) (paths : ℕ → List ℕ) (i : ℕ) (nodes : List Node) (row : List ℤ) → k < dp.vars
+    → all_exact dp k (trials_of dp k cells words nodes) row ≡ is_exact_row dp k (shown_from paths i (map (node_view words cells arcs) nodes)) row
+trials-exact dp k cells words arcs paths i [] row low = refl
+trials-exact dp k cells words arcs paths i (node ∷ nodes) row low =
+    let s = row_at cells words node.row in
+    exact-by dp k s node.exact (trials_of dp k cells words nodes) row (allowed_below dp k s (dp.choices k))
+    ∙ ap₂ (λ ds b. (node.exact || not (makes dp k s ds row)) && b) (allowed-at dp k s low) (trials-exact dp k cells words arcs paths (i + 1) nodes row low)
+
+-- The nodes as members.
+
+members-shown : (cells : List ℤ) (words : ℕ) (arcs : List DdArc) (paths : ℕ → List ℕ) (i : ℕ) (nodes : List Node)
+    → members_as paths cells words (members_from i nodes) ≡ map prefix_at (shown_from paths i (map (node_view words cells arcs) nodes))
+members-shown cells words arcs paths i [] = refl
+members-shown cells words arcs paths i (node ∷ nodes) = ap (λ l. member_as paths cells words (member_of node i) ∷ l) (members-shown cells words arcs paths (i + 1) nodes)
+
+-- The place of a row.
+
+row-found : (next : List DdNode) (j : ℕ) (row : List ℤ) → slice_get (map (λ (n : DdNode). n.row) next) j ≡ Some row → (node : DdNode) × (slice_get next j ≡ Some node) × (node.row ≡ row)
+row-found [] j row h = absurd (let none : None ≡ Some row = h in cc)
+row-found (n ∷ next) zero row h = (n, refl, same-Some n.row row h)
+row-found (n ∷ next) (suc j) row h = row-found next j row h
+
+place-of : (next : List DdNode) (j : ℕ) (row : List ℤ) → RowsApart next → slice_get (map (λ (n : DdNode). n.row) next) j ≡ Some row
+    → position (λ (n : DdNode). row_same n.row row) next ≡ Some j
+place-of next j row apart h =
+    let at_j = row-found next j row h in
+    let found = found-row next row (one-of-has (λ (n : DdNode). n.row ≡ row) next at_j.0 at_j.2 (Has-at next j at_j.0 at_j.1)) in
+    found.found ∙ ap Some (one-place next found.place j found.node at_j.0 apart found.at at_j.1 (found.same ∙ sym at_j.2))
+
+-- Arcs that are led to the numbers of their targets.
+
+abbrev arc_with : DdArc → Option ℕ → DdArc
+arc_with arc target = record arc { target = target }
+
+module _ (dp : Dp) (k : ℕ) (rows : List ℤ) (words count : ℕ) (next : List DdNode) (keys : List Key) (places : List ℕ) (apart : RowsApart next)
+    (rows-are : map (λ (n : DdNode). n.row) next ≡ map (λ (key : Key). row_at rows words key.place) keys) (numbered : (p : ℕ) → p < count → IsNumbered (length keys) keys places p) where
+  arc-led : (s : List ℤ) (exact : Bool) (d : ℕ) (arc : DdArc) → LeadsToRow dp k rows words count (trial s exact d) arc → led places arc ≡ arc_of dp k next s d
+  arc-led s exact d arc h =
+      let t = trial s exact d in
+      let n = numbered h.place h.within in
+      let there : slice_get (map (λ (n : DdNode). n.row) next) n.number ≡ Some (dp.step k s d) =
+      ap (λ l. slice_get l n.number) rows-are ∙ (slice_get-map (λ (key : Key). row_at rows words key.place) keys n.number
+      ∙ (ap (λ o. option_and_then (λ (key : Key). Some (row_at rows words key.place)) o) (slice_get-get_or keys n.number (key_in [] 0) n.within)
+      ∙ ap Some (ap (row_at rows words) n.same ∙ h.row))) in
+      ap (led places) h.is ∙ (ap (arc_with (arc_to dp k t h.place)) n.is ∙ ap (arc_with (arc_to dp k t h.place)) (sym (place-of next n.number (dp.step k s d) apart there)))
+
+  arcs-led : (s : List ℤ) (exact : Bool) (ds : List ℕ) (arcs : List DdArc) → AreArcsOf dp k rows words count (map (trial s exact) ds) arcs → map (led places) arcs ≡ map (arc_of dp k next s) ds
+  arcs-led s exact [] [] h = refl
+  arcs-led s exact [] (arc ∷ arcs) h = absurd h
+  arcs-led s exact (d ∷ ds) [] h = absurd h
+  arcs-led s exact (d ∷ ds) (arc ∷ arcs) h = ap₂ (λ a l. a ∷ l) (arc-led s exact d arc h.0) (arcs-led s exact ds arcs h.1)
+
+  arcs-first : (ts us : List Trial) (arcs : List DdArc) → AreArcsOf dp k rows words count (ts ++ us) arcs → AreArcsOf dp k rows words count ts (take (length ts) arcs)
+  arcs-first [] us arcs h = tt
+  arcs-first (t ∷ ts) us [] h = absurd h
+  arcs-first (t ∷ ts) us (arc ∷ arcs) h = (h.0, arcs-first ts us arcs h.1)
+
+  arcs-rest : (ts us : List Trial) (arcs : List DdArc) → AreArcsOf dp k rows words count (ts ++ us) arcs → AreArcsOf dp k rows words count us (drop (length ts) arcs)
+  arcs-rest [] us arcs h = h
+  arcs-rest (t ∷ ts) us [] h = absurd h
+  arcs-rest (t ∷ ts) us (arc ∷ arcs) h = arcs-rest ts us arcs h.1
+
+  module _ (cells : List ℤ) (old : List DdArc) (low : k < dp.vars) (paths : ℕ → List ℕ) where
+    abbrev view : List DdArc → Node → NodeView
+    view arcs node = node_view words cells arcs node
+
+    above-from : (i : ℕ) (nodes : List Node) (first : ℕ) (before arcs : List DdArc) → length before ≡ first → AreArcsOf dp k rows words count (trials_of dp k cells words nodes) arcs
+        → shown_from paths i (map (view (before ++ map (led places) arcs)) (all_spanned dp k cells words first nodes)) ≡ with_arcs dp k next (shown_from paths i (map (view old) nodes))
+    above-from i [] first before arcs size h = refl
+    above-from i (node ∷ nodes) first before arcs size h =
+        let s = row_at cells words node.row in
+        let ts = trials_at dp k cells words node in
+        let n = length ts in
+        let us = trials_of dp k cells words nodes in
+        let all = before ++ map (led places) arcs in
+        let mine = take n arcs in
+        let rest = drop n arcs in
+        let these : take n (drop first all) ≡ map (arc_of dp k next s) (decisions_at dp k s) =
+        ap (λ j. take n (drop j all)) (sym size) ∙ (ap (take n) (drop-append_seam before (map (led places) arcs))
+        ∙ (take-map (led places) n arcs ∙ (arcs-led s node.exact (allowed_below dp k s (dp.choices k)) mine (arcs-first ts us arcs h)
+        ∙ ap (map (arc_of dp k next s)) (allowed-at dp k s low)))) in
+        let split : all ≡ (before ++ map (led places) mine) ++ map (led places) rest =
+        ap (λ l. before ++ l) (ap (map (led places)) (sym (take-append-drop n arcs)) ∙ map-append (led places) mine rest)
+        ∙ sym (append_assoc before (map (led places) mine) (map (led places) rest)) in
+        let count = length-arcs dp k rows words count ts mine (arcs-first ts us arcs h) in
+        let long = length-append before (map (led places) mine) in
+        let same = length-map mine (led places) in
+        ap₂ (λ a l. a ∷ l) (ap (λ x. record (shown (paths i) (view old node)) { arcs = x }) these)
+        (ap (λ x. shown_from paths (i + 1) (map (view x) (all_spanned dp k cells words (first + n) nodes))) split
+        ∙ above-from (i + 1) nodes (first + n) (before ++ map (led places) mine) rest (omega arith) (arcs-rest ts us arcs h))
+
+-- Nothing else of the nodes above changes.
+
+pub rest-stays : (dp : Dp) (k : ℕ) (cells : List ℤ) (words : ℕ) (old new : List DdArc) (first : ℕ) (nodes : List Node)
+    → map without_arcs (map (node_view words cells new) (all_spanned dp k cells words first nodes)) ≡ map without_arcs (map (node_view words cells old) nodes)
+rest-stays dp k cells words old new first [] = refl
+rest-stays dp k cells words old new first (node ∷ nodes) =
+    ap (λ l. without_arcs (node_view words cells old node) ∷ l) (rest-stays dp k cells words old new (first + length (trials_at dp k cells words node)) nodes)
+
+get_or-any : {X : Type 0} (xs : List X) (j : ℕ) (a b : X) → j < length xs → get_or xs j a ≡ get_or xs j b
+get_or-any [] j a b less = absurd (omega arith)
+get_or-any (x ∷ xs) zero a b less = refl
+get_or-any (x ∷ xs) (suc j) a b less = get_or-any xs j a b (omega arith)
+
+-- What a layer in memory owes.
+
+pub stored-above : (dp : Dp) (k : ℕ) (cells : List ℤ) (words room first : ℕ) (old new : List DdArc) (nodes : List Node) → Each (IsStored room old) nodes → first + length (trials_of dp k cells words nodes) ≤ length new
+    → Each (IsStored room new) (all_spanned dp k cells words first nodes)
+stored-above dp k cells words room first old new [] h fit = tt
+stored-above dp k cells words room first old new (node ∷ nodes) h fit =
+    let ts = trials_at dp k cells words node in
+    let sum = length-append ts (trials_of dp k cells words nodes) in
+    (record { row = h.0.row; fresh = h.0.fresh; arcs_lie = omega arith }, stored-above dp k cells words room (first + length ts) old new nodes h.1 (omega arith))
+
+pub members-of : (dp : Dp) (k : ℕ) (cells : List ℤ) (words room i : ℕ) (old : List DdArc) (nodes : List Node) → (room + 1) * words ≤ length cells → Each (IsStored room old) nodes
+    → Each (IsParent dp k) (map (node_view words cells old) nodes) → Each (IsMemberOf dp k cells words) (members_from i nodes)
+members-of dp k cells words room i old [] hold s h = tt
+members-of dp k cells words room i old (node ∷ nodes) hold s h =
+    let row = s.0.row in
+    let before = row_before (room + 1) node.row words (omega arith) in
+    (record { within = omega arith; state = h.0.state; rank = h.0.rank; value = h.0.value }, members-of dp k cells words room (i + 1) old nodes hold s.1 h.1)
+
+-- The whole.
+
+module _ (dp : Dp) (k : ℕ) (low : k < dp.vars) (cells : List ℤ) (words : ℕ) (old : List DdArc) (nodes : List Node) (rows : List ℤ) (ways : List Way) (folds heads next : List ℕ)
+    (marks : List Bool) (arcs led_arcs : List DdArc) (nodes2 below : List Node)
+    (joined : AreJoined dp (k + 1) rows words ways folds heads next)
+    (list : (paths : ℕ → List ℕ) → all_reached paths rows words ways ≡ all_joined [] (candidates dp k (members_as paths cells words (members_from 0 nodes))))
+    (tried : AreTried dp k rows words (length ways) (trials_of dp k cells words nodes) marks arcs)
+    (spans : nodes2 ≡ all_spanned dp k cells words 0 nodes)
+    (arranged : AreArranged rows words ways marks arcs led_arcs below) where
+  abbrev keys : List Key
+  keys = arranged.keys
+
+  abbrev layer_of : (ℕ → List ℕ) → List DdNode
+  layer_of paths = shown_layer paths (map (node_view words cells old) nodes)
+
+  layer-keys : Each (IsKeyOf ways) keys
+  layer-keys = keys-are dp (k + 1) rows words ways keys joined.apart joined.good arranged.all arranged.sorted
+
+  order-is : (paths : ℕ → List ℕ) → all_of paths rows words ways keys ≡ expanded dp k (map prefix_at (layer_of paths))
+  order-is paths =
+      in-order dp (k + 1) rows words ways keys joined.apart joined.good arranged.all arranged.sorted paths
+      ∙ ap (in_order dp (k + 1)) (list paths ∙ ap (λ l. all_joined [] (candidates dp k l)) (members-shown cells words old paths 0 nodes))
+
+  abbrev from : (ℕ → List ℕ) → Key → ℤ → Bool → DdNode
+  from paths key value exact = record {
+    row = row_at rows words key.place;
+    value = value;
+    exact = exact;
+    arcs = [];
+    path = paths (way_at ways key.place).parent ++ (way_at ways key.place).decision ∷ [];
+    suffix = None;
+  }
+
+  node-is : (paths : ℕ → List ℕ) (key : Key) → IsKeyOf ways key → from paths key key.value (mark_at marks key.place) ≡ node_for dp k (layer_of paths) (reached_of paths rows words ways key)
+  node-is paths key h =
+      let value : key.value ≡ (way_at ways key.place).value = ap (λ (x : Key). x.value) h.is in
+      let row = row_at rows words key.place in
+      ap₂ (from paths key) value (tried.marks_are key.place h.within ∙ trials-exact dp k cells words old paths 0 nodes row low)
+
+  nodes-are : (paths : ℕ → List ℕ) (any : List DdArc) (ks : List Key) → Each (IsKeyOf ways) ks
+      → shown_below paths (map (node_view words rows any) (map (node_of ways marks) ks)) ≡ map (node_for dp k (layer_of paths)) (all_of paths rows words ways ks)
+  nodes-are paths any [] h = refl
+  nodes-are paths any (key ∷ ks) h = ap₂ (λ a l. a ∷ l) (node-is paths key h.0) (nodes-are paths any ks h.1)
+
+  pub next-shown : (paths : ℕ → List ℕ) (any : List DdArc) → shown_below paths (map (node_view words rows any) below) ≡ new_layer dp k (layer_of paths)
+  next-shown paths any = ap (λ l. shown_below paths (map (node_view words rows any) l)) arranged.nodes_are ∙ (nodes-are paths any keys layer-keys ∙ ap (map (node_for dp k (layer_of paths))) (order-is paths))
+
+  rows-of : (paths : ℕ → List ℕ) (ks : List Key) → map (λ (n : DdNode). n.row) (map (node_for dp k (layer_of paths)) (all_of paths rows words ways ks)) ≡ map (λ (key : Key). row_at rows words key.place) ks
+  rows-of paths [] = refl
+  rows-of paths (key ∷ ks) = ap (λ l. row_at rows words key.place ∷ l) (rows-of paths ks)
+
+  next-rows : (paths : ℕ → List ℕ) → map (λ (n : DdNode). n.row) (new_layer dp k (layer_of paths)) ≡ map (λ (key : Key). row_at rows words key.place) keys
+  next-rows paths = ap (λ l. map (λ (n : DdNode). n.row) (map (node_for dp k (layer_of paths)) l)) (sym (order-is paths)) ∙ rows-of paths keys
+
+  all-numbered : (p : ℕ) → p < length ways → IsNumbered (length keys) keys arranged.places p
+  all-numbered p less =
+      each-has (λ (key : Key). IsNumbered (length keys) keys arranged.places key.place) keys (key_at ways p)
+      (each-at (λ (key : Key). IsNumbered (length keys) keys arranged.places key.place) keys
+      (λ j d in_keys. subst (λ (key : Key). IsNumbered (length keys) keys arranged.places key.place) (get_or-any keys j _ d in_keys) (arranged.numbered j in_keys)))
+      (Has-permutation (keys_of ways) keys arranged.all (key_at ways p) (has-table (key_at ways) (length ways) p less))
+
+  pub above-shown : (paths : ℕ → List ℕ) → shown_layer paths (map (node_view words cells led_arcs) nodes2) ≡ with_arcs dp k (new_layer dp k (layer_of paths)) (layer_of paths)
+  above-shown paths =
+      ap₂ (λ l m. shown_layer paths (map (node_view words cells l) m)) arranged.arcs_are spans
+      ∙ above-from dp k rows words (length ways) (new_layer dp k (layer_of paths)) keys arranged.places (new-apart dp k (layer_of paths)) (next-rows paths) all-numbered
+      cells old low paths 0 nodes 0 [] arcs refl tried.arcs_are
+
+  pub above-rest : map without_arcs (map (node_view words cells led_arcs) nodes2) ≡ map without_arcs (map (node_view words cells old) nodes)
+  above-rest = ap (λ m. map without_arcs (map (node_view words cells led_arcs) m)) spans ∙ rest-stays dp k cells words old led_arcs 0 nodes
+
+  pub length-led : length led_arcs ≡ length arcs
+  length-led = ap length arranged.arcs_are ∙ length-map arcs (led arranged.places)
+
+  pub above-stored : (room : ℕ) → Each (IsStored room old) nodes → Each (IsStored room led_arcs) nodes2
+  above-stored room h =
+      let size = length-arcs dp k rows words (length ways) (trials_of dp k cells words nodes) arcs tried.arcs_are in
+      let same = length-led in
+      subst (Each (IsStored room led_arcs)) (sym spans) (stored-above dp k cells words room 0 old led_arcs nodes h (omega arith))
+
+  pub above-length : length nodes2 ≡ length nodes
+  above-length = ap length spans ∙ length-spanned dp k cells words 0 nodes
+
+  ranked-all : (any : List DdArc) (ks : List Key) → Each (IsKeyOf ways) ks → Each (IsRanked dp (k + 1)) (map (node_view words rows any) (map (node_of ways marks) ks))
+  ranked-all any [] h = tt
+  ranked-all any (key ∷ ks) h =
+      let way = joined.good key.place h.0.within in
+      (record { state = way.state; rank = ap (λ (x : Key). x.rank) h.0.is ∙ way.rank }, ranked-all any ks h.1)
+
+  pub next-ranked : (any : List DdArc) → Each (IsRanked dp (k + 1)) (map (node_view words rows any) below)
+  next-ranked any = subst (λ l. Each (IsRanked dp (k + 1)) (map (node_view words rows any) l)) (sym arranged.nodes_are) (ranked-all any keys layer-keys)
+
+  unmerged-all : (any : List DdArc) (ks : List Key) → Each (λ (n : NodeView). IsSome n.parent) (map (node_view words rows any) (map (node_of ways marks) ks))
+  unmerged-all any [] = tt
+  unmerged-all any (key ∷ ks) = (refl, unmerged-all any ks)
+
+  pub next-unmerged : (any : List DdArc) → Each (λ (n : NodeView). IsSome n.parent) (map (node_view words rows any) below)
+  next-unmerged any = subst (λ l. Each (λ (n : NodeView). IsSome n.parent) (map (node_view words rows any) l)) (sym arranged.nodes_are) (unmerged-all any keys)
+
+  pub next-length : length below ≡ length ways
+  next-length = ap length arranged.nodes_are ∙ (length-map keys (node_of ways marks) ∙ length-keys ways keys arranged.all)
+
+  stored-all : (room : ℕ) (any : List DdArc) (ks : List Key) → length ways ≤ room → Each (IsKeyOf ways) ks → Each (IsStored room any) (map (node_of ways marks) ks)
+  stored-all room any [] few h = tt
+  stored-all room any (key ∷ ks) few h =
+      let less = h.0.within in
+      (record { row = omega arith; fresh = λ _. omega arith; arcs_lie = omega arith }, stored-all room any ks few h.1)
+
+  pub next-stored : (room : ℕ) (any : List DdArc) → length ways ≤ room → Each (IsStored room any) below
+  next-stored room any few = subst (Each (IsStored room any)) (sym arranged.nodes_are) (stored-all room any keys few layer-keys)
+
+-- the extended layer is put in order
+pub whole : (dp : Dp) (k : ℕ) → k < dp.vars → (cells : List ℤ) (words : ℕ) (nodes : List Node) (rows : List ℤ) (ways : List Way) (folds heads next : List ℕ)
+    (marks : List Bool) (arcs led_arcs : List DdArc) (nodes2 below : List Node) → AreJoined dp (k + 1) rows words ways folds heads next
+    → ((paths : ℕ → List ℕ) → all_reached paths rows words ways ≡ all_joined [] (candidates dp k (members_as paths cells words (members_from 0 nodes))))
+    → AreTried dp k rows words (length ways) (trials_of dp k cells words nodes) marks arcs → nodes2 ≡ all_spanned dp k cells words 0 nodes → length ways ≤ length nodes * dp.choices k
+    → length arcs ≤ length nodes * dp.choices k → AreArranged rows words ways marks arcs led_arcs below → IsExpanded dp k words cells nodes nodes2 led_arcs rows below
+whole dp k low cells words nodes rows ways folds heads next marks arcs led_arcs nodes2 below joined list tried spans few few_arcs arranged = record {
+  above_is = λ before paths. above-shown dp k low cells words before nodes rows ways folds heads next marks arcs led_arcs nodes2 below joined list tried spans arranged paths;
+  next_is = λ before any paths. next-shown dp k low cells words before nodes rows ways folds heads next marks arcs led_arcs nodes2 below joined list tried spans arranged paths any;
+  rest = λ before. above-rest dp k low cells words before nodes rows ways folds heads next marks arcs led_arcs nodes2 below joined list tried spans arranged;
+  ranked = λ any. next-ranked dp k low cells words any nodes rows ways folds heads next marks arcs led_arcs nodes2 below joined list tried spans arranged any;
+  unmerged = λ any. next-unmerged dp k low cells words any nodes rows ways folds heads next marks arcs led_arcs nodes2 below joined list tried spans arranged any;
+  stored = λ before room h. above-stored dp k low cells words before nodes rows ways folds heads next marks arcs led_arcs nodes2 below joined list tried spans arranged room h;
+  below_stored = λ any room fits. next-stored dp k low cells words any nodes rows ways folds heads next marks arcs led_arcs nodes2 below joined list tried spans arranged room any (omega arith);
+  same = above-length dp k low cells words arcs nodes rows ways folds heads next marks arcs led_arcs nodes2 below joined list tried spans arranged;
+  few = (let size = next-length dp k low cells words arcs nodes rows ways folds heads next marks arcs led_arcs nodes2 below joined list tried spans arranged in omega arith);
+  few_arcs = (let size = length-led dp k low cells words arcs nodes rows ways folds heads next marks arcs led_arcs nodes2 below joined list tried spans arranged in omega arith);
+}
+
+-- the same by equal parts
+pub arranged-by : (words words2 : ℕ) (rows rows2 : List ℤ) (ways ways2 : List Way) (marks marks2 : List Bool) (old old2 new : List DdArc) (nodes : List Node)
+    → AreArranged rows words ways marks old new nodes → words ≡ words2 → rows ≡ rows2 → ways ≡ ways2 → marks ≡ marks2 → old ≡ old2 → AreArranged rows2 words2 ways2 marks2 old2 new nodes
+arranged-by words words2 rows rows2 ways ways2 marks marks2 old old2 new nodes h a b c d e =
+    subst (λ x. AreArranged rows2 x ways2 marks2 old2 new nodes) a
+    (subst (λ x. AreArranged x words ways2 marks2 old2 new nodes) b
+    (subst (λ x. AreArranged rows words x marks2 old2 new nodes) c
+    (subst (λ x. AreArranged rows words ways x old2 new nodes) d
+    (subst (λ x. AreArranged rows words ways marks x new nodes) e h))))
+
+pub expanded-by : (dp : Dp) (k words : ℕ) (cells cells2 : List ℤ) (old old2 new : List Node) (arcs : List DdArc) (rows : List ℤ) (below : List Node)
+    → IsExpanded dp k words cells old new arcs rows below → cells ≡ cells2 → old ≡ old2 → IsExpanded dp k words cells2 old2 new arcs rows below
+expanded-by dp k words cells cells2 old old2 new arcs rows below h a b =
+    subst (λ x. IsExpanded dp k words x old2 new arcs rows below) a (subst (λ x. IsExpanded dp k words cells x new arcs rows below) b h)
+
+pub each-by : (dp : Dp) (k words : ℕ) (cells cells2 : List ℤ) (nodes nodes2 : List Node) → cells ≡ cells2 → nodes ≡ nodes2
+    → Each (IsMemberOf dp k cells words) (members_from 0 nodes) → Each (IsMemberOf dp k cells2 words) (members_from 0 nodes2)
+each-by dp k words cells cells2 nodes nodes2 a b h =
+    subst (λ x. Each (IsMemberOf dp k x words) (members_from 0 nodes2)) a (subst (λ x. Each (IsMemberOf dp k cells words) (members_from 0 x)) b h)

@@ -1,0 +1,46 @@
+-- Arcs that lose their targets behind a width.
+use Rattle.std.proofs.Common.{◌≡◌, ℕ, zero, suc, ◌+◌, ◌-◌, ◌<◌, ◌≤◌, nat_lt, ℤ, pos, ◌+ℤ◌, true, false, cond, List, ◌++◌, length, replicate, slice_get, Option, Some, None, option_and_then, ◌⊎◌, inl, inr, refl, sym, ◌∙◌, ap, arith}
+use Rattle.std.proofs.lemmas.Int.{ints}
+use Rattle.dp_laws.specs.declared.arc.DdArc.{DdArc}
+use Rattle.dp_laws.specs.Diagrams.Nodes.{DdNode}
+use Rattle.dp_laws.proofs.Diagrams.Places.{slice_get-append}
+use Rattle.dp_laws.proofs.Rules.Merged.{behind, length-staying, staying-at}
+use Rattle.dp_laws.specs.Rules.Redirects.{Redirect, redirected_by, redirected}
+use Rattle.dp_laws.specs.Rules.Reducing.{staying, keep_redirects}
+use Rattle.layer_nodes.specs.Keeping.{kept_target, kept_arc}
+use Rattle.layer_nodes.specs.Redirecting.{redirect_of}
+
+none-there : (m j : ℕ) → option_and_then (λ (l : Option Redirect). l) (slice_get (replicate m None) j) ≡ None
+none-there zero j = refl
+none-there (suc m) zero = refl
+none-there (suc m) (suc j) = none-there m j
+
+plus-none : (z : ℤ) → z +ℤ pos 0 ≡ z
+plus-none z = omega (arith, ints)
+
+-- a target below the width stays, and another is lost
+kept-some : (width m i : ℕ) → redirect_of (staying width ++ replicate m None) (Some i) ≡ cond (nat_lt i width) (Some (record { place = i; longer = pos 0 })) None
+kept-some width m i = go (let at : (i < width) ⊎ (width ≤ i) = grind arith in at)
+  where
+    go : (i < width) ⊎ (width ≤ i) → redirect_of (staying width ++ replicate m None) (Some i) ≡ cond (nat_lt i width) (Some (record { place = i; longer = pos 0 })) None
+    go (inl less) =
+        let test : nat_lt i width ≡ true = grind arith in
+        ap (option_and_then (λ (l : Option Redirect). l)) (slice_get-append (staying width) (replicate m None) i (Some (record { place = i; longer = pos 0 })) (staying-at width i less))
+        ∙ ap (λ b. cond b (Some (record { place = i; longer = pos 0 })) None) (sym test)
+    go (inr more) =
+        let test : nat_lt i width ≡ false = grind arith in
+        let sum : i ≡ width + (i - width) = omega arith in
+        ap (λ j. option_and_then (λ (l : Option Redirect). l) (slice_get (staying width ++ replicate m None) j)) sum
+        ∙ (ap (option_and_then (λ (l : Option Redirect). l)) (behind (staying width) (replicate m None) width (i - width) (length-staying width))
+        ∙ (none-there m (i - width) ∙ ap (λ b. cond b (Some (record { place = i; longer = pos 0 })) None) (sym test)))
+
+by-test : (arc : DdArc) (i : ℕ) → (b : _) → record arc { target = cond b (Some i) None } ≡ redirected_by arc (cond b (Some (record { place = i; longer = pos 0 })) None)
+by-test arc i true = ap (λ l. record arc { target = Some i; longer = l }) (sym (plus-none arc.longer))
+by-test arc i false = refl
+
+kept-target : (width m : ℕ) (arc : DdArc) (target : Option ℕ) → record arc { target = kept_target width target } ≡ redirected_by arc (redirect_of (staying width ++ replicate m None) target)
+kept-target width m arc None = refl
+kept-target width m arc (Some i) = by-test arc i (nat_lt i width) ∙ ap (redirected_by arc) (sym (kept-some width m i))
+
+pub kept-is : (width : ℕ) (layer : List DdNode) (arc : DdArc) → kept_arc width arc ≡ redirected (keep_redirects width layer) arc
+kept-is width layer arc = kept-target width (length layer - width) arc arc.target

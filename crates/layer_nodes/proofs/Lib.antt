@@ -1,0 +1,12 @@
+pub mod Tried
+pub mod Numbered
+pub mod Spans
+pub mod Expanded
+pub mod Redirected
+pub mod Stored
+pub mod Shown
+pub mod Leaders
+pub mod Pruned
+pub mod Kept
+pub mod Merged
+pub mod MergedLayers

@@ -1,0 +1,114 @@
+-- Arcs that get new targets, one after another.
+use Rattle.std.proofs.Common.{◌≡◌, ℕ, zero, suc, ◌+◌, ◌%◌, ◌^◌, ◌<◌, ◌≤◌, ℤ, ◌+ℤ◌, List, [], ◌∷◌, ◌++◌, length, map, take, drop, set, get_or, slice_get, Option, Some, None, option_and_then, to_z, of_z, w64, refl, sym, ◌∙◌, ap, ap₂, subst, arith}
+use Rattle.std.proofs.lemmas.Int.{ints, wrapping_add_is, int_wrap_fits}
+use Rattle.std.proofs.lemmas.List.{take_more, take_more_set, drop-set-lt, length-set, take_all}
+use Rattle.dp_model.specs.Lists.{Each}
+use Rattle.dp_model.specs.Numbers.{IsSmall, IsFar}
+use Rattle.dp_laws.specs.declared.arc.DdArc.{DdArc}
+use Rattle.dp_laws.specs.Rules.Redirects.{Redirect, redirected_by, redirected}
+use Rattle.layer_nodes.specs.Redirecting.{redirect_of, IsShort, IsRedirected, AreRedirected}
+
+-- One arc.
+
+short-at : (ls : List (Option Redirect)) (i : ℕ) (l : Redirect) → Each IsShort ls → option_and_then (λ o. o) (slice_get ls i) ≡ Some l → IsSmall l.longer
+short-at [] i l short h = absurd (cc)
+short-at (o ∷ ls) zero l short h = subst IsShort h short.0
+short-at (o ∷ ls) (suc i) l short h = short-at ls i l short.1 h
+
+pub short-redirect : (ls : List (Option Redirect)) (target : Option ℕ) (l : Redirect) → Each IsShort ls → redirect_of ls target ≡ Some l → IsSmall l.longer
+short-redirect ls None l short h = absurd (cc)
+short-redirect ls (Some i) l short h = short-at ls i l short h
+
+pub sum-is : (a b : ℤ) → IsFar a → IsSmall b → to_z w64 ((of_z w64 a + of_z w64 b) % 2 ^ 64) ≡ (a +ℤ b)
+sum-is a b far small = wrapping_add_is w64 a b (omega (arith, ints)) (omega (arith, ints)) ∙ int_wrap_fits w64 (a +ℤ b) (omega (arith, ints))
+
+abbrev arc_of : ℕ → Option ℕ → ℤ → ℤ → DdArc
+arc_of d t g l = record { decision = d; target = t; gain = g; longer = l }
+
+pub redirected-some : (ls : List (Option Redirect)) (arc : DdArc) (l : Redirect) (place : ℕ) (gain longer : ℤ) → redirect_of ls arc.target ≡ Some l → place ≡ l.place → gain ≡ arc.gain → longer ≡ (arc.longer +ℤ l.longer)
+    → arc_of arc.decision (Some place) gain longer ≡ redirected ls arc
+redirected-some ls arc l place gain longer h a b c = rw a (rw b (rw c (sym (ap (redirected_by arc) h))))
+
+-- Lists of arcs.
+
+module _ (ls : List (Option Redirect)) where
+  push : (olds news : List DdArc) (old new : DdArc) → AreRedirected ls olds news → IsRedirected ls old new → AreRedirected ls (olds ++ old ∷ []) (news ++ new ∷ [])
+  push [] [] old new all one = (one, tt)
+  push [] (n ∷ news) old new all one = absurd all
+  push (o ∷ olds) [] old new all one = absurd all
+  push (o ∷ olds) (n ∷ news) old new all one = (all.0, push olds news old new all.1 one)
+
+  pub redirected-take : (n : ℕ) (olds news : List DdArc) → AreRedirected ls olds news → AreRedirected ls (take n olds) (take n news)
+  redirected-take zero olds news all = tt
+  redirected-take (suc n) [] [] all = tt
+  redirected-take (suc n) [] (x ∷ news) all = absurd all
+  redirected-take (suc n) (o ∷ olds) [] all = absurd all
+  redirected-take (suc n) (o ∷ olds) (x ∷ news) all = (all.0, redirected-take n olds news all.1)
+
+  pub redirected-drop : (n : ℕ) (olds news : List DdArc) → AreRedirected ls olds news → AreRedirected ls (drop n olds) (drop n news)
+  redirected-drop zero olds news all = all
+  redirected-drop (suc n) [] [] all = tt
+  redirected-drop (suc n) [] (x ∷ news) all = absurd all
+  redirected-drop (suc n) (o ∷ olds) [] all = absurd all
+  redirected-drop (suc n) (o ∷ olds) (x ∷ news) all = redirected-drop n olds news all.1
+
+  pub redirected-far : (olds news : List DdArc) → AreRedirected ls olds news → Each (λ arc. IsFar arc.longer) olds → news ≡ map (redirected ls) olds
+  redirected-far [] [] all far = refl
+  redirected-far [] (n ∷ news) all far = absurd all
+  redirected-far (o ∷ olds) [] all far = absurd all
+  redirected-far (o ∷ olds) (n ∷ news) all far = ap₂ (λ x xs. x ∷ xs) (all.0 far.0) (redirected-far olds news all.1 far.1)
+
+  pub redirected-length : (olds news : List DdArc) → AreRedirected ls olds news → length news ≡ length olds
+  redirected-length [] [] all = refl
+  redirected-length [] (n ∷ news) all = absurd all
+  redirected-length (o ∷ olds) [] all = absurd all
+  redirected-length (o ∷ olds) (n ∷ news) all = let rest = redirected-length olds news all.1 in omega arith
+
+-- What was done and what is left.
+
+pub record IsChanged (ls : List (Option Redirect)) (old now : List DdArc) (i : ℕ) : Type 0 where
+  pub done : AreRedirected ls (take i old) (take i now)
+  pub left : drop i now ≡ drop i old
+  pub same : length now ≡ length old
+
+get_or-any : {X : Type 0} (xs : List X) (i : ℕ) (d e : X) → i < length xs → get_or xs i d ≡ get_or xs i e
+get_or-any [] i d e less = absurd (omega arith)
+get_or-any (x ∷ xs) zero d e less = refl
+get_or-any (x ∷ xs) (suc i) d e less = get_or-any xs i d e (omega arith)
+
+-- the element that is next
+pub left-at : {X : Type 0} (old now : List X) (i : ℕ) (d : X) → drop i now ≡ drop i old → length now ≡ length old → i < length old → get_or now i d ≡ get_or old i d
+left-at [] now i d left same less = absurd (omega arith)
+left-at (o ∷ old) [] i d left same less = absurd (omega arith)
+left-at (o ∷ old) (n ∷ now) zero d left same less = ap (λ l. get_or l 0 d) left
+left-at (o ∷ old) (n ∷ now) (suc i) d left same less = left-at old now i d left (omega arith) (omega arith)
+
+pub changed-more : (ls : List (Option Redirect)) (old now : List DdArc) (i : ℕ) (arc d : DdArc) → IsChanged ls old now i → i < length old → IsRedirected ls (get_or now i d) arc → IsChanged ls old (set now i arc) (i + 1)
+changed-more ls old now i arc d h less one =
+    let size = h.same in
+    let at = left-at old now i d h.left h.same less in
+    record {
+      done = subst (λ l. AreRedirected ls (take (i + 1) old) l) (sym (take_more_set now i arc (omega arith)))
+          (subst (λ l. AreRedirected ls l (take i now ++ arc ∷ [])) (sym (take_more old i d less))
+          (push ls (take i old) (take i now) (get_or old i d) arc h.done (subst (λ a. IsRedirected ls a arc) at one)));
+      left = drop-set-lt (i + 1) now i arc (omega arith) ∙ after old now i h.left h.same;
+      same = length-set now i arc ∙ h.same;
+    }
+  where
+    after : {X : Type 0} (old now : List X) (i : ℕ) → drop i now ≡ drop i old → length now ≡ length old → drop (i + 1) now ≡ drop (i + 1) old
+    after old now i left same = let one : i + 1 ≡ suc i = omega arith in ap (λ n. drop n now) one ∙ (next old now i left same ∙ ap (λ n. drop n old) (sym one))
+      where
+        next : {X : Type 0} (old now : List X) (i : ℕ) → drop i now ≡ drop i old → length now ≡ length old → drop (suc i) now ≡ drop (suc i) old
+        next [] [] i left same = refl
+        next [] (n ∷ now) i left same = absurd (omega arith)
+        next (o ∷ old) [] i left same = absurd (omega arith)
+        next (o ∷ old) (n ∷ now) zero left same = ap (drop 1) left
+        next (o ∷ old) (n ∷ now) (suc i) left same = next old now i left (omega arith)
+
+pub changed-all : (ls : List (Option Redirect)) (old now : List DdArc) (i : ℕ) → IsChanged ls old now i → length old ≤ i → AreRedirected ls old now
+changed-all ls old now i h end =
+    let size = h.same in
+    subst (λ l. AreRedirected ls l now) (take_all i old (omega arith)) (subst (AreRedirected ls (take i old)) (take_all i now (omega arith)) h.done)
+
+pub changed-none : (ls : List (Option Redirect)) (arcs : List DdArc) → IsChanged ls arcs arcs 0
+changed-none ls arcs = record { done = tt; left = refl; same = refl }

@@ -1,0 +1,72 @@
+-- Layers with their paths, whose arcs get new targets.
+use Rattle.std.proofs.Common.{IsSome, ◌<◌, ◌≡◌, ℕ, ◌+◌, ℤ, List, [], ◌∷◌, length, map, take, drop, Option, refl, ap, ap₂, arith}
+use Rattle.dp_model.specs.Dp.{Dp}
+use Rattle.dp_model.specs.Lists.{Each}
+use Rattle.dp_model.proofs.Members.{Each-then}
+use Rattle.dp_laws.specs.declared.arc.DdArc.{DdArc}
+use Rattle.dp_laws.specs.Diagrams.Nodes.{DdNode, path_below}
+use Rattle.dp_laws.specs.Rules.Redirects.{Redirect, redirected, with_redirected}
+use Rattle.layer_nodes.specs.declared.node.Node.{Node}
+use Rattle.layer_nodes.specs.Leading.{IsNodeIn}
+use Rattle.layer_nodes.specs.Nodes.{NodeView, shown, shown_from, shown_below, without_arcs}
+use Rattle.layer_nodes.specs.Redirecting.{AreRedirected}
+use Rattle.layer_nodes.specs.Steps.{IsNodeOf, MayBeLengthened}
+use Rattle.layer_nodes.specs.Stored.{node_view, IsStored, HasRow}
+use Rattle.layer_nodes.specs.Striking.{Shows}
+use Rattle.layer_nodes.proofs.Redirected.{redirected-take, redirected-drop, redirected-far}
+
+-- ---- the layer above
+
+abbrev pub with_targets : List (Option Redirect) → NodeView → NodeView
+with_targets ls node = record node { arcs = map (redirected ls) node.arcs }
+
+pub views-redirected : (ls : List (Option Redirect)) (words : ℕ) (rows : List ℤ) (old new : List DdArc) (nodes : List Node) → AreRedirected ls old new → Each MayBeLengthened (map (node_view words rows old) nodes)
+    → map (node_view words rows new) nodes ≡ map (with_targets ls) (map (node_view words rows old) nodes)
+views-redirected ls words rows old new [] h far = refl
+views-redirected ls words rows old new (node ∷ nodes) h far =
+    let arcs = redirected-far ls (take node.arcs (drop node.first_arc old)) (take node.arcs (drop node.first_arc new))
+    (redirected-take ls node.arcs (drop node.first_arc old) (drop node.first_arc new) (redirected-drop ls node.first_arc old new h)) far.0 in
+    ap₂ (λ a l. record (node_view words rows old node) { arcs = a } ∷ l) arcs (views-redirected ls words rows old new nodes h far.1)
+
+pub shown-redirected : (paths : ℕ → List ℕ) (i : ℕ) (ls : List (Option Redirect)) (nodes : List NodeView) → shown_from paths i (map (with_targets ls) nodes) ≡ with_redirected ls (shown_from paths i nodes)
+shown-redirected paths i ls [] = refl
+shown-redirected paths i ls (node ∷ nodes) = ap (λ l. shown (paths i) (with_targets ls node) ∷ l) (shown-redirected paths (i + 1) ls nodes)
+
+pub bare-redirected : (words : ℕ) (rows : List ℤ) (old new : List DdArc) (nodes : List Node) → map without_arcs (map (node_view words rows new) nodes) ≡ map without_arcs (map (node_view words rows old) nodes)
+bare-redirected words rows old new [] = refl
+bare-redirected words rows old new (node ∷ nodes) = ap (λ l. without_arcs (node_view words rows old node) ∷ l) (bare-redirected words rows old new nodes)
+
+pub stored-same : (room : ℕ) (old new : List DdArc) (nodes : List Node) → length new ≡ length old → Each (IsStored room old) nodes → Each (IsStored room new) nodes
+stored-same room old new nodes same h = Each-then (IsStored room old) (IsStored room new) nodes (λ node s. record { row = s.row; fresh = s.fresh; arcs_lie = (let lie = s.arcs_lie in omega arith) }) h
+
+-- ---- the layer below
+
+pub map-map : {X Y Z : Type 0} (f : Y → Z) (g : X → Y) (xs : List X) → map f (map g xs) ≡ map (λ x. f (g x)) xs
+map-map f g [] = refl
+map-map f g (x ∷ xs) = ap (λ l. f (g x) ∷ l) (map-map f g xs)
+
+-- a node of the layer below, as it is shown
+abbrev pub seen : (ℕ → List ℕ) → ℕ → List ℤ → List DdArc → Node → DdNode
+seen paths words rows arcs node = shown (path_below paths node.parent node.decision) (node_view words rows arcs node)
+
+pub seen-shows : (paths : ℕ → List ℕ) (words : ℕ) (rows : List ℤ) (arcs : List DdArc) → Shows rows words (seen paths words rows arcs)
+seen-shows paths words rows arcs = record { rows_are = λ node. refl; values_are = λ node. refl; exact_are = λ node. refl }
+
+pub below-seen : (paths : ℕ → List ℕ) (words : ℕ) (rows : List ℤ) (arcs : List DdArc) (nodes : List Node) → shown_below paths (map (node_view words rows arcs) nodes) ≡ map (seen paths words rows arcs) nodes
+below-seen paths words rows arcs nodes = map-map (λ (node : NodeView). shown (path_below paths node.parent node.decision) node) (node_view words rows arcs) nodes
+
+pub each-view : (P : NodeView → Type 0) (words : ℕ) (rows : List ℤ) (arcs : List DdArc) (nodes : List Node) → Each P (map (node_view words rows arcs) nodes) → Each (λ node. P (node_view words rows arcs node)) nodes
+each-view P words rows arcs [] h = tt
+each-view P words rows arcs (node ∷ nodes) h = (h.0, each-view P words rows arcs nodes h.1)
+
+pub nodes-in : (dp : Dp) (k words : ℕ) (rows : List ℤ) (arcs : List DdArc) (nodes : List Node) → Each (IsNodeOf dp k) (map (node_view words rows arcs) nodes) → Each (HasRow words rows) nodes
+    → Each (IsNodeIn dp k rows words) nodes
+nodes-in dp k words rows arcs [] h r = tt
+nodes-in dp k words rows arcs (node ∷ nodes) h r =
+    (record { within = r.0; state = h.0.state; ranked = h.0.rank; near = h.0.value }, nodes-in dp k words rows arcs nodes h.1 r.1)
+
+-- nodes with a parent do not stand in the row behind the room
+pub fresh-rows : (room words : ℕ) (rows : List ℤ) (arcs : List DdArc) (nodes : List Node) → Each (λ (n : NodeView). IsSome n.parent) (map (node_view words rows arcs) nodes) → Each (IsStored room arcs) nodes
+    → Each (λ node. node.row < room) nodes
+fresh-rows room words rows arcs [] some stored = tt
+fresh-rows room words rows arcs (node ∷ nodes) some stored = (stored.0.fresh some.0, fresh-rows room words rows arcs nodes some.1 stored.1)

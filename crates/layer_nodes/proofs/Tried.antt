@@ -1,0 +1,173 @@
+-- One trial more.
+use Rattle.std.proofs.Common.{◌≡◌, ◌≢◌, ℕ, ◌+◌, ◌<◌, ◌≤◌, nat_eq, ℤ, Bool, true, false, not, ◌&&◌, ◌||◌, List, [], ◌∷◌, ◌++◌, length, map, ◌⊎◌, inl, inr, refl, sym, ap, ap₂, subst, ◌∙◌, arith}
+use Rattle.std.proofs.lemmas.Bool.Decides.{nat_tests}
+use Rattle.std.proofs.lemmas.List.{map-append, get_or-set_same, get_or-set_other}
+use Rattle.dp_model.specs.Dp.{Dp}
+use Rattle.dp_model.specs.Rows.{row_same}
+use Rattle.dp_laws.specs.declared.arc.DdArc.{DdArc}
+use Rattle.layer_candidates.specs.Extending.{allowed_below}
+use Rattle.layer_candidates.specs.Rows.{row_at}
+use Rattle.layer_candidates.specs.Table.{IsPlaced}
+use Rattle.layer_candidates.specs.Ways.{AreApart}
+use Rattle.layer_candidates.proofs.Extended.{allowed-more, refused-more}
+use Rattle.layer_candidates.proofs.Joined.{same_rows, other_rows}
+use Rattle.layer_nodes.specs.Expanding.{Trial, trial, made_by, trials_by, arc_to, AreArcsOf, all_exact, mark_at, marked, AreTried}
+
+-- Arcs.
+
+module _ (dp : Dp) (k : ℕ) (rows : List ℤ) (words count : ℕ) where
+  pub arcs-append : (ts us : List Trial) (arcs bs : List DdArc) → AreArcsOf dp k rows words count ts arcs → AreArcsOf dp k rows words count us bs → AreArcsOf dp k rows words count (ts ++ us) (arcs ++ bs)
+  arcs-append [] us [] bs h g = g
+  arcs-append [] us (a ∷ arcs) bs h g = absurd h
+  arcs-append (t ∷ ts) us [] bs h g = absurd h
+  arcs-append (t ∷ ts) us (a ∷ arcs) bs h g = (h.0, arcs-append ts us arcs bs h.1 g)
+
+  pub length-arcs : (ts : List Trial) (arcs : List DdArc) → AreArcsOf dp k rows words count ts arcs → length arcs ≡ length ts
+  length-arcs [] [] h = refl
+  length-arcs [] (a ∷ arcs) h = absurd h
+  length-arcs (t ∷ ts) [] h = absurd h
+  length-arcs (t ∷ ts) (a ∷ arcs) h = (let rest = length-arcs ts arcs h.1 in omega arith)
+
+  -- a row that none of them makes is exact
+  pub exact-none : (ts : List Trial) (arcs : List DdArc) (row : List ℤ) → AreArcsOf dp k rows words count ts arcs → ((p : ℕ) → p < count → row_at rows words p ≢ row) → all_exact dp k ts row ≡ true
+  exact-none [] [] row h none = refl
+  exact-none [] (a ∷ arcs) row h none = absurd h
+  exact-none (t ∷ ts) [] row h none = absurd h
+  exact-none (t ∷ ts) (a ∷ arcs) row h none =
+      let one = h.0 in
+      let other : row_same (made_by dp k t) row ≡ false = other_rows (made_by dp k t) row (λ e. none one.place one.within (one.row ∙ e)) in
+      ap₂ (λ b c. (t.exact || not b) && c) other (exact-none ts arcs row h.1 none) ∙ or-true t.exact
+    where
+      or-true : (e : Bool) → ((e || not false) && true) ≡ true
+      or-true true = refl
+      or-true false = refl
+
+pub arcs-stay : (dp : Dp) (k : ℕ) (rows rows2 : List ℤ) (words count count2 : ℕ) → count ≤ count2 → ((i : ℕ) → i < count → row_at rows2 words i ≡ row_at rows words i)
+    → (ts : List Trial) (arcs : List DdArc) → AreArcsOf dp k rows words count ts arcs → AreArcsOf dp k rows2 words count2 ts arcs
+arcs-stay dp k rows rows2 words count count2 more stay [] [] h = tt
+arcs-stay dp k rows rows2 words count count2 more stay [] (a ∷ arcs) h = absurd h
+arcs-stay dp k rows rows2 words count count2 more stay (t ∷ ts) [] h = absurd h
+arcs-stay dp k rows rows2 words count count2 more stay (t ∷ ts) (a ∷ arcs) h =
+    let one = h.0 in let low = one.within in
+    (record { place = one.place; is = one.is; within = omega arith; row = stay one.place one.within ∙ one.row }, arcs-stay dp k rows rows2 words count count2 more stay ts arcs h.1)
+
+-- Marks.
+
+and-assoc : (a b c : Bool) → (a && (b && c)) ≡ ((a && b) && c)
+and-assoc true b c = refl
+and-assoc false b c = refl
+
+pub exact-more : (dp : Dp) (k : ℕ) (ts : List Trial) (t : Trial) (row : List ℤ) → all_exact dp k (ts ++ t ∷ []) row ≡ (all_exact dp k ts row && (t.exact || not (row_same (made_by dp k t) row)))
+exact-more dp k [] t row = elim (t.exact || not (row_same (made_by dp k t) row)) as (λ b. (b && true) ≡ b) [ true ↦ refl | false ↦ refl ]
+exact-more dp k (x ∷ ts) t row =
+    ap (λ b. (x.exact || not (row_same (made_by dp k x) row)) && b) (exact-more dp k ts t row)
+    ∙ and-assoc (x.exact || not (row_same (made_by dp k x) row)) (all_exact dp k ts row) (t.exact || not (row_same (made_by dp k t) row))
+
+found-mark : (e a : Bool) → (e && (false || a)) ≡ (a && (e || not true))
+found-mark true true = refl
+found-mark true false = refl
+found-mark false true = refl
+found-mark false false = refl
+
+new-mark : (e m : Bool) → (e && (true || m)) ≡ (true && (e || not true))
+new-mark true m = refl
+new-mark false m = refl
+
+other-mark : (e a : Bool) → (a && (e || not false)) ≡ a
+other-mark true true = refl
+other-mark true false = refl
+other-mark false true = refl
+other-mark false false = refl
+
+same-or : (a b : ℕ) → (a ≡ b) ⊎ (a ≢ b)
+same-or a b = grind arith
+
+three : (p q : ℕ) → p ≢ q → (p < q) ⊎ (q < p)
+three p q h = grind arith
+
+pub placed-low : (dp : Dp) (k : ℕ) (rows : List ℤ) (words count count2 : ℕ) (t : Trial) (place : ℕ) → IsPlaced rows words count count2 (made_by dp k t) place → place ≤ count
+placed-low dp k rows words count count2 t place h = elim h.grown as (λ _. place ≤ count) [ inl g ↦ (let e = g.0 in omega arith) | inr g ↦ (let e = g.0 in omega arith) ]
+
+-- a trial was made, and its row stands at the place
+module _ (dp : Dp) (k : ℕ) (rows rows2 : List ℤ) (words count count2 : ℕ) (ts : List Trial) (t : Trial) (place : ℕ) (marks : List Bool) (arcs : List DdArc)
+    (placed : IsPlaced rows2 words count count2 (made_by dp k t) place) (stay : (i : ℕ) → i < count → row_at rows2 words i ≡ row_at rows words i) (apart : AreApart rows2 words count2)
+    (room : place < length marks) (tried : AreTried dp k rows words count ts marks arcs) where
+  more : count ≤ count2
+  more = elim placed.grown as (λ _. count ≤ count2) [ inl h ↦ (let e = h.1 in omega arith) | inr h ↦ (let e = h.1 in omega arith) ]
+
+  inside : place < count2
+  inside = elim placed.grown as (λ _. place < count2) [ inl h ↦ (let l = h.0 in let e = h.1 in omega arith) | inr h ↦ (let l = h.0 in let e = h.1 in omega arith) ]
+
+  differ : (i j : ℕ) → i < count2 → j < count2 → i ≢ j → row_at rows2 words i ≢ row_at rows2 words j
+  differ i j a b n e = elim (three i j n) as (λ _. ⊥) [ inl l ↦ apart i j l b e | inr l ↦ apart j i l a (sym e) ]
+
+  abbrev value : Bool
+  value = t.exact && (nat_eq place count || mark_at marks place)
+
+  abbrev exact_so_far : List ℤ → Bool
+  exact_so_far row = all_exact dp k ts row
+
+  here-exact : all_exact dp k (ts ++ t ∷ []) (row_at rows2 words place) ≡ (exact_so_far (row_at rows2 words place) && (t.exact || not true))
+  here-exact = exact-more dp k ts t (row_at rows2 words place) ∙ ap (λ b. exact_so_far (row_at rows2 words place) && (t.exact || not b)) (same_rows (made_by dp k t) (row_at rows2 words place) (sym placed.same))
+
+  here : value ≡ all_exact dp k (ts ++ t ∷ []) (row_at rows2 words place)
+  here = go placed.grown
+    where
+      go : ((place < count) × (count2 ≡ count)) ⊎ ((place ≡ count) × (count2 ≡ count + 1)) → value ≡ all_exact dp k (ts ++ t ∷ []) (row_at rows2 words place)
+      go (inl h) =
+          let less = h.0 in
+          let no : nat_eq place count ≡ false = grind (arith, nat_tests) in
+          let was : mark_at marks place ≡ exact_so_far (row_at rows2 words place) = tried.marks_are place less ∙ ap exact_so_far (sym (stay place less)) in
+          ap₂ (λ b m. t.exact && (b || m)) no was ∙ (found-mark t.exact (exact_so_far (row_at rows2 words place)) ∙ sym here-exact)
+      go (inr h) =
+          let new = h.0 in
+          let yes : nat_eq place count ≡ true = grind (arith, nat_tests) in
+          let none : exact_so_far (row_at rows2 words place) ≡ true =
+          exact-none dp k rows words count ts arcs (row_at rows2 words place) tried.arcs_are
+          (λ p less e. differ p place (let m = more in omega arith) inside (λ s. omega arith) (stay p less ∙ e)) in
+          ap (λ b. t.exact && (b || mark_at marks place)) yes ∙ (new-mark t.exact (mark_at marks place)
+          ∙ (ap (λ b. b && (t.exact || not true)) (sym none) ∙ sym here-exact))
+
+  there : (i : ℕ) → i < count2 → i ≢ place → mark_at marks i ≡ all_exact dp k (ts ++ t ∷ []) (row_at rows2 words i)
+  there i less n =
+      let low : i < count = elim placed.grown as (λ _. i < count) [ inl h ↦ (let e = h.1 in omega arith) | inr h ↦ (let l = h.0 in let e = h.1 in grind arith) ] in
+      let other : row_same (made_by dp k t) (row_at rows2 words i) ≡ false =
+      other_rows (made_by dp k t) (row_at rows2 words i) (λ e. differ i place less inside n (sym e ∙ sym placed.same)) in
+      let after : all_exact dp k (ts ++ t ∷ []) (row_at rows2 words i) ≡ exact_so_far (row_at rows2 words i) =
+      exact-more dp k ts t (row_at rows2 words i) ∙ (ap (λ b. exact_so_far (row_at rows2 words i) && (t.exact || not b)) other ∙ other-mark t.exact (exact_so_far (row_at rows2 words i))) in
+      tried.marks_are i low ∙ (ap exact_so_far (sym (stay i low)) ∙ sym after)
+
+  pub tried-more : (arc : DdArc) → arc ≡ arc_to dp k t place → AreTried dp k rows2 words count2 (ts ++ t ∷ []) (marked marks count place t.exact) (arcs ++ arc ∷ [])
+  tried-more arc is = record {
+    arcs_are = arcs-append dp k rows2 words count2 ts (t ∷ []) arcs (arc ∷ [])
+        (arcs-stay dp k rows rows2 words count count2 more stay ts arcs tried.arcs_are)
+        (record { place = place; is = is; within = inside; row = placed.same }, tt);
+    marks_are = λ i less. go i less (same-or i place);
+  }
+    where
+      go : (i : ℕ) → i < count2 → (i ≡ place) ⊎ (i ≢ place) → mark_at (marked marks count place t.exact) i ≡ all_exact dp k (ts ++ t ∷ []) (row_at rows2 words i)
+      go i less (inl e) = subst (λ (j : ℕ). mark_at (marked marks count place t.exact) j ≡ all_exact dp k (ts ++ t ∷ []) (row_at rows2 words j)) (sym e)
+          (get_or-set_same marks place value _ room ∙ here)
+      go i less (inr n) = get_or-set_other marks place i value _ n ∙ there i less n
+
+-- One decision more.
+
+pub trials-more : (dp : Dp) (k : ℕ) (s : List ℤ) (exact : Bool) (n : ℕ) → dp.allowed k s n ≡ true → trials_by dp k s exact (n + 1) ≡ trials_by dp k s exact n ++ trial s exact n ∷ []
+trials-more dp k s exact n e = ap (map (trial s exact)) (allowed-more dp k s n e) ∙ map-append (trial s exact) (allowed_below dp k s n) (n ∷ [])
+
+pub trials-same : (dp : Dp) (k : ℕ) (s : List ℤ) (exact : Bool) (n : ℕ) → dp.allowed k s n ≡ false → trials_by dp k s exact (n + 1) ≡ trials_by dp k s exact n
+trials-same dp k s exact n e = ap (map (trial s exact)) (refused-more dp k s n e)
+
+-- the same by equal parts
+pub tried-by : (dp : Dp) (k words : ℕ) (rows rows2 : List ℤ) (count count2 : ℕ) (ts ts2 : List Trial) (marks marks2 : List Bool) (arcs arcs2 : List DdArc)
+    → AreTried dp k rows words count ts marks arcs → rows2 ≡ rows → count2 ≡ count → ts ≡ ts2 → marks2 ≡ marks → arcs2 ≡ arcs → AreTried dp k rows2 words count2 ts2 marks2 arcs2
+tried-by dp k words rows rows2 count count2 ts ts2 marks marks2 arcs arcs2 h a b c d e =
+    subst (λ x. AreTried dp k x words count2 ts2 marks2 arcs2) (sym a)
+    (subst (λ x. AreTried dp k rows words x ts2 marks2 arcs2) (sym b)
+    (subst (λ x. AreTried dp k rows words count x marks2 arcs2) c
+    (subst (λ x. AreTried dp k rows words count ts x arcs2) (sym d)
+    (subst (λ x. AreTried dp k rows words count ts marks x) (sym e) h))))
+
+-- no trial yet
+pub tried-none : (dp : Dp) (k words : ℕ) (rows : List ℤ) (marks : List Bool) → AreTried dp k rows words 0 [] marks []
+tried-none dp k words rows marks = record { arcs_are = tt; marks_are = λ i less. absurd (omega arith) }

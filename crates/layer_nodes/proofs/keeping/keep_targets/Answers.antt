@@ -1,0 +1,20 @@
+use Rattle.std.proofs.Common.{rules, pos, None, ◌∙◌}
+use Rattle.dp_laws.specs.declared.arc.DdArc.{DdArc}
+use Rattle.dp_laws.specs.Rules.Reducing.{keep_redirects}
+use Rattle.layer_nodes.proofs.Kept.{kept-is}
+use Rattle.layer_nodes.proofs.Redirected.{changed-none, changed-more, changed-all}
+use Rattle.layer_nodes.proofs.keeping.keep_targets.Goals as goal
+
+abbrev none : DdArc
+none = record { decision = 0; target = None; gain = pos 0; longer = pos 0 }
+
+pub arcs-init : goal.arcs-init
+arcs-init c = λ layer. changed-none (keep_redirects c.args.width layer) c.args.arcs.now
+
+pub arcs-preserved : goal.arcs-preserved
+arcs-preserved c = λ layer.
+    changed-more (keep_redirects c.args.width layer) c.args.arcs.now c.arcs.arcs c.arcs.i c.keep_target.result none (c.arcs.invariant layer) c.arcs-test.true
+    (λ far. c.keep_target.ensures ∙ kept-is c.args.width layer _)
+
+pub returns : goal.returns
+returns c = λ layer wide. changed-all (keep_redirects c.args.width layer) c.args.arcs.now c.arcs.arcs c.arcs.i (c.arcs.invariant layer) (search rules)

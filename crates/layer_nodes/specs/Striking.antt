@@ -1,0 +1,51 @@
+-- Nodes that are struck or dominated are taken out in memory, and the others close up.
+use Rattle.std.specs.Prelude.{◌≡◌, ℕ, ◌≤◌, ℤ, cond, List, [], ◌++◌, length, map, take, drop, Option, Some, None}
+use Rattle.dp_model.specs.Dp.{Dp}
+use Rattle.dp_model.specs.Lists.{Each}
+use Rattle.dp_laws.specs.Diagrams.Nodes.{DdNode}
+use Rattle.dp_laws.specs.Rules.Redirects.{Redirect}
+use Rattle.dp_laws.specs.Rules.Pruning.{Leader, at_leader, is_struck, pruned_nodes, prune_redirects}
+use Rattle.layer_candidates.specs.Rows.{row_at}
+use Rattle.layer_nodes.specs.declared.node.Node.{Node}
+use Rattle.layer_nodes.specs.declared.redirecting.LeaderAt.{LeaderAt}
+use Rattle.layer_nodes.specs.Leading.{IsLeaderIn, leaders_of}
+use Rattle.layer_nodes.specs.Redirecting.{IsShort}
+use Rattle.layer_nodes.specs.Steps.{AreAmong}
+
+-- what a node in memory is shown as has its row, its value, and whether it is exact
+pub record Shows (rows : List ℤ) (words : ℕ) (show : Node → DdNode) : Type 0 where
+  pub rows_are : (node : Node) → (show node).row ≡ row_at rows words node.row
+  pub values_are : (node : Node) → (show node).value ≡ node.value
+  pub exact_are : (node : Node) → (show node).exact ≡ node.exact
+
+-- where a node goes that a leader takes out
+abbrev pub led_out : Option Redirect → Option (Option Redirect)
+led_out None = None
+led_out (Some l) = Some (Some l)
+
+-- where a node goes that is taken out, and none where it stays
+abbrev pub taken_out : Dp → ℕ → Option ℤ → List Leader → DdNode → Option (Option Redirect)
+taken_out dp k t leaders node = cond (is_struck dp k t node) (Some None) (led_out (at_leader dp k leaders node))
+
+-- the first i nodes were looked at, and those of them that stay are the first ones, so many
+pub record ArePruned (dp : Dp) (k : ℕ) (t : Option ℤ) (rows : List ℤ) (words : ℕ) (old : List Node) (leaders : List LeaderAt) (now : List Node) (redirects : List (Option Redirect)) (stay i : ℕ) : Type 0 where
+  pub left : drop i now ≡ drop i old
+  pub size : length now ≡ length old
+  pub few : stay ≤ i
+  pub count : length redirects ≡ i
+  pub leading : Each (IsLeaderIn dp k rows words) leaders
+  pub short : Each IsShort redirects
+  pub among : AreAmong old now
+  pub nodes : (show : Node → DdNode) → Shows rows words show
+      → map show (take stay now) ++ pruned_nodes dp k t (leaders_of rows words leaders) stay (map show (drop i old)) ≡ pruned_nodes dp k t [] 0 (map show old)
+  pub targets : (show : Node → DdNode) → Shows rows words show
+      → redirects ++ prune_redirects dp k t (leaders_of rows words leaders) stay (map show (drop i old)) ≡ prune_redirects dp k t [] 0 (map show old)
+
+-- the first nodes, so many, are those that stay
+pub record HasPruned (dp : Dp) (k : ℕ) (t : Option ℤ) (rows : List ℤ) (words : ℕ) (old now : List Node) (redirects : List (Option Redirect)) (stay : ℕ) : Type 0 where
+  pub size : length now ≡ length old
+  pub few : stay ≤ length old
+  pub short : Each IsShort redirects
+  pub among : AreAmong old now
+  pub nodes : (show : Node → DdNode) → Shows rows words show → map show (take stay now) ≡ pruned_nodes dp k t [] 0 (map show old)
+  pub targets : (show : Node → DdNode) → Shows rows words show → redirects ≡ prune_redirects dp k t [] 0 (map show old)

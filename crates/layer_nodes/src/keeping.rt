@@ -1,0 +1,69 @@
+//! Only the first nodes of a layer stay.
+
+ghost use Rattle.std.specs.Prelude.{◌≡◌, ℕ, ◌≤◌, List, length, take};
+ghost use Rattle.dp_model.specs.Lists.{Each};
+ghost use Rattle.dp_laws.specs.Diagrams.Nodes.{DdNode};
+ghost use Rattle.dp_laws.specs.Rules.Redirects.{with_redirected};
+ghost use Rattle.dp_laws.specs.Rules.Reducing.{keep_redirects};
+ghost use Rattle.layer_nodes.specs.Keeping.{kept_target, kept_arc};
+ghost use Rattle.layer_nodes.specs.Nodes.{shown_layer, shown_below};
+ghost use Rattle.layer_nodes.specs.Redirecting.{AreRedirected};
+ghost use Rattle.layer_nodes.specs.Steps.{AreAmong, MayBeLengthened, KeepsNodes, KeepsRoom};
+
+use crate::layer::Layer;
+use dp_laws::DdArc;
+
+/// The target where it is below the width.
+fn kept_target(target: Option<u32>, width: usize) -> Option<u32>
+    ensures { result ≡ kept_target width target }
+{
+    let place = target?;
+    if (place as usize) < width {
+        Some(place)
+    } else {
+        None
+    }
+}
+
+/// The arc, with its target where that is below the width.
+fn keep_target(arc: DdArc, width: usize) -> DdArc
+    ensures { result ≡ kept_arc width arc }
+{
+    DdArc {
+        target: kept_target(arc.target, width),
+        ..arc
+    }
+}
+
+/// Arcs whose targets are at or behind the width lose them.
+fn keep_targets(arcs: &mut [DdArc], width: usize)
+    ensures { (layer : List DdNode) → width ≤ length layer → AreRedirected (keep_redirects width layer) arcs.old arcs.new }
+{
+    'arcs: for i in 0..arcs.len() {
+        arcs[i] = keep_target(arcs[i], width);
+    }
+}
+
+/// Arcs of the layer whose targets are at or behind the width lose them, and nothing else of it changes.
+fn keep_layer_targets(layer: &mut Layer, width: usize)
+    requires lengths { Each MayBeLengthened layer.old.nodes }
+    ensures nodes { (paths : ℕ → List ℕ) (next : List DdNode) → width ≤ length next → shown_layer paths layer.new.nodes ≡ with_redirected (keep_redirects width next) (shown_layer paths layer.old.nodes) }
+    ensures rest { KeepsNodes layer.old layer.new }
+{
+    keep_targets(layer.arcs.as_mut_slice(), width);
+}
+
+/// Keeps the first nodes of the next layer, as many as the width, as a restricted layer is reduced; the arcs of the nodes above
+/// follow. It takes no memory.
+pub fn keep_first(width: usize, above: &mut Layer, next: &mut Layer)
+    requires wide { width ≤ length next.old.nodes }
+    requires lengths { Each MayBeLengthened above.old.nodes }
+    ensures next { (paths : ℕ → List ℕ) → shown_below paths next.new.nodes ≡ take width (shown_below paths next.old.nodes) }
+    ensures above { (paths below : ℕ → List ℕ) → shown_layer paths above.new.nodes ≡ with_redirected (keep_redirects width (shown_below below next.old.nodes)) (shown_layer paths above.old.nodes) }
+    ensures stay { AreAmong next.old.nodes next.new.nodes }
+    ensures rest { KeepsNodes above.old above.new }
+    ensures next_rooms { KeepsRoom next.old next.new }
+{
+    next.nodes.truncate(width);
+    keep_layer_targets(above, width);
+}

@@ -1,0 +1,96 @@
+//! Leaders: the first exact nodes of a layer that no leader before them dominates.
+
+ghost use Rattle.std.specs.Prelude.{◌≡◌, ◌+◌, ◌*◌, ◌≤◌, ◌-ℤ◌, IfSome, length, vec_capacity};
+ghost use Rattle.dp_model.specs.Gaps.{IsStateOf};
+ghost use Rattle.dp_model.specs.Lists.{Each};
+ghost use Rattle.dp_model.specs.Numbers.{IsSmall};
+ghost use Rattle.dp_laws.specs.Rules.Pruning.{redirect_within, at_leader};
+ghost use Rattle.dp_laws.specs.Rules.Reducing.{redirect_by};
+ghost use Rattle.layer_candidates.specs.Rows.{row_at};
+ghost use Rattle.layer_candidates.specs.Ways.{IsNearly};
+ghost use Rattle.layer_nodes.specs.Redirecting.{IsShort};
+ghost use Rattle.layer_nodes.specs.Leading.{IsIn, IsNodeIn, IsLeaderIn, leaders_of, led_at, bare};
+
+use crate::node::Node;
+use crate::redirecting::{LeaderAt, Redirect};
+use dp_model::DpModel;
+use layer_candidates::{MOST_LEADERS, row};
+
+/// A node that stays at the place becomes a leader where it is exact and there are fewer than 16.
+pub(crate) fn lead(leaders: &mut Vec<LeaderAt>, place: u32, node: Node)
+    requires room { 16 ≤ vec_capacity leaders.old }
+    ensures leaders { leaders.new.items ≡ led_at leaders.old.items place node }
+    ensures capacity { vec_capacity leaders.new ≡ vec_capacity leaders.old }
+{
+    if node.exact && leaders.len() < MOST_LEADERS {
+        leaders.push_reserved(LeaderAt {
+            place,
+            row: node.row,
+            value: node.value,
+            rank: node.rank,
+        });
+    }
+}
+
+/// The redirect to the place, lengthened by the gap, or none where there is none.
+pub(crate) fn redirect_by(place: u32, gap: Option<i64>) -> Option<Redirect>
+    requires small { IfSome gap (λ g. IsSmall g) }
+    ensures redirect { result ≡ redirect_by place gap }
+    ensures short { IsShort result }
+{
+    let longer = gap?;
+    Some(Redirect { place, longer })
+}
+
+/// By how much the leader's value is above the node's.
+fn room(leader: LeaderAt, node: Node) -> i64
+    requires leader { IsNearly leader.value }
+    requires node { IsNearly node.value }
+    ensures { result ≡ (leader.value -ℤ node.value) }
+{
+    leader.value - node.value
+}
+
+/// The redirect to the leader, where it dominates the node: its state has a gap to the node's, within the values' difference.
+fn redirect_at<M: DpModel>(
+    model: &M,
+    k: usize,
+    rows: &[i64],
+    words: usize,
+    leader: LeaderAt,
+    node: Node,
+) -> Option<Redirect>
+    requires leader { IsLeaderIn (M.meaning (M.numbers model.now)) k rows.now words leader }
+    requires node { IsNodeIn (M.meaning (M.numbers model.now)) k rows.now words node }
+    ensures redirect { result ≡ redirect_within leader.place ((M.meaning (M.numbers model.now)).gap k (row_at rows.now words leader.row) (row_at rows.now words node.row)) leader.value node.value }
+    ensures short { IsShort result }
+{
+    let most = room(leader, node);
+    let a = row(rows, words, leader.row as usize);
+    let s = row(rows, words, node.row as usize);
+    let gap = model.covers_within(k, a, leader.rank, s, node.rank, most);
+    redirect_by(leader.place, gap)
+}
+
+/// The redirect to the first leader that dominates the node.
+pub(crate) fn at_leader<M: DpModel>(
+    model: &M,
+    k: usize,
+    rows: &[i64],
+    words: usize,
+    leaders: &[LeaderAt],
+    node: Node,
+) -> Option<Redirect>
+    requires leaders { Each (IsLeaderIn (M.meaning (M.numbers model.now)) k rows.now words) leaders.now }
+    requires node { IsNodeIn (M.meaning (M.numbers model.now)) k rows.now words node }
+    ensures redirect { result ≡ at_leader (M.meaning (M.numbers model.now)) k (leaders_of rows.now words leaders.now) (bare rows.now words node) }
+    ensures short { IsShort result }
+{
+    'leaders: for i in 0..leaders.len() {
+        let redirect = redirect_at(model, k, rows, words, leaders[i], node);
+        if redirect.is_some() {
+            return redirect;
+        }
+    }
+    None
+}

@@ -1,0 +1,23 @@
+/// A node of a layer. Its row and its arcs lie in those of the layer; its kept path is that of its parent, a node of the layer
+/// above, with its decision.
+#[derive(Clone, Copy, Debug)]
+pub struct Node {
+    /// The greatest length of a path to it.
+    pub value: i64,
+    /// The rank of its state in the layer.
+    pub rank: i64,
+    /// The greatest length of a path from it to the last layer, once it is known.
+    pub suffix: Option<i64>,
+    /// The place of its parent in the layer above; a merged node and the first one of all have none.
+    pub parent: Option<u32>,
+    /// The place of its row.
+    pub row: u32,
+    /// The decision that leads to it from its parent.
+    pub decision: u32,
+    /// The place of its first arc.
+    pub first_arc: u32,
+    /// How many arcs it has.
+    pub arcs: u32,
+    /// Whether it stands for one state exactly.
+    pub exact: bool,
+}

@@ -1,0 +1,153 @@
+//! Nodes that are struck, or that a leader dominates, are taken out of a layer.
+
+ghost use Rattle.std.specs.Prelude.{◌≡◌, ℕ, ◌≤◌, ◌<◌, ◌^◌, ◌∷◌, [], ◌++◌, List, IfSome, length, pos, set, Some, vec_capacity};
+ghost use Rattle.dp_model.specs.Lists.{Each};
+ghost use Rattle.dp_laws.specs.Rules.Redirects.{with_redirected};
+ghost use Rattle.dp_laws.specs.Rules.Pruning.{is_struck, pruned_nodes, prune_redirects};
+ghost use Rattle.layer_nodes.specs.Leading.{IsNodeIn, IsLeaderIn, leaders_of, led_at, bare};
+ghost use Rattle.layer_nodes.specs.Nodes.{shown_layer, shown_below};
+ghost use Rattle.layer_nodes.specs.Redirecting.{IsShort};
+ghost use Rattle.layer_nodes.specs.Steps.{AreAmong, IsNodeOf, MayBeLengthened, KeepsNodes, KeepsRoom};
+ghost use Rattle.layer_nodes.specs.Striking.{taken_out, HasPruned};
+
+use crate::layer::Layer;
+use crate::leading::{at_leader, lead};
+use crate::node::Node;
+use crate::redirecting::{LeaderAt, Redirect, Redirects, redirect_layer};
+use dp_model::DpModel;
+use layer_candidates::{is_struck_by, row};
+
+/// Whether no completion of the node is known to be above the threshold.
+fn is_struck<M: DpModel>(
+    model: &M,
+    k: usize,
+    threshold: Option<i64>,
+    rows: &[i64],
+    words: usize,
+    node: Node,
+) -> bool
+    requires node { IsNodeIn (M.meaning (M.numbers model.now)) k rows.now words node }
+    ensures { result ≡ is_struck (M.meaning (M.numbers model.now)) k threshold (bare rows.now words node) }
+{
+    let rough = model.rough(k, row(rows, words, node.row as usize));
+    is_struck_by(node.value, rough, threshold)
+}
+
+/// Where the arcs into a node go that is struck or dominated, or none where it stays.
+fn taken_out<M: DpModel>(
+    model: &M,
+    k: usize,
+    threshold: Option<i64>,
+    rows: &[i64],
+    words: usize,
+    leaders: &[LeaderAt],
+    node: Node,
+) -> Option<Option<Redirect>>
+    requires leaders { Each (IsLeaderIn (M.meaning (M.numbers model.now)) k rows.now words) leaders.now }
+    requires node { IsNodeIn (M.meaning (M.numbers model.now)) k rows.now words node }
+    ensures out { result ≡ taken_out (M.meaning (M.numbers model.now)) k threshold (leaders_of rows.now words leaders.now) (bare rows.now words node) }
+    ensures short { IfSome result (λ redirect. IsShort redirect) }
+{
+    if is_struck(model, k, threshold, rows, words, node) {
+        return Some(None);
+    }
+    let redirect = at_leader(model, k, rows, words, leaders, node)?;
+    Some(Some(redirect))
+}
+
+/// The node stays at the place, and leads where it may.
+fn keep_at(
+    nodes: &mut [Node],
+    leaders: &mut Vec<LeaderAt>,
+    redirects: &mut Vec<Option<Redirect>>,
+    node: Node,
+    place: usize,
+)
+    requires within { place < length nodes.old }
+    requires small { length nodes.old < 2 ^ 32 }
+    requires leaders_room { 16 ≤ vec_capacity leaders.old }
+    requires redirects_room { length redirects.old.items < vec_capacity redirects.old }
+    ensures nodes { nodes.new ≡ set nodes.old place node }
+    ensures leaders { leaders.new.items ≡ led_at leaders.old.items place node }
+    ensures redirects { redirects.new.items ≡ redirects.old.items ++ Some (record { place = place; longer = pos 0 }) ∷ [] }
+    ensures leaders_capacity { vec_capacity leaders.new ≡ vec_capacity leaders.old }
+    ensures redirects_capacity { vec_capacity redirects.new ≡ vec_capacity redirects.old }
+{
+    redirects.push_reserved(Some(Redirect {
+        place: place as u32,
+        longer: 0,
+    }));
+    lead(leaders, place as u32, node);
+    nodes[place] = node;
+}
+
+/// Takes out the nodes that are struck or dominated. Those that stay close up, and arcs into each node go where it stays, or to
+/// the first leader that dominates it. Answers how many stay.
+fn prune<M: DpModel>(
+    model: &M,
+    k: usize,
+    threshold: Option<i64>,
+    rows: &[i64],
+    words: usize,
+    nodes: &mut [Node],
+    leaders: &mut Vec<LeaderAt>,
+    redirects: &mut Vec<Option<Redirect>>,
+) -> usize
+    requires nodes { Each (IsNodeIn (M.meaning (M.numbers model.now)) k rows.now words) nodes.old }
+    requires small { length nodes.old < 2 ^ 32 }
+    requires leaders_room { 16 ≤ vec_capacity leaders.old }
+    requires redirects_room { length nodes.old ≤ vec_capacity redirects.old }
+    ensures pruned { HasPruned (M.meaning (M.numbers model.now)) k threshold rows.now words nodes.old nodes.new redirects.new.items result }
+    ensures leaders_capacity { vec_capacity leaders.new ≡ vec_capacity leaders.old }
+    ensures redirects_capacity { vec_capacity redirects.new ≡ vec_capacity redirects.old }
+{
+    leaders.clear();
+    redirects.clear();
+    let mut stay = 0;
+    'nodes: for i in 0..nodes.len() {
+        let node = nodes[i];
+        let out = taken_out(model, k, threshold, rows, words, leaders.as_slice(), node);
+        match out {
+            Some(redirect) => redirects.push_reserved(redirect),
+            None => {
+                keep_at(nodes, leaders, redirects, node, stay);
+                stay += 1;
+            }
+        }
+    }
+    stay
+}
+
+/// Takes out the nodes of the next layer, at depth `k`, that are struck by their rough bound, or that one of the first 16 exact
+/// ones that stay dominates; the arcs of the nodes above follow. It takes no memory.
+pub fn strike<M: DpModel>(
+    model: &M,
+    k: usize,
+    threshold: Option<i64>,
+    above: &mut Layer,
+    next: &mut Layer,
+    redirects: &mut Redirects,
+)
+    requires nodes { Each (IsNodeOf (M.meaning (M.numbers model.now)) k) next.old.nodes }
+    requires lengths { Each MayBeLengthened above.old.nodes }
+    requires room { length next.old.nodes ≤ redirects.old }
+    ensures next { (paths : ℕ → List ℕ) → shown_below paths next.new.nodes ≡ pruned_nodes (M.meaning (M.numbers model.now)) k threshold [] 0 (shown_below paths next.old.nodes) }
+    ensures above { (paths below : ℕ → List ℕ) → shown_layer paths above.new.nodes ≡ with_redirected (prune_redirects (M.meaning (M.numbers model.now)) k threshold [] 0 (shown_below below next.old.nodes)) (shown_layer paths above.old.nodes) }
+    ensures stay { AreAmong next.old.nodes next.new.nodes }
+    ensures rest { KeepsNodes above.old above.new }
+    ensures next_rooms { KeepsRoom next.old next.new }
+    ensures redirects { redirects.new ≡ redirects.old }
+{
+    let stay = prune(
+        model,
+        k,
+        threshold,
+        next.rows.as_slice(),
+        next.words,
+        next.nodes.as_mut_slice(),
+        &mut redirects.leaders,
+        &mut redirects.all,
+    );
+    next.nodes.truncate(stay);
+    redirect_layer(above, redirects.all.as_slice());
+}

@@ -1,0 +1,95 @@
+-- The last layers of a list of layers.
+use Rattle.std.proofs.Common.{◌≡◌, ℕ, zero, suc, ◌+◌, ◌-◌, ◌<◌, true, false, cond, ℤ, List, [], ◌∷◌, length, slice_get, Option, unwrap_or, refl, sym, ◌∙◌, ap, arith}
+use Rattle.dp_model.specs.Dp.{Dp}
+use Rattle.dp_laws.specs.Diagrams.Nodes.{DdNode}
+use Rattle.dp_laws.specs.Rules.Compiling.{TwoLayers, merge_rest, is_wide, reduced, built, compiled}
+use Rattle.layer_build.specs.Layers.{last_layer, expand_last, on_last_two}
+
+pub length-expand : (rule : List DdNode → TwoLayers) (ls : List (List DdNode)) → 0 < length ls → length (expand_last rule ls) ≡ length ls + 1
+length-expand rule [] some = absurd (omega arith)
+length-expand rule (l ∷ []) some = refl
+length-expand rule (l ∷ n ∷ rest) some = let ih = length-expand rule (n ∷ rest) (omega arith) in omega arith
+
+pub length-two : (rule : TwoLayers → TwoLayers) (ls : List (List DdNode)) → length (on_last_two rule ls) ≡ length ls
+length-two rule [] = refl
+length-two rule (l ∷ []) = refl
+length-two rule (l ∷ n ∷ []) = refl
+length-two rule (l ∷ n ∷ m ∷ rest) = ap suc (length-two rule (n ∷ m ∷ rest))
+
+-- an expanded list has two layers at least
+last-over : (rule : List DdNode → TwoLayers) (l n : List DdNode) (rest : List (List DdNode)) → last_layer (l ∷ expand_last rule (n ∷ rest)) ≡ last_layer (expand_last rule (n ∷ rest))
+last-over rule l n [] = refl
+last-over rule l n (m ∷ rest) = refl
+
+pub last-expand : (rule : List DdNode → TwoLayers) (ls : List (List DdNode)) → 0 < length ls → last_layer (expand_last rule ls) ≡ (rule (last_layer ls)).next
+last-expand rule [] some = absurd (omega arith)
+last-expand rule (l ∷ []) some = refl
+last-expand rule (l ∷ n ∷ rest) some = last-over rule l n rest ∙ last-expand rule (n ∷ rest) (omega arith)
+
+two-over : (r2 : TwoLayers → TwoLayers) (r1 : List DdNode → TwoLayers) (l n : List DdNode) (rest : List (List DdNode)) → on_last_two r2 (l ∷ expand_last r1 (n ∷ rest)) ≡ l ∷ on_last_two r2 (expand_last r1 (n ∷ rest))
+two-over r2 r1 l n [] = refl
+two-over r2 r1 l n (m ∷ []) = refl
+two-over r2 r1 l n (m ∷ o ∷ rest) = refl
+
+pub two-expand : (r2 : TwoLayers → TwoLayers) (r1 : List DdNode → TwoLayers) (ls : List (List DdNode)) → on_last_two r2 (expand_last r1 ls) ≡ expand_last (λ l. r2 (r1 l)) ls
+two-expand r2 r1 [] = refl
+two-expand r2 r1 (l ∷ []) = refl
+two-expand r2 r1 (l ∷ n ∷ rest) = two-over r2 r1 l n rest ∙ ap (λ ls. l ∷ ls) (two-expand r2 r1 (n ∷ rest))
+
+pub two-same : (r r' : TwoLayers → TwoLayers) (ls : List (List DdNode)) → ((above : List DdNode) → r (record { above = above; next = last_layer ls }) ≡ r' (record { above = above; next = last_layer ls })) → on_last_two r ls ≡ on_last_two r' ls
+two-same r r' [] same = refl
+two-same r r' (l ∷ []) same = ap (λ (two : TwoLayers). two.next ∷ []) (same [])
+two-same r r' (l ∷ n ∷ []) same = ap (λ (two : TwoLayers). two.above ∷ two.next ∷ []) (same l)
+two-same r r' (l ∷ n ∷ m ∷ rest) same = ap (λ ls. l ∷ ls) (two-same r r' (n ∷ m ∷ rest) same)
+
+two-as-is : (ls : List (List DdNode)) → on_last_two (λ two. two) ls ≡ ls
+two-as-is [] = refl
+two-as-is (l ∷ []) = refl
+two-as-is (l ∷ n ∷ []) = refl
+two-as-is (l ∷ n ∷ m ∷ rest) = ap (λ ls. l ∷ ls) (two-as-is (n ∷ m ∷ rest))
+
+-- the last layer is reduced where it has to be
+
+pub reduced-wide : (dp : Dp) (first w k : ℕ) (ls : List (List DdNode)) → is_wide dp first w k (last_layer ls) ≡ true → on_last_two (merge_rest dp k w) ls ≡ on_last_two (reduced dp first w k) ls
+reduced-wide dp first w k ls wide = two-same (merge_rest dp k w) (reduced dp first w k) ls (λ above.
+    let two : TwoLayers = record { above = above; next = last_layer ls } in
+    sym (ap (λ b. cond b (merge_rest dp k w two) two) wide))
+
+pub reduced-narrow : (dp : Dp) (first w k : ℕ) (ls : List (List DdNode)) → is_wide dp first w k (last_layer ls) ≡ false → ls ≡ on_last_two (reduced dp first w k) ls
+reduced-narrow dp first w k ls narrow = sym (two-as-is ls) ∙ two-same (λ two. two) (reduced dp first w k) ls (λ above.
+    let two : TwoLayers = record { above = above; next = last_layer ls } in
+    sym (ap (λ b. cond b (merge_rest dp k w two) two) narrow))
+
+-- the layers, of which the last is replaced by what is compiled from it
+
+abbrev pub with_rest : (List DdNode → List (List DdNode)) → List (List DdNode) → List (List DdNode)
+with_rest f [] = []
+with_rest f (l ∷ []) = f l
+with_rest f (l ∷ n ∷ rest) = l ∷ with_rest f (n ∷ rest)
+
+rest-over : (f : List DdNode → List (List DdNode)) (rule : List DdNode → TwoLayers) (l n : List DdNode) (rest : List (List DdNode)) → with_rest f (l ∷ expand_last rule (n ∷ rest)) ≡ l ∷ with_rest f (expand_last rule (n ∷ rest))
+rest-over f rule l n [] = refl
+rest-over f rule l n (m ∷ rest) = refl
+
+pub rest-expand : (dp : Dp) (first w : ℕ) (t : Option ℤ) (k m : ℕ) (ls : List (List DdNode)) → with_rest (compiled dp first w t k (suc m)) ls ≡ with_rest (compiled dp first w t (k + 1) m) (expand_last (built dp first w t k) ls)
+rest-expand dp first w t k m [] = refl
+rest-expand dp first w t k m (l ∷ []) = refl
+rest-expand dp first w t k m (l ∷ n ∷ rest) = ap (λ ls. l ∷ ls) (rest-expand dp first w t k m (n ∷ rest)) ∙ sym (rest-over (compiled dp first w t (k + 1) m) (built dp first w t k) l n rest)
+
+pub rest-none : (dp : Dp) (first w : ℕ) (t : Option ℤ) (k : ℕ) (ls : List (List DdNode)) → with_rest (compiled dp first w t k zero) ls ≡ ls
+rest-none dp first w t k [] = refl
+rest-none dp first w t k (l ∷ []) = refl
+rest-none dp first w t k (l ∷ n ∷ rest) = ap (λ ls. l ∷ ls) (rest-none dp first w t k (n ∷ rest))
+
+-- the last layer by its place
+pub last-at : (ls : List (List DdNode)) → 0 < length ls → unwrap_or (slice_get ls (length ls - 1)) [] ≡ last_layer ls
+last-at [] some = absurd (omega arith)
+last-at (l ∷ []) some = refl
+last-at (l ∷ n ∷ rest) some =
+    let at : length (l ∷ n ∷ rest) - 1 ≡ suc (length (n ∷ rest) - 1) = omega arith in
+    ap (λ i. unwrap_or (slice_get (l ∷ n ∷ rest) i) []) at ∙ last-at (n ∷ rest) (omega arith)
+
+pub last-at-depth : (first : ℕ) (ls : List (List DdNode)) (depth : ℕ) → 0 < length ls → depth ≡ first + (length ls - 1) → unwrap_or (slice_get ls (depth - first)) [] ≡ last_layer ls
+last-at-depth first ls depth some e =
+    let at : depth - first ≡ length ls - 1 = omega arith in
+    ap (λ i. unwrap_or (slice_get ls i) []) at ∙ last-at ls some

@@ -1,0 +1,4 @@
+pub mod Building
+pub mod Lengths
+pub mod Kept
+pub mod Shown

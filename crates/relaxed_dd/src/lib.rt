@@ -1,0 +1,15 @@
+//! Relaxed diagrams: of each layer that is too wide the last nodes are merged, so that a path of no less length is left for
+//! each completion.
+//!
+//! It stands on `layer_build`, in whose workspace the layers are made. The diagram is the one that the rules of `dp_laws`
+//! define on plain lists of nodes. No call takes memory.
+#![tactic(auto)]
+
+mod building;
+mod compiling;
+mod diagram;
+mod lengths;
+mod suffixes;
+
+pub use compiling::relaxed;
+pub use diagram::Diagram;

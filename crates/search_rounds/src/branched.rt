@@ -1,0 +1,10 @@
+use dp_model::Sub;
+
+/// What a round makes of a subproblem.
+#[derive(Drop)]
+pub struct Branched {
+    /// The threshold of the diagram that the children come from.
+    pub threshold: Option<i64>,
+    /// The children, which may take the place of the subproblem.
+    pub children: Vec<Sub>,
+}

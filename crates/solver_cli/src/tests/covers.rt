@@ -1,0 +1,236 @@
+use super::prints;
+use crate::run::run;
+use dd_io::{MemSink, MemSource};
+use std::alloc::{AllocError, Global};
+use std::process::Abort;
+use std::sync::Wait;
+use std::test::Fail;
+use std::thread::Threads;
+use worker_gate::NoGate;
+
+/// A report with its cover: one item of profit 4 and weight 1 in a room of 1.
+const COVER: &str =
+    "proved\nvalue 4\nassignment 1\ncover knapsack\ninstance 8\n1 1\n4 1\nlayer 0 1\n4 ; 1 ; 0 0 1 0\nlayer 1 1\n0 ; 1\nend\n";
+
+#[test]
+fn checks_covers(rt: HostRuntime) -> Result<(), Fail> {
+    let cases = [
+        ("check", COVER, "accepted\n", 0u8),
+        (
+            "check",
+            "proved\nvalue 4\nassignment 1\ncover knapsack\ninstance 8\n1 1\n4 1\nlayer 0 1\n3 ; 1 ; 0 0 1 0\nlayer 1 1\n0 ; 1\nend\n",
+            "refused arc 0 0 1\n",
+            9,
+        ),
+        (
+            "check",
+            "proved\nvalue 4\nassignment 1\ncover knapsack\ninstance 8\n1 1\n4 1\nlayer 0 1\n4 ; 1 ; 0 0 1 0\nlayer 1 1\n0 ; 1\n",
+            "cover end-of-text 12 1\n",
+            3,
+        ),
+        ("check", "", "cover end-of-text 1 1\n", 3),
+        ("check", "prooved", "cover word 1 1\n", 3),
+        (
+            "check",
+            "proved\nvalue 4\nassignment 2\ncover knapsack\ninstance 8\n1 1\n4 1\nlayer 0 1\n4 ; 1 ; 0 0 1 0\nlayer 1 1\n0 ; 1\nend\n",
+            "refused assignment\n",
+            9,
+        ),
+        (
+            "check",
+            "proved\nvalue 4\nassignment 0\ncover knapsack\ninstance 8\n1 1\n4 1\nlayer 0 1\n4 ; 1 ; 0 0 1 0\nlayer 1 1\n0 ; 1\nend\n",
+            "refused value\n",
+            9,
+        ),
+        (
+            "check",
+            "proved\nvalue 4\nassignment 1\ncover knapsack\ninstance 8\n1 1\n4 1\nlayer 0 1\n4 ; 1 ; 0 0 1 0\nend\n",
+            "refused layers\n",
+            9,
+        ),
+        (
+            "check",
+            "proved\nvalue 4\nassignment 1\ncover knapsack\ninstance 8\n1 1\n4 1\nlayer 0 1\n4 ; 2 ; 0 0 1 0\nlayer 1 1\n0 ; 1\nend\n",
+            "refused root\n",
+            9,
+        ),
+        (
+            "check",
+            "proved\nvalue 4\nassignment 1\ncover knapsack\ninstance 8\n1 1\n4 1\nlayer 0 2\n4 ; 1 ; 0 0 1 0\n0 ; 2\nlayer 1 1\n0 ; 1\nend\n",
+            "refused row 0 1\n",
+            9,
+        ),
+        (
+            "check",
+            "proved\nvalue 4\nassignment 1\ncover knapsack\ninstance 8\n1 1\n4 1\nlayer 0 1\n3 ; 1\nlayer 1 1\n0 ; 1\nend\n",
+            "refused rough 0 0\n",
+            9,
+        ),
+        (
+            "check",
+            "proved\nvalue 4\nassignment 1\ncover knapsack\ninstance 8\n1 1\n4 1\nlayer 0 1\n4 ; 1\nlayer 1 1\n0 ; 1\nend\n",
+            "accepted\n",
+            0,
+        ),
+        (
+            "check",
+            "proved\nvalue 4\nassignment 1\ncover knapsack\ninstance 8\n1 1\n4 1\nlayer 0 1\n4 ; 1 ; 0 r 1 r\nlayer 1 1\n0 ; 1\nend\n",
+            "accepted\n",
+            0,
+        ),
+        (
+            "check",
+            "proved\nvalue 4\nassignment 1\ncover knapsack\ninstance 8\n1 1\n4 1\nlayer 0 1\n4 ; 1 ; 0 0 1 0\nlayer 1 1\n0 ; 0\nend\n",
+            "refused target 0 0 0\n",
+            9,
+        ),
+        (
+            "check",
+            "proved\nvalue 4\nassignment 1\ncover knapsack\ninstance 8\n1 1\n4 1\nlayer 0 1\n4 ; 1 ; 0 0 1 0\nlayer 1 1\n0 ; 2\nend\n",
+            "refused target 0 0 0\n",
+            9,
+        ),
+        (
+            "check",
+            "proved\nvalue 4\nassignment 1\ncover knapsack\ninstance 8\n1 1\n4 1\nlayer 0 1\n4 ; 1 ; 1 0\nlayer 1 1\n0 ; 1\nend\n",
+            "refused target 0 0 0\n",
+            9,
+        ),
+        (
+            "check",
+            "proved\nvalue 4\nassignment 1\ncover knapsack\ninstance 8\n1 1\n4 1\nlayer 0 1\n4 ; 1 ; 0 0 1 0\nlayer 1 1\n-1 ; 1\nend\n",
+            "refused terminal 0\n",
+            9,
+        ),
+        (
+            "check",
+            "proved\nvalue 4\nassignment 1\ncover knapsack\ninstance 8\n1 1\n4 x\nlayer 0 1\n4 ; 1 ; 0 0 1 0\nlayer 1 1\n0 ; 1\nend\n",
+            "instance not-number 2 3\n",
+            3,
+        ),
+        (
+            "check",
+            "proved\nvalue 4\nassignment 1\ntaken 3\nfinished 2\ncover knapsack\ninstance 8\n1 1\n4 1\nlayer 0 1\n4 ; 1 ; 0 0 1 0\nlayer 1 1\n0 ; 1\nend\n",
+            "accepted\n",
+            0,
+        ),
+        (
+            "check",
+            "infeasible\ncover tsptw\ninstance 35\n3\n0 2 9\n2 0 3\n4 3 0\n0 100\n5 20\n0 1\nlayer 0 1\nnone ; 1 6 0 0\nlayer 1 0\nlayer 2 0\nlayer 3 0\nend\n",
+            "accepted\n",
+            0,
+        ),
+        (
+            "check",
+            "proved\nvalue 0\nassignment 0 0\ncover maxcut\ninstance 11\n2 1\n1 2 -4\nlayer 0 1\n4 ; 0 0\nlayer 1 0\nlayer 2 0\nend\n",
+            "accepted\n",
+            0,
+        ),
+        (
+            "check",
+            "proved\nvalue 5\nassignment 1\ncover max2sat\ninstance 17\np wcnf 1 1\n5 1 0\nlayer 0 1\n5 ; 5\nlayer 1 0\nend\n",
+            "accepted\n",
+            0,
+        ),
+    ];
+    prints(&rt, rt.alloc(), &cases)
+}
+
+/// From a byte of the cover on and up to another: what is printed where the lowest bit of one of them is flipped, and the status.
+type Flips = (usize, usize, &'static str, u8);
+
+const FLIPS: &[Flips] = &[
+    (0, 7, "cover word 1 1\n", 3),
+    (7, 13, "cover word 2 1\n", 3),
+    (13, 14, "refused value\n", 9),
+    (14, 15, "cover not-number 2 7\n", 3),
+    (15, 26, "cover word 3 1\n", 3),
+    (26, 27, "refused value\n", 9),
+    (27, 28, "cover not-number 3 12\n", 3),
+    (28, 34, "cover word 4 1\n", 3),
+    (34, 43, "cover word 4 7\n", 3),
+    (43, 52, "cover word 5 1\n", 3),
+    (52, 53, "cover word 8 2\n", 3),
+    (53, 54, "cover not-number 5 10\n", 3),
+    (54, 55, "instance trailing 2 1\n", 3),
+    (55, 56, "instance not-number 1 1\n", 3),
+    (56, 57, "refused assignment\n", 9),
+    (57, 58, "instance not-number 1 3\n", 3),
+    (58, 59, "refused value\n", 9),
+    (59, 60, "instance not-number 2 1\n", 3),
+    (60, 61, "accepted\n", 0),
+    (61, 62, "instance not-number 2 3\n", 3),
+    (62, 68, "cover word 8 1\n", 3),
+    (68, 70, "cover word 8 7\n", 3),
+    (70, 71, "cover word 9 1\n", 3),
+    (71, 72, "cover not-number 8 9\n", 3),
+    (72, 73, "refused root\n", 9),
+    (73, 74, "cover not-number 9 1\n", 3),
+    (74, 76, "cover word 9 3\n", 3),
+    (76, 77, "refused root\n", 9),
+    (77, 78, "cover not-number 9 5\n", 3),
+    (78, 80, "cover not-number 9 7\n", 3),
+    (80, 81, "refused target 0 0 0\n", 9),
+    (81, 82, "cover not-number 9 9\n", 3),
+    (82, 83, "refused target 0 0 0\n", 9),
+    (83, 84, "cover not-number 9 11\n", 3),
+    (84, 85, "refused target 0 0 0\n", 9),
+    (85, 86, "cover not-number 9 13\n", 3),
+    (86, 87, "refused target 0 0 1\n", 9),
+    (87, 88, "cover not-number 9 15\n", 3),
+    (88, 94, "cover word 10 1\n", 3),
+    (94, 96, "cover word 10 7\n", 3),
+    (96, 97, "cover word 11 1\n", 3),
+    (97, 98, "cover not-number 10 9\n", 3),
+    (98, 99, "refused arc 0 0 1\n", 9),
+    (99, 100, "cover not-number 11 1\n", 3),
+    (100, 102, "cover word 11 3\n", 3),
+    (102, 103, "refused target 0 0 0\n", 9),
+    (103, 104, "cover not-number 11 5\n", 3),
+    (104, 108, "cover word 12 1\n", 3),
+];
+
+/// The cover with the lowest bit of a byte flipped.
+fn flipped(alloc: Global, at: usize) -> Result<Vec<u8>, AllocError> {
+    let mut bytes = COVER.as_bytes().to_vec(alloc)?;
+    if let Some(byte) = bytes.get_mut(at) {
+        *byte ^= 1;
+    }
+    Ok(bytes)
+}
+
+/// Checks the bytes, and gives what is printed, and the status.
+fn checked<R: Threads + Wait + Sync>(
+    rt: &R,
+    alloc: Global,
+    bytes: Vec<u8>,
+) -> Result<(MemSink, u8), AllocError> {
+    let words = [String::from_str(alloc, "check")?];
+    let mut input = MemSource::new(bytes, Vec::new(alloc));
+    let mut out = MemSink::new(alloc, Vec::new(alloc));
+    let status = run(rt, alloc, &words, &mut input, &mut out, &NoGate);
+    Ok((out, status))
+}
+
+/// Each flip is told as the cases say.
+fn tells_flips<R: Abort + Threads + Wait + Sync>(
+    rt: &R,
+    alloc: Global,
+    flips: Flips,
+) -> Result<(), Fail> {
+    let (from, to, text, own) = flips;
+    for at in from..to {
+        let (out, status) = checked(rt, alloc, flipped(alloc, at)?)?;
+        assert_eq!(rt; out.taken(), text.as_bytes(), "byte {at}");
+        assert_eq!(rt; status, own, "byte {at}");
+    }
+    Ok(())
+}
+
+#[test]
+fn tells_each_flipped_byte(rt: HostRuntime) -> Result<(), Fail> {
+    for flips in FLIPS {
+        tells_flips(&rt, rt.alloc(), *flips)?;
+    }
+    Ok(())
+}

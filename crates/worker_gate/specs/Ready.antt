@@ -1,0 +1,37 @@
+-- What is asked of a worker's seat and of the subproblem that it takes into.
+use Rattle.std.specs.Prelude.{◌≡◌, ℕ, ◌<◌, ◌≤◌, List, length, Option, Some, None}
+use Rattle.board_lock.specs.declared.turn.Seat.{Seat}
+use Rattle.board_lock.specs.declared.turn.Turn.{Turn}
+use Rattle.board_lock.specs.Seats.{first_of, out_of, IsSeatOf}
+use Rattle.dp_model.specs.Dp.{Dp}
+use Rattle.dp_model.specs.Subproblem.{Subproblem, SubView, IsOwn}
+use Rattle.board_laws.specs.declared.taken.Taken.{Taken}
+use Rattle.board_laws.specs.declared.taken.Taken.TheVariants.{Sub, WaitForOthers, Finished, Halted}
+use Rattle.search_core.specs.View.{BoardView, Tag}
+
+-- the seat is one of the turn's, and its number is below the workers of the settings
+pub record IsWorker (turn : Turn BoardView Tag) (seat : Seat BoardView) : Type 0 where
+  pub own : IsSeatOf turn seat
+  pub within : seat.number < (first_of turn).board.settings.workers
+
+-- such a seat with nothing out
+pub record IsReady (turn : Turn BoardView Tag) (seat : Seat BoardView) : Type 0 where
+  pub worker : IsWorker turn seat
+  pub nothing_out : out_of seat ≡ None
+
+-- the subproblem has room for the decisions of all variables, and a row of the right size
+pub record CanHold (dp : Dp) (h : SubView) : Type 0 where
+  pub decisions : dp.vars ≤ h.room
+  pub cells : length h.subproblem.row ≡ dp.words
+
+-- this subproblem is out, which is a prefix with its own state and value
+pub record IsOut (dp : Dp) (out : Option (List ℕ)) (c : Subproblem) : Type 0 where
+  pub is : out ≡ Some c.decisions
+  pub own : IsOwn dp c
+
+-- on `Sub` the subproblem is out, and else none is
+abbrev pub TakenOut : Dp → Taken → Option (List ℕ) → Subproblem → Type 0
+TakenOut dp Sub out c = IsOut dp out c
+TakenOut dp WaitForOthers out c = out ≡ None
+TakenOut dp Finished out c = out ≡ None
+TakenOut dp (Halted cause) out c = out ≡ None

@@ -1,0 +1,28 @@
+//! Workers over one board behind a turn, each with a seat and a desk of its own.
+//!
+//! It stands on `board_lock` and `search_core`. Each function of the `holding` modules holds the turn once, makes one step of the
+//! board, and leaves; its contract says what the seat knows then. What a worker proves against the value that its seat has seen
+//! stays enough on any board that it can find later, so a Finish is never refused for a value or a slot that has changed.
+//! `side_by_side` calls a function at each seat with its desk, in as many threads as there are.
+#![tactic(auto)]
+
+mod fanning;
+mod gate;
+mod holding_finish;
+mod holding_give_back;
+mod holding_improve;
+mod holding_take;
+mod offering;
+mod opening;
+mod together;
+mod working;
+
+pub use fanning::side_by_side;
+pub use gate::{Gate, NoGate, Step};
+pub use holding_finish::finish_one;
+pub use holding_give_back::give_up;
+pub use holding_improve::improve_one;
+pub use holding_take::{Asked, take_one};
+pub use opening::{close, open};
+pub use together::{explore_together, fan_out};
+pub use working::work;
