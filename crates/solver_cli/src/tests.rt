@@ -1,4 +1,5 @@
 mod covers;
+mod meeting;
 
 use crate::run::run;
 use dd_io::{MemSink, MemSource};
