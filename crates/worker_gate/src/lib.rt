@@ -1,9 +1,11 @@
 //! Workers over one board behind a turn, each with a seat and a desk of its own.
 //!
-//! It stands on `board_lock` and `search_core`. Each function of the `holding` modules holds the turn once, makes one step of the
-//! board, and leaves; its contract says what the seat knows then. What a worker proves against the value that its seat has seen
-//! stays enough on any board that it can find later, so a Finish is never refused for a value or a slot that has changed.
-//! `side_by_side` calls a function at each seat with its desk, in as many threads as there are.
+//! It stands on `board_lock` and `search_core`, and on `search_rounds` for the diagrams of a round. Each function of the
+//! `holding` modules holds the turn once, makes one step of the board, and leaves; its contract says what the seat knows then.
+//! What a worker proves against the value that its seat has seen stays enough on any board that it can find later, so a Finish
+//! is never refused for a value or a slot that has changed. `work` is a worker's rounds, `fan_out` the workers side by side,
+//! and `explore_together` a whole search: workers behind the turn, then rounds on the closed board until the search ends, so
+//! that what it gives doesn't rest on how a worker ended.
 #![tactic(auto)]
 
 mod fanning;
