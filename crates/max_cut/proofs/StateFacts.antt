@@ -5,7 +5,7 @@ use Rattle.std.proofs.lemmas.Bool.{and_parts, and_from}
 use Rattle.std.proofs.lemmas.Bool.Decides.{nat_tests}
 use Rattle.std.proofs.lemmas.List.{length-drop, length-replicate, take_at, take-append-drop}
 use Rattle.benefit_rows.specs.Benefits.{size_of, rank_of}
-use Rattle.benefit_rows.specs.BenefitLaws.{rank_of-positive, rank_of-drop, rank_of-append}
+use Rattle.benefit_rows.specs.BenefitLaws.{rank_of-positive, rank_of-drop, rank_of-append, rank_of-zeros}
 use Rattle.dp_model.specs.NumberLaws.{int_le-is}
 use Rattle.dp_model.specs.Gaps.{IsStateOf}
 use Rattle.max_cut.specs.declared.instance.MaxCut.{MaxCut}
@@ -13,7 +13,6 @@ use Rattle.max_cut.specs.Graph.{Graph, IsGraph, row_of, weights_from}
 use Rattle.max_cut.specs.GraphLaws.{length-row_of, rank_of-split, rank_of-most, rank_of-weights_from}
 use Rattle.max_cut.specs.Program.{zeros, pulls_of, grown_by, is_within, limits_of, words_of, stepped}
 use Rattle.benefit_rows.specs.Benefits.{sums_of}
-use Rattle.max_cut.specs.PullLaws.{rank_of-zeros}
 use Rattle.max_cut.specs.Shown.{instance_in, program_in}
 use Rattle.max_cut.specs.StateLaws.{length-state, rank_of-state, words_of-some}
 use Rattle.benefit_rows.proofs.Steps.{size_of-at}
