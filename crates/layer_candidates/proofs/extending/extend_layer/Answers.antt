@@ -1,4 +1,5 @@
 use Rattle.std.proofs.Common.{◌≡◌, ◌+◌, ◌*◌, ◌≤◌, [], length, vec_capacity, IsTrue, mul-le-mul_right, sym, ap, subst, ◌∙◌, arith}
+use Rattle.dp_model.specs.Decisions.{below}
 use Rattle.layer_candidates.specs.Members.{member_at}
 use Rattle.layer_candidates.specs.Ways.{AreJoined}
 use Rattle.layer_candidates.specs.Extending.{HasRoom, HasExtended, AreExtended}
@@ -68,7 +69,7 @@ members-preserved g c =
     let a = c.args in let l = c.members in let e = c.extend_member in
     let m = member-each dp a.k a.above.now a.words a.members.now l.i _ c.requires.members c.members-test.true in
     let long : length c.row-s.result.now ≡ a.words = ap length c.row-s.ensures ∙ length-row a.above.now a.words _ m.within in
-    let more = subst (λ n. HasExtended dp a.k (member_at a.members.now l.i).step c.row-s.result.now (member_at a.members.now l.i).value (dp.choices a.k) n l.rows l.ways.items e.new.rows e.new.ways.items e.new.folds e.new.heads e.new.next) long e.ensures.extended in
+    let more = subst (λ n. HasExtended dp a.k (member_at a.members.now l.i).step c.row-s.result.now (member_at a.members.now l.i).value (below (dp.choices a.k)) n l.rows l.ways.items e.new.rows e.new.ways.items e.new.folds e.new.heads e.new.next) long e.ensures.extended in
     record {
       extended = members-more dp a.k l.i a.above.now a.words a.members.now _ c.row-s.result.now l.rows e.new.rows l.ways.items e.new.ways.items l.folds l.heads l.next e.new.folds e.new.heads e.new.next
           l.invariant.extended c.members-test.true c.row-s.ensures more;
