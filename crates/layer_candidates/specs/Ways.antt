@@ -1,5 +1,5 @@
 -- The ways to the states of a layer: of each state the best candidate.
-use Rattle.std.specs.Prelude.{◌≡◌, ◌≢◌, ℕ, zero, suc, ◌+◌, ◌^◌, ◌<◌, ℤ, pos, ◌≤ℤ◌, int_lt, cond, set, List, [], ◌∷◌, ◌++◌, length, slice_index_or}
+use Rattle.std.specs.Prelude.{◌≡◌, ◌≢◌, ℕ, zero, suc, ◌+◌, ◌*◌, ◌^◌, ◌<◌, ◌≤◌, ℤ, pos, ◌≤ℤ◌, int_lt, cond, set, List, [], ◌∷◌, ◌++◌, length, slice_index_or}
 use lib.IntN.{neg_ℤ}
 use Rattle.dp_model.specs.Dp.{Dp}
 use Rattle.dp_model.specs.Gaps.{IsStateOf}
@@ -56,6 +56,12 @@ AreApart rows words count = (j k : ℕ) → j < k → k < count → row_at rows 
 -- each way leads to a state of the layer at depth k
 abbrev pub AreWays : Dp → ℕ → List ℤ → ℕ → List Way → Type 0
 AreWays dp k rows words ways = (i : ℕ) → i < length ways → IsWay dp k (row_at rows words i) (way_at ways i)
+
+-- the ways lead to different states of the layer at depth k, whose rows lie in the cells
+pub record AreDistinct (dp : Dp) (k : ℕ) (rows : List ℤ) (words : ℕ) (ways : List Way) : Type 0 where
+  pub room : length ways * words ≤ length rows
+  pub apart : AreApart rows words (length ways)
+  pub good : AreWays dp k rows words ways
 
 -- the ways lead to different states, which the table has
 pub record AreJoined (dp : Dp) (k : ℕ) (rows : List ℤ) (words : ℕ) (ways : List Way) (folds heads next : List ℕ) : Type 0 where

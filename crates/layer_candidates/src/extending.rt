@@ -7,14 +7,14 @@ ghost use Rattle.dp_model.specs.Numbers.{IsSmall};
 ghost use Rattle.dp_laws.specs.Restricted.Extensions.{candidates, all_joined};
 ghost use Rattle.layer_candidates.specs.Rows.{row_at, with_row};
 ghost use Rattle.layer_candidates.specs.Table.{IsPlaced};
-ghost use Rattle.layer_candidates.specs.Ways.{all_reached, IsNear, AreJoined};
+ghost use Rattle.layer_candidates.specs.Ways.{all_reached, IsNear, AreJoined, AreDistinct};
 ghost use Rattle.layer_candidates.specs.Members.{members_as, IsMemberOf};
 ghost use Rattle.layer_candidates.specs.Extending.{HasRoom, AreSame, HasExtended};
 
 use crate::joining::take_in;
 use crate::member::Member;
 use crate::rows::row;
-use crate::table::reset;
+use crate::table::{reset, slots_for};
 use crate::way::Way;
 use dp_model::{DpModel, Extended};
 
@@ -160,11 +160,13 @@ pub fn extend_layer<M: DpModel>(
     requires members { Each (IsMemberOf (M.meaning (M.numbers model.now)) k above.now words) members.now }
     requires slots { 0 < length heads.old }
     requires room { HasRoom words (length members.now * (M.meaning (M.numbers model.now)).choices k) rows.old (vec_capacity ways.old) folds.old next.old }
-    ensures joined { AreJoined (M.meaning (M.numbers model.now)) (k + 1) rows.new words ways.new.items folds.new heads.new next.new }
+    ensures distinct { AreDistinct (M.meaning (M.numbers model.now)) (k + 1) rows.new words ways.new.items }
     ensures list { (paths : ℕ → List ℕ) → all_reached paths rows.new words ways.new.items ≡ all_joined [] (candidates (M.meaning (M.numbers model.now)) k (members_as paths above.now words members.now)) }
     ensures few { length ways.new.items ≤ length members.now * (M.meaning (M.numbers model.now)).choices k }
     ensures capacity { vec_capacity ways.new ≡ vec_capacity ways.old }
 {
+    let slots = slots_for(members.len() * model.choices(k) as usize, heads.len());
+    let heads = &mut heads[..slots];
     reset(heads);
     ways.clear();
     'members: for i in 0..members.len() {

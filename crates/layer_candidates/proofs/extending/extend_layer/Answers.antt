@@ -1,4 +1,5 @@
-use Rattle.std.proofs.Common.{◌≡◌, ◌+◌, ◌*◌, ◌≤◌, [], length, vec_capacity, IsTrue, mul-le-mul_right, sym, ap, subst, ◌∙◌, arith}
+use Rattle.std.proofs.Common.{◌≡◌, ◌+◌, ◌*◌, ◌≤◌, [], length, take, vec_capacity, IsTrue, mul-le-mul_right, sym, ap, subst, ◌∙◌, arith}
+use Rattle.std.proofs.lemmas.List.{length-take-le}
 use Rattle.dp_model.specs.Decisions.{below}
 use Rattle.layer_candidates.specs.Members.{member_at}
 use Rattle.layer_candidates.specs.Ways.{AreJoined}
@@ -11,10 +12,13 @@ pub members-init : goal.members-init
 members-init g c =
     let dp = g.M.DpModel.meaning (g.M.DpModel.numbers c.args.model.now) in
     let a = c.args in
+    let slots = c.slots_for-slots.result in
+    let size : length (take slots a.heads.now) ≡ slots = length-take-le slots a.heads.now (let few = c.slots_for-slots.ensures.within in omega arith) in
+    let some = c.slots_for-slots.ensures.some in
     record {
       extended = subst (λ l. AreExtended dp a.k 0 a.above.now a.words a.members.now a.rows.now l a.folds.now c.reset.new.heads a.next.now) (sym c.clear.ensures.items)
           (subst (λ l. AreExtended dp a.k 0 a.above.now a.words a.members.now a.rows.now [] a.folds.now l a.next.now) (sym c.reset.ensures)
-          (members-start dp a.k a.above.now a.words a.members.now a.rows.now a.folds.now a.next.now (length a.heads.now) c.requires.slots));
+          (members-start dp a.k a.above.now a.words a.members.now a.rows.now a.folds.now a.next.now (length (take slots a.heads.now)) (omega arith)));
       capacity = c.clear.ensures.capacity;
     }
 
