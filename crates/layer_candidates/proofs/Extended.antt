@@ -1,5 +1,5 @@
 -- A layer is extended, decision by decision and member by member.
-use Rattle.std.proofs.Common.{◌≡◌, ℕ, zero, suc, ◌+◌, ◌*◌, ◌<◌, ◌≤◌, ℤ, ◌+ℤ◌, true, false, cond, List, [], ◌∷◌, ◌++◌, length, map, drop, get_or, replicate, mul-le-mul_right, refl, sym, ap, subst, ◌∙◌, arith, add-one, IsTrue, length-append}
+use Rattle.std.proofs.Common.{◌≡◌, ℕ, zero, suc, ◌+◌, ◌*◌, ◌<◌, ◌≤◌, ℤ, ◌+ℤ◌, true, false, cond, List, [], ◌∷◌, ◌++◌, length, map, drop, get_or, replicate, mul-le-mul_right, refl, sym, ap, subst, ◌∙◌, arith, add-one, IsTrue, length-append, inl, inr}
 use Rattle.std.proofs.lemmas.Int.{ints}
 use Rattle.std.proofs.lemmas.List.{map-append, length-replicate, get_or-replicate, length-map, drop_all, drop_more, drop-map}
 use Rattle.std.proofs.lemmas.List.Elements.{filter-append}
@@ -13,12 +13,12 @@ use Rattle.dp_laws.specs.Restricted.Extensions.{extended, extensions, joined, al
 use Rattle.dp_laws.proofs.Diagrams.Places.{length-below}
 use Rattle.layer_candidates.specs.declared.way.Way.{Way}
 use Rattle.layer_candidates.specs.declared.member.Member.{Member}
-use Rattle.layer_candidates.specs.Rows.{row_at, with_row}
-use Rattle.layer_candidates.specs.Ways.{way_at, reached_by, reached_at, all_reached, IsNear, IsNearly, IsWay, AreJoined}
+use Rattle.layer_candidates.specs.Rows.{row_at, with_row, HasZeros}
+use Rattle.layer_candidates.specs.Ways.{way_at, reached_by, reached_at, all_reached, IsNear, IsNearly, IsWay, AllHaveZeros, AreWays, AreJoined}
 use Rattle.layer_candidates.specs.Members.{member_as, members_as, IsMemberOf}
 use Rattle.layer_candidates.specs.Extending.{HasRoom, AreSame, parent_as, all_allowed, HasExtended, AreExtended}
 use Rattle.layer_candidates.proofs.Blocks.{before-with, here-with, table-with}
-use Rattle.layer_candidates.proofs.Joined.{table_same, all_joined_both}
+use Rattle.layer_candidates.proofs.Joined.{last_or, table_same, all_joined_both}
 
 -- A row is written behind the ways.
 
@@ -26,11 +26,11 @@ module _ (rows row : List ℤ) (words : ℕ) (ways : List Way) (room : length wa
   abbrev after : List ℤ
   after = with_row rows (length ways * words) row
 
-  pub joined-with : (dp : Dp) (k : ℕ) (folds heads next : List ℕ) → AreJoined dp k rows words ways folds heads next → AreJoined dp k after words ways folds heads next
-  joined-with dp k folds heads next j =
+  pub joined-with : (dp : Dp) (k live : ℕ) (folds heads next : List ℕ) → AreJoined dp k rows words live ways folds heads next → AreJoined dp k after words live ways folds heads next
+  joined-with dp k live folds heads next j =
       let same = before-with rows row words (length ways) room long in
       record {
-        table = table-with rows row words (length ways) room long folds heads next j.table;
+        table = table-with rows row words (length ways) room long live folds heads next j.table;
         apart = λ a b less within e. j.apart a b less within (sym (same a (omega arith)) ∙ (e ∙ same b within));
         good = λ i less. subst (λ r. IsWay dp k r (way_at ways i)) (sym (same i less)) (j.good i less);
       }
@@ -44,7 +44,8 @@ module _ (rows row : List ℤ) (words : ℕ) (ways : List Way) (room : length wa
 pub record Written (dp : Dp) (k : ℕ) (s : List ℤ) (d : ℕ) (rows rows2 : List ℤ) (ways : List Way) : Type 0 where
   pub here : IsStateOf dp k s
   pub row : row_at rows2 (length s) (length ways) ≡ dp.step k s d
-  pub joined : (folds heads next : List ℕ) → AreJoined dp (k + 1) rows (length s) ways folds heads next → AreJoined dp (k + 1) rows2 (length s) ways folds heads next
+  pub state : IsStateOf dp (k + 1) (row_at rows2 (length s) (length ways))
+  pub joined : (live : ℕ) (folds heads next : List ℕ) → AreJoined dp (k + 1) rows (length s) live ways folds heads next → AreJoined dp (k + 1) rows2 (length s) live ways folds heads next
   pub reached : (paths : ℕ → List ℕ) → all_reached paths rows2 (length s) ways ≡ all_reached paths rows (length s) ways
   pub before : (i : ℕ) → i < length ways → row_at rows2 (length s) i ≡ row_at rows (length s) i
 
@@ -58,13 +59,23 @@ written dp laws k s d count rows rows2 ways size test allowed cells hold are =
     let long : length out ≡ length s = laws.sizes.cells (k + 1) out next ∙ sym cells in
     let room : length ways * length s + length s ≤ length rows = omega arith in
     let is : rows2 ≡ with_row rows (length ways * length s) out = are ∙ ap (λ n. with_row rows (n * length s) out) size in
+    let row = ap (λ r. row_at r (length s) (length ways)) is ∙ here-with rows out (length s) (length ways) room long in
     record {
       here = here;
-      row = ap (λ r. row_at r (length s) (length ways)) is ∙ here-with rows out (length s) (length ways) room long;
-      joined = λ folds heads next j. subst (λ r. AreJoined dp (k + 1) r (length s) ways folds heads next) (sym is) (joined-with rows out (length s) ways room long dp (k + 1) folds heads next j);
+      row = row;
+      state = subst (IsStateOf dp (k + 1)) (sym row) next;
+      joined = λ live folds heads next j. subst (λ r. AreJoined dp (k + 1) r (length s) live ways folds heads next) (sym is) (joined-with rows out (length s) ways room long dp (k + 1) live folds heads next j);
       reached = λ paths. ap (λ r. all_reached paths r (length s) ways) is ∙ reached-with rows out (length s) ways room long paths;
       before = λ i less. ap (λ r. row_at r (length s) i) is ∙ before-with rows out (length s) (length ways) room long i less;
     }
+
+-- the rows of the ways, and one more, begin with zeros
+pub rows-zeros : (dp : Dp) (k live : ℕ) (rows : List ℤ) (words : ℕ) (ways : List Way) → AllHaveZeros dp k live → AreWays dp k rows words ways → IsStateOf dp k (row_at rows words (length ways))
+    → (i : ℕ) → i ≤ length ways → HasZeros live (row_at rows words i)
+rows-zeros dp k live rows words ways zeros good new i less = elim (last_or i (length ways) (omega arith)) as (λ _. HasZeros live (row_at rows words i)) [
+  | inl e ↦ subst (λ (j : ℕ). HasZeros live (row_at rows words j)) (sym e) (zeros (row_at rows words (length ways)) new)
+  | inr before ↦ zeros (row_at rows words i) (good i before).state
+]
 
 -- A way by an allowed decision.
 
@@ -92,17 +103,17 @@ room-less words m n rows rows2 cap cap2 folds folds2 next next2 h few a b c d =
     let one = h.rows_hold in let two = h.ways_hold in let three = h.folds_hold in let four = h.next_hold in let five = h.small in
     record { rows_hold = omega arith; ways_hold = omega arith; folds_hold = omega arith; next_hold = omega arith; small = omega arith }
 
-module _ (dp : Dp) (k step : ℕ) (s : List ℤ) (value : ℤ) (words : ℕ) where
+module _ (dp : Dp) (k step : ℕ) (s : List ℤ) (value : ℤ) (words live : ℕ) where
   -- no decision
-  pub extended-none : (rows : List ℤ) (ways : List Way) (folds heads next : List ℕ) → AreJoined dp (k + 1) rows words ways folds heads next
-      → HasExtended dp k step s value [] words rows ways rows ways folds heads next
+  pub extended-none : (rows : List ℤ) (ways : List Way) (folds heads next : List ℕ) → AreJoined dp (k + 1) rows words live ways folds heads next
+      → HasExtended dp k step s value [] words live rows ways rows ways folds heads next
   extended-none rows ways folds heads next j = record { joined = j; list = λ paths. refl; few = omega arith; size = refl }
 
   -- one that is allowed
-  pub extended-one : (d : ℕ) (rows rows2 : List ℤ) (ways ways2 : List Way) (folds heads next : List ℕ) → dp.allowed k s d ≡ true → AreJoined dp (k + 1) rows2 words ways2 folds heads next
+  pub extended-one : (d : ℕ) (rows rows2 : List ℤ) (ways ways2 : List Way) (folds heads next : List ℕ) → dp.allowed k s d ≡ true → AreJoined dp (k + 1) rows2 words live ways2 folds heads next
       → ((paths : ℕ → List ℕ) → all_reached paths rows2 words ways2 ≡ joined (all_reached paths rows words ways) (extended dp k (parent_as paths step s value) d))
       → length ways2 ≤ length ways + 1 → length rows2 ≡ length rows
-      → HasExtended dp k step s value (d ∷ []) words rows ways rows2 ways2 folds heads next
+      → HasExtended dp k step s value (d ∷ []) words live rows ways rows2 ways2 folds heads next
   extended-one d rows rows2 ways ways2 folds heads next test j list few size = record {
     joined = j;
     list = λ paths. list paths ∙ sym (ap (λ b. all_joined (all_reached paths rows words ways) (map (extended dp k (parent_as paths step s value)) (cond b (d ∷ []) []))) test);
@@ -111,14 +122,14 @@ module _ (dp : Dp) (k step : ℕ) (s : List ℤ) (value : ℤ) (words : ℕ) whe
   }
 
   -- one that is not
-  pub extended-same : (d : ℕ) (rows rows2 : List ℤ) (ways ways2 : List Way) (folds heads next folds2 heads2 next2 : List ℕ) → dp.allowed k s d ≡ false → AreJoined dp (k + 1) rows words ways folds heads next
-      → AreSame rows ways folds heads next rows2 ways2 folds2 heads2 next2 → HasExtended dp k step s value (d ∷ []) words rows ways rows2 ways2 folds2 heads2 next2
+  pub extended-same : (d : ℕ) (rows rows2 : List ℤ) (ways ways2 : List Way) (folds heads next folds2 heads2 next2 : List ℕ) → dp.allowed k s d ≡ false → AreJoined dp (k + 1) rows words live ways folds heads next
+      → AreSame rows ways folds heads next rows2 ways2 folds2 heads2 next2 → HasExtended dp k step s value (d ∷ []) words live rows ways rows2 ways2 folds2 heads2 next2
   extended-same d rows rows2 ways ways2 folds heads next folds2 heads2 next2 test j same =
-      subst (λ x. HasExtended dp k step s value (d ∷ []) words rows ways x ways2 folds2 heads2 next2) (sym same.rows_are)
-      (subst (λ x. HasExtended dp k step s value (d ∷ []) words rows ways rows x folds2 heads2 next2) (sym same.ways_are)
-      (subst (λ x. HasExtended dp k step s value (d ∷ []) words rows ways rows ways x heads2 next2) (sym same.folds_are)
-      (subst (λ x. HasExtended dp k step s value (d ∷ []) words rows ways rows ways folds x next2) (sym same.heads_are)
-      (subst (λ x. HasExtended dp k step s value (d ∷ []) words rows ways rows ways folds heads x) (sym same.next_are) (record {
+      subst (λ x. HasExtended dp k step s value (d ∷ []) words live rows ways x ways2 folds2 heads2 next2) (sym same.rows_are)
+      (subst (λ x. HasExtended dp k step s value (d ∷ []) words live rows ways rows x folds2 heads2 next2) (sym same.ways_are)
+      (subst (λ x. HasExtended dp k step s value (d ∷ []) words live rows ways rows ways x heads2 next2) (sym same.folds_are)
+      (subst (λ x. HasExtended dp k step s value (d ∷ []) words live rows ways rows ways folds x next2) (sym same.heads_are)
+      (subst (λ x. HasExtended dp k step s value (d ∷ []) words live rows ways rows ways folds heads x) (sym same.next_are) (record {
         joined = j;
         list = λ paths. sym (ap (λ b. all_joined (all_reached paths rows words ways) (map (extended dp k (parent_as paths step s value)) (cond b (d ∷ []) []))) test);
         few = omega arith;
@@ -127,8 +138,8 @@ module _ (dp : Dp) (k step : ℕ) (s : List ℤ) (value : ℤ) (words : ℕ) whe
 
   -- some, and then others
   extended-both : (ds es : List ℕ) (old_rows rows rows2 : List ℤ) (old_ways ways ways2 : List Way) (folds heads next folds2 heads2 next2 : List ℕ)
-      → HasExtended dp k step s value ds words old_rows old_ways rows ways folds heads next → HasExtended dp k step s value es words rows ways rows2 ways2 folds2 heads2 next2
-      → HasExtended dp k step s value (ds ++ es) words old_rows old_ways rows2 ways2 folds2 heads2 next2
+      → HasExtended dp k step s value ds words live old_rows old_ways rows ways folds heads next → HasExtended dp k step s value es words live rows ways rows2 ways2 folds2 heads2 next2
+      → HasExtended dp k step s value (ds ++ es) words live old_rows old_ways rows2 ways2 folds2 heads2 next2
   extended-both ds es old_rows rows rows2 old_ways ways ways2 folds heads next folds2 heads2 next2 g h =
       let sum = length-append ds es in
       let one = g.few in
@@ -147,17 +158,17 @@ module _ (dp : Dp) (k step : ℕ) (s : List ℤ) (value : ℤ) (words : ℕ) whe
 
   -- those below n, and then n
   pub extended-next : (n : ℕ) (old_rows rows rows2 : List ℤ) (old_ways ways ways2 : List Way) (folds heads next folds2 heads2 next2 : List ℕ)
-      → HasExtended dp k step s value (below n) words old_rows old_ways rows ways folds heads next → HasExtended dp k step s value (n ∷ []) words rows ways rows2 ways2 folds2 heads2 next2
-      → HasExtended dp k step s value (below (n + 1)) words old_rows old_ways rows2 ways2 folds2 heads2 next2
+      → HasExtended dp k step s value (below n) words live old_rows old_ways rows ways folds heads next → HasExtended dp k step s value (n ∷ []) words live rows ways rows2 ways2 folds2 heads2 next2
+      → HasExtended dp k step s value (below (n + 1)) words live old_rows old_ways rows2 ways2 folds2 heads2 next2
   extended-next n old_rows rows rows2 old_ways ways ways2 folds heads next folds2 heads2 next2 g h =
-      subst (λ l. HasExtended dp k step s value l words old_rows old_ways rows2 ways2 folds2 heads2 next2) (sym (ap below (add-one n)))
+      subst (λ l. HasExtended dp k step s value l words live old_rows old_ways rows2 ways2 folds2 heads2 next2) (sym (ap below (add-one n)))
       (extended-both (below n) (n ∷ []) old_rows rows rows2 old_ways ways ways2 folds heads next folds2 heads2 next2 g h)
 
 -- Members.
 
-pub members-start : (dp : Dp) (k : ℕ) (above : List ℤ) (words : ℕ) (members : List Member) (rows : List ℤ) (folds next : List ℕ) (size : ℕ) → 0 < size
-    → AreExtended dp k 0 above words members rows [] folds (replicate size 0) next
-members-start dp k above words members rows folds next size some = record {
+pub members-start : (dp : Dp) (k : ℕ) (above : List ℤ) (words live : ℕ) (members : List Member) (rows : List ℤ) (folds next : List ℕ) (size : ℕ) → 0 < size
+    → AreExtended dp k 0 above words live members rows [] folds (replicate size 0) next
+members-start dp k above words live members rows folds next size some = record {
   joined = record {
     table = record {
       room = omega arith;
@@ -186,11 +197,11 @@ drop-members paths above words members i d less =
     let f = member_as paths above words in
     drop-map f i members ∙ (ap (map f) (drop_more members i d less) ∙ ap (λ l. f (get_or members i d) ∷ l) (sym (drop-map f (i + 1) members)))
 
-pub members-more : (dp : Dp) (k i : ℕ) (above : List ℤ) (words : ℕ) (members : List Member) (d : Member) (s : List ℤ) (rows rows2 : List ℤ) (ways ways2 : List Way) (folds heads next folds2 heads2 next2 : List ℕ)
-    → AreExtended dp k i above words members rows ways folds heads next → i < length members → s ≡ row_at above words (get_or members i d).row
-    → HasExtended dp k (get_or members i d).step s (get_or members i d).value (below (dp.choices k)) words rows ways rows2 ways2 folds2 heads2 next2
-    → AreExtended dp k (i + 1) above words members rows2 ways2 folds2 heads2 next2
-members-more dp k i above words members d s rows rows2 ways ways2 folds heads next folds2 heads2 next2 h less row e =
+pub members-more : (dp : Dp) (k i : ℕ) (above : List ℤ) (words live : ℕ) (members : List Member) (d : Member) (s : List ℤ) (rows rows2 : List ℤ) (ways ways2 : List Way) (folds heads next folds2 heads2 next2 : List ℕ)
+    → AreExtended dp k i above words live members rows ways folds heads next → i < length members → s ≡ row_at above words (get_or members i d).row
+    → HasExtended dp k (get_or members i d).step s (get_or members i d).value (below (dp.choices k)) words live rows ways rows2 ways2 folds2 heads2 next2
+    → AreExtended dp k (i + 1) above words live members rows2 ways2 folds2 heads2 next2
+members-more dp k i above words live members d s rows rows2 ways ways2 folds heads next folds2 heads2 next2 h less row e =
     let m = get_or members i d in
     let low = h.few in let more = e.few in let all = length-below (dp.choices k) in
     record {
@@ -206,10 +217,10 @@ members-more dp k i above words members d s rows rows2 ways ways2 folds heads ne
       few = omega arith;
     }
 
-pub members-all : (dp : Dp) (k i : ℕ) (above : List ℤ) (words : ℕ) (members : List Member) (rows : List ℤ) (ways : List Way) (folds heads next : List ℕ)
-    → AreExtended dp k i above words members rows ways folds heads next → i ≡ length members
+pub members-all : (dp : Dp) (k i : ℕ) (above : List ℤ) (words live : ℕ) (members : List Member) (rows : List ℤ) (ways : List Way) (folds heads next : List ℕ)
+    → AreExtended dp k i above words live members rows ways folds heads next → i ≡ length members
     → (paths : ℕ → List ℕ) → all_reached paths rows words ways ≡ all_joined [] (candidates dp k (members_as paths above words members))
-members-all dp k i above words members rows ways folds heads next h whole paths =
+members-all dp k i above words live members rows ways folds heads next h whole paths =
     let L = members_as paths above words members in
     let none : drop i L ≡ [] = drop_all i L (let e = length-map members (member_as paths above words) in omega arith) in
     ap (λ l. all_joined (all_reached paths rows words ways) (candidates dp k l)) (sym none) ∙ h.list paths

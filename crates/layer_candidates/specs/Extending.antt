@@ -33,18 +33,18 @@ abbrev pub all_allowed : Dp → ℕ → List ℤ → List ℕ → List ℕ
 all_allowed dp k s decisions = filter (dp.allowed k s) decisions
 
 -- a parent's ways by those of the decisions that are allowed were taken in
-pub record HasExtended (dp : Dp) (k step : ℕ) (s : List ℤ) (value : ℤ) (decisions : List ℕ) (words : ℕ) (old_rows : List ℤ) (old_ways : List Way)
+pub record HasExtended (dp : Dp) (k step : ℕ) (s : List ℤ) (value : ℤ) (decisions : List ℕ) (words live : ℕ) (old_rows : List ℤ) (old_ways : List Way)
     (rows : List ℤ) (ways : List Way) (folds heads next : List ℕ) : Type 0 where
-  pub joined : AreJoined dp (k + 1) rows words ways folds heads next
+  pub joined : AreJoined dp (k + 1) rows words live ways folds heads next
   pub list : (paths : ℕ → List ℕ) → all_reached paths rows words ways
       ≡ all_joined (all_reached paths old_rows words old_ways) (map (extended dp k (parent_as paths step s value)) (all_allowed dp k s decisions))
   pub few : length ways ≤ length old_ways + length decisions
   pub size : length rows ≡ length old_rows
 
 -- the ways of the first i members of a layer were taken in
-pub record AreExtended (dp : Dp) (k i : ℕ) (above : List ℤ) (words : ℕ) (members : List Member)
+pub record AreExtended (dp : Dp) (k i : ℕ) (above : List ℤ) (words live : ℕ) (members : List Member)
     (rows : List ℤ) (ways : List Way) (folds heads next : List ℕ) : Type 0 where
-  pub joined : AreJoined dp (k + 1) rows words ways folds heads next
+  pub joined : AreJoined dp (k + 1) rows words live ways folds heads next
   pub list : (paths : ℕ → List ℕ) → all_joined (all_reached paths rows words ways) (candidates dp k (drop i (members_as paths above words members)))
       ≡ all_joined [] (candidates dp k (members_as paths above words members))
   pub few : length ways ≤ i * dp.choices k

@@ -5,7 +5,7 @@ use Rattle.dp_model.specs.Dp.{Dp}
 use Rattle.dp_model.specs.Gaps.{IsStateOf}
 use Rattle.dp_model.specs.Reached.{Reached}
 use Rattle.layer_candidates.specs.declared.way.Way.{Way}
-use Rattle.layer_candidates.specs.Rows.{row_at}
+use Rattle.layer_candidates.specs.Rows.{row_at, HasZeros}
 use Rattle.layer_candidates.specs.Table.{IsTable}
 
 -- the values of the numbers below n, in order
@@ -49,6 +49,10 @@ pub record IsWay (dp : Dp) (k : ℕ) (row : List ℤ) (way : Way) : Type 0 where
   pub rank : way.rank ≡ dp.rank k row
   pub value : IsNearly way.value
 
+-- so many first cells are zero in each state of the layer at depth k
+abbrev pub AllHaveZeros : Dp → ℕ → ℕ → Type 0
+AllHaveZeros dp k count = (s : List ℤ) → IsStateOf dp k s → HasZeros count s
+
 -- no two rows are the same
 abbrev pub AreApart : List ℤ → ℕ → ℕ → Type 0
 AreApart rows words count = (j k : ℕ) → j < k → k < count → row_at rows words j ≢ row_at rows words k
@@ -64,7 +68,7 @@ pub record AreDistinct (dp : Dp) (k : ℕ) (rows : List ℤ) (words : ℕ) (ways
   pub good : AreWays dp k rows words ways
 
 -- the ways lead to different states, which the table has
-pub record AreJoined (dp : Dp) (k : ℕ) (rows : List ℤ) (words : ℕ) (ways : List Way) (folds heads next : List ℕ) : Type 0 where
-  pub table : IsTable rows words (length ways) folds heads next
+pub record AreJoined (dp : Dp) (k : ℕ) (rows : List ℤ) (words live : ℕ) (ways : List Way) (folds heads next : List ℕ) : Type 0 where
+  pub table : IsTable rows words live (length ways) folds heads next
   pub apart : AreApart rows words (length ways)
   pub good : AreWays dp k rows words ways

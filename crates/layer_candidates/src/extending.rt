@@ -7,7 +7,7 @@ ghost use Rattle.dp_model.specs.Numbers.{IsSmall};
 ghost use Rattle.dp_laws.specs.Restricted.Extensions.{candidates, all_joined};
 ghost use Rattle.layer_candidates.specs.Rows.{row_at, with_row};
 ghost use Rattle.layer_candidates.specs.Table.{IsPlaced};
-ghost use Rattle.layer_candidates.specs.Ways.{all_reached, IsNear, AreJoined, AreDistinct};
+ghost use Rattle.layer_candidates.specs.Ways.{all_reached, IsNear, AllHaveZeros, AreJoined, AreDistinct};
 ghost use Rattle.layer_candidates.specs.Members.{members_as, IsMemberOf};
 ghost use Rattle.layer_candidates.specs.Extending.{HasRoom, AreSame, HasExtended};
 
@@ -72,13 +72,14 @@ pub struct Taken {
 
 /// Takes in the way from a parent in the layer at depth `k`, with the state `s`, by a decision: of each state the first way of
 /// greatest value is kept. The state's row is written behind those of the other ways. Answers `None` exactly where the decision
-/// is not allowed, and then all stays as it was.
+/// is not allowed, and then all stays as it was. The first `live` cells are zero in each state of the next layer.
 pub fn extend_by<M: DpModel>(
     model: &M,
     k: usize,
     parent: Member,
     s: &[i64],
     decision: u32,
+    live: usize,
     rows: &mut [i64],
     ways: &mut Vec<Way>,
     folds: &mut [u64],
@@ -91,11 +92,13 @@ pub fn extend_by<M: DpModel>(
     requires value { IsNear parent.value }
     requires rank { parent.rank ≡ (M.meaning (M.numbers model.now)).rank k s.now }
     requires choice { decision < (M.meaning (M.numbers model.now)).choices k }
-    requires joined { AreJoined (M.meaning (M.numbers model.now)) (k + 1) rows.old (length s.now) ways.old.items folds.old heads.old next.old }
+    requires live { live ≤ length s.now }
+    requires zeros { AllHaveZeros (M.meaning (M.numbers model.now)) (k + 1) live }
+    requires joined { AreJoined (M.meaning (M.numbers model.now)) (k + 1) rows.old (length s.now) live ways.old.items folds.old heads.old next.old }
     requires room { HasRoom (length s.now) (length ways.old.items + 1) rows.old (vec_capacity ways.old) folds.old next.old }
     ensures allowed { is_some result ≡ (M.meaning (M.numbers model.now)).allowed k s.now decision }
     ensures refused { IsNone result → AreSame rows.old ways.old.items folds.old heads.old next.old rows.new ways.new.items folds.new heads.new next.new }
-    ensures extended { HasExtended (M.meaning (M.numbers model.now)) k parent.step s.now parent.value (decision ∷ []) (length s.now) rows.old ways.old.items rows.new ways.new.items folds.new heads.new next.new }
+    ensures extended { HasExtended (M.meaning (M.numbers model.now)) k parent.step s.now parent.value (decision ∷ []) (length s.now) live rows.old ways.old.items rows.new ways.new.items folds.new heads.new next.new }
     ensures place { IfSome result (λ t. IsPlaced rows.new (length s.now) (length ways.old.items) (length ways.new.items) ((M.meaning (M.numbers model.now)).step k s.now decision) t.place) }
     ensures before { (i : ℕ) → i < length ways.old.items → row_at rows.new (length s.now) i ≡ row_at rows.old (length s.now) i }
     ensures gain { IfSome result (λ t. t.gain ≡ (M.meaning (M.numbers model.now)).gain k s.now decision) }
@@ -105,7 +108,7 @@ pub fn extend_by<M: DpModel>(
     let count = ways.len();
     let gained = write_state(model, k, s, parent.rank, decision, rows, count * words)?;
     let way = way_of(parent, gained, decision);
-    let place = take_in(rows, words, way, ways, folds, heads, next);
+    let place = take_in(rows, words, live, way, ways, folds, heads, next);
     Some(Taken {
         place,
         gain: gained.gain,
@@ -118,6 +121,7 @@ fn extend_member<M: DpModel>(
     k: usize,
     parent: Member,
     s: &[i64],
+    live: usize,
     rows: &mut [i64],
     ways: &mut Vec<Way>,
     folds: &mut [u64],
@@ -129,14 +133,16 @@ fn extend_member<M: DpModel>(
     requires cells { length s.now ≡ (M.meaning (M.numbers model.now)).words }
     requires value { IsNear parent.value }
     requires rank { parent.rank ≡ (M.meaning (M.numbers model.now)).rank k s.now }
-    requires joined { AreJoined (M.meaning (M.numbers model.now)) (k + 1) rows.old (length s.now) ways.old.items folds.old heads.old next.old }
+    requires live { live ≤ length s.now }
+    requires zeros { AllHaveZeros (M.meaning (M.numbers model.now)) (k + 1) live }
+    requires joined { AreJoined (M.meaning (M.numbers model.now)) (k + 1) rows.old (length s.now) live ways.old.items folds.old heads.old next.old }
     requires room { HasRoom (length s.now) (length ways.old.items + (M.meaning (M.numbers model.now)).choices k) rows.old (vec_capacity ways.old) folds.old next.old }
-    ensures extended { HasExtended (M.meaning (M.numbers model.now)) k parent.step s.now parent.value (below ((M.meaning (M.numbers model.now)).choices k)) (length s.now) rows.old ways.old.items rows.new ways.new.items folds.new heads.new next.new }
+    ensures extended { HasExtended (M.meaning (M.numbers model.now)) k parent.step s.now parent.value (below ((M.meaning (M.numbers model.now)).choices k)) (length s.now) live rows.old ways.old.items rows.new ways.new.items folds.new heads.new next.new }
     ensures capacity { vec_capacity ways.new ≡ vec_capacity ways.old }
 {
     'decisions: for decision in 0..model.choices(k) {
         extend_by(
-            model, k, parent, s, decision, rows, ways, folds, heads, next,
+            model, k, parent, s, decision, live, rows, ways, folds, heads, next,
         );
     }
 }
@@ -165,6 +171,7 @@ pub fn extend_layer<M: DpModel>(
     ensures few { length ways.new.items ≤ length members.now * (M.meaning (M.numbers model.now)).choices k }
     ensures capacity { vec_capacity ways.new ≡ vec_capacity ways.old }
 {
+    let live = model.first_live(k + 1);
     let slots = slots_for(members.len() * model.choices(k) as usize, heads.len());
     let heads = &mut heads[..slots];
     reset(heads);
@@ -172,6 +179,6 @@ pub fn extend_layer<M: DpModel>(
     'members: for i in 0..members.len() {
         let parent = members[i];
         let s = row(above, words, parent.row as usize);
-        extend_member(model, k, parent, s, rows, ways, folds, heads, next);
+        extend_member(model, k, parent, s, live, rows, ways, folds, heads, next);
     }
 }

@@ -18,7 +18,7 @@ decisions-preserved g c =
     let dp = g.M.DpModel.meaning (g.M.DpModel.numbers c.args.model.now) in
     let a = c.args in let l = c.decisions in let e = c.extend_by in
     record {
-      extended = extended-next dp a.k a.parent.step a.s.now a.parent.value (length a.s.now) l.decision a.rows.now l.rows e.new.rows a.ways.now.items l.ways.items e.new.ways.items l.folds l.heads l.next e.new.folds e.new.heads e.new.next
+      extended = extended-next dp a.k a.parent.step a.s.now a.parent.value (length a.s.now) a.live l.decision a.rows.now l.rows e.new.rows a.ways.now.items l.ways.items e.new.ways.items l.folds l.heads l.next e.new.folds e.new.heads e.new.next
           l.invariant.extended e.ensures.extended;
       capacity = e.ensures.capacity ∙ l.invariant.capacity;
     }
