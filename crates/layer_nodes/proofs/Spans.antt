@@ -92,14 +92,14 @@ module _ (dp : Dp) (k : ℕ) (cells : List ℤ) (words : ℕ) where
         ∙ (sym (append_assoc S (x ∷ []) (drop (i + 1) nodes)) ∙ ap (λ l. l ++ drop (i + 1) nodes) (sym more))))
 
     -- the ways of one node more
-    pub extended-next : (s rows rows2 : List ℤ) (ways ways2 : List Way) (folds heads next folds2 heads2 next2 : List ℕ)
-        → AreExtended dp k i cells words (members_from 0 nodes) rows ways folds heads next → s ≡ row_at cells words (node_in now i).row
-        → HasExtended dp k i s (node_in now i).value (below (dp.choices k)) words rows ways rows2 ways2 folds2 heads2 next2
-        → AreExtended dp k (i + 1) cells words (members_from 0 nodes) rows2 ways2 folds2 heads2 next2
-    extended-next s rows rows2 ways ways2 folds heads next folds2 heads2 next2 h row e =
-        members-more dp k i cells words (members_from 0 nodes) _ s rows rows2 ways ways2 folds heads next folds2 heads2 next2 h
+    pub extended-next : (live : ℕ) (s rows rows2 : List ℤ) (ways ways2 : List Way) (folds heads next folds2 heads2 next2 : List ℕ)
+        → AreExtended dp k i cells words live (members_from 0 nodes) rows ways folds heads next → s ≡ row_at cells words (node_in now i).row
+        → HasExtended dp k i s (node_in now i).value (below (dp.choices k)) words live rows ways rows2 ways2 folds2 heads2 next2
+        → AreExtended dp k (i + 1) cells words live (members_from 0 nodes) rows2 ways2 folds2 heads2 next2
+    extended-next live s rows rows2 ways ways2 folds heads next folds2 heads2 next2 h row e =
+        members-more dp k i cells words live (members_from 0 nodes) _ s rows rows2 ways ways2 folds heads next folds2 heads2 next2 h
         (let e = length-members 0 nodes in omega arith) (row ∙ ap (λ (m : Member). row_at cells words m.row) (sym member-next))
-        (subst (λ (m : Member). HasExtended dp k m.step s m.value (below (dp.choices k)) words rows ways rows2 ways2 folds2 heads2 next2) (sym member-next) e)
+        (subst (λ (m : Member). HasExtended dp k m.step s m.value (below (dp.choices k)) words live rows ways rows2 ways2 folds2 heads2 next2) (sym member-next) e)
 
     -- its trials
     pub tried-next : (s rows : List ℤ) (count : ℕ) (marks : List Bool) (arcs : List DdArc) → s ≡ row_at cells words (node_in now i).row

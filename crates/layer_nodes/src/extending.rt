@@ -4,7 +4,7 @@ ghost use Rattle.std.specs.Prelude.{◌≡◌, ℕ, ◌+◌, ◌*◌, ◌^◌, �
 ghost use Rattle.dp_model.specs.Decisions.{below};
 ghost use Rattle.dp_model.specs.Lists.{Each};
 ghost use Rattle.dp_laws.specs.Restricted.Extensions.{candidates, all_joined};
-ghost use Rattle.layer_candidates.specs.Ways.{all_reached, IsNear, AreJoined, AreDistinct};
+ghost use Rattle.layer_candidates.specs.Ways.{all_reached, IsNear, AllHaveZeros, AreJoined, AreDistinct};
 ghost use Rattle.layer_candidates.specs.Members.{members_as, IsMemberOf};
 ghost use Rattle.layer_candidates.specs.Extending.{HasRoom, HasExtended};
 ghost use Rattle.layer_nodes.specs.Expanding.{member_of, members_from, Trial, trials_by, trials_of, spanned, all_spanned, marked, AreTried};
@@ -30,6 +30,7 @@ fn try_by<M: DpModel>(
     exact: bool,
     s: &[i64],
     decision: u32,
+    live: usize,
     rows: &mut [i64],
     ways: &mut Vec<Way>,
     folds: &mut [u64],
@@ -44,11 +45,13 @@ fn try_by<M: DpModel>(
     requires value { IsNear parent.value }
     requires rank { parent.rank ≡ (M.meaning (M.numbers model.now)).rank k s.now }
     requires choice { decision < (M.meaning (M.numbers model.now)).choices k }
-    requires joined { AreJoined (M.meaning (M.numbers model.now)) (k + 1) rows.old (length s.now) ways.old.items folds.old heads.old next.old }
+    requires live { live ≤ length s.now }
+    requires zeros { AllHaveZeros (M.meaning (M.numbers model.now)) (k + 1) live }
+    requires joined { AreJoined (M.meaning (M.numbers model.now)) (k + 1) rows.old (length s.now) live ways.old.items folds.old heads.old next.old }
     requires room { HasRoom (length s.now) (length ways.old.items + 1) rows.old (vec_capacity ways.old) folds.old next.old }
     requires marks_room { length ways.old.items < length marks.old }
     requires arcs_room { length arcs.old.items < vec_capacity arcs.old }
-    ensures extended { HasExtended (M.meaning (M.numbers model.now)) k parent.step s.now parent.value (decision ∷ []) (length s.now) rows.old ways.old.items rows.new ways.new.items folds.new heads.new next.new }
+    ensures extended { HasExtended (M.meaning (M.numbers model.now)) k parent.step s.now parent.value (decision ∷ []) (length s.now) live rows.old ways.old.items rows.new ways.new.items folds.new heads.new next.new }
     ensures tried { (ts : List Trial) → AreTried (M.meaning (M.numbers model.now)) k rows.old (length s.now) (length ways.old.items) ts marks.old arcs.old.items
         → AreTried (M.meaning (M.numbers model.now)) k rows.new (length s.now) (length ways.new.items) (ts ++ trials_by (M.meaning (M.numbers model.now)) k s.now exact (decision ∷ [])) marks.new arcs.new.items }
     ensures capacity { vec_capacity ways.new ≡ vec_capacity ways.old }
@@ -57,7 +60,7 @@ fn try_by<M: DpModel>(
 {
     let count = ways.len();
     let Some(taken) = extend_by(
-        model, k, parent, s, decision, rows, ways, folds, heads, next,
+        model, k, parent, s, decision, live, rows, ways, folds, heads, next,
     ) else {
         return;
     };
@@ -77,6 +80,7 @@ fn try_node<M: DpModel>(
     parent: Member,
     exact: bool,
     s: &[i64],
+    live: usize,
     rows: &mut [i64],
     ways: &mut Vec<Way>,
     folds: &mut [u64],
@@ -90,11 +94,13 @@ fn try_node<M: DpModel>(
     requires cells { length s.now ≡ (M.meaning (M.numbers model.now)).words }
     requires value { IsNear parent.value }
     requires rank { parent.rank ≡ (M.meaning (M.numbers model.now)).rank k s.now }
-    requires joined { AreJoined (M.meaning (M.numbers model.now)) (k + 1) rows.old (length s.now) ways.old.items folds.old heads.old next.old }
+    requires live { live ≤ length s.now }
+    requires zeros { AllHaveZeros (M.meaning (M.numbers model.now)) (k + 1) live }
+    requires joined { AreJoined (M.meaning (M.numbers model.now)) (k + 1) rows.old (length s.now) live ways.old.items folds.old heads.old next.old }
     requires room { HasRoom (length s.now) (length ways.old.items + (M.meaning (M.numbers model.now)).choices k) rows.old (vec_capacity ways.old) folds.old next.old }
     requires marks_room { length ways.old.items + (M.meaning (M.numbers model.now)).choices k ≤ length marks.old }
     requires arcs_room { length arcs.old.items + (M.meaning (M.numbers model.now)).choices k ≤ vec_capacity arcs.old }
-    ensures extended { HasExtended (M.meaning (M.numbers model.now)) k parent.step s.now parent.value (below ((M.meaning (M.numbers model.now)).choices k)) (length s.now) rows.old ways.old.items rows.new ways.new.items folds.new heads.new next.new }
+    ensures extended { HasExtended (M.meaning (M.numbers model.now)) k parent.step s.now parent.value (below ((M.meaning (M.numbers model.now)).choices k)) (length s.now) live rows.old ways.old.items rows.new ways.new.items folds.new heads.new next.new }
     ensures tried { (ts : List Trial) → AreTried (M.meaning (M.numbers model.now)) k rows.old (length s.now) (length ways.old.items) ts marks.old arcs.old.items
         → AreTried (M.meaning (M.numbers model.now)) k rows.new (length s.now) (length ways.new.items) (ts ++ trials_by (M.meaning (M.numbers model.now)) k s.now exact (below ((M.meaning (M.numbers model.now)).choices k))) marks.new arcs.new.items }
     ensures capacity { vec_capacity ways.new ≡ vec_capacity ways.old }
@@ -103,7 +109,7 @@ fn try_node<M: DpModel>(
 {
     'decisions: for decision in 0..model.choices(k) {
         try_by(
-            model, k, parent, exact, s, decision, rows, ways, folds, heads, next, marks, arcs,
+            model, k, parent, exact, s, decision, live, rows, ways, folds, heads, next, marks, arcs,
         );
     }
 }
@@ -165,6 +171,7 @@ pub fn extend_layer<M: DpModel>(
     ensures arcs_few { length arcs.new.items ≤ length nodes.old * (M.meaning (M.numbers model.now)).choices k }
     ensures arcs_capacity { vec_capacity arcs.new ≡ vec_capacity arcs.old }
 {
+    let live = model.first_live(k + 1);
     let slots = slots_for(nodes.len() * model.choices(k) as usize, heads.len());
     let heads = &mut heads[..slots];
     reset(heads);
@@ -176,7 +183,7 @@ pub fn extend_layer<M: DpModel>(
         let s = row(cells, words, node.row as usize);
         let first = arcs.len();
         try_node(
-            model, k, parent, node.exact, s, rows, ways, folds, heads, next, marks, arcs,
+            model, k, parent, node.exact, s, live, rows, ways, folds, heads, next, marks, arcs,
         );
         span(&mut nodes[i], first, arcs.len());
     }

@@ -47,7 +47,7 @@ decisions-preserved g c =
     let more = e.ensures.arcs_few in
     let few = inv.arcs_few in
     record {
-      extended = extended-next dp a.k a.parent.step a.s.now a.parent.value (length a.s.now) n a.rows.now l.rows e.new.rows a.ways.now.items l.ways.items e.new.ways.items l.folds l.heads l.next e.new.folds e.new.heads e.new.next
+      extended = extended-next dp a.k a.parent.step a.s.now a.parent.value (length a.s.now) a.live n a.rows.now l.rows e.new.rows a.ways.now.items l.ways.items e.new.ways.items l.folds l.heads l.next e.new.folds e.new.heads e.new.next
           inv.extended e.ensures.extended;
       tried = λ ts was. subst (λ us. AreTried dp a.k e.new.rows (length a.s.now) (length e.new.ways.items) us e.new.marks e.new.arcs.items)
           (append_assoc ts (trials_by dp a.k a.s.now a.exact (below n)) (trials_by dp a.k a.s.now a.exact (n ∷ [])) ∙ ap (λ us. ts ++ us) (sym (trials-next dp a.k a.s.now a.exact n)))
