@@ -88,7 +88,8 @@ fn tickets_and_values(alloc: Global, fringe: &Fringe) -> Result<Vec<(u64, i64)>,
     let listed = fringe.by_ticket()?;
     let mut pairs = Vec::new(alloc);
     for one in listed.as_slice() {
-        pairs.push((one.0, one.1.value))?;
+        let (ticket, sub) = *one;
+        pairs.push((ticket, sub.value))?;
     }
     Ok(pairs)
 }
