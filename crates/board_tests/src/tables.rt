@@ -27,24 +27,30 @@ fn is_state<M: DpModel>(model: &M, depth: usize, row: &[i64]) -> bool
     depth <= model.vars() && row.len() == model.words() && model.is_state(depth, row)
 }
 
-/// The dominator of the second state where the table has the first one alone, under ticket 1.
-fn dominator_beside<M: DpModel>(
+/// The dominators of the second state where the table has the first one alone, under ticket 1: without its rank, and with it.
+fn dominators_beside<M: DpModel>(
     rt: &impl Abort,
     alloc: Global,
     model: &M,
     entry: Reached,
     sought: Reached,
-) -> Result<Option<u64>, OutOfMemory> {
+) -> Result<(Option<u64>, Option<u64>), OutOfMemory> {
     let (depth, left, value) = entry;
     let row = [left];
     assert!(rt; is_state(model, depth, &row), "{entry:?}");
-    let mut table = Table::new(alloc, 1, 1);
-    table.reserve(1)?;
-    table.put(depth, model.bucket(depth, &row), &row, value, 1);
+    let mut plain = Table::new(alloc, 1, 1);
+    plain.reserve(1)?;
+    plain.put(depth, model.bucket(depth, &row), &row, value, 1);
+    let mut ranked = Table::new(alloc, 1, 1);
+    ranked.reserve(1)?;
+    ranked.put_state(model, depth, &row, value, 1);
     let (depth, left, value) = sought;
     let row = [left];
     assert!(rt; is_state(model, depth, &row), "{sought:?}");
-    Ok(table.dominator(model, depth, &row, value))
+    Ok((
+        plain.dominator(model, depth, &row, value),
+        ranked.dominator(model, depth, &row, value),
+    ))
 }
 
 #[test]
@@ -58,8 +64,8 @@ fn states_with_no_more_room_and_no_more_value_are_dominated(rt: HostRuntime) -> 
         ((2, 4, 60), None),
     ];
     for (sought, want) in cases.iter().copied() {
-        let by = dominator_beside(&rt, rt.alloc(), &model, (1, 5, 60), sought)?;
-        assert_eq!(rt; by, want, "at {sought:?}");
+        let by = dominators_beside(&rt, rt.alloc(), &model, (1, 5, 60), sought)?;
+        assert_eq!(rt; by, (want, want), "at {sought:?}");
     }
     Ok(())
 }
