@@ -3,8 +3,8 @@
 ghost use Rattle.std.specs.Prelude.{◌+◌, ◌<◌};
 ghost use Rattle.dp_model.specs.Lists.{Each};
 
-use crate::{Fringe, FringeFate, Same};
 use dp_model::Sub;
+use shared_fringe::{Fringe, FringeFate, Same};
 use std::alloc::{AllocError, Global};
 use std::test::Fail;
 
@@ -80,6 +80,29 @@ fn pushes_of_one_state(rt: HostRuntime) -> Result<(), Fail> {
     assert_eq!(rt; popped(&mut fringe), Some(3));
     assert_eq!(rt; popped(&mut fringe), Some(0));
     assert_eq!(rt; popped(&mut fringe), None);
+    Ok(())
+}
+
+/// The tickets and the values of the open ones, as the list by ticket has them.
+fn tickets_and_values(alloc: Global, fringe: &Fringe) -> Result<Vec<(u64, i64)>, AllocError> {
+    let listed = fringe.by_ticket()?;
+    let mut pairs = Vec::new(alloc);
+    for one in listed.as_slice() {
+        let (ticket, sub) = *one;
+        pairs.push((ticket, sub.value))?;
+    }
+    Ok(pairs)
+}
+
+#[test]
+fn lists_by_ticket(rt: HostRuntime) -> Result<(), Fail> {
+    let mut fringe = Fringe::new(rt.alloc(), 1);
+    // the last one takes the place in memory of the first
+    let subs = [(5i64, 60i64, 121i64), (10, 0, 120), (5, 70, 121)];
+    let fates = push_all(rt.alloc(), &mut fringe, subs.as_slice())?;
+    assert!(rt; fates.last() == Some(&FringeFate::Replaced { old: 0 }));
+    let pairs = tickets_and_values(rt.alloc(), &fringe)?;
+    assert_eq!(rt; pairs.as_slice(), [(1, 0), (2, 70)].as_slice());
     Ok(())
 }
 

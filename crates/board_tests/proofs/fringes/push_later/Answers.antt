@@ -4,7 +4,7 @@ use Rattle.dp_model.proofs.Members.{Each-then}
 use Rattle.shared_fringe.specs.Tickets.{Ticketed}
 use Rattle.shared_fringe.specs.Fringe.{FringeView}
 use Rattle.shared_fringe.proofs.Pushings.{each-push}
-use Rattle.shared_fringe.proofs.tests.push_later.Goals as goal
+use Rattle.board_tests.proofs.fringes.push_later.Goals as goal
 
 pub returns : goal.returns
 returns c =

@@ -4,7 +4,7 @@ use Rattle.dominance_table.specs.declared.entry.Entry.{Entry}
 use Rattle.dominance_table.specs.Groups.{HasEntered}
 use Rattle.dominance_table.specs.Entries.{TableView, entry_at}
 use Rattle.dominance_table.proofs.Puts.{full_then, full_else, answers_full, answers_put, stays_full, room_left, row_fits, row_put, kept_room, put_step, grouped_more, rising_more}
-use Rattle.dominance_table.proofs.table.Table.put.Goals as goal
+use Rattle.dominance_table.proofs.table.Table.put_entry.Goals as goal
 
 pub returns-then-len-self-clause-answer : goal.returns-then-len-self-clause-answer
 returns-then-len-self-clause-answer c =
@@ -35,7 +35,7 @@ invariant_of-self c =
     let grown = c.extend_from_slice.ensures.capacity in
     let blocks = c.self.invariant.0.blocks in
     let room = c.enter.ensures.room in
-    let last = subst (λ (l : List Entry). (i : ℕ) → c.rise_with-self-inside.result ≡ true → i + 1 ≡ length l → (entry_at l i).ticket ≤ c.args.ticket) c.as_slice.ensures.value c.rise_with-self-inside.ensures.last in
+    let last = subst (λ (l : List Entry). (i : ℕ) → c.rise_with-self-inside.result ≡ true → i + 1 ≡ length l → (entry_at l i).ticket ≤ c.args.entry.ticket) c.as_slice.ensures.value c.rise_with-self-inside.ensures.last in
     rw (c.push_reserved.ensures.items, c.push_reserved.ensures.len, c.push_reserved.ensures.capacity, put.1, room) (
       record { some = kept.some; limited = kept.limited; placed = kept.placed; entries = kept.entries; rows = kept.rows; blocks = omega arith },
       (
@@ -57,5 +57,5 @@ returns-clause-step c =
     let put = row_put c.extend_from_slice.result c.self.inside.words _ _ _ _ _ _ c.extend_from_slice.ensures.succeeds fits words c.extend_from_slice.ensures.items c.extend_from_slice.ensures.len in
     let open_now = full_else _ _ _ _ _ _ _ c.self.view_is c.self.inside.entries.ok.0 (λ e. c.if-len-self.false (c.len.ensures ∙ e)) in
     let rows = sym c.self.inside.cells.ok.0 ∙ (c.self.invariant.0.rows ∙ ap (λ n. n * c.self.inside.words) c.self.inside.entries.ok.0) in
-    rw (c.push_reserved.ensures.items, c.push_reserved.ensures.len, put.0, to_z-of_z w64 c.args.value c.ranges.value, c.enter.ensures.room)
+    rw (c.push_reserved.ensures.items, c.push_reserved.ensures.len, put.0, c.enter.ensures.room)
     (put_step c.args.self.now _ _ _ _ _ _ _ c.args.row.now c.self.view_is open_now rows words)
