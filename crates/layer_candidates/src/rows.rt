@@ -43,3 +43,13 @@ pub fn row_within(rows: &[i64], words: usize, place: usize) -> &[i64]
         None => rest,
     }
 }
+
+/// The cells of a row from the first live one on, of which those are left out that the block does not have.
+pub fn live_within(rows: &[i64], words: usize, live: usize, place: usize) -> &[i64]
+    ensures { result.now ≡ live_at rows.now words live place }
+{
+    match row_within(rows, words, place).get(live..) {
+        Some(cells) => cells,
+        None => &[],
+    }
+}
