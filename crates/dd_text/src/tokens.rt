@@ -129,6 +129,7 @@ impl<'a> Tokens<'a> {
         self.peek_word() == word
     }
 
+    #[inline]
     #[tactic(auto, unfolding(crate::specs::Text::token, crate::specs::Text::after_token), using(crate::proofs::Scanning::token_length))]
     fn pass(&mut self, behind: &'a [u8])
         requires { behind.now ≡ behind_token (at_token self.old).rest }
