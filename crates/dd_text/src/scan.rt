@@ -1,4 +1,4 @@
-ghost use Rattle.std.specs.Prelude.{◌≡◌, ℕ, ◌+◌, ◌-◌, ◌*◌, ◌^◌, ◌<◌, ◌≤◌, ◌==◌, ◌||◌, not, min, length, false, IfOk, IfSome, option_map, SomeIff, pos, neg_ℤ, FitsSigned, true, nat_eq};
+ghost use Rattle.std.specs.Prelude.{◌≡◌, ℕ, Bool, ◌+◌, ◌-◌, ◌*◌, ◌^◌, ◌<◌, ◌≤◌, ◌==◌, ◌||◌, not, min, length, false, IfOk, IfSome, option_map, SomeIff, pos, neg_ℤ, FitsSigned, true, nat_eq};
 ghost use Rattle.std.specs.Cmp.Lexicographic.{pointwise};
 ghost use Rattle.std.specs.Result.{result_map_both};
 ghost use Rattle.std.specs.List.{prefix_len};
@@ -13,12 +13,11 @@ use crate::text_error::TextError;
 /// A number below this has room for a further digit.
 const SURELY_SHORT: u64 = 1 << 59;
 
-/// Where a token begins, or the end of the text.
+/// Where a token begins, or the end of the text. It has no padding, which would be copied for each token.
 #[derive(Clone, Copy)]
 pub(crate) struct Spot<'a> {
     pub(crate) rest: &'a [u8],
     pub(crate) place: Place,
-    pub(crate) fresh: bool,
 }
 
 #[inline]
@@ -73,40 +72,37 @@ fn place_behind(b: u8, place: Place) -> Place
 }
 
 /// Passes over blanks.
-fn skip_blanks<'a>(from_fresh: bool, from: Place, bytes: &'a [u8]) -> Spot<'a>
+#[inline]
+pub(crate) fn skip_blanks<'a>(from: Place, bytes: &'a [u8]) -> Spot<'a>
     requires { IsCountable from bytes.now }
-    ensures found { (comment : Comment) → skip comment false from_fresh from bytes.now ≡ skip comment false result.fresh result.place result.rest.now }
+    ensures found { (comment : Comment) (fresh : Bool) → skip comment false fresh from bytes.now ≡ skip comment false (fresh || not (result.place.line == from.line)) result.place result.rest.now }
     ensures countable { IsCountable result.place result.rest.now }
     ensures line { is_blank_line bytes.now ≡ (length result.rest.now == 0 || not (result.place.line == from.line)) }
 {
     let mut rest = bytes;
     let mut place = from;
-    let mut fresh = from_fresh;
     while let [first, after @ ..] = rest {
         let b = *first;
         if !is_blank_byte(b) {
             break;
         }
-        fresh = fresh || b == b'\n';
         place = place_behind(b, place);
         rest = after;
     }
-    Spot { rest, place, fresh }
+    Spot { rest, place }
 }
 
-/// Passes over blanks and comment lines.
-pub(crate) fn skip_to_token<'a>(
-    comment: Comment,
-    from_fresh: bool,
-    from: Place,
-    bytes: &'a [u8],
-) -> Spot<'a>
-    requires { IsCountable from bytes.now }
-    ensures found { skip comment false from_fresh from bytes.now ≡ record { rest = result.rest.now; place = result.place; fresh = result.fresh; comment = comment } }
+/// Passes over blanks and comment lines. Few tokens stand behind a comment.
+#[inline(never)]
+fn skip_to_token<'a>(comment: Comment, from_fresh: bool, from: Spot<'a>) -> Spot<'a>
+    requires { IsCountable from.place from.rest.now }
+    ensures rest { (skip comment false from_fresh from.entry.place from.entry.rest.now).rest ≡ result.rest.now }
+    ensures place { (skip comment false from_fresh from.entry.place from.entry.rest.now).place ≡ result.place }
+    ensures comment { (skip comment false from_fresh from.entry.place from.entry.rest.now).comment ≡ comment }
     ensures countable { IsCountable result.place result.rest.now }
 {
-    let mut rest = bytes;
-    let mut place = from;
+    let mut rest = from.rest;
+    let mut place = from.place;
     let mut fresh = from_fresh;
     let mut inside = false;
     while let [first, after @ ..] = rest {
@@ -119,38 +115,23 @@ pub(crate) fn skip_to_token<'a>(
         place = place_behind(b, place);
         rest = after;
     }
-    Spot { rest, place, fresh }
+    Spot { rest, place }
 }
 
-/// The next token, as it was found.
-#[derive(Clone, Copy)]
-pub(crate) struct Found<'a> {
-    pub(crate) spot: Spot<'a>,
-    /// Whether only blanks stood before the line's end.
-    pub(crate) ends_line: bool,
-}
-
-/// Passes over blanks and comment lines, and tells whether the line ended before.
+/// Passes over comment lines, where one begins here.
 #[inline]
-pub(crate) fn find_token<'a>(
-    comment: Comment,
-    from_fresh: bool,
-    from: Place,
-    bytes: &'a [u8],
-) -> Found<'a>
-    requires { IsCountable from bytes.now }
-    ensures found { skip comment false from_fresh from bytes.now ≡ record { rest = result.spot.rest.now; place = result.spot.place; fresh = result.spot.fresh; comment = comment } }
-    ensures countable { IsCountable result.spot.place result.spot.rest.now }
-    ensures line { result.ends_line ≡ is_blank_line bytes.now }
+pub(crate) fn skip_comments<'a>(comment: Comment, fresh: bool, from: Spot<'a>) -> Spot<'a>
+    requires { IsCountable from.place from.rest.now }
+    ensures rest { (skip comment false fresh from.entry.place from.entry.rest.now).rest ≡ result.rest.now }
+    ensures place { (skip comment false fresh from.entry.place from.entry.rest.now).place ≡ result.place }
+    ensures comment { (skip comment false fresh from.entry.place from.entry.rest.now).comment ≡ comment }
+    ensures countable { IsCountable result.place result.rest.now }
 {
-    let spot = skip_blanks(from_fresh, from, bytes);
-    let ends_line = spot.rest.is_empty() || spot.place.line != from.line;
-    match spot.rest {
-        [first, ..] if is_passed_over(comment, false, spot.fresh, *first) => Found {
-            spot: skip_to_token(comment, spot.fresh, spot.place, spot.rest),
-            ends_line,
-        },
-        _ => Found { spot, ends_line },
+    match from.rest {
+        [first, ..] if is_passed_over(comment, false, fresh, *first) => {
+            skip_to_token(comment, fresh, from)
+        }
+        _ => from,
     }
 }
 
@@ -272,44 +253,45 @@ pub(crate) struct Number<'a> {
 
 /// Reads the first token as digits, behind a minus or not, of a number from `least` to `greatest`.
 #[inline]
-fn number_within(
+fn number_within<'a>(
     is_negative: bool,
-    digits: &[u8],
-    place: Place,
+    digits: &'a [u8],
+    place: &Place,
     least: i64,
     greatest: i64,
-) -> Result<Number<'_>, TextError>
-    ensures value { result_map_both (λ n. n.value) (λ e. e) result ≡ within least greatest place (option_map (signed_of is_negative) (natural_of (first_token digits.now))) }
+) -> Result<Number<'a>, TextError>
+    ensures value { result_map_both (λ n. n.value) (λ e. e) result ≡ within least greatest place.now (option_map (signed_of is_negative) (natural_of (first_token digits.now))) }
     ensures behind { IfOk result (λ n. n.behind.now ≡ behind_token digits.now) }
 {
     let Some(read) = leading_natural(digits) else {
-        return Err(TextError::NotNumber(place));
+        return Err(TextError::NotNumber(*place));
     };
     match signed(is_negative, read.size) {
         Some(number) if least <= number && number <= greatest => Ok(Number {
             value: number,
             behind: read.behind,
         }),
-        _ => Err(TextError::OutOfRange(place)),
+        _ => Err(TextError::OutOfRange(*place)),
     }
 }
 
 /// Reads the first token as a number from `least` to `greatest`.
+#[inline]
 #[tactic(auto, using(crate::proofs::Scanning::number_steps))]
-pub(crate) fn leading_number(
-    bytes: &[u8],
-    place: Place,
+pub(crate) fn leading_number<'a>(
+    bytes: &'a [u8],
+    place: &Place,
     least: i64,
     greatest: i64,
-) -> Result<Number<'_>, TextError>
-    ensures value { result_map_both (λ n. n.value) (λ e. e) result ≡ number_in least greatest place (first_token bytes.now) }
+) -> Result<Number<'a>, TextError>
+    ensures value { result_map_both (λ n. n.value) (λ e. e) result ≡ number_in least greatest place.now (first_token bytes.now) }
     ensures behind { IfOk result (λ n. n.behind.now ≡ behind_token bytes.now) }
 {
     match bytes {
         [b'-', digits @ ..] => number_within(true, digits, place, least, greatest),
-        [first, ..] if is_blank_byte(*first) => Err(TextError::EndOfText(place)),
-        [first, ..] if *first >= 128 => Err(TextError::NotAscii(place)),
+        [first, ..] if is_blank_byte(*first) => Err(TextError::EndOfText(*place)),
+        [first, ..] if *first >= 128 => Err(TextError::NotAscii(*place)),
         [_, ..] => number_within(false, bytes, place, least, greatest),
-        [] => Err(TextError::EndOfText(place)),
+        [] => Err(TextError::EndOfText(*place)),
     }
 }

@@ -1,20 +1,28 @@
 ghost use Rattle.std.specs.Prelude.{◌≡◌, ◌+◌, ◌-◌, ◌^◌, ◌<◌, ◌≤◌, length, ◌≤ℤ◌, pos, OnOk, OnErr, IfOk, MatchResult, Ok, Err, nat_eq};
 ghost use Rattle.std.specs.Cmp.Lexicographic.{pointwise};
-ghost use Rattle.dd_text.specs.Scanned.{first_token, behind_token};
+ghost use Rattle.dd_text.specs.Scanned.{behind_token, IsNext};
 ghost use Rattle.dd_text.specs.Text.{text_start, at_token, IsCountable, token, place_of, ends_line, is_at_end, number_at, word_at, after_token, finish_at};
 
 use crate::comment::Comment;
 use crate::place::Place;
-use crate::scan::{Spot, begin_apart, find_token, leading_number, token_len};
+use crate::scan::{Spot, begin_apart, leading_number, skip_blanks, skip_comments, token_len};
 use crate::text_error::TextError;
 use std::marker::Model;
 use std::snapshot::Snapshot;
 
+/// Where reading stands, right behind the last token.
+#[derive(Clone, Copy)]
+struct Here<'a> {
+    rest: &'a [u8],
+    place: Place,
+    fresh: bool,
+}
+
 /// The tokens of a text, one after another.
 #[derive(Drop)]
 pub struct Tokens<'a> {
-    // Where reading stands, right behind the last token. Contracts alone speak of it.
-    here: Snapshot<Spot<'a>>,
+    // Contracts alone speak of where reading stands.
+    here: Snapshot<Here<'a>>,
     // Where the next token begins, or the end of the text.
     next: Spot<'a>,
     // Whether only blanks stand before the end of the line where reading stands.
@@ -23,30 +31,33 @@ pub struct Tokens<'a> {
 }
 
 impl<'a> Model for Tokens<'a> {
-    ghost use Rattle.std.specs.Prelude.{◌≡◌, false};
-    ghost use Rattle.dd_text.specs.Text.{TextState, IsCountable, skip, is_blank_line};
+    ghost use Rattle.std.specs.Prelude.{◌≡◌};
+    ghost use Rattle.dd_text.specs.Text.{TextState, IsCountable, is_blank_line};
+    ghost use Rattle.dd_text.specs.Scanned.{IsNext};
 
     ghost Value = { TextState };
 
     ghost view = { λ t. record { rest = t.here.value.rest.now; place = t.here.value.place; fresh = t.here.value.fresh; comment = t.comment } };
 
     ghost invariant = { λ t.
-        (skip t.comment false t.here.value.fresh t.here.value.place t.here.value.rest.now ≡ record { rest = t.next.rest.now; place = t.next.place; fresh = t.next.fresh; comment = t.comment })
+        IsNext (record { rest = t.here.value.rest.now; place = t.here.value.place; fresh = t.here.value.fresh; comment = t.comment }) t.next.rest.now t.next.place
         × (t.ends_line ≡ is_blank_line t.here.value.rest.now)
         × IsCountable t.next.place t.next.rest.now };
 }
 
 /// Tokens that stand at this place.
 #[inline]
-fn tokens_from<'a>(comment: Comment, here: Spot<'a>) -> Tokens<'a>
+#[tactic(auto, unfolding(crate::specs::Text::at_token))]
+fn tokens_from<'a>(comment: Comment, here: Here<'a>) -> Tokens<'a>
     requires { IsCountable here.place here.rest.now }
     ensures { result ≡ record { rest = here.entry.rest.now; place = here.entry.place; fresh = here.entry.fresh; comment = comment } }
 {
-    let found = find_token(comment, here.fresh, here.place, here.rest);
+    let blanks = skip_blanks(here.place, here.rest);
+    let is_later = blanks.place.line != here.place.line;
     Tokens {
         here: Snapshot::of(&here),
-        next: found.spot,
-        ends_line: found.ends_line,
+        next: skip_comments(comment, here.fresh || is_later, blanks),
+        ends_line: blanks.rest.is_empty() || is_later,
         comment,
     }
 }
@@ -57,7 +68,7 @@ impl<'a> Tokens<'a> {
         requires { length bytes.now < 2 ^ 32 - 1 }
         ensures { result ≡ text_start comment bytes.now }
     {
-        let here = Spot {
+        let here = Here {
             rest: bytes,
             place: Place { line: 1, column: 1 },
             fresh: true,
@@ -66,12 +77,11 @@ impl<'a> Tokens<'a> {
     }
 
     #[inline]
-    #[tactic(auto, unfolding(crate::specs::Text::at_token))]
-    fn spot(&self) -> Spot<'a>
-        ensures found { at_token self.now ≡ record { rest = result.rest.now; place = result.place; fresh = result.fresh; comment = self.now.comment } }
-        ensures countable { IsCountable result.place result.rest.now }
+    fn spot(&self) -> &Spot<'a>
+        ensures found { IsNext self.now result.now.rest.now result.now.place }
+        ensures countable { IsCountable result.now.place result.now.rest.now }
     {
-        self.next
+        &self.next
     }
 
     /// Where the next token begins, or the end of the text.
@@ -121,14 +131,13 @@ impl<'a> Tokens<'a> {
 
     #[inline]
     #[tactic(auto, unfolding(crate::specs::Text::token, crate::specs::Text::after_token), using(crate::proofs::Scanning::token_length))]
-    fn pass(&mut self, spot: Spot<'a>, behind: &'a [u8])
-        requires found { at_token self.old ≡ record { rest = spot.rest.now; place = spot.place; fresh = spot.fresh; comment = self.old.comment } }
-        requires countable { IsCountable spot.place spot.rest.now }
-        requires behind { behind.now ≡ behind_token spot.rest.now }
+    fn pass(&mut self, behind: &'a [u8])
+        requires { behind.now ≡ behind_token (at_token self.old).rest }
         ensures { self.new ≡ after_token self.old }
     {
+        let spot = self.spot();
         let len = spot.rest.len() - behind.len();
-        let here = Spot {
+        let here = Here {
             rest: behind,
             place: Place {
                 line: spot.place.line,
@@ -153,8 +162,8 @@ impl<'a> Tokens<'a> {
         ensures err { OnErr result (self.new ≡ self.old) }
     {
         let spot = self.spot();
-        let number = leading_number(spot.rest, spot.place, least, greatest)?;
-        self.pass(spot, number.behind);
+        let number = leading_number(spot.rest, &spot.place, least, greatest)?;
+        self.pass(number.behind);
         Ok(number.value)
     }
 
@@ -181,16 +190,16 @@ impl<'a> Tokens<'a> {
         ensures ok { OnOk result (self.new ≡ after_token self.old) }
         ensures err { OnErr result (self.new ≡ self.old) }
     {
-        let spot = self.spot();
-        let len = token_len(spot.rest);
-        let word = &spot.rest[..len];
+        let rest = self.spot().rest;
+        let len = token_len(rest);
+        let word = &rest[..len];
         let [first, ..] = word else {
-            return Err(TextError::EndOfText(spot.place));
+            return Err(TextError::EndOfText(self.place()));
         };
         if *first >= 128 {
-            return Err(TextError::NotAscii(spot.place));
+            return Err(TextError::NotAscii(self.place()));
         }
-        self.pass(spot, &spot.rest[len..]);
+        self.pass(&rest[len..]);
         Ok(word)
     }
 
