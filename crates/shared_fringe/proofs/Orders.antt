@@ -1,10 +1,9 @@
 -- The open ones in the order of their slots, sorted by ticket.
-use Rattle.std.proofs.Common.{◌≡◌, ◌≢◌, ℕ, zero, suc, ◌+◌, ◌<◌, ◌≤◌, List, [], ◌∷◌, ◌++◌, drop, length, map, true, false, cond, nat_eq, nat_lt, Option, Some, None, IsPermutation, refl, sym, ◌∙◌, ap, subst, arith}
+use Rattle.std.proofs.Common.{◌≡◌, ◌≢◌, ℕ, ◌≤◌, List, [], ◌∷◌, map, true, false, cond, nat_eq, nat_lt, Option, Some, None, IsPermutation, refl, arith}
 use Rattle.std.specs.Borrow.{Bor}
 use Rattle.std.specs.List.Sorted.{IsNonDecreasingBy}
 use Rattle.std.proofs.lemmas.List.Sorted.{IsPermutation-refl, IsPermutation-cons, IsPermutation-sym, IsPermutation-trans, IsPermutation-swap}
 use Rattle.dp_model.specs.Subproblem.{SubView}
-use Rattle.dp_model.proofs.Members.{Has}
 use Rattle.dp_model.proofs.RowLemmas.{nat_eq-is, nat_eq-self}
 use Rattle.dp_laws.specs.Pairs.{EachTwo}
 use Rattle.dp_laws.proofs.Restricted.Permutations.{two-at, two-map, two-both, Has-permutation, Has-permutation-back, keys-permutation}

@@ -1,7 +1,7 @@
-use Rattle.std.proofs.Common.{◌∙◌, sym, subst, map, rules, IsPermutation}
+use Rattle.std.proofs.Common.{subst, map, rules, IsPermutation}
 use Rattle.std.specs.List.Sorted.{IsNonDecreasingBy}
 use Rattle.std.proofs.lemmas.List.Sorted.{IsNonDecreasingBy-from_sort_by_key, IsPermutation-map}
-use Rattle.shared_fringe.specs.Listing.{in_slots, referred}
+use Rattle.shared_fringe.specs.Listing.{referred}
 use Rattle.shared_fringe.proofs.Orders.{rising, sorted_opened}
 use Rattle.shared_fringe.proofs.listing.list_by_ticket.Goals as goal
 
