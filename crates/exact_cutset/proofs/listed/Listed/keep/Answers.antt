@@ -9,7 +9,7 @@ use Rattle.exact_cutset.specs.declared.child.Child.{Child}
 use Rattle.exact_cutset.specs.Seen.{ChildrenView, MayKeep, with_child}
 use Rattle.exact_cutset.specs.Stored.{place_of, HasChildren}
 use Rattle.exact_cutset.proofs.Kept.{row-long, room-for-row, room-for-path, seen_as, seen-kept, has-one-more, rewritten-length}
-use Rattle.exact_cutset.proofs.listed.Children.keep.Goals as goal
+use Rattle.exact_cutset.proofs.listed.Listed.keep.Goals as goal
 
 pub append_row-requires : goal.append_row-requires
 append_row-requires c =
@@ -61,8 +61,8 @@ returns c =
     let value_is : to_z w64 (of_z w64 c.value-value.result) ≡ c.value-value.result = search rules in
     let bound_is : to_z w64 (of_z w64 c.args.bound) ≡ c.args.bound = search rules in
     c.push_reserved.ensures.items ∙ (ap (λ (x : Child). i.places.items ++ x ∷ []) c.at-child.ensures ∙ (ap (λ (x : ℤ). i.places.items ++ record child { value = x; bound = to_z w64 (of_z w64 c.args.bound) } ∷ []) value_is ∙ ap (λ (x : ℤ). i.places.items ++ record child { bound = x } ∷ []) bound_is))) in
-    ap (λ ps. seen_as i.width i.words i.vars i.room ps c.append_row.new.rows.items c.append_path.new.paths.items i.found i.decisions.items) pushed
-    ∙ (seen-kept (layers_of c.args.diagram.now) i.width i.words i.vars i.room i.places.items i.rows.items i.paths.items i.found i.decisions.items child c.row.result.now c.append_row.new.rows.items c.append_path.new.paths.items
+    ap (λ ps. seen_as i.width i.words i.vars i.wide i.room ps c.append_row.new.rows.items c.append_path.new.paths.items i.found i.decisions.items) pushed
+    ∙ (seen-kept (layers_of c.args.diagram.now) i.width i.words i.vars i.wide i.room i.places.items i.rows.items i.paths.items i.found i.decisions.items child c.row.result.now c.append_row.new.rows.items c.append_path.new.paths.items
     may v.rows_are v.paths_are c.value-value.ensures c.row.ensures c.append_row.ensures.items c.append_path.ensures.items c.append_path.ensures.len
     ∙ ap (with_child (layers_of c.args.diagram.now) (place_of child)) c.self.view_is)
 
