@@ -19,6 +19,7 @@ use crate::way::Way;
 use dp_model::{DpModel, Extended};
 
 /// Writes the state that a decision makes, from the place of its first cell on; `None` exactly where it is not allowed.
+#[inline(always)]
 fn write_state<M: DpModel>(
     model: &M,
     k: usize,
@@ -73,6 +74,7 @@ pub struct Taken {
 /// Takes in the way from a parent in the layer at depth `k`, with the state `s`, by a decision: of each state the first way of
 /// greatest value is kept. The state's row is written behind those of the other ways. Answers `None` exactly where the decision
 /// is not allowed, and then all stays as it was. The first `live` cells are zero in each state of the next layer.
+#[inline(always)]
 pub fn extend_by<M: DpModel>(
     model: &M,
     k: usize,
