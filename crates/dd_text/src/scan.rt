@@ -92,8 +92,8 @@ pub(crate) fn skip_blanks<'a>(from: Place, bytes: &'a [u8]) -> Spot<'a>
     Spot { rest, place }
 }
 
-/// Passes over blanks and comment lines. Few tokens stand behind a comment.
-#[inline(never)]
+/// Passes over blanks and comment lines.
+#[inline]
 fn skip_to_token<'a>(comment: Comment, from_fresh: bool, from: Spot<'a>) -> Spot<'a>
     requires { IsCountable from.place from.rest.now }
     ensures rest { (skip comment false from_fresh from.entry.place from.entry.rest.now).rest ≡ result.rest.now }
