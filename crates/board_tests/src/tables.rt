@@ -1,7 +1,8 @@
 //! A table at its limit, and which states of the knapsack an entry dominates.
 
-ghost use Rattle.std.specs.Prelude.{◌≡◌, true};
+ghost use Rattle.std.specs.Prelude.{◌≡◌, ◌<◌, ℕ, [], length, true};
 ghost use Rattle.dp_model.specs.Gaps.{IsStateOf};
+ghost use Rattle.dominance_table.specs.Dominator.{AreStates};
 
 use dominance_table::{Put, Table};
 use dp_model::{DpModel, OutOfMemory};
@@ -27,30 +28,48 @@ fn is_state<M: DpModel>(model: &M, depth: usize, row: &[i64]) -> bool
     depth <= model.vars() && row.len() == model.words() && model.is_state(depth, row)
 }
 
-/// The dominators of the second state where the table has the first one alone, under ticket 1: without its rank, and with it.
-fn dominators_beside<M: DpModel>(
+/// Puts the state into an empty table under ticket 1, with its rank or without.
+fn put_first<M: DpModel>(
+    model: &M,
+    table: &mut Table,
+    depth: usize,
+    row: &[i64],
+    value: i64,
+    ranked: bool,
+)
+    requires empty { table.old.entries ≡ [] }
+    requires limit { table.old.limit ≡ 1 }
+    requires room { 0 < table.old.spare }
+    requires cells { length row.now ≡ table.old.words }
+    requires state { IsStateOf (M.meaning (M.numbers model.now)) depth row.now }
+    ensures { (k : ℕ) → AreStates (M.meaning (M.numbers model.now)) k table.new.entries }
+{
+    if ranked {
+        table.put_state(model, depth, row, value, 1);
+        return;
+    }
+    table.put(depth, model.bucket(depth, row), row, value, 1);
+}
+
+/// The dominator of the second state where the table has the first one alone, under ticket 1, with its rank or without.
+fn dominator_beside<M: DpModel>(
     rt: &impl Abort,
     alloc: Global,
     model: &M,
     entry: Reached,
+    ranked: bool,
     sought: Reached,
-) -> Result<(Option<u64>, Option<u64>), OutOfMemory> {
+) -> Result<Option<u64>, OutOfMemory> {
     let (depth, left, value) = entry;
     let row = [left];
     assert!(rt; is_state(model, depth, &row), "{entry:?}");
-    let mut plain = Table::new(alloc, 1, 1);
-    plain.reserve(1)?;
-    plain.put(depth, model.bucket(depth, &row), &row, value, 1);
-    let mut ranked = Table::new(alloc, 1, 1);
-    ranked.reserve(1)?;
-    ranked.put_state(model, depth, &row, value, 1);
+    let mut table = Table::new(alloc, 1, 1);
+    table.reserve(1)?;
+    put_first(model, &mut table, depth, &row, value, ranked);
     let (depth, left, value) = sought;
     let row = [left];
     assert!(rt; is_state(model, depth, &row), "{sought:?}");
-    Ok((
-        plain.dominator(model, depth, &row, value),
-        ranked.dominator(model, depth, &row, value),
-    ))
+    Ok(table.dominator(model, depth, &row, value))
 }
 
 #[test]
@@ -64,8 +83,10 @@ fn states_with_no_more_room_and_no_more_value_are_dominated(rt: HostRuntime) -> 
         ((2, 4, 60), None),
     ];
     for (sought, want) in cases.iter().copied() {
-        let by = dominators_beside(&rt, rt.alloc(), &model, (1, 5, 60), sought)?;
-        assert_eq!(rt; by, (want, want), "at {sought:?}");
+        for ranked in [false, true] {
+            let by = dominator_beside(&rt, rt.alloc(), &model, (1, 5, 60), ranked, sought)?;
+            assert_eq!(rt; by, want, "at {sought:?} {ranked}");
+        }
     }
     Ok(())
 }
