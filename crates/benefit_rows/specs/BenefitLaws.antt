@@ -1,6 +1,5 @@
 -- What holds of rows of signed benefits.
 use Rattle.std.specs.Prelude.{◌≡◌, ℕ, zero, suc, ℤ, pos, ◌+ℤ◌, ◌-ℤ◌, ◌≤ℤ◌, List, [], ◌∷◌, ◌++◌, length, take, drop, replicate, refl}
-use Rattle.std.specs.Int.{int_max, int_min}
 use Rattle.std.proofs.Common.{arith, ap, sym, ◌∙◌}
 use Rattle.std.proofs.lemmas.Int.{ints, clamps}
 use Rattle.std.proofs.lemmas.List.{take-append-drop}
@@ -48,10 +47,6 @@ gap_between-bounds a s (suc d) = omega (arith, ints, clamps)
 -- the gap by sizes alone
 pub gap_between-by_sizes : (a s : ℤ) → gap_between a s +ℤ gap_between a s ≡ (size_of s -ℤ size_of a) +ℤ size_of (s -ℤ a)
 gap_between-by_sizes a s = omega (arith, ints, clamps)
-
--- the merged benefit is the one in the middle of the two and zero
-pub benefit_merged-middle : (a s : ℤ) → int_max (int_min a s) (int_min (int_max a s) (pos 0)) ≡ benefit_merged a s
-benefit_merged-middle a s = grind (arith, ints, clamps)
 
 pub benefit_merged-left : (a s : ℤ) → size_of (benefit_merged a s) ≤ℤ size_of a
 benefit_merged-left a s = grind (arith, ints, clamps)

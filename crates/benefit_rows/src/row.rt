@@ -172,9 +172,10 @@ pub fn merge_into(merged: &mut [i64], row: &[i64])
     }
 }
 
-/// Of two benefits and zero the one in the middle.
+/// Of two benefits and zero the one in the middle: what is nearer to zero on the side of the first, where there is any.
 fn middle(a: i64, s: i64) -> i64
     ensures { result ≡ benefit_merged a s }
 {
-    a.min(s).max(a.max(s).min(0))
+    let nearer = if (a < s) == (a < 0) { s } else { a };
+    if (nearer < 0) == (a < 0) { nearer } else { 0 }
 }

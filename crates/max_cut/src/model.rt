@@ -96,8 +96,8 @@ impl DpModel for MaxCut {
         gain_by_side(s[k], tail(s, k + 1), d, self.row(k))
     }
 
-    fn merge_into(&self, _k: usize, acc: &mut [i64], s: &[i64]) {
-        merge_into(acc, s);
+    fn merge_into(&self, k: usize, acc: &mut [i64], s: &[i64]) {
+        merge_into(&mut acc[k..], self.later(k, s));
     }
 
     fn gap(&self, k: usize, a: &[i64], s: &[i64]) -> Option<i64> {
@@ -108,8 +108,8 @@ impl DpModel for MaxCut {
         Some(rank(self.later(k, s)) + self.size_from(k))
     }
 
-    fn rank(&self, _k: usize, s: &[i64]) -> i64 {
-        rank(s)
+    fn rank(&self, k: usize, s: &[i64]) -> i64 {
+        rank(self.later(k, s))
     }
 
     fn covers_within(

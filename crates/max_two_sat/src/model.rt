@@ -58,8 +58,8 @@ impl DpModel for MaxTwoSat {
         step_gain(self.row(k), k, s, d)
     }
 
-    fn merge_into(&self, _k: usize, acc: &mut [i64], s: &[i64]) {
-        merge_into(acc, s)
+    fn merge_into(&self, k: usize, acc: &mut [i64], s: &[i64]) {
+        merge_into(&mut acc[k..], &s[k..])
     }
 
     fn gap(&self, k: usize, a: &[i64], s: &[i64]) -> Option<i64> {
@@ -70,8 +70,8 @@ impl DpModel for MaxTwoSat {
         Some(rank(&s[k..]) + self.later[k])
     }
 
-    fn rank(&self, _k: usize, s: &[i64]) -> i64 {
-        rank(s)
+    fn rank(&self, k: usize, s: &[i64]) -> i64 {
+        rank(&s[k..])
     }
 
     fn covers_within(
