@@ -1,23 +1,24 @@
 -- What a list of children is prepared for.
-use Rattle.std.specs.Prelude.{◌≡◌, ℕ, ◌<◌, ◌≤◌, Result, Ok, Err}
+use Rattle.std.specs.Prelude.{◌≡◌, ℕ, ◌*◌, ◌<◌, ◌≤◌, Result, Ok, Err}
 use Rattle.dp_model.specs.Dp.{Dp}
 use Rattle.layer_build.specs.Layers.{IsWidth}
 use Rattle.layer_build.specs.declared.workspace.PrepareError.{PrepareError}
 use Rattle.layer_build.specs.declared.workspace.PrepareError.TheVariants.{Width, OutOfMemory}
 use Rattle.exact_cutset.specs.Seen.{ChildrenView}
 
--- so many children are enough for a layer of the width, and for one below a single node
-pub record AreEnough (dp : Dp) (w n room : ℕ) : Type 0 where
-  pub width : w ≤ room
-  pub choices : (k : ℕ) → k < n → dp.choices k ≤ room
+-- so many nodes are enough for a layer of the width, and for one below a single node
+pub record AreEnough (dp : Dp) (w n wide : ℕ) : Type 0 where
+  pub width : w ≤ wide
+  pub choices : (k : ℕ) → k < n → dp.choices k ≤ wide
 
--- it was prepared for the sizes of the program, and for the children of diagrams of the width
+-- it was prepared for the sizes of the program, and for the children of diagrams of the width: as many as all layers have nodes
 pub record IsPreparedFor (dp : Dp) (w : ℕ) (c : ChildrenView) : Type 0 where
   pub is_width : IsWidth dp w
   pub width : c.width ≡ w
   pub vars : c.vars ≡ dp.vars
   pub words : c.words ≡ dp.words
-  pub enough : AreEnough dp w dp.vars c.room
+  pub enough : AreEnough dp w dp.vars c.wide
+  pub room : c.room ≡ dp.vars * c.wide
 
 -- a list for the width; a refused width exactly where it is not positive or does not fit
 abbrev pub IsPrepared : Dp → ℕ → Result ChildrenView PrepareError → Type 0

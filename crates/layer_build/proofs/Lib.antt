@@ -13,3 +13,4 @@ pub mod Walked
 pub mod Suffixed
 pub mod Standing
 pub mod Ready
+pub mod Parents

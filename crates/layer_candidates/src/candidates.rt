@@ -93,7 +93,8 @@ impl Candidates {
             self.heads.as_mut_slice(),
             self.next.as_mut_slice(),
         );
-        put_in_order(rows, words, self.ways.as_slice(), &mut self.keys);
+        let live = model.first_live(k + 1);
+        put_in_order(rows, words, live, self.ways.as_slice(), &mut self.keys);
         let more = prune(
             model,
             k + 1,

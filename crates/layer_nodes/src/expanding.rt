@@ -102,9 +102,11 @@ fn expand_rows<M: DpModel>(
         expansion.next.as_mut_slice(),
         expansion.exact.as_mut_slice(),
     );
+    let live = model.first_live(k + 1);
     arrange(
         rows,
         words,
+        live,
         expansion.ways.as_slice(),
         expansion.exact.as_slice(),
         &mut expansion.keys,

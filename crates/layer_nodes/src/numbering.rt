@@ -3,6 +3,7 @@
 ghost use Rattle.std.specs.Prelude.{◌≡◌, ℕ, ◌<◌, ◌≤◌, ◌^◌, Bool, List, length, map, slice_get, option_and_then, vec_capacity};
 ghost use Rattle.dp_model.specs.Lists.{Each};
 ghost use Rattle.layer_nodes.specs.Expanding.{mark_at, key_in, IsNumbered, led, node_of, AreArranged};
+ghost use Rattle.layer_candidates.specs.Rows.{row_at, HasZeros};
 ghost use Rattle.layer_candidates.specs.Ways.{way_at};
 
 use crate::node::Node;
@@ -83,10 +84,11 @@ fn list_nodes(ways: &[Way], keys: &[Key], marks: &[bool], nodes: &mut Vec<Node>)
 }
 
 /// Puts the ways into the reduction order, in which they become the nodes, each with the mark of its place; the arcs, which lead to
-/// places of ways, lead to those of the nodes.
+/// places of ways, lead to those of the nodes. The first `live` cells of all rows are zero, and are not compared.
 pub fn arrange(
     rows: &[i64],
     words: usize,
+    live: usize,
     ways: &[Way],
     marks: &[bool],
     keys: &mut Vec<Key>,
@@ -94,6 +96,7 @@ pub fn arrange(
     arcs: &mut [DdArc],
     nodes: &mut Vec<Node>,
 )
+    requires zeros { (i : ℕ) → i < length ways.now → HasZeros live (row_at rows.now words i) }
     requires small { length ways.now < 2 ^ 32 }
     requires marks_room { length ways.now ≤ length marks.now }
     requires keys_room { length ways.now ≤ vec_capacity keys.old }
@@ -103,7 +106,7 @@ pub fn arrange(
     ensures keys_capacity { vec_capacity keys.new ≡ vec_capacity keys.old }
     ensures nodes_capacity { vec_capacity nodes.new ≡ vec_capacity nodes.old }
 {
-    put_in_order(rows, words, ways, keys);
+    put_in_order(rows, words, live, ways, keys);
     number(keys.as_slice(), places);
     lead(arcs, places);
     list_nodes(ways, keys.as_slice(), marks, nodes);
