@@ -1,17 +1,17 @@
 -- What diagrams leave of a subproblem.
-use Rattle.std.proofs.Common.{◌≡◌, ℕ, ◌<◌, ◌≤◌, ℤ, List, [], Bool, true, false, Option, Some, None, option_map, ◌⊎◌, inl, inr, refl, sym, ◌∙◌, ap, subst, arith}
+use Rattle.std.proofs.Common.{◌≡◌, ℕ, ℤ, List, [], false, Option, Some, None, option_map, ◌⊎◌, inl, inr, refl, sym, ◌∙◌, ap, subst, arith}
 use Rattle.std.specs.Prelude.{is_some}
 use Rattle.dp_model.specs.Dp.{Dp}
 use Rattle.dp_model.specs.Laws.{IsLawful, IsChained}
 use Rattle.dp_model.specs.Numbers.{AtMost, OptionAtMost}
-use Rattle.dp_model.specs.Prefixes.{IsPrefix, IsSolution, IsCompletion, value_of}
+use Rattle.dp_model.specs.Prefixes.{IsPrefix, IsSolution, value_of}
 use Rattle.dp_model.specs.Reached.{Reached, reached}
 use Rattle.dp_model.specs.Solution.{Solution}
 use Rattle.dp_model.specs.Subproblem.{Subproblem, IsOwn}
 use Rattle.dp_model.specs.declared.cut_kind.CutKind.{CutKind}
 use Rattle.dp_model.specs.declared.cut_kind.CutKind.TheVariants.{LastExactLayer}
 use Rattle.dp_model.specs.declared.found.Found.{Found}
-use Rattle.dp_laws.specs.Children.{StandDeep, AreChildren, FoundCompletes, AreSound, found_value}
+use Rattle.dp_laws.specs.Children.{StandDeep, FoundCompletes, found_value}
 use Rattle.dp_laws.specs.Diagrams.Cutsets.{children_of, found_in}
 use Rattle.dp_laws.specs.Restricted.Beams.{beam, wide}
 use Rattle.dp_laws.specs.Rules.Compiling.{relaxed}

@@ -1,5 +1,5 @@
 -- Rounds on a board, one after another.
-use Rattle.std.proofs.Common.{◌≡◌, ℕ, ◌+◌, ◌-◌, ◌^◌, ◌<◌, ◌≤◌, ℤ, List, [], ◌∷◌, ◌++◌, length, slice_get, slice_set, Bool, true, false, ◌||◌, nat_eq, nat_lt, Option, Some, None, option_map, IsTrue, refl, sym, ◌∙◌, ap, subst, arith}
+use Rattle.std.proofs.Common.{◌≡◌, ℕ, ◌+◌, ◌-◌, ◌^◌, ◌<◌, ◌≤◌, List, [], ◌∷◌, ◌++◌, length, slice_get, slice_set, Bool, true, false, ◌||◌, nat_eq, nat_lt, Option, Some, None, option_map, IsTrue, refl, sym, ◌∙◌, ap, subst, arith}
 use Rattle.std.specs.Prelude.{IsSome}
 use Rattle.dp_model.specs.Counts.{tree}
 use Rattle.dp_model.specs.Dp.{Dp}
@@ -12,7 +12,7 @@ use Rattle.board_laws.specs.Runs.Step.{GiveBack, Halt}
 use Rattle.board_laws.specs.Steps.{finished_by, given_back, given_back_from, cause_after, halted}
 use Rattle.board_laws.specs.declared.cause.Cause.{Cause}
 use Rattle.board_laws.specs.declared.cause.Cause.TheVariants.{Memory}
-use Rattle.board_laws.proofs.Running.{run-then, run-one}
+use Rattle.board_laws.proofs.Running.{run-then}
 use Rattle.worker_gate.specs.Later.{IsCauseAfter, IsLater, HasEnded, IsComplete}
 use Rattle.worker_gate.specs.Offered.{IsOffered}
 use Rattle.worker_gate.specs.UnderWay.{IsUnderWay}

@@ -1,10 +1,10 @@
 -- What offers keep.
-use Rattle.std.proofs.Common.{◌≡◌, ℕ, ℤ, ◌≤ℤ◌, List, [], ◌++◌, true, false, Option, Some, None, option_map, refl, sym, ◌∙◌, ap, subst, arith}
+use Rattle.std.proofs.Common.{◌≡◌, ℕ, ℤ, ◌≤ℤ◌, List, [], ◌++◌, Option, Some, None, refl, sym, ◌∙◌, subst, arith}
 use Rattle.std.proofs.lemmas.Int.{ints}
 use Rattle.dp_model.specs.Dp.{Dp}
 use Rattle.dp_model.specs.Numbers.{AtMost, OptionAtMost}
 use Rattle.dp_model.specs.Prefixes.{IsSolution, value_of}
-use Rattle.dp_model.specs.Solution.{Solution, IsSolutionWith}
+use Rattle.dp_model.specs.Solution.{IsSolutionWith}
 use Rattle.dp_laws.proofs.Reaches.{at-most-raised}
 use Rattle.board_laws.specs.Board.{BoardState, incumbent_value, reach}
 use Rattle.board_laws.specs.GoodBoard.{IsBoard}

@@ -1,4 +1,4 @@
-use Rattle.std.proofs.Common.{◌≡◌, ◌≤◌, ◌^◌, length, vec_capacity, refl, sym, ◌∙◌, ap, subst, arith}
+use Rattle.std.proofs.Common.{◌≤◌, ◌^◌, length, vec_capacity, refl, sym, ◌∙◌, ap, subst, arith}
 use Rattle.dp_model.specs.Lists.{Each}
 use Rattle.dp_model.specs.Subproblem.{IsOwn, IsChild}
 use Rattle.dp_model.proofs.Members.{Each-then}

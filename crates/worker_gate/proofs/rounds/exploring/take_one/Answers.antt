@@ -1,4 +1,4 @@
-use Rattle.std.proofs.Common.{sym, ◌∙◌, ap, subst, refl, arith}
+use Rattle.std.proofs.Common.{sym, ◌∙◌, ap, subst, arith}
 use Rattle.dp_model.specs.Laws.{IsLawful}
 use Rattle.board_laws.specs.GoodBoard.{IsBoard}
 use Rattle.search_core.specs.View.{Tag}
