@@ -3,4 +3,3 @@ pub mod Contents
 pub mod Kept
 pub mod MoveLaw
 pub mod Moves
-pub mod Ones

@@ -6,9 +6,9 @@ use Rattle.dp_model.specs.Dp.{Dp}
 use Rattle.dp_model.specs.Numbers.{OptionAtMost}
 use Rattle.board_laws.proofs.Running.{follows-self, step-follows, step-others}
 use Rattle.board_laws.specs.Board.{BoardState, incumbent_value}
-use Rattle.board_laws.specs.Runs.{worker_of, Follows}
+use Rattle.board_laws.specs.Runs.{worker_of, IsLaterInRun}
 use Rattle.search_core.specs.Moves.{out_at, IsOf, IsStepOf, IsMove}
-use Rattle.search_core.specs.View.{BoardView, Tag, tag_of}
+use Rattle.search_core.specs.View.{BoardView, tag_of}
 
 -- what a step of one worker keeps of the board
 pub record KeepsStep (who : ℕ) (b later : BoardState) : Type 0 where
@@ -40,7 +40,7 @@ keeps-none who b = record { settings = refl; better = no-less (incumbent_value b
 
 keeps-step : (dp : Dp) (who : ℕ) (b later : BoardState) → IsStepOf dp who b later → KeepsStep who b later
 keeps-step dp who b later s =
-    let follows : Follows b later = subst (Follows b) (sym s.is) (step-follows dp b s.step) in
+    let follows : IsLaterInRun b later = subst (IsLaterInRun b) (sym s.is) (step-follows dp b s.step) in
     record {
       settings = follows.settings;
       better = no-less (incumbent_value b) (incumbent_value later) follows.better;

@@ -1,14 +1,13 @@
-use Rattle.std.proofs.Common.{◌≡◌, ◌≤◌, length, sym, ◌∙◌, ap, subst, arith}
+use Rattle.std.proofs.Common.{length, sym, subst}
 use Rattle.std.specs.Arc.{arc_value}
 use Rattle.dp_model.specs.Gaps.{IsStateOf}
 use Rattle.dp_model.specs.Laws.{IsLawful}
 use Rattle.dp_model.specs.Lists.{Each}
 use Rattle.dp_model.specs.Subproblem.{SubView, IsOwn}
 use Rattle.dominance_table.specs.Entries.{TableEntry}
-use Rattle.board_laws.specs.Board.{full_slots}
 use Rattle.search_core.specs.Contents.{contents}
 use Rattle.search_core.specs.View.{BoardView}
-use Rattle.search_core.proofs.Keeping.{children-cells, children-states, entry-states, full-fits}
+use Rattle.search_core.proofs.Keeping.{children-cells, children-states, entry-states}
 use Rattle.search_core.proofs.board.Board.fates.Given as given
 use Rattle.search_core.proofs.board.Board.fates.Goals as goal
 
