@@ -20,7 +20,7 @@ use Rattle.board_laws.specs.Steps.{first_board}
 use Rattle.board_laws.specs.declared.settings.Settings.{Settings}
 use Rattle.board_laws.proofs.First.{full-none}
 use Rattle.board_laws.proofs.Running.{run-follows}
-use Rattle.search_rounds.specs.Later.{IsCauseAfter, IsLater, HasEnded, IsComplete}
+use Rattle.worker_gate.specs.Later.{IsCauseAfter, IsLater, HasEnded, IsComplete}
 use Rattle.board_laws.specs.Bound.{board_bound}
 use Rattle.board_laws.specs.GoodBoard.{IncumbentHolds, IsBoard}
 use Rattle.solver_report.specs.declared.answer.Stop.{Stop}

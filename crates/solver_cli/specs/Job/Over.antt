@@ -7,7 +7,7 @@ use Rattle.board_laws.specs.Steps.{first_board}
 use Rattle.board_laws.specs.declared.settings.Settings.{Settings}
 use Rattle.solver_cli.specs.declared.job.text_job.Search.{Search}
 use Rattle.solver_cli.specs.Job.Widths.{IsSearchWidth}
-use Rattle.search_rounds.specs.Later.{IsCauseAfter, HasEnded, IsComplete}
+use Rattle.worker_gate.specs.Later.{IsCauseAfter, HasEnded, IsComplete}
 
 -- a run from a first board with this width, this number of workers and this budget and without a distance led to it; nothing is out, no round can follow, and only want of
 -- memory may be held

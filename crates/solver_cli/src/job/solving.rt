@@ -1,6 +1,6 @@
 ghost use Rattle.std.specs.Prelude.{◌≡◌, ◌≤◌, IfOk, vec_len};
 ghost use Rattle.std.specs.List.{All};
-ghost use Rattle.search_rounds.specs.Prepared.{IsPrepared};
+ghost use Rattle.worker_gate.specs.Prepared.{IsPrepared};
 ghost use Rattle.solver_cli.specs.Job.Answers.{Solves, HasCrew};
 ghost use Rattle.solver_cli.specs.Job.Desks.{AreAllDesks};
 ghost use Rattle.solver_cli.specs.Job.Widths.{IsAskedWidth, IsSearchWidth};
@@ -11,12 +11,11 @@ use dp_model::{DpModel, OutOfMemory};
 use layer_build::{PrepareError, greatest_width};
 use problems::Problem;
 use search_core::{Board, Settings};
-use search_rounds::Desk;
 use solver_report::Answer;
 use std::alloc::Global;
 use std::sync::{Arc, Wait};
 use std::thread::Threads;
-use worker_gate::{Gate, explore_together};
+use worker_gate::{Desk, Gate, explore_together};
 
 /// How many entries the dominance table holds at most.
 const TABLE_LIMIT: u32 = 4096;

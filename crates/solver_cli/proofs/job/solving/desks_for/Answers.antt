@@ -1,8 +1,8 @@
 use Rattle.std.proofs.Common.{List, arith, subst, sym}
 use Rattle.std.proofs.lemmas.List.Elements.{All-push}
 use Rattle.std.specs.List.{All}
-use Rattle.search_rounds.specs.Prepared.{IsPrepared}
-use Rattle.search_rounds.specs.declared.desk.Desk.{Desk}
+use Rattle.worker_gate.specs.Prepared.{IsPrepared}
+use Rattle.worker_gate.specs.declared.desk.Desk.{Desk}
 use Rattle.solver_cli.proofs.job.solving.desks_for.Goals as goal
 
 pub loop-made-preserved : goal.loop-made-preserved

@@ -1,7 +1,7 @@
 use Rattle.std.proofs.Common.{◌≡◌, ◌≤◌, vec_len, vec_capacity}
 use Rattle.std.specs.List.{All}
 use Rattle.layer_build.specs.Layers.{IsWidth}
-use Rattle.search_rounds.specs.Prepared.{IsPrepared}
+use Rattle.worker_gate.specs.Prepared.{IsPrepared}
 use Rattle.solver_cli.proofs.job.solving.desks_for.Given as goal
 
 abbrev pub invariant-loop-made : goal.invariant-loop-made

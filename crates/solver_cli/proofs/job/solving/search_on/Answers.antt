@@ -2,7 +2,7 @@ use Rattle.std.proofs.Common.{rules, IfOk, ◌≡◌, pos, refl, sym, ◌∙◌,
 use Rattle.board_laws.specs.Board.{BoardState}
 use Rattle.board_laws.specs.Steps.{first_board}
 use Rattle.board_laws.specs.declared.settings.Settings.{Settings}
-use Rattle.search_rounds.specs.Later.{IsLater, IsComplete}
+use Rattle.worker_gate.specs.Later.{IsLater, IsComplete}
 use Rattle.solver_cli.specs.Job.Answers.{Solves}
 use Rattle.solver_cli.specs.Job.Over.{IsOver}
 use Rattle.solver_cli.proofs.Conclusions.{is_over}

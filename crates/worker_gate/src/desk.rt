@@ -1,0 +1,36 @@
+ghost use Rattle.worker_gate.specs.Prepared.{AreDesks};
+
+use dp_model::{DpModel, Sub};
+use exact_cutset::Children;
+use layer_build::{PrepareError, Workspace};
+use search_core::Fate;
+use std::alloc::Global;
+
+/// All that one worker needs for its rounds: the subproblem that it has out, the memory in which diagrams are compiled, their
+/// children, and a buffer for fates, which grows to the size that rounds need and is used again.
+#[derive(Drop)]
+pub struct Desk {
+    pub taken: Sub,
+    pub space: Workspace,
+    pub cutset: Children,
+    pub fates: Vec<Fate>,
+}
+
+impl Desk {
+    /// A desk for the rounds on the model with diagrams of the width, which is at least 1 and at most the greatest one.
+    pub fn prepare<M: DpModel>(alloc: Global, model: &M, width: u32) -> Result<Desk, PrepareError>
+        ensures { AreDesks (M.meaning (M.numbers model.now)) width result }
+    {
+        let space = Workspace::prepare(alloc, model, width)?;
+        let cutset = Children::prepare(alloc, model, width)?;
+        match Sub::blank(alloc, model.vars(), model.words()) {
+            Ok(taken) => Ok(Desk {
+                taken,
+                space,
+                cutset,
+                fates: Vec::new(alloc),
+            }),
+            Err(_) => Err(PrepareError::OutOfMemory),
+        }
+    }
+}
