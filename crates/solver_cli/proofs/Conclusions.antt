@@ -25,20 +25,20 @@ use Rattle.board_laws.specs.Bound.{board_bound}
 use Rattle.board_laws.specs.GoodBoard.{IncumbentHolds, IsBoard}
 use Rattle.solver_report.specs.declared.answer.Stop.{Stop}
 use Rattle.solver_report.specs.declared.answer.Stop.TheVariants.{Budget}
-use Rattle.solver_cli.specs.Job.Answers.{IsFound, FoundHolds, NoneIsWorthMore, IsProved, IsInfeasible, StopHolds, IsStopped}
+use Rattle.solver_cli.specs.Job.Answers.{IsFeasible, IncumbentIsFeasible, NoneIsWorthMore, IsProved, IsInfeasible, StopHolds, IsStopped}
 use Rattle.solver_cli.specs.Job.Over.{IsOver}
 use Rattle.solver_cli.specs.Job.Widths.{IsSearchWidth}
 use Rattle.solver_cli.specs.declared.job.text_job.Search.{Search}
 
 -- an incumbent is a solution in the problem's own words too
-pub found_one : (dp : Dp) (own : List ℕ → Option ℤ) → Agrees dp own → (found : Solution) → IsSolutionWith dp found.decisions found.value → IsFound dp own found
+pub found_one : (dp : Dp) (own : List ℕ → Option ℤ) → Agrees dp own → (found : Solution) → IsSolutionWith dp found.decisions found.value → IsFeasible dp own found
 found_one dp own agrees found h = record {
   solution = h.solution;
   value = h.value;
   own_words = given_value dp found.decisions (own found.decisions) (agrees found.decisions) h.solution ∙ ap Some (sym h.value);
 }
 
-pub found_holds : (dp : Dp) (own : List ℕ → Option ℤ) → Agrees dp own → (found : Option Solution) → IncumbentHolds dp found → FoundHolds dp own found
+pub found_holds : (dp : Dp) (own : List ℕ → Option ℤ) → Agrees dp own → (found : Option Solution) → IncumbentHolds dp found → IncumbentIsFeasible dp own found
 found_holds dp own agrees None h = tt
 found_holds dp own agrees (Some found) h = found_one dp own agrees found h
 

@@ -1,3 +1,3 @@
 -- What words ask for, and how a run ends.
-pub mod Offered
+pub mod Tasks
 pub mod Ended

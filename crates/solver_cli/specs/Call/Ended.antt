@@ -12,9 +12,9 @@ use Rattle.solver_report.specs.declared.answer.Answer.TheVariants as answers
 use Rattle.solver_report.specs.Report.{report, status_of}
 use Rattle.solver_cli.specs.Job.Answers.{IsReply, Draws}
 use Rattle.solver_cli.specs.Job.Checks.{IsChecked}
-use Rattle.solver_cli.specs.declared.call.offering.Task.{Task}
-use Rattle.solver_cli.specs.declared.call.offering.Task.TheVariants.{OnInput, OnCover, Draw}
-use Rattle.solver_cli.specs.Call.Offered.{asked}
+use Rattle.solver_cli.specs.declared.call.tasks.Task.{Task}
+use Rattle.solver_cli.specs.declared.call.tasks.Task.TheVariants.{OnInput, OnCover, Draw}
+use Rattle.solver_cli.specs.Call.Tasks.{task_asked}
 
 -- the source as the run found it and left it: the bytes that are left, where they are told, and how many calls have failed
 pub record Readings : Type 0 where
@@ -100,12 +100,12 @@ IsTaskAnswer (Draw problem n seed solved) r answer = IsUntouched r × Draws (the
 -- the words ask for a task, which may answer this
 pub record Answers (words : List (List ℕ)) (r : Readings) (answer : Answer) : Type 0 where
   pub task : Task
-  pub is_asked : asked words ≡ Ok task
+  pub is_asked : task_asked words ≡ Ok task
   pub right : IsTaskAnswer task r answer
 
 -- when an answer is right: words are refused for their reason, or memory ran out for reading them, and then nothing was read
 abbrev pub IsRight : List (List ℕ) → Readings → Answer → Type 0
-IsRight words r (answers.Words e) = IfSome (refusal_of e) (λ why. asked words ≡ Err why) × IsUntouched r
+IsRight words r (answers.Words e) = IfSome (refusal_of e) (λ why. task_asked words ≡ Err why) × IsUntouched r
 IsRight words r answer = Answers words r answer
 
 -- the text was taken whole, no call failed, and none took nothing

@@ -32,14 +32,14 @@ use Rattle.solver_cli.specs.declared.job.text_job.TextJob.TheVariants.{Solve, Di
 use Rattle.solver_cli.specs.Job.Widths.{IsSearchWidth, IsRefusedWidth}
 
 -- a feasible solution with its value, in the states and gains and in the problem's own words
-pub record IsFound (dp : Dp) (own : List ℕ → Option ℤ) (found : Solution) : Type 0 where
+pub record IsFeasible (dp : Dp) (own : List ℕ → Option ℤ) (found : Solution) : Type 0 where
   pub solution : IsSolution dp found.decisions
   pub value : found.value ≡ value_of dp found.decisions
   pub own_words : own found.decisions ≡ Some found.value
 
-abbrev pub FoundHolds : Dp → (List ℕ → Option ℤ) → Option Solution → Type 0
-FoundHolds dp own None = Unit {0}
-FoundHolds dp own (Some found) = IsFound dp own found
+abbrev pub IncumbentIsFeasible : Dp → (List ℕ → Option ℤ) → Option Solution → Type 0
+IncumbentIsFeasible dp own None = Unit {0}
+IncumbentIsFeasible dp own (Some found) = IsFeasible dp own found
 
 -- no list that is a solution in the problem's own words is worth more than this
 abbrev pub NoneIsWorthMore : (List ℕ → Option ℤ) → ℤ → Type 0
@@ -47,7 +47,7 @@ NoneIsWorthMore own value = (x : List ℕ) (worth : ℤ) → own x ≡ Some wort
 
 -- a feasible solution of the greatest value, in both senses
 pub record IsProved (dp : Dp) (own : List ℕ → Option ℤ) (found : Solution) : Type 0 where
-  pub found_one : IsFound dp own found
+  pub found_one : IsFeasible dp own found
   pub is_best : best dp ≡ Some found.value
   pub own_best : NoneIsWorthMore own found.value
 
@@ -69,16 +69,16 @@ pub record IsStopped (dp : Dp) (own : List ℕ → Option ℤ) (budget : ℕ) (b
   pub holds : StopHolds board stop
   pub held : board.incumbent ≡ incumbent
   pub bound_is : board_bound board ≡ Some bound
-  pub found_one : FoundHolds dp own incumbent
+  pub found_one : IncumbentIsFeasible dp own incumbent
   pub most : (x : List ℕ) → IsSolution dp x → AtMost (value_of dp x) (Some bound)
   pub own_most : NoneIsWorthMore own bound
   pub incomplete : stop ≡ Budget → tree dp ≤ budget → tree dp ≤ 2 ^ 63 → ⊥
 
 -- what may be told of a search with this board
-abbrev pub Ends : Dp → (List ℕ → Option ℤ) → ℕ → BoardState → Outcome → Type 0
-Ends dp own budget board (Proved found) = IsProved dp own found
-Ends dp own budget board Infeasible = IsInfeasible dp own
-Ends dp own budget board (Stopped stop incumbent bound) = IsStopped dp own budget board stop incumbent bound
+abbrev pub IsOutcomeOf : Dp → (List ℕ → Option ℤ) → ℕ → BoardState → Outcome → Type 0
+IsOutcomeOf dp own budget board (Proved found) = IsProved dp own found
+IsOutcomeOf dp own budget board Infeasible = IsInfeasible dp own
+IsOutcomeOf dp own budget board (Stopped stop incumbent bound) = IsStopped dp own budget board stop incumbent bound
 
 -- the counts of a board: no more finished than taken, no more taken than the budget, and no more finished than there are prefixes
 pub record AreCounts (dp : Dp) (board : BoardState) (counts : Counts) : Type 0 where
@@ -108,7 +108,7 @@ pub record HasSearched (dp : Dp) (own : List ℕ → Option ℤ) (search : Searc
   pub kept : IsBoard dp board
   pub good : IsGood dp board
   pub nothing_out : full_slots board.slots ≡ []
-  pub ends : Ends dp own search.budget board outcome
+  pub ends : IsOutcomeOf dp own search.budget board outcome
   pub counted : IsCounted dp board search.stats counts
 
 -- what a search of an instance may answer
@@ -159,14 +159,14 @@ Does t (Solve model search) numbers answer = Solves (t.program numbers) (t.own_v
 Does t (Digest model) numbers answer = Digests (t.canonical numbers) answer
 
 -- the first fault is answered, or want of memory
-abbrev pub Refuses : InstanceError → Answer → Type 0
-Refuses e (answers.Refused given) = given ≡ e
-Refuses e answers.OutOfMemory = Unit {0}
-Refuses e _ = ⊥
+abbrev pub RefusesInstance : InstanceError → Answer → Type 0
+RefusesInstance e (answers.Refused given) = given ≡ e
+RefusesInstance e answers.OutOfMemory = Unit {0}
+RefusesInstance e _ = ⊥
 
 -- what the job may answer for a text: for the instance that it spells, or its first fault
 abbrev pub Replies : Theory → TextJob → List ℕ → Answer → Type 0
-Replies t job bytes answer = MatchResult (t.spelled bytes) (λ numbers. Does t job numbers answer) (λ e. Refuses e answer)
+Replies t job bytes answer = MatchResult (t.spelled bytes) (λ numbers. Does t job numbers answer) (λ e. RefusesInstance e answer)
 
 -- what the job may answer for a text of its problem
 abbrev pub IsReply : TextJob → List ℕ → Answer → Type 0

@@ -14,7 +14,7 @@ use Rattle.problems.specs.Theories.{theory_of}
 use Rattle.problems.specs.Theory.{Theory}
 use Rattle.solver_report.specs.declared.answer.Answer.{Answer}
 use Rattle.solver_report.specs.declared.answer.Answer.TheVariants as answers
-use Rattle.solver_cli.specs.Job.Answers.{IsProved, IsInfeasible, Refuses}
+use Rattle.solver_cli.specs.Job.Answers.{IsProved, IsInfeasible, RefusesInstance}
 
 -- a report is true: its solution is feasible and of the greatest value, or there is none, in both senses
 abbrev pub IsTrueReport : Dp → (List ℕ → Option ℤ) → Option ℤ → List ℕ → Type 0
@@ -34,7 +34,7 @@ Checks dp own held _ = ⊥
 
 -- what may be answered for what a text holds: for its instance, or the first fault of that
 abbrev pub ChecksText : Theory → CoverTextView → Answer → Type 0
-ChecksText t held answer = MatchResult (t.spelled held.instance) (λ numbers. Checks (t.program numbers) (t.own_value numbers) held answer) (λ e. Refuses e answer)
+ChecksText t held answer = MatchResult (t.spelled held.instance) (λ numbers. Checks (t.program numbers) (t.own_value numbers) held answer) (λ e. RefusesInstance e answer)
 
 -- how a fault is told, where it is not want of memory
 abbrev pub told : CoverError → Option InstanceError

@@ -3,7 +3,7 @@ ghost use Rattle.solver_cli.specs.Job.Answers.{IsCrewed, IsReply};
 ghost use Rattle.solver_cli.specs.Job.Checks.{IsChecked};
 ghost use Rattle.solver_cli.specs.Call.Ended.{IsRight, IsInputAnswer, readings, unread, text_limit, cover_limit};
 
-use crate::call::offering::{Task, asked};
+use crate::call::tasks::{Task, task_asked};
 use dd_io::{ReadError, Source, read_all};
 use crate::job::{TextJob, check, generate, reply};
 use solver_report::Answer;
@@ -28,7 +28,7 @@ pub fn answer<S: Source, G: Gate + Sync, R: Threads + Wait + Sync>(
 ) -> Answer
     ensures { IsRight (map string_bytes words.now) (readings S.left S.faults input.old input.new) result }
 {
-    match asked(alloc, words) {
+    match task_asked(alloc, words) {
         Ok(Task::OnInput(job)) => answer_text(rt, alloc, job, input, gate),
         Ok(Task::OnCover) => answer_cover(alloc, input),
         Ok(

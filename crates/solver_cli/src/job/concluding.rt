@@ -1,7 +1,7 @@
 ghost use Rattle.std.specs.Prelude.{◌≡◌, ℕ, pos, true, false, IfOk};
 ghost use Rattle.board_laws.specs.Board.{is_explored};
 ghost use Rattle.board_laws.specs.GoodBoard.{IsBoard, IsGood};
-ghost use Rattle.solver_cli.specs.Job.Answers.{Solves, Ends, IsCounted};
+ghost use Rattle.solver_cli.specs.Job.Answers.{Solves, IsOutcomeOf, IsCounted};
 ghost use Rattle.solver_cli.specs.Job.Over.{IsOver};
 
 use crate::job::text_job::Search;
@@ -68,7 +68,7 @@ fn outcome_of<P: Problem>(
     requires numbers { board.now.numbers ≡ P.numbers model.now }
     requires over { IsOver (P.meaning (P.numbers model.now)) search board.now.board }
     requires copied { found ≡ board.now.board.incumbent }
-    ensures { Ends (P.meaning (P.numbers model.now)) (P.theory.own_value (P.numbers model.now)) search.budget board.now.board result }
+    ensures { IsOutcomeOf (P.meaning (P.numbers model.now)) (P.theory.own_value (P.numbers model.now)) search.budget board.now.board result }
 {
     if board.is_explored() {
         return explored(board, model, found);
@@ -82,7 +82,7 @@ fn explored<P: Problem>(board: &Board<P>, model: &P, found: Option<Solution>) ->
     requires nothing_left { is_explored board.now.board ≡ true }
     requires exact { board.now.board.settings.within ≡ pos 0 }
     requires copied { found ≡ board.now.board.incumbent }
-    ensures { (budget : ℕ) → Ends (P.meaning (P.numbers model.now)) (P.theory.own_value (P.numbers model.now)) budget board.now.board result }
+    ensures { (budget : ℕ) → IsOutcomeOf (P.meaning (P.numbers model.now)) (P.theory.own_value (P.numbers model.now)) budget board.now.board result }
 {
     // What the board keeps of its incumbent, and that it is best.
     let _ = board.incumbent_value();
@@ -104,7 +104,7 @@ fn stopped<P: Problem>(
     requires over { IsOver (P.meaning (P.numbers model.now)) search board.now.board }
     requires left { is_explored board.now.board ≡ false }
     requires copied { found ≡ board.now.board.incumbent }
-    ensures { Ends (P.meaning (P.numbers model.now)) (P.theory.own_value (P.numbers model.now)) search.budget board.now.board result }
+    ensures { IsOutcomeOf (P.meaning (P.numbers model.now)) (P.theory.own_value (P.numbers model.now)) search.budget board.now.board result }
 {
     // What the board keeps of its incumbent.
     let _ = board.incumbent_value();

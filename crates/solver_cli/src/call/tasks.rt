@@ -1,6 +1,6 @@
 ghost use Rattle.std.specs.Prelude.{◌≡◌, IfOk, map, string_bytes, option_map};
 ghost use Rattle.solver_words.specs.Words.{IsAnswer, IsDrawable, job_view};
-ghost use Rattle.solver_cli.specs.Call.Offered.{IsDrawn, is_plain, offered, asked};
+ghost use Rattle.solver_cli.specs.Call.Tasks.{IsDrawn, is_plain, task_of, task_asked};
 
 use problem_names::ModelName;
 use crate::job::{Search, TextJob};
@@ -24,19 +24,19 @@ pub enum Task {
 }
 
 /// What the words ask for, or why they are refused.
-pub fn asked(alloc: Global, words: &[String]) -> Result<Task, WordsError>
-    ensures answer { IsAnswer (λ task. task) (asked (map string_bytes words.now)) result }
+pub fn task_asked(alloc: Global, words: &[String]) -> Result<Task, WordsError>
+    ensures answer { IsAnswer (λ task. task) (task_asked (map string_bytes words.now)) result }
     ensures drawn { IfOk result IsDrawn }
 {
     let job = read_words(alloc, words)?;
-    offered(&job)
+    task_of(&job)
 }
 
 /// The task of a job. This is the one place that tells which words are still to come: a search with a journal or with a cover, and the
 /// command `resume`. They are answered as words outside the grammar.
-fn offered(job: &Job) -> Result<Task, WordsError>
+fn task_of(job: &Job) -> Result<Task, WordsError>
     requires { IsDrawable job.now }
-    ensures answer { IsAnswer (λ task. task) (offered (job_view job.now)) result }
+    ensures answer { IsAnswer (λ task. task) (task_of (job_view job.now)) result }
     ensures drawn { IfOk result IsDrawn }
 {
     match job {

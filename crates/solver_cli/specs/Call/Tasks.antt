@@ -7,8 +7,8 @@ use Rattle.solver_cli.specs.Job.Answers.{IsCrewed}
 use Rattle.solver_words.specs.Grammar.{Text}
 use Rattle.solver_words.specs.Words.{JobView, Refusal, and_then, meaning, solve, resume, check, digest, generate, usage}
 use Rattle.solver_words.specs.declared.job.JobSettings.{JobSettings}
-use Rattle.solver_cli.specs.declared.call.offering.Task.{Task}
-use Rattle.solver_cli.specs.declared.call.offering.Task.TheVariants.{OnInput, OnCover, Draw}
+use Rattle.solver_cli.specs.declared.call.tasks.Task.{Task}
+use Rattle.solver_cli.specs.declared.call.tasks.Task.TheVariants.{OnInput, OnCover, Draw}
 
 -- a search by 1 to 16 workers, as the grammar leaves it, without a journal and a cover
 abbrev pub is_plain : JobSettings → Option Text → Option ℕ → Bool
@@ -19,16 +19,16 @@ abbrev pub search_of : JobSettings → Search
 search_of settings = record { width = settings.width; workers = settings.workers; budget = settings.budget; stats = settings.stats }
 
 -- the task of a job; what is still to come is refused as outside the grammar
-abbrev pub offered : JobView → Result Task Refusal
-offered (solve model settings journal cover) = cond (is_plain settings journal cover) (Ok (OnInput (Solve model (search_of settings)))) (Err usage)
-offered (resume path settings) = Err usage
-offered check = Ok OnCover
-offered (digest model) = Ok (OnInput (Digest model))
-offered (generate model n seed solved) = Ok (Draw model n seed solved)
+abbrev pub task_of : JobView → Result Task Refusal
+task_of (solve model settings journal cover) = cond (is_plain settings journal cover) (Ok (OnInput (Solve model (search_of settings)))) (Err usage)
+task_of (resume path settings) = Err usage
+task_of check = Ok OnCover
+task_of (digest model) = Ok (OnInput (Digest model))
+task_of (generate model n seed solved) = Ok (Draw model n seed solved)
 
 -- the task that words ask for, or why they are refused
-abbrev pub asked : List Text → Result Task Refusal
-asked words = and_then offered (meaning words)
+abbrev pub task_asked : List Text → Result Task Refusal
+task_asked words = and_then task_of (meaning words)
 
 -- a search has from 1 to 16 workers, and what is to be drawn a size of its problem and a seed below 2^31
 abbrev pub IsDrawn : Task → Type 0
