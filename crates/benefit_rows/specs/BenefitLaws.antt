@@ -1,5 +1,5 @@
 -- What holds of rows of signed benefits.
-use Rattle.std.specs.Prelude.{◌≡◌, ℕ, zero, suc, ℤ, pos, ◌+ℤ◌, ◌-ℤ◌, ◌≤ℤ◌, List, [], ◌∷◌, ◌++◌, length, drop, refl}
+use Rattle.std.specs.Prelude.{◌≡◌, ℕ, zero, suc, ℤ, pos, ◌+ℤ◌, ◌-ℤ◌, ◌≤ℤ◌, List, [], ◌∷◌, ◌++◌, length, drop, replicate, refl}
 use Rattle.std.specs.Int.{int_max, int_min}
 use Rattle.std.proofs.Common.{arith}
 use Rattle.std.proofs.lemmas.Int.{ints, clamps}
@@ -67,6 +67,10 @@ rank_of-positive (s ∷ ss) = omega (arith, ints, size_of-positive s, rank_of-po
 pub rank_of-append : (ss more : List ℤ) → rank_of (ss ++ more) ≡ rank_of ss +ℤ rank_of more
 rank_of-append [] more = omega (arith, ints)
 rank_of-append (s ∷ ss) more = omega (arith, ints, rank_of-append ss more)
+
+pub rank_of-zeros : (n : ℕ) → rank_of (replicate n (pos 0)) ≡ pos 0
+rank_of-zeros zero = refl
+rank_of-zeros (suc n) = omega (arith, ints, rank_of-zeros n)
 
 pub rank_of-drop : (k : ℕ) (ss : List ℤ) → rank_of (drop k ss) ≤ℤ rank_of ss
 rank_of-drop zero ss = omega (arith, ints)

@@ -46,12 +46,13 @@ own-entry dp laws next o own given = record {
   shorter = own.shorter;
   state = subst (λ s. IsStateOf dp (length o.subproblem.decisions) s) (sym own.row) (state_of-state dp laws.states o.subproblem.decisions own.prefix);
   bucket = refl;
+  rank = refl;
   given = given;
 }
 
 -- an entry is one when more tickets were given out
 entry-later : (dp : Dp) (next more : ℕ) → next ≤ more → (e : TableEntry) → IsEntry dp next e → IsEntry dp more e
-entry-later dp next more le e h = record { shorter = h.shorter; state = h.state; bucket = h.bucket; given = (let less = h.given in omega arith) }
+entry-later dp next more le e h = record { shorter = h.shorter; state = h.state; bucket = h.bucket; rank = h.rank; given = (let less = h.given in omega arith) }
 
 put-few : (limit : ℕ) (es new : List TableEntry) → length es ≤ limit → length (put_all limit es new) ≤ limit
 put-few limit es [] h = h

@@ -12,15 +12,11 @@
 //! each, so the answers are exact. Where no ticket was put after a greater one, the first entry that dominates is the answer.
 #![tactic(auto)]
 
-#[cfg(test)]
-mod boxes;
 mod dominating;
 mod entry;
 mod groups;
 mod put;
 mod table;
-#[cfg(test)]
-mod tests;
 
 pub use put::Put;
 pub use table::Table;

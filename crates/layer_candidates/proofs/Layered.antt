@@ -22,7 +22,7 @@ use Rattle.layer_candidates.specs.Members.{member_as, members_as}
 use Rattle.layer_candidates.specs.Pruning.{keyed, all_keyed, IsKeyIn, HasPruned}
 use Rattle.layer_candidates.specs.Rows.{row_at}
 use Rattle.layer_candidates.specs.Steps.{path_at, step_of, step_at, entered, AreBackward, IsReachedWithin}
-use Rattle.layer_candidates.specs.Ways.{table, way_at, reached_at, all_reached, IsNearly, AreWays, AreJoined}
+use Rattle.layer_candidates.specs.Ways.{table, way_at, reached_at, all_reached, IsNearly, AreWays, AreDistinct}
 use Rattle.layer_candidates.proofs.Blocks.{row_before}
 use Rattle.layer_candidates.proofs.Descended.{descended}
 use Rattle.layer_candidates.proofs.Joined.{last_or}
@@ -99,8 +99,8 @@ module _ (dp : Dp) (k : ℕ) (rows : List ℤ) (words : ℕ) (ways : List Way) w
 
 -- The whole layer.
 
-module _ (dp : Dp) (k : ℕ) (t : Option ℤ) (most : ℕ) (above : List ℤ) (words : ℕ) (members : List Member) (rows : List ℤ) (ways : List Way) (folds heads next : List ℕ) (keys kept : List Key) (steps : List Step) (more : Bool)
-    (joined : AreJoined dp (k + 1) rows words ways folds heads next)
+module _ (dp : Dp) (k : ℕ) (t : Option ℤ) (most : ℕ) (above : List ℤ) (words : ℕ) (members : List Member) (rows : List ℤ) (ways : List Way) (keys kept : List Key) (steps : List Step) (more : Bool)
+    (distinct : AreDistinct dp (k + 1) rows words ways)
     (list : (paths : ℕ → List ℕ) → all_reached paths rows words ways ≡ all_joined [] (candidates dp k (members_as paths above words members)))
     (moved : IsPermutation (keys_of ways) keys) (sorted : IsSortedBy (goes_before rows words) keys)
     (done : HasPruned dp (k + 1) t most rows words keys kept more)
@@ -109,12 +109,12 @@ module _ (dp : Dp) (k : ℕ) (t : Option ℤ) (most : ℕ) (above : List ℤ) (w
   paths_of prefix = path_at prefix steps
 
   pub layer-keys : Each (IsKeyOf ways) keys
-  layer-keys = keys-are dp (k + 1) rows words ways keys joined.apart joined.good moved sorted
+  layer-keys = keys-are dp (k + 1) rows words ways keys distinct.apart distinct.good moved sorted
 
   pub whole : (prefix : List ℕ) → pruned dp (k + 1) t (all_keyed (paths_of prefix) rows words ways keys) ≡ whole_layer dp k t (members_as (paths_of prefix) above words members)
   whole prefix =
       ap (pruned dp (k + 1) t) (keyed-of dp (k + 1) rows words ways (paths_of prefix) keys layer-keys
-      ∙ (in-order dp (k + 1) rows words ways keys joined.apart joined.good moved sorted (paths_of prefix) ∙ ap (in_order dp (k + 1)) (list (paths_of prefix))))
+      ∙ (in-order dp (k + 1) rows words ways keys distinct.apart distinct.good moved sorted (paths_of prefix) ∙ ap (in_order dp (k + 1)) (list (paths_of prefix))))
 
   pub kept-places : Each (λ key. key.place < length ways) kept
   kept-places = done.places (length ways) (Each-then (IsKeyOf ways) (λ key. key.place < length ways) keys (λ key h. h.within) layer-keys)

@@ -32,5 +32,5 @@ pub use ordering::put_in_order;
 pub use pruning::{MOST_LEADERS, is_struck_by};
 pub use rows::row;
 pub use step::Step;
-pub use table::reset;
+pub use table::{reset, slots_for};
 pub use way::Way;

@@ -42,7 +42,7 @@ fn is_struck<M: DpModel>(
     requires key { IsKeyIn (M.meaning (M.numbers model.now)) k rows.now words key }
     ensures { result ≡ struck (M.meaning (M.numbers model.now)) k threshold rows.now words key }
 {
-    let rough = model.rough(k, row(rows, words, key.place as usize));
+    let rough = model.rough_by_rank(k, row(rows, words, key.place as usize), key.rank);
     is_struck_by(key.value, rough, threshold)
 }
 

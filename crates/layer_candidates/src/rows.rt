@@ -1,7 +1,7 @@
 //! Rows of one length in a block of cells.
 
 ghost use Rattle.std.specs.Prelude.{◌≡◌, ◌+◌, ◌*◌, ◌≤◌, ◌↔◌, length, IsTrue};
-ghost use Rattle.layer_candidates.specs.Rows.{row_at};
+ghost use Rattle.layer_candidates.specs.Rows.{row_at, live_at};
 
 /// The cells of a row.
 pub fn row(rows: &[i64], words: usize, place: usize) -> &[i64]
@@ -10,6 +10,15 @@ pub fn row(rows: &[i64], words: usize, place: usize) -> &[i64]
 {
     let at = place * words;
     &rows[at..at + words]
+}
+
+/// The cells of a row from the first live one on.
+pub fn live_cells(rows: &[i64], words: usize, live: usize, place: usize) -> &[i64]
+    requires room { place * words + words ≤ length rows.now }
+    requires live { live ≤ words }
+    ensures { result.now ≡ live_at rows.now words live place }
+{
+    &row(rows, words, place)[live..]
 }
 
 /// Whether two rows are equal.

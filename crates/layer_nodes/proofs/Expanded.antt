@@ -4,6 +4,7 @@ use Rattle.std.proofs.Math.Seq.{drop-append_seam}
 use Rattle.std.proofs.lemmas.List.{map-append, length-map, take-append-drop}
 use Rattle.std.proofs.lemmas.Option.{slice_get-map, slice_get-get_or}
 use Rattle.std.specs.List.{take-map}
+use Rattle.dp_model.specs.Decisions.{below}
 use Rattle.dp_model.specs.Dp.{Dp}
 use Rattle.dp_model.specs.Lists.{Each}
 use Rattle.dp_model.specs.Rows.{row_same}
@@ -20,11 +21,11 @@ use Rattle.dp_laws.specs.Rules.Expanding.{makes, is_exact_row, node_for, new_lay
 use Rattle.dp_laws.proofs.Rules.Expanded.{RowsApart, found-row, one-place, new-apart}
 use Rattle.layer_candidates.specs.declared.key.Key.{Key}
 use Rattle.layer_candidates.specs.declared.way.Way.{Way}
-use Rattle.layer_candidates.specs.Extending.{allowed_below}
+use Rattle.layer_candidates.specs.Extending.{all_allowed}
 use Rattle.layer_candidates.specs.KeyOrder.{key_at, keys_of, reached_of, all_of, IsKeyOf}
 use Rattle.layer_candidates.specs.Members.{member_as, members_as, IsMemberOf}
 use Rattle.layer_candidates.specs.Rows.{row_at}
-use Rattle.layer_candidates.specs.Ways.{way_at, all_reached, AreJoined}
+use Rattle.layer_candidates.specs.Ways.{way_at, all_reached, AreDistinct}
 use Rattle.layer_candidates.proofs.Blocks.{row_before}
 use Rattle.layer_candidates.proofs.Layered.{has-table}
 use Rattle.layer_candidates.proofs.Sorted.{keys-are, in-order, length-keys}
@@ -41,8 +42,8 @@ map-map f g [] = refl
 map-map f g (x ∷ xs) = ap (λ l. g (f x) ∷ l) (map-map f g xs)
 
 -- the decisions of a layer above the last one
-allowed-at : (dp : Dp) (k : ℕ) (s : List ℤ) → k < dp.vars → allowed_below dp k s (dp.choices k) ≡ decisions_at dp k s
-allowed-at dp k s low = let inside : nat_lt k dp.vars ≡ true = grind arith in sym (ap (λ b. cond b (allowed_below dp k s (dp.choices k)) []) inside)
+allowed-at : (dp : Dp) (k : ℕ) (s : List ℤ) → k < dp.vars → all_allowed dp k s (below (dp.choices k)) ≡ decisions_at dp k s
+allowed-at dp k s low = let inside : nat_lt k dp.vars ≡ true = grind arith in sym (ap (λ b. cond b (all_allowed dp k s (below (dp.choices k))) []) inside)
 
 -- Exact rows.
 
@@ -63,7 +64,7 @@ trials-exact : (dp : Dp) (k : ℕ) (cells : List ℤ) (words : ℕ) (arcs : List
 trials-exact dp k cells words arcs paths i [] row low = refl
 trials-exact dp k cells words arcs paths i (node ∷ nodes) row low =
     let s = row_at cells words node.row in
-    exact-by dp k s node.exact (trials_of dp k cells words nodes) row (allowed_below dp k s (dp.choices k))
+    exact-by dp k s node.exact (trials_of dp k cells words nodes) row (all_allowed dp k s (below (dp.choices k)))
     ∙ ap₂ (λ ds b. (node.exact || not (makes dp k s ds row)) && b) (allowed-at dp k s low) (trials-exact dp k cells words arcs paths (i + 1) nodes row low)
 
 -- The nodes as members.
@@ -137,7 +138,7 @@ module _ (dp : Dp) (k : ℕ) (rows : List ℤ) (words count : ℕ) (next : List 
         let rest = drop n arcs in
         let these : take n (drop first all) ≡ map (arc_of dp k next s) (decisions_at dp k s) =
         ap (λ j. take n (drop j all)) (sym size) ∙ (ap (take n) (drop-append_seam before (map (led places) arcs))
-        ∙ (take-map (led places) n arcs ∙ (arcs-led s node.exact (allowed_below dp k s (dp.choices k)) mine (arcs-first ts us arcs h)
+        ∙ (take-map (led places) n arcs ∙ (arcs-led s node.exact (all_allowed dp k s (below (dp.choices k))) mine (arcs-first ts us arcs h)
         ∙ ap (map (arc_of dp k next s)) (allowed-at dp k s low)))) in
         let split : all ≡ (before ++ map (led places) mine) ++ map (led places) rest =
         ap (λ l. before ++ l) (ap (map (led places)) (sym (take-append-drop n arcs)) ∙ map-append (led places) mine rest)
@@ -182,9 +183,9 @@ members-of dp k cells words room i old (node ∷ nodes) hold s h =
 
 -- The whole.
 
-module _ (dp : Dp) (k : ℕ) (low : k < dp.vars) (cells : List ℤ) (words : ℕ) (old : List DdArc) (nodes : List Node) (rows : List ℤ) (ways : List Way) (folds heads next : List ℕ)
+module _ (dp : Dp) (k : ℕ) (low : k < dp.vars) (cells : List ℤ) (words : ℕ) (old : List DdArc) (nodes : List Node) (rows : List ℤ) (ways : List Way)
     (marks : List Bool) (arcs led_arcs : List DdArc) (nodes2 below : List Node)
-    (joined : AreJoined dp (k + 1) rows words ways folds heads next)
+    (distinct : AreDistinct dp (k + 1) rows words ways)
     (list : (paths : ℕ → List ℕ) → all_reached paths rows words ways ≡ all_joined [] (candidates dp k (members_as paths cells words (members_from 0 nodes))))
     (tried : AreTried dp k rows words (length ways) (trials_of dp k cells words nodes) marks arcs)
     (spans : nodes2 ≡ all_spanned dp k cells words 0 nodes)
@@ -196,11 +197,11 @@ module _ (dp : Dp) (k : ℕ) (low : k < dp.vars) (cells : List ℤ) (words : ℕ
   layer_of paths = shown_layer paths (map (node_view words cells old) nodes)
 
   layer-keys : Each (IsKeyOf ways) keys
-  layer-keys = keys-are dp (k + 1) rows words ways keys joined.apart joined.good arranged.all arranged.sorted
+  layer-keys = keys-are dp (k + 1) rows words ways keys distinct.apart distinct.good arranged.all arranged.sorted
 
   order-is : (paths : ℕ → List ℕ) → all_of paths rows words ways keys ≡ expanded dp k (map prefix_at (layer_of paths))
   order-is paths =
-      in-order dp (k + 1) rows words ways keys joined.apart joined.good arranged.all arranged.sorted paths
+      in-order dp (k + 1) rows words ways keys distinct.apart distinct.good arranged.all arranged.sorted paths
       ∙ ap (in_order dp (k + 1)) (list paths ∙ ap (λ l. all_joined [] (candidates dp k l)) (members-shown cells words old paths 0 nodes))
 
   abbrev from : (ℕ → List ℕ) → Key → ℤ → Bool → DdNode
@@ -265,7 +266,7 @@ module _ (dp : Dp) (k : ℕ) (low : k < dp.vars) (cells : List ℤ) (words : ℕ
   ranked-all : (any : List DdArc) (ks : List Key) → Each (IsKeyOf ways) ks → Each (IsRanked dp (k + 1)) (map (node_view words rows any) (map (node_of ways marks) ks))
   ranked-all any [] h = tt
   ranked-all any (key ∷ ks) h =
-      let way = joined.good key.place h.0.within in
+      let way = distinct.good key.place h.0.within in
       (record { state = way.state; rank = ap (λ (x : Key). x.rank) h.0.is ∙ way.rank }, ranked-all any ks h.1)
 
   pub next-ranked : (any : List DdArc) → Each (IsRanked dp (k + 1)) (map (node_view words rows any) below)
@@ -291,22 +292,22 @@ module _ (dp : Dp) (k : ℕ) (low : k < dp.vars) (cells : List ℤ) (words : ℕ
   next-stored room any few = subst (Each (IsStored room any)) (sym arranged.nodes_are) (stored-all room any keys few layer-keys)
 
 -- the extended layer is put in order
-pub whole : (dp : Dp) (k : ℕ) → k < dp.vars → (cells : List ℤ) (words : ℕ) (nodes : List Node) (rows : List ℤ) (ways : List Way) (folds heads next : List ℕ)
-    (marks : List Bool) (arcs led_arcs : List DdArc) (nodes2 below : List Node) → AreJoined dp (k + 1) rows words ways folds heads next
+pub whole : (dp : Dp) (k : ℕ) → k < dp.vars → (cells : List ℤ) (words : ℕ) (nodes : List Node) (rows : List ℤ) (ways : List Way)
+    (marks : List Bool) (arcs led_arcs : List DdArc) (nodes2 below : List Node) → AreDistinct dp (k + 1) rows words ways
     → ((paths : ℕ → List ℕ) → all_reached paths rows words ways ≡ all_joined [] (candidates dp k (members_as paths cells words (members_from 0 nodes))))
     → AreTried dp k rows words (length ways) (trials_of dp k cells words nodes) marks arcs → nodes2 ≡ all_spanned dp k cells words 0 nodes → length ways ≤ length nodes * dp.choices k
     → length arcs ≤ length nodes * dp.choices k → AreArranged rows words ways marks arcs led_arcs below → IsExpanded dp k words cells nodes nodes2 led_arcs rows below
-whole dp k low cells words nodes rows ways folds heads next marks arcs led_arcs nodes2 below joined list tried spans few few_arcs arranged = record {
-  above_is = λ before paths. above-shown dp k low cells words before nodes rows ways folds heads next marks arcs led_arcs nodes2 below joined list tried spans arranged paths;
-  next_is = λ before any paths. next-shown dp k low cells words before nodes rows ways folds heads next marks arcs led_arcs nodes2 below joined list tried spans arranged paths any;
-  rest = λ before. above-rest dp k low cells words before nodes rows ways folds heads next marks arcs led_arcs nodes2 below joined list tried spans arranged;
-  ranked = λ any. next-ranked dp k low cells words any nodes rows ways folds heads next marks arcs led_arcs nodes2 below joined list tried spans arranged any;
-  unmerged = λ any. next-unmerged dp k low cells words any nodes rows ways folds heads next marks arcs led_arcs nodes2 below joined list tried spans arranged any;
-  stored = λ before room h. above-stored dp k low cells words before nodes rows ways folds heads next marks arcs led_arcs nodes2 below joined list tried spans arranged room h;
-  below_stored = λ any room fits. next-stored dp k low cells words any nodes rows ways folds heads next marks arcs led_arcs nodes2 below joined list tried spans arranged room any (omega arith);
-  same = above-length dp k low cells words arcs nodes rows ways folds heads next marks arcs led_arcs nodes2 below joined list tried spans arranged;
-  few = (let size = next-length dp k low cells words arcs nodes rows ways folds heads next marks arcs led_arcs nodes2 below joined list tried spans arranged in omega arith);
-  few_arcs = (let size = length-led dp k low cells words arcs nodes rows ways folds heads next marks arcs led_arcs nodes2 below joined list tried spans arranged in omega arith);
+whole dp k low cells words nodes rows ways marks arcs led_arcs nodes2 below distinct list tried spans few few_arcs arranged = record {
+  above_is = λ before paths. above-shown dp k low cells words before nodes rows ways marks arcs led_arcs nodes2 below distinct list tried spans arranged paths;
+  next_is = λ before any paths. next-shown dp k low cells words before nodes rows ways marks arcs led_arcs nodes2 below distinct list tried spans arranged paths any;
+  rest = λ before. above-rest dp k low cells words before nodes rows ways marks arcs led_arcs nodes2 below distinct list tried spans arranged;
+  ranked = λ any. next-ranked dp k low cells words any nodes rows ways marks arcs led_arcs nodes2 below distinct list tried spans arranged any;
+  unmerged = λ any. next-unmerged dp k low cells words any nodes rows ways marks arcs led_arcs nodes2 below distinct list tried spans arranged any;
+  stored = λ before room h. above-stored dp k low cells words before nodes rows ways marks arcs led_arcs nodes2 below distinct list tried spans arranged room h;
+  below_stored = λ any room fits. next-stored dp k low cells words any nodes rows ways marks arcs led_arcs nodes2 below distinct list tried spans arranged room any (omega arith);
+  same = above-length dp k low cells words arcs nodes rows ways marks arcs led_arcs nodes2 below distinct list tried spans arranged;
+  few = (let size = next-length dp k low cells words arcs nodes rows ways marks arcs led_arcs nodes2 below distinct list tried spans arranged in omega arith);
+  few_arcs = (let size = length-led dp k low cells words arcs nodes rows ways marks arcs led_arcs nodes2 below distinct list tried spans arranged in omega arith);
 }
 
 -- the same by equal parts

@@ -1,5 +1,6 @@
 -- A layer is expanded: what its nodes are tried by, and what comes of it.
 use Rattle.std.specs.Prelude.{◌≡◌, ℕ, ◌+◌, ◌*◌, ◌<◌, ◌≤◌, nat_eq, ℤ, pos, Bool, true, false, not, ◌&&◌, ◌||◌, List, [], ◌∷◌, ◌++◌, length, map, set, slice_index_or, slice_get, Some, None, option_and_then, IsSome, IsPermutation, IsSortedBy}
+use Rattle.dp_model.specs.Decisions.{below}
 use Rattle.dp_model.specs.Dp.{Dp}
 use Rattle.dp_model.specs.Lists.{Each}
 use Rattle.dp_model.specs.Rows.{row_same}
@@ -8,7 +9,7 @@ use Rattle.dp_laws.specs.declared.arc.DdArc.{DdArc}
 use Rattle.layer_candidates.specs.declared.key.Key.{Key}
 use Rattle.layer_candidates.specs.declared.member.Member.{Member}
 use Rattle.layer_candidates.specs.declared.way.Way.{Way}
-use Rattle.layer_candidates.specs.Extending.{allowed_below}
+use Rattle.layer_candidates.specs.Extending.{all_allowed}
 use Rattle.layer_candidates.specs.KeyOrder.{keys_of, goes_before}
 use Rattle.layer_candidates.specs.Rows.{row_at}
 use Rattle.layer_candidates.specs.Ways.{way_at}
@@ -44,13 +45,13 @@ trial s exact d = record { state = s; exact = exact; decision = d }
 abbrev pub made_by : Dp → ℕ → Trial → List ℤ
 made_by dp k t = dp.step k t.state t.decision
 
--- the trials by the allowed decisions below n
-abbrev pub trials_by : Dp → ℕ → List ℤ → Bool → ℕ → List Trial
-trials_by dp k s exact n = map (trial s exact) (allowed_below dp k s n)
+-- the trials by those of the decisions that are allowed
+abbrev pub trials_by : Dp → ℕ → List ℤ → Bool → List ℕ → List Trial
+trials_by dp k s exact decisions = map (trial s exact) (all_allowed dp k s decisions)
 
 -- those of a node whose row lies in the cells
 abbrev pub trials_at : Dp → ℕ → List ℤ → ℕ → Node → List Trial
-trials_at dp k cells words node = trials_by dp k (row_at cells words node.row) node.exact (dp.choices k)
+trials_at dp k cells words node = trials_by dp k (row_at cells words node.row) node.exact (below (dp.choices k))
 
 -- those of some nodes
 abbrev pub trials_of : Dp → ℕ → List ℤ → ℕ → List Node → List Trial

@@ -74,10 +74,6 @@ gain_of_S z d h = ap (gain_of z) h
 
 -- Zeros have and gain nothing.
 
-pub rank_of-zeros : (n : ℕ) → rank_of (zeros n) ≡ pos 0
-rank_of-zeros zero = refl
-rank_of-zeros (suc n) = omega (arith, ints, clamps, rank_of-zeros n)
-
 pub gains_of-zeros : (n : ℕ) (ds : List ℕ) → gains_of (zeros n) ds ≡ pos 0
 gains_of-zeros zero ds = refl
 gains_of-zeros (suc n) [] = refl

@@ -19,7 +19,8 @@ use Rattle.dp_model.proofs.Sizes.{value_of-size}
 use Rattle.shared_fringe.specs.Firsts.{first_taken}
 use Rattle.shared_fringe.specs.Fringe.{FringeView}
 use Rattle.shared_fringe.specs.Popping.{after_pop, taken_out}
-use Rattle.shared_fringe.specs.Tickets.{Ticketed}
+use Rattle.shared_fringe.specs.Tickets.{Ticketed, IsEarlier, without}
+use Rattle.dominance_table.specs.Dominator.{IsReached}
 use Rattle.dominance_table.specs.Entries.{TableEntry, TableView}
 use Rattle.board_laws.specs.Board.{AreSettings, BoardState, incumbent_value, value_held, reach, full_slots, slot_of, slot_at, frontier}
 use Rattle.board_laws.specs.Entering.{entering, entry_of, put_all, replaced, without_all}
@@ -176,8 +177,9 @@ pub children-states : (dp : Dp) → IsLawful dp → (held : List SubView) → Ea
 children-states dp laws held own =
     Each-then (λ (h : SubView). IsOwn dp h.subproblem) (λ h. IsStateOf dp (length h.subproblem.decisions) h.subproblem.row) held (λ h x. own-state dp laws h.subproblem x) (contents-each (IsOwn dp) held own)
 
-pub entry-states : (dp : Dp) (b : BoardState) → IsBoard dp b → Each (λ e. IsStateOf dp e.depth e.row) b.entries
-entry-states dp b g = Each-then (IsEntry dp b.next_ticket) (λ e. IsStateOf dp e.depth e.row) b.entries (λ e h. h.state) g.entries
+pub entries-reached : (dp : Dp) (b : BoardState) → IsBoard dp b → Each (λ e. IsReached dp e.depth e.row e.rank) b.entries
+entries-reached dp b g =
+    Each-then (IsEntry dp b.next_ticket) (λ e. IsReached dp e.depth e.row e.rank) b.entries (λ e h. record { state = h.state; rank_is = h.rank }) g.entries
 
 pub children-own : (dp : Dp) (p : List ℕ) (cs : List Subproblem) → Each (IsChild dp p) cs → Each (IsOwn dp) cs
 children-own dp p cs h = Each-then (IsChild dp p) (IsOwn dp) cs (λ c x. x.own) h

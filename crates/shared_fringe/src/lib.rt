@@ -22,6 +22,7 @@ mod fringe;
 mod growing;
 mod index;
 mod listed;
+mod listing;
 mod popping;
 mod pushing;
 mod rank;
@@ -31,8 +32,6 @@ mod reranking;
 mod same;
 mod slots;
 mod store;
-#[cfg(test)]
-mod tests;
 
 pub use fate::FringeFate;
 pub use fringe::Fringe;

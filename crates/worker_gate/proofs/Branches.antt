@@ -8,6 +8,7 @@ use Rattle.dp_model.specs.Prefixes.{IsPrefix, IsSolution, IsCompletion, value_of
 use Rattle.dp_model.specs.Reached.{Reached, reached}
 use Rattle.dp_model.specs.Solution.{Solution}
 use Rattle.dp_model.specs.Subproblem.{Subproblem, IsOwn}
+use Rattle.dp_model.specs.declared.cut_kind.CutKind.{CutKind}
 use Rattle.dp_model.specs.declared.cut_kind.CutKind.TheVariants.{LastExactLayer}
 use Rattle.dp_model.specs.declared.found.Found.{Found}
 use Rattle.dp_laws.specs.Children.{StandDeep, AreChildren, FoundCompletes, AreSound, found_value}
@@ -112,21 +113,21 @@ relaxed-held dp laws chained c w t own fits =
     found-completes dp p (found_in dp d) (children-sound dp laws p w t d LastExactLayer is own.shorter).solution
 
 -- once that was offered, its children may take the place of the subproblem
-pub relaxed-branched-for : (dp : Dp) → IsLawful dp → IsChained dp → (v : ℕ) (most : Option ℤ) (c : Subproblem) (w : ℕ) (t : Option ℤ) → IsOwn dp c → IsWidth dp w → w ≡ v
+pub relaxed-branched-for : (dp : Dp) → IsLawful dp → IsChained dp → (v : ℕ) (most : Option ℤ) (c : Subproblem) (w : ℕ) (t : Option ℤ) (kind : CutKind) → IsOwn dp c → IsWidth dp w → w ≡ v
     → OptionAtMost t most → OptionAtMost (found_value (found_in dp (relaxed dp (reached dp c.decisions) w t))) most
-    → AreBranched dp v most c.decisions t (children_of dp (relaxed dp (reached dp c.decisions) w t) LastExactLayer)
-relaxed-branched-for dp laws chained v most c w t own fits same low best =
+    → AreBranched dp v most c.decisions t (children_of dp (relaxed dp (reached dp c.decisions) w t) kind)
+relaxed-branched-for dp laws chained v most c w t kind own fits same low best =
     let p = c.decisions in
     let d = relaxed dp (reached dp p) w t in
     let is = compiled-is-diagram dp laws chained p w t own.prefix own.shorter fits.positive in
     let fit = children-fit dp laws p w t d own.shorter is in
     record {
       below = low;
-      children = sound-follow dp most t (found_in dp d) p (children_of dp d LastExactLayer) low best (fit.few LastExactLayer fits.fits) (fit.far LastExactLayer) (children-sound dp laws p w t d LastExactLayer is own.shorter);
-      deep = subst (λ v. StandDeep (wide dp p v t) (children_of dp d LastExactLayer)) same (subst (λ depth. StandDeep depth (children_of dp d LastExactLayer)) is.first_reduced (children-deep dp laws p w t d LastExactLayer is own.shorter));
+      children = sound-follow dp most t (found_in dp d) p (children_of dp d kind) low best (fit.few kind fits.fits) (fit.far kind) (children-sound dp laws p w t d kind is own.shorter);
+      deep = subst (λ v. StandDeep (wide dp p v t) (children_of dp d kind)) same (subst (λ depth. StandDeep depth (children_of dp d kind)) is.first_reduced (children-deep dp laws p w t d kind is own.shorter));
     }
 
-pub relaxed-branched : (dp : Dp) → IsLawful dp → IsChained dp → (b : BoardState) (c : Subproblem) (w : ℕ) (t : Option ℤ) → IsOwn dp c → IsWidth dp w → w ≡ b.settings.width
+pub relaxed-branched : (dp : Dp) → IsLawful dp → IsChained dp → (b : BoardState) (c : Subproblem) (w : ℕ) (t : Option ℤ) (kind : CutKind) → IsOwn dp c → IsWidth dp w → w ≡ b.settings.width
     → OptionAtMost t (reach b) → OptionAtMost (found_value (found_in dp (relaxed dp (reached dp c.decisions) w t))) (reach b)
-    → IsBranched dp b c.decisions t (children_of dp (relaxed dp (reached dp c.decisions) w t) LastExactLayer)
-relaxed-branched dp laws chained b c w t own fits same low best = relaxed-branched-for dp laws chained b.settings.width (reach b) c w t own fits same low best
+    → IsBranched dp b c.decisions t (children_of dp (relaxed dp (reached dp c.decisions) w t) kind)
+relaxed-branched dp laws chained b c w t kind own fits same low best = relaxed-branched-for dp laws chained b.settings.width (reach b) c w t kind own fits same low best

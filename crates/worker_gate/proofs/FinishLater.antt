@@ -76,9 +76,9 @@ may-finish dp b who width out seen threshold cs fs m kept wide_is at less fates 
     record {
       parent = f.parent;
       full = f.full;
-      below = option-then threshold seen (reach b) m.below below;
-      children = subst (λ p. AreChildren dp (reach b) p cs) (sym f.decisions_are) (children-later dp seen (reach b) m.decisions cs below m.children);
-      deep = subst (λ p. StandDeep (wide dp p b.settings.width threshold) cs) (sym f.decisions_are) (subst (λ w. StandDeep (wide dp m.decisions w threshold) cs) (sym wide_is) m.deep);
+      below = option-then threshold seen (reach b) m.branched.below below;
+      children = subst (λ p. AreChildren dp (reach b) p cs) (sym f.decisions_are) (children-later dp seen (reach b) m.decisions cs below m.branched.children);
+      deep = subst (λ p. StandDeep (wide dp p b.settings.width threshold) cs) (sym f.decisions_are) (subst (λ w. StandDeep (wide dp m.decisions w threshold) cs) (sym wide_is) m.branched.deep);
       fates = fates;
     }
 
@@ -98,4 +98,4 @@ pub full-later : (dp : Dp) (b : BoardState) (who width : ℕ) (out : Option (Lis
 full-later dp b who width out seen threshold cs m at = let f = full_of _ m.decisions (at ∙ m.out_is) in some_full b.slots who f.parent f.full
 
 pub own-later : (dp : Dp) (width : ℕ) (out : Option (List ℕ)) (seen threshold : Option ℤ) (cs : List Subproblem) → MayFinishLater dp width out seen threshold cs → Each (IsOwn dp) cs
-own-later dp width out seen threshold cs m = Each-then (IsChild dp m.decisions) (IsOwn dp) cs (λ c h. h.own) m.children.own
+own-later dp width out seen threshold cs m = Each-then (IsChild dp m.decisions) (IsOwn dp) cs (λ c h. h.own) m.branched.children.own

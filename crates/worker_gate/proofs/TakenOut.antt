@@ -11,7 +11,8 @@ use Rattle.board_laws.specs.Taking.{take_gives, after_answer, after_take}
 use Rattle.board_laws.specs.declared.taken.Taken.{Taken}
 use Rattle.board_laws.specs.declared.taken.Taken.TheVariants.{Sub, WaitForOthers, Finished, Halted}
 use Rattle.search_core.specs.Moves.{out_at}
-use Rattle.worker_gate.specs.Ready.{CanHold, IsOut, TakenOut}
+use Rattle.worker_gate.specs.Prepared.{CanHold}
+use Rattle.worker_gate.specs.Ready.{IsOut, TakenOut}
 use Rattle.worker_gate.proofs.Slots.{of_slot}
 
 -- a slot that has this subproblem

@@ -1,6 +1,8 @@
 -- What a desk keeps between rounds.
 use Rattle.std.specs.Prelude.{◌≡◌, ℕ, ◌≤◌, [], length, Result, Ok, Err}
 use Rattle.dp_model.specs.Dp.{Dp}
+use Rattle.dp_model.specs.declared.cut_kind.CutKind.TheVariants.{LastExactLayer}
+use Rattle.dp_model.specs.Subproblem.{SubView}
 use Rattle.layer_build.specs.Layers.{IsWidth, IsPreparedFor}
 use Rattle.layer_build.specs.declared.workspace.PrepareError.{PrepareError}
 use Rattle.layer_build.specs.declared.workspace.PrepareError.TheVariants.{Width, OutOfMemory}
@@ -12,13 +14,18 @@ use Rattle.worker_gate.specs.declared.desk.Desk.{Desk}
 abbrev pub HoldsChildren : Dp → ℕ → ChildrenView → Type 0
 HoldsChildren dp w c = cutsets.IsPreparedFor dp w c
 
+-- the subproblem has room for the decisions of all variables, and a row of the right size
+pub record CanHold (dp : Dp) (h : SubView) : Type 0 where
+  pub decisions : dp.vars ≤ h.room
+  pub cells : length h.subproblem.row ≡ dp.words
+
 -- the desk has room for a subproblem of the instance, and for diagrams of the width and their children
 pub record HasRoom (dp : Dp) (w : ℕ) (desk : Desk) : Type 0 where
-  pub decisions : dp.vars ≤ desk.taken.room
-  pub cells : length desk.taken.subproblem.row ≡ dp.words
+  pub taken : CanHold dp desk.taken
   pub space : IsPreparedFor dp desk.space
   pub width : desk.space.width ≡ w
   pub cutset : HoldsChildren dp w desk.cutset
+  pub kind : desk.kind ≡ LastExactLayer
 
 -- a desk with room for the rounds on an instance, and nothing of an earlier round on it
 pub record IsPrepared (dp : Dp) (w : ℕ) (desk : Desk) : Type 0 where

@@ -1,25 +1,35 @@
+ghost use Rattle.std.specs.Prelude.{◌≡◌, IfOk};
 ghost use Rattle.worker_gate.specs.Prepared.{AreDesks};
 
-use dp_model::{DpModel, Sub};
+use dp_model::{CutKind, DpModel, Sub};
 use exact_cutset::Children;
 use layer_build::{PrepareError, Workspace};
 use search_core::Fate;
 use std::alloc::Global;
 
 /// All that one worker needs for its rounds: the subproblem that it has out, the memory in which diagrams are compiled, their
-/// children, and a buffer for fates, which grows to the size that rounds need and is used again.
+/// children and of which kind these are, and a buffer for fates, which grows to the size that rounds need and is used again.
 #[derive(Drop)]
 pub struct Desk {
     pub taken: Sub,
     pub space: Workspace,
     pub cutset: Children,
+    pub kind: CutKind,
     pub fates: Vec<Fate>,
 }
 
 impl Desk {
-    /// A desk for the rounds on the model with diagrams of the width, which is at least 1 and at most the greatest one.
-    pub fn prepare<M: DpModel>(alloc: Global, model: &M, width: u32) -> Result<Desk, PrepareError>
-        ensures { AreDesks (M.meaning (M.numbers model.now)) width result }
+    /// A desk for the rounds on the model with diagrams of the width, which is at least 1 and at most the greatest one, and with
+    /// their children of the kind. The kind is that of the last exact layer; the frontier is to come.
+    pub fn prepare<M: DpModel>(
+        alloc: Global,
+        model: &M,
+        width: u32,
+        kind: CutKind,
+    ) -> Result<Desk, PrepareError>
+        requires kind { kind ≡ CutKind.LastExactLayer }
+        ensures desk { AreDesks (M.meaning (M.numbers model.now)) width result }
+        ensures kind { IfOk result (λ desk. desk.kind ≡ kind) }
     {
         let space = Workspace::prepare(alloc, model, width)?;
         let cutset = Children::prepare(alloc, model, width)?;
@@ -28,6 +38,7 @@ impl Desk {
                 taken,
                 space,
                 cutset,
+                kind,
                 fates: Vec::new(alloc),
             }),
             Err(_) => Err(PrepareError::OutOfMemory),

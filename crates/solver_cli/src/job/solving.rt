@@ -7,7 +7,7 @@ ghost use Rattle.solver_cli.specs.Job.Widths.{IsAskedWidth, IsSearchWidth};
 
 use crate::job::concluding::conclude;
 use crate::job::text_job::Search;
-use dp_model::{DpModel, OutOfMemory};
+use dp_model::{CutKind, DpModel, OutOfMemory};
 use layer_build::{PrepareError, greatest_width};
 use problems::Problem;
 use search_core::{Board, Settings};
@@ -65,13 +65,13 @@ fn desks_for<M: DpModel>(
     requires { 1 ≤ workers }
     ensures { AreAllDesks (M.meaning (M.numbers model.now)) width workers result }
 {
-    let first = Desk::prepare(alloc, model, width)?;
+    let first = Desk::prepare(alloc, model, width, CutKind::LastExactLayer)?;
     let Ok(mut desks) = Vec::with_capacity(alloc, workers as usize) else {
         return Err(PrepareError::OutOfMemory);
     };
     desks.push_reserved(first);
     for _made in 1..workers {
-        desks.push_reserved(Desk::prepare(alloc, model, width)?);
+        desks.push_reserved(Desk::prepare(alloc, model, width, CutKind::LastExactLayer)?);
     }
     Ok(desks)
 }

@@ -3,7 +3,6 @@
 ghost use Rattle.std.specs.Prelude.{◌≡◌, false, []};
 ghost use Rattle.dp_model.specs.Reached.{reached};
 ghost use Rattle.dp_model.specs.Subproblem.{IsOwn};
-ghost use Rattle.dp_model.specs.declared.cut_kind.CutKind.TheVariants.{LastExactLayer};
 ghost use Rattle.dp_laws.specs.Diagrams.Cutsets.{children_of, found_in};
 ghost use Rattle.dp_laws.specs.Rules.Compiling.{relaxed};
 ghost use Rattle.layer_build.specs.Layers.{IsPreparedFor};
@@ -56,15 +55,17 @@ pub fn restrict<M: DpModel>(
     }
 }
 
-/// Compiles the relaxed diagram of a subproblem with the incumbent's value as threshold, and offers the solution that it finds. Its
-/// children are those of the last exact layer. It takes no memory.
+/// Compiles the relaxed diagram of a subproblem with the incumbent's value as threshold, offers the solution that it finds, and
+/// fills `cutset` with its children of the kind. It takes no memory.
 pub fn relax<M: DpModel>(
     board: &mut Board<M>,
     space: &mut Workspace,
     cutset: &mut Children,
     taken: &Sub,
+    kind: CutKind,
     model: &M,
 ) -> Option<i64>
+    requires kind { kind ≡ CutKind.LastExactLayer }
     requires numbers { board.old.numbers ≡ M.numbers model.now }
     requires own { IsOwn (M.meaning (M.numbers model.now)) taken.now.subproblem }
     requires prepared { IsPreparedFor (M.meaning (M.numbers model.now)) space.old }
@@ -78,28 +79,31 @@ pub fn relax<M: DpModel>(
     ensures cutset { HoldsChildren (M.meaning (M.numbers model.now)) space.old.width cutset.new }
 {
     let threshold = board.incumbent_value();
-    fill(space, cutset, taken, threshold, model);
+    fill(space, cutset, taken, threshold, kind, model);
     offer(board, cutset.found());
     threshold
 }
 
-/// Fills `cutset` from the relaxed diagram of a subproblem. It takes no memory.
+/// Fills `cutset` from the relaxed diagram of a subproblem, with its children of the kind and the solution that it finds. It takes
+/// no memory.
 pub fn fill<M: DpModel>(
     space: &mut Workspace,
     cutset: &mut Children,
     taken: &Sub,
     threshold: Option<i64>,
+    kind: CutKind,
     model: &M,
 )
+    requires kind { kind ≡ CutKind.LastExactLayer }
     requires own { IsOwn (M.meaning (M.numbers model.now)) taken.now.subproblem }
     requires prepared { IsPreparedFor (M.meaning (M.numbers model.now)) space.old }
     requires cutset { HoldsChildren (M.meaning (M.numbers model.now)) space.old.width cutset.old }
-    ensures subs { cutset.new.subs ≡ children_of (M.meaning (M.numbers model.now)) (relaxed (M.meaning (M.numbers model.now)) (reached (M.meaning (M.numbers model.now)) taken.now.subproblem.decisions) space.old.width threshold) LastExactLayer }
+    ensures subs { cutset.new.subs ≡ children_of (M.meaning (M.numbers model.now)) (relaxed (M.meaning (M.numbers model.now)) (reached (M.meaning (M.numbers model.now)) taken.now.subproblem.decisions) space.old.width threshold) kind }
     ensures found { cutset.new.found ≡ found_in (M.meaning (M.numbers model.now)) (relaxed (M.meaning (M.numbers model.now)) (reached (M.meaning (M.numbers model.now)) taken.now.subproblem.decisions) space.old.width threshold) }
     ensures prepared { IsPreparedFor (M.meaning (M.numbers model.now)) space.new }
     ensures width { space.new.width ≡ space.old.width }
     ensures cutset { HoldsChildren (M.meaning (M.numbers model.now)) space.old.width cutset.new }
 {
     let diagram = relaxed(space, model, taken, threshold);
-    children(model, &diagram, CutKind::LastExactLayer, cutset);
+    children(model, &diagram, kind, cutset);
 }

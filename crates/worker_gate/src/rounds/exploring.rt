@@ -14,8 +14,8 @@ ghost use Rattle.worker_gate.specs.Offered.{IsOffered};
 ghost use Rattle.worker_gate.specs.Prepared.{HasRoom, IsPrepared};
 ghost use Rattle.worker_gate.specs.UnderWay.{IsUnderWay};
 
-use crate::branched::Branched;
 use super::compiling::{relax, restrict};
+use crate::branched::Branched;
 use crate::desk::Desk;
 use dp_model::{DpModel, OutOfMemory};
 use search_core::{Board, Cause, Taken};
@@ -117,7 +117,14 @@ fn branch<M: DpModel>(
             children: Vec::new(alloc),
         });
     }
-    let threshold = relax(board, &mut desk.space, &mut desk.cutset, &desk.taken, model);
+    let threshold = relax(
+        board,
+        &mut desk.space,
+        &mut desk.cutset,
+        &desk.taken,
+        desk.kind,
+        model,
+    );
     let children = desk.cutset.subs(alloc)?;
     desk.fates.reserve(children.len())?;
     board.reserve_for(children.len())?;

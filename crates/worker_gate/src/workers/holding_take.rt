@@ -3,7 +3,8 @@
 ghost use Rattle.std.specs.Prelude.{◌≡◌};
 ghost use Rattle.board_lock.specs.Order.{NoLess};
 ghost use Rattle.board_lock.specs.Seats.{first_of, seen_of, out_of};
-ghost use Rattle.worker_gate.specs.Ready.{IsWorker, IsReady, CanHold, TakenOut};
+ghost use Rattle.worker_gate.specs.Prepared.{CanHold};
+ghost use Rattle.worker_gate.specs.Ready.{IsWorker, IsReady, TakenOut};
 
 use board_lock::{Seat, Turn};
 use dp_model::{DpModel, Sub};

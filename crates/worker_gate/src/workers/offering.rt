@@ -17,7 +17,7 @@ use super::gate::{Gate, Step};
 use super::holding_improve::improve_one;
 use crate::rounds::fill;
 use board_lock::{Seat, Turn};
-use dp_model::{DpModel, Found, Sub};
+use dp_model::{CutKind, DpModel, Found, Sub};
 use exact_cutset::Children;
 use layer_build::Workspace;
 use restricted_dd::compile;
@@ -92,8 +92,8 @@ pub fn restrict_one<M: DpModel, G: Gate, R: Wait>(
     Restricted { reduced, seen }
 }
 
-/// Compiles the relaxed diagram of a subproblem outside the turn, with the incumbent's value that the seat has seen as threshold, and
-/// offers the solution that it finds. Its children are those of the last exact layer.
+/// Compiles the relaxed diagram of a subproblem outside the turn, with the incumbent's value that the seat has seen as threshold,
+/// fills `cutset` with its children of the kind, and offers the solution that it finds.
 pub fn relax_one<M: DpModel, G: Gate, R: Wait>(
     rt: &R,
     turn: &Turn<Board<M>>,
@@ -102,9 +102,11 @@ pub fn relax_one<M: DpModel, G: Gate, R: Wait>(
     space: &mut Workspace,
     cutset: &mut Children,
     taken: &Sub,
+    kind: CutKind,
     model: &M,
     seen: Option<i64>,
 )
+    requires kind { kind ≡ CutKind.LastExactLayer }
     requires numbers { (first_of turn.now).numbers ≡ M.numbers model.now }
     requires worker { IsWorker turn.now seat.old }
     requires seen { seen_of seat.old ≡ seen }
@@ -120,6 +122,6 @@ pub fn relax_one<M: DpModel, G: Gate, R: Wait>(
     ensures width { space.new.width ≡ space.old.width }
     ensures cutset { HoldsChildren (M.meaning (M.numbers model.now)) space.old.width cutset.new }
 {
-    fill(space, cutset, taken, seen, model);
+    fill(space, cutset, taken, seen, kind, model);
     let _ = offer_one(rt, turn, seat, gate, cutset.found(), seen);
 }

@@ -2,8 +2,9 @@
 
 ghost use Rattle.std.specs.Prelude.{◌≡◌, [], map, IfOk, IfErr};
 ghost use Rattle.std.specs.List.{All, range_with_len};
-ghost use Rattle.board_lock.specs.Seats.{first_of, seats_of, number_of};
-ghost use Rattle.board_laws.specs.Board.{full_slots};
+ghost use Rattle.board_lock.specs.Order.{NoLess};
+ghost use Rattle.board_lock.specs.Seats.{first_of, seats_of, seen_of, number_of};
+ghost use Rattle.board_laws.specs.Board.{full_slots, incumbent_value};
 ghost use Rattle.search_core.specs.View.{tag_of};
 ghost use Rattle.worker_gate.specs.Later.{IsLater};
 ghost use Rattle.worker_gate.specs.Ready.{IsReady};
@@ -36,14 +37,15 @@ pub fn open<M: DpModel>(
     }
 }
 
-/// Ends the turn, where no worker has anything out. The board that comes back is later by steps of a run, and only want of memory may
-/// have halted it. It takes no memory.
+/// Ends the turn, where no worker has anything out. The board that comes back is later by steps of a run, only want of memory may have
+/// halted it, and its incumbent is no less than what any seat has seen. It takes no memory.
 pub fn close<M: DpModel>(turn: Turn<Board<M>>, seats: Vec<Seat<Board<M>>>) -> Board<M>
     requires idle { full_slots (first_of turn).board.slots ≡ [] }
     requires ready { All (IsReady turn) seats.items }
     requires numbers { map number_of seats.items ≡ range_with_len 0 (seats_of turn) }
     ensures tag { tag_of result ≡ tag_of (first_of turn) }
     ensures later { IsLater (M.meaning (first_of turn).numbers) (first_of turn).board result.board }
+    ensures seen { All (λ s. NoLess (seen_of s) (incumbent_value result.board)) seats.items }
 {
     turn.close(seats)
 }

@@ -196,6 +196,7 @@ fn branch<M: DpModel, G: Gate + Sync, R: Wait>(
         &mut desk.space,
         &mut desk.cutset,
         &desk.taken,
+        desk.kind,
         model,
         restricted.seen,
     );

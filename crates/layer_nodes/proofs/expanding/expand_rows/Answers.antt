@@ -16,5 +16,5 @@ returns-clause-expanded g c =
     let size : length c.arrange.new.arcs ≡ e.new.arcs.len = search rules in
     let led = with_items_is e.new.arcs c.arrange.new.arcs size in
     subst (λ l. IsExpanded dp a.k a.words a.cells.now a.above.now e.new.nodes l e.new.rows c.arrange.new.nodes.items) (sym led)
-    (whole dp a.k c.requires.layer a.cells.now a.words a.above.now e.new.rows e.new.ways.items e.new.folds e.new.heads e.new.next e.new.marks e.new.arcs.items c.arrange.new.arcs e.new.nodes c.arrange.new.nodes.items
-    e.ensures.joined e.ensures.list e.ensures.tried e.ensures.nodes e.ensures.few e.ensures.arcs_few arranged)
+    (whole dp a.k c.requires.layer a.cells.now a.words a.above.now e.new.rows e.new.ways.items e.new.marks e.new.arcs.items c.arrange.new.arcs e.new.nodes c.arrange.new.nodes.items
+    e.ensures.distinct e.ensures.list e.ensures.tried e.ensures.nodes e.ensures.few e.ensures.arcs_few arranged)

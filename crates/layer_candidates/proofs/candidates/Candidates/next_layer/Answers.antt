@@ -25,8 +25,8 @@ prune-more-requires-clause-keys g c κs within =
     let keys_are : c.as_slice-3.result.now ≡ keys = c.as_slice-3.ensures.value in
     let moved : IsPermutation (keys_of ways) keys = subst (λ l. IsPermutation (keys_of l) keys) ways_are c.put_in_order.ensures.all in
     subst (Each (IsKeyIn dp (a.k + 1) e.new.rows a.words)) (sym keys_are)
-    (key-in dp (a.k + 1) e.new.rows a.words ways e.ensures.joined.table.room e.ensures.joined.good keys
-    (keys-are dp (a.k + 1) e.new.rows a.words ways keys e.ensures.joined.apart e.ensures.joined.good moved c.put_in_order.ensures.sorted))
+    (key-in dp (a.k + 1) e.new.rows a.words ways e.ensures.distinct.room e.ensures.distinct.good keys
+    (keys-are dp (a.k + 1) e.new.rows a.words ways keys e.ensures.distinct.apart e.ensures.distinct.good moved c.put_in_order.ensures.sorted))
 
 pub prune-more-requires-clause-kept_room : goal.prune-more-requires-clause-kept_room
 prune-more-requires-clause-kept_room g c κs within =
@@ -57,7 +57,7 @@ descend-requires-clause-within g c =
     let list = λ (paths : ℕ → List ℕ). e.ensures.list paths ∙ ap (λ l. all_joined [] (candidates dp a.k (members_as paths a.above.now a.words l))) c.as_slice.ensures.value in
     let done : HasPruned dp (a.k + 1) a.threshold a.most e.new.rows a.words keys kept c.prune-more.result = subst (λ l. HasPruned dp (a.k + 1) a.threshold a.most e.new.rows a.words l kept c.prune-more.result) keys_are c.prune-more.ensures.pruned in
     subst (λ l. Each (λ (key : Key). key.place < length l) c.as_slice-5.result.now) (sym c.as_slice-4.ensures.value)
-    (subst (Each (λ (key : Key). key.place < length ways)) (sym c.as_slice-5.ensures.value) (kept-places dp a.k a.threshold a.most a.above.now a.words a.members.now.items e.new.rows ways e.new.folds e.new.heads e.new.next keys kept a.steps.now.items c.prune-more.result e.ensures.joined list moved c.put_in_order.ensures.sorted done c.requires.reached))
+    (subst (Each (λ (key : Key). key.place < length ways)) (sym c.as_slice-5.ensures.value) (kept-places dp a.k a.threshold a.most a.above.now a.words a.members.now.items e.new.rows ways keys kept a.steps.now.items c.prune-more.result e.ensures.distinct list moved c.put_in_order.ensures.sorted done c.requires.reached))
 
 pub returns-clause-list : goal.returns-clause-list
 returns-clause-list g c = λ prefix.
@@ -75,7 +75,7 @@ returns-clause-list g c = λ prefix.
     let kept_are : c.as_slice-5.result.now ≡ kept = c.as_slice-5.ensures.value in
     let members : c.descend.new.members.items ≡ entered (length a.steps.now.items) kept = c.descend.ensures.members ∙ ap (entered (length a.steps.now.items)) kept_are in
     let steps : c.descend.new.steps.items ≡ a.steps.now.items ++ map (step_of ways) kept = c.descend.ensures.steps ∙ ap₂ (λ (w : List Way) l. a.steps.now.items ++ map (step_of w) l) c.as_slice-4.ensures.value kept_are in
-    ap₂ (λ ss ms. members_as (path_at prefix ss) e.new.rows a.words ms) steps members ∙ next-list dp a.k a.threshold a.most a.above.now a.words a.members.now.items e.new.rows ways e.new.folds e.new.heads e.new.next keys kept a.steps.now.items c.prune-more.result e.ensures.joined list moved c.put_in_order.ensures.sorted done c.requires.reached prefix
+    ap₂ (λ ss ms. members_as (path_at prefix ss) e.new.rows a.words ms) steps members ∙ next-list dp a.k a.threshold a.most a.above.now a.words a.members.now.items e.new.rows ways keys kept a.steps.now.items c.prune-more.result e.ensures.distinct list moved c.put_in_order.ensures.sorted done c.requires.reached prefix
 
 pub returns-clause-more : goal.returns-clause-more
 returns-clause-more g c = λ prefix.
@@ -90,7 +90,7 @@ returns-clause-more g c = λ prefix.
     let kept = c.prune-more.new.kept.items in
     let list = λ (paths : ℕ → List ℕ). e.ensures.list paths ∙ ap (λ l. all_joined [] (candidates dp a.k (members_as paths a.above.now a.words l))) c.as_slice.ensures.value in
     let done : HasPruned dp (a.k + 1) a.threshold a.most e.new.rows a.words keys kept c.prune-more.result = subst (λ l. HasPruned dp (a.k + 1) a.threshold a.most e.new.rows a.words l kept c.prune-more.result) keys_are c.prune-more.ensures.pruned in
-    done.more_stay (path_at prefix a.steps.now.items) ways ∙ ap (λ l. nat_lt a.most (length l)) (whole dp a.k a.threshold a.most a.above.now a.words a.members.now.items e.new.rows ways e.new.folds e.new.heads e.new.next keys kept a.steps.now.items c.prune-more.result e.ensures.joined list moved c.put_in_order.ensures.sorted done c.requires.reached prefix)
+    done.more_stay (path_at prefix a.steps.now.items) ways ∙ ap (λ l. nat_lt a.most (length l)) (whole dp a.k a.threshold a.most a.above.now a.words a.members.now.items e.new.rows ways keys kept a.steps.now.items c.prune-more.result e.ensures.distinct list moved c.put_in_order.ensures.sorted done c.requires.reached prefix)
 
 pub returns-clause-entered : goal.returns-clause-entered
 returns-clause-entered g c =
@@ -187,4 +187,4 @@ returns-clause-backward g c =
     let kept_are : c.as_slice-5.result.now ≡ kept = c.as_slice-5.ensures.value in
     let members : c.descend.new.members.items ≡ entered (length a.steps.now.items) kept = c.descend.ensures.members ∙ ap (entered (length a.steps.now.items)) kept_are in
     let steps : c.descend.new.steps.items ≡ a.steps.now.items ++ map (step_of ways) kept = c.descend.ensures.steps ∙ ap₂ (λ (w : List Way) l. a.steps.now.items ++ map (step_of w) l) c.as_slice-4.ensures.value kept_are in
-    λ back. subst AreBackward (sym steps) (next-backward dp a.k a.threshold a.most a.above.now a.words a.members.now.items e.new.rows ways e.new.folds e.new.heads e.new.next keys kept a.steps.now.items c.prune-more.result e.ensures.joined list moved c.put_in_order.ensures.sorted done c.requires.reached back)
+    λ back. subst AreBackward (sym steps) (next-backward dp a.k a.threshold a.most a.above.now a.words a.members.now.items e.new.rows ways keys kept a.steps.now.items c.prune-more.result e.ensures.distinct list moved c.put_in_order.ensures.sorted done c.requires.reached back)

@@ -1,5 +1,4 @@
 use Rattle.std.proofs.Common.{◌∙◌, ap, sym, subst}
-use Rattle.dp_model.specs.declared.cut_kind.CutKind.TheVariants.{LastExactLayer}
 use Rattle.dp_laws.specs.Diagrams.Cutsets.{children_of, found_in}
 use Rattle.worker_gate.specs.Prepared.{HoldsChildren}
 use Rattle.worker_gate.proofs.rounds.compiling.fill.Goals as goal
@@ -9,7 +8,7 @@ children-requires-clause-prepared g c κs within =
     subst (λ w. HoldsChildren (g.M.DpModel.meaning (g.M.DpModel.numbers c.args.model.now)) w c.args.cutset.now) (sym c.relaxed.ensures.width) c.requires.cutset
 
 pub returns-clause-subs : goal.returns-clause-subs
-returns-clause-subs g c = c.children.ensures.subs ∙ ap (λ d. children_of (g.M.DpModel.meaning (g.M.DpModel.numbers c.args.model.now)) d LastExactLayer) c.relaxed.ensures.shown
+returns-clause-subs g c = c.children.ensures.subs ∙ ap (λ d. children_of (g.M.DpModel.meaning (g.M.DpModel.numbers c.args.model.now)) d c.args.kind) c.relaxed.ensures.shown
 
 pub returns-clause-found : goal.returns-clause-found
 returns-clause-found g c = c.children.ensures.found ∙ ap (λ d. found_in (g.M.DpModel.meaning (g.M.DpModel.numbers c.args.model.now)) d) c.relaxed.ensures.shown

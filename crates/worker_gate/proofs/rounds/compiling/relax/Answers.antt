@@ -35,6 +35,6 @@ returns-clause-branched g c =
     let found = shown-solution _ _ c.found.ensures ∙ c.fill.ensures.found in
     let same = c.requires.width ∙ ap (λ (t : Tag). t.settings.width) (sym c.offer.ensures.tag) in
     subst (λ (cs : List Subproblem). IsBranched dp b c.args.taken.now.subproblem.decisions t cs) (sym c.fill.ensures.subs)
-    (relaxed-branched dp (laws_of g c.args.model.now) (chain_of g c.args.model.now) b c.args.taken.now.subproblem c.args.space.now.width t c.requires.own c.requires.prepared.width same
+    (relaxed-branched dp (laws_of g c.args.model.now) (chain_of g c.args.model.now) b c.args.taken.now.subproblem c.args.space.now.width t c.args.kind c.requires.own c.requires.prepared.width same
     (subst (λ v. OptionAtMost v (reach b)) (sym c.incumbent_value-threshold.ensures.value) c.offer.ensures.before)
     (subst (λ (f : Option Solution). OptionAtMost (found_value f) (reach b)) found c.offer.ensures.found))

@@ -27,15 +27,15 @@ returns-in-Sub-clause-prepared g c =
     let laws = laws_of g c.args.model.now in
     let own = (under_way g c).own in
     let room = c.requires.prepared.room in
-    let decisions = room.decisions in
+    let decisions = room.taken.decisions in
     let more = c.take-answer.ensures.into_room in
     record {
       room = record {
-        decisions = omega arith;
-        cells = own_cells _ laws _ own;
+        taken = record { decisions = omega arith; cells = own_cells _ laws _ own };
         space = room.space;
         width = room.width;
         cutset = room.cutset;
+        kind = room.kind;
       };
       no_fates = c.requires.prepared.no_fates;
     }

@@ -34,7 +34,7 @@ returns-clause-branched g c =
     let seen = seen_of c.offer_one.new.seat in
     let found = shown-solution _ _ c.found.ensures ∙ c.fill.ensures.found in
     subst (λ (cs : List Subproblem). AreBranched dp width seen c.args.taken.now.subproblem.decisions c.args.seen cs) (sym c.fill.ensures.subs)
-    (relaxed-branched-for dp (laws_of g c.args.model.now) (chain_of g c.args.model.now) width seen c.args.taken.now.subproblem c.args.space.now.width c.args.seen c.requires.own
+    (relaxed-branched-for dp (laws_of g c.args.model.now) (chain_of g c.args.model.now) width seen c.args.taken.now.subproblem c.args.space.now.width c.args.seen c.args.kind c.requires.own
     c.requires.prepared.width c.requires.width
     (subst (λ v. OptionAtMost v seen) c.requires.seen (at-most-of (seen_of c.args.seat.now) seen c.offer_one.ensures.no_less))
     (subst (λ (f : Option Solution). OptionAtMost (found_value f) seen) found c.offer_one.ensures.found))
