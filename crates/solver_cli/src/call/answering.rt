@@ -4,8 +4,8 @@ ghost use Rattle.solver_cli.specs.Job.Checks.{IsChecked};
 ghost use Rattle.solver_cli.specs.Call.Ended.{IsRight, IsInputAnswer, readings, unread, text_limit, cover_limit};
 
 use crate::call::tasks::{Task, task_asked};
-use dd_io::{ReadError, Source, read_all};
 use crate::job::{TextJob, check, generate, reply};
+use dd_io::{ReadError, Source, read_all};
 use solver_report::Answer;
 use std::alloc::Global;
 use std::sync::Wait;

@@ -2,8 +2,8 @@ ghost use Rattle.std.specs.Prelude.{◌≡◌, IfOk, map, string_bytes, option_m
 ghost use Rattle.solver_words.specs.Words.{IsAnswer, IsDrawable, job_view};
 ghost use Rattle.solver_cli.specs.Call.Tasks.{IsDrawn, is_plain, task_of, task_asked};
 
-use problem_names::ModelName;
 use crate::job::{Search, TextJob};
+use problem_names::ModelName;
 use solver_words::{Job, JobSettings, WordsError, read_words};
 use std::alloc::Global;
 
