@@ -38,8 +38,8 @@ is_among t [] = false
 is_among t (s ∷ ts) = nat_eq t s || is_among t ts
 
 -- the open subproblems without those of these tickets
-abbrev pub staying : List ℕ → List Ticketed → List Ticketed
-staying ts os = filter (λ o. not (is_among o.ticket ts)) os
+abbrev pub without_all : List ℕ → List Ticketed → List Ticketed
+without_all ts os = filter (λ o. not (is_among o.ticket ts)) os
 
 -- the entry that a child leaves in the table
 abbrev pub entry_of : Dp → Ticketed → TableEntry

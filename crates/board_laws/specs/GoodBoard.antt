@@ -65,8 +65,8 @@ HasFloor dp reach os e = IsFloor dp reach (prefixes os) e.depth e.row e.value
 abbrev pub pot_of : Dp → Ticketed → ℕ
 pot_of dp o = pot dp o.subproblem.decisions
 
-abbrev pub rest_of : Dp → Ticketed → ℕ
-rest_of dp o = pot_of dp o - 1
+abbrev pub share_of : Dp → Ticketed → ℕ
+share_of dp o = pot_of dp o - 1
 
 -- what a good board keeps beside: the frontier covers with the reach, every bound is held, every entry has its floor, no prefix of the
 -- frontier begins with another, and the counts are bounded by the number of prefixes that there are
@@ -77,4 +77,4 @@ pub record IsGood (dp : Dp) (b : BoardState) : Type 0 where
   pub apart : EachTwo (λ a o. AreApart a.subproblem o.subproblem) (frontier b)
   pub ends : b.finished + sum_by (pot_of dp) (frontier b) ≤ tree dp
   pub balanced : b.cause ≡ None → b.finished + length (full_slots b.slots) ≡ b.taken
-  pub shares : b.next_ticket + sum_by (rest_of dp) (frontier b) ≤ tree dp
+  pub shares : b.next_ticket + sum_by (share_of dp) (frontier b) ≤ tree dp

@@ -1,7 +1,7 @@
 mod covers;
 mod meeting;
 
-use crate::run::run;
+use crate::run;
 use dd_io::{MemSink, MemSource};
 use std::alloc::{AllocError, Global};
 use std::process::Abort;

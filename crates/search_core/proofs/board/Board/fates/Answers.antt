@@ -1,4 +1,4 @@
-use Rattle.std.proofs.Common.{◌≡◌, ◌≤◌, length, sym, ◌∙◌, ap, subst, arith}
+use Rattle.std.proofs.Common.{length, sym, subst}
 use Rattle.std.specs.Arc.{arc_value}
 use Rattle.dp_model.specs.Gaps.{IsStateOf}
 use Rattle.dp_model.specs.Laws.{IsLawful}
@@ -6,7 +6,6 @@ use Rattle.dp_model.specs.Lists.{Each}
 use Rattle.dp_model.specs.Subproblem.{SubView, IsOwn}
 use Rattle.dominance_table.specs.Dominator.{IsReached}
 use Rattle.dominance_table.specs.Entries.{TableEntry}
-use Rattle.board_laws.specs.Board.{full_slots}
 use Rattle.search_core.specs.Contents.{contents}
 use Rattle.search_core.specs.View.{BoardView}
 use Rattle.search_core.proofs.Keeping.{children-cells, children-states, entries-reached, full-fits}
