@@ -172,10 +172,11 @@ pub fn merge_into(merged: &mut [i64], row: &[i64])
     }
 }
 
-/// Of two benefits and zero the one in the middle: what is nearer to zero on the side of the first, where there is any.
+/// Of two benefits and zero the one in the middle.
 fn middle(a: i64, s: i64) -> i64
     ensures { result ≡ benefit_merged a s }
 {
-    let nearer = if (a < s) == (a < 0) { s } else { a };
-    if (nearer < 0) == (a < 0) { nearer } else { 0 }
+    // The lesser of the two where `a` is at least zero, else the greater. Where that lies beyond zero, zero is in the middle.
+    let inner = if (a < s) == (a < 0) { s } else { a };
+    if (inner < 0) == (a < 0) { inner } else { 0 }
 }
