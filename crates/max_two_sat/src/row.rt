@@ -51,13 +51,7 @@ pub(crate) fn lesser_sum(units: &[UnitWeights]) -> i64
 
 /// Writes the state behind a decision, by how far this shifts the later benefits. So many first cells as `done` are zero
 /// already. Answers its rank.
-pub(crate) fn write_step(
-    shifts: &[i64],
-    k: usize,
-    s: &[i64],
-    done: usize,
-    out: &mut [i64],
-) -> i64
+pub(crate) fn write_step(shifts: &[i64], k: usize, s: &[i64], done: usize, out: &mut [i64]) -> i64
     requires cells { length out.old ≡ length s.now }
     requires done { take done out.old ≡ replicate done (pos 0) }
     requires entries { length shifts.now + suc k ≡ length s.now }

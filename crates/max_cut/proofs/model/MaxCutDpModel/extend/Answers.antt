@@ -26,5 +26,5 @@ pub returns-clause-extended : goal.returns-clause-extended
 returns-clause-extended c = (
   c.extend_row.ensures.gain ∙ ap (λ ws. gain_of (get_or c.args.s.now c.args.k (pos 0)) c.args.d +ℤ settled_of (drop (c.args.k + 1) c.args.s.now) (pulls_of c.args.d ws)) c.row-row.ensures,
   c.extend_row.ensures.rank ∙ (ap (λ ws. rank_of (sums_of (drop (c.args.k + 1) c.args.s.now) (pulls_of c.args.d ws))) c.row-row.ensures
-  ∙ sym (rank_of-stepped (instance_in c.args.self.now) c.args.k c.args.s.now c.args.d)),
+      ∙ sym (rank_of-stepped (instance_in c.args.self.now) c.args.k c.args.s.now c.args.d)),
 )

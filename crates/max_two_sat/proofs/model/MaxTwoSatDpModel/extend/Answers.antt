@@ -1,4 +1,4 @@
-use Rattle.std.proofs.Common.{◌+◌, ◌+ℤ◌, ◌++◌, ◌∷◌, pos, ℕ, ℤ, List, get_or, ◌<◌, ◌≤◌, arith, length, replicate, drop, w64, ap, sym, ◌∙◌}
+use Rattle.std.proofs.Common.{◌+◌, ◌+ℤ◌, ◌++◌, pos, ℕ, ℤ, List, get_or, ◌<◌, ◌≤◌, arith, length, replicate, drop, w64, ap, sym, ◌∙◌}
 use Rattle.std.proofs.lemmas.Int.{to_z-of_z}
 use Rattle.benefit_rows.specs.Benefits.{gain_of, rank_of, sums_of}
 use Rattle.max_two_sat.specs.InstanceNumbers.{instance_of-numbers_of}
@@ -66,10 +66,10 @@ returns-clause-extended c =
     let sums : List ℤ = sums_of later (shifts_of c.args.d row) in
     rw (instance_of-numbers_of i) (
       c.extend_row.ensures.gain
-      ∙ (ap (λ z. gain_of (get_or c.args.s.now c.args.k (pos 0)) c.args.d +ℤ half_lost z later c.shifts-shifts.result.now) stakes
-      ∙ (ap (λ zs. gain_of (get_or c.args.s.now c.args.k (pos 0)) c.args.d +ℤ half_lost (stakes_of c.args.d row) later zs) c.shifts-shifts.ensures
-      ∙ (ap (λ z. gain_of (get_or c.args.s.now c.args.k (pos 0)) c.args.d +ℤ z) (shared-half row later c.args.d own.later) ∙ sym whole))),
+          ∙ (ap (λ z. gain_of (get_or c.args.s.now c.args.k (pos 0)) c.args.d +ℤ half_lost z later c.shifts-shifts.result.now) stakes
+          ∙ (ap (λ zs. gain_of (get_or c.args.s.now c.args.k (pos 0)) c.args.d +ℤ half_lost (stakes_of c.args.d row) later zs) c.shifts-shifts.ensures
+          ∙ (ap (λ z. gain_of (get_or c.args.s.now c.args.k (pos 0)) c.args.d +ℤ z) (shared-half row later c.args.d own.later) ∙ sym whole))),
       c.extend_row.ensures.rank
-      ∙ (ap (λ zs. rank_of (sums_of later zs)) c.shifts-shifts.ensures
-      ∙ (sym (rank-stepped c.args.k sums) ∙ ap rank_of (step-shifts row c.args.s.now c.args.k c.args.d own.below (none-before i c.args.k c.args.s.now state)))),
+          ∙ (ap (λ zs. rank_of (sums_of later zs)) c.shifts-shifts.ensures
+          ∙ (sym (rank-stepped c.args.k sums) ∙ ap rank_of (step-shifts row c.args.s.now c.args.k c.args.d own.below (none-before i c.args.k c.args.s.now state)))),
     )

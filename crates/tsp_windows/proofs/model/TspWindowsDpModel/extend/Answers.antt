@@ -1,4 +1,4 @@
-use Rattle.std.proofs.Common.{rules, ◌≡◌, ◌+◌, ◌<◌, pos, ◌-ℤ◌, max, arith, sym, subst, ap, ap₂, ◌∙◌, to_z, of_z, w64}
+use Rattle.std.proofs.Common.{rules, ◌≡◌, ◌<◌, pos, ◌-ℤ◌, max, arith, sym, subst, ap, ap₂, ◌∙◌, to_z, of_z, w64}
 use Rattle.std.specs.Prelude.{IsTrue}
 use Rattle.std.proofs.lemmas.List.{get_or_read}
 use Rattle.node_sets.specs.Sums.{count_below}
@@ -24,7 +24,7 @@ returns-clause-extended c =
     let bounded = moved-bounded i state c.args.d inside (state_row-gives m.nodes c.args.s.now (subst (λ (j : Instance). IsTrue (is_state_row j.nodes c.args.s.now)) m.spelled c.requires.state)).bounded in
     let shows : shown (words_for m.nodes) (row_for (words_for m.nodes) behind) ≡ behind = shown-row_for (words_for m.nodes) m.nodes behind (words_enough m.nodes) bounded in (
       subst (λ (j : Instance). to_z w64 (of_z w64 (to_z w64 c.parts_of.result.time -ℤ to_z w64 c.max-departure.result)) ≡ pos (shown (words_for j.nodes) c.args.s.now).time -ℤ pos (departure j (shown (words_for j.nodes) c.args.s.now) c.args.d)) (sym m.spelled)
-      (gain_is state.time (departure i state c.args.d) c.parts_of.ensures.time c.parts_of.ensures.early leaves (search rules)),
+          (gain_is state.time (departure i state c.args.d) c.parts_of.ensures.time c.parts_of.ensures.early leaves (search rules)),
       subst (λ (j : Instance). to_z w64 (of_z w64 c.left_behind-rank.result) ≡ pos (count_below j.nodes (shown (words_for j.nodes) (row_for (words_for j.nodes) (moved j (shown (words_for j.nodes) c.args.s.now) c.args.d))).must)) (sym m.spelled)
-      (read_count c.left_behind-rank.result m.nodes behind.must c.left_behind-rank.ensures m.few ∙ ap (λ (t : TourState). pos (count_below m.nodes t.must)) (sym shows)),
+          (read_count c.left_behind-rank.result m.nodes behind.must c.left_behind-rank.ensures m.few ∙ ap (λ (t : TourState). pos (count_below m.nodes t.must)) (sym shows)),
     )
