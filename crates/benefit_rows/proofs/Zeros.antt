@@ -1,6 +1,6 @@
 -- Zeros that are written behind zeros.
-use Rattle.std.proofs.Common.{◌≡◌, ℕ, zero, suc, ◌+◌, ◌-◌, ◌<◌, ℤ, pos, List, [], ◌∷◌, ◌++◌, length, take, drop, replicate, arith, ap, ◌∙◌, refl}
-use Rattle.std.proofs.lemmas.List.{append-nil, drop_all, length-drop, take_all, take_at, take-replicate, length-replicate, replicate-append-replicate}
+use Rattle.std.proofs.Common.{◌≡◌, ℕ, zero, suc, ◌+◌, ◌-◌, ◌<◌, ℤ, pos, List, [], ◌∷◌, length, take, drop, replicate, arith, ap, ◌∙◌, refl}
+use Rattle.std.proofs.lemmas.List.{append-nil, drop_all, length-drop, take_all, take-replicate, replicate-append-replicate}
 use borrow.Rule.Slice.PartMut.{put_mid, post_of}
 
 -- the cells so far are zero, and zeros follow to the end

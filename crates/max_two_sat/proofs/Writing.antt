@@ -3,8 +3,7 @@ use Rattle.std.proofs.Common.{◌≡◌, ℕ, ◌+◌, ◌-◌, ◌^◌, ◌<◌
 use Rattle.std.specs.Prelude.{IsTrue, false, ◌==◌}
 use Rattle.std.proofs.Math.Seq.{take-suc-set}
 use Rattle.std.proofs.lemmas.Int.{ints}
-use Rattle.std.proofs.lemmas.List.{drop_more, drop_all, take_all, take_at, append-nil, length-drop, length-take-le, length-append, length-set, replicate-append-replicate}
-use borrow.Rule.Slice.PartMut.{put_mid, post_of}
+use Rattle.std.proofs.lemmas.List.{drop_more, drop_all, take_all, append-nil, length-drop, replicate-append-replicate}
 use Rattle.benefit_rows.specs.Benefits.{rank_of}
 use Rattle.benefit_rows.specs.BenefitLaws.{size_of-positive}
 use Rattle.max_two_sat.specs.declared.weights.PairWeights.{PairWeights}

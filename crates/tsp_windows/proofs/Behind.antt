@@ -1,12 +1,12 @@
 -- What the code knows of a decision: whether it is in time, and how many nodes must be visited before and behind it.
-use Rattle.std.proofs.Common.{◌≡◌, ℕ, ◌+◌, ◌<◌, ◌≤◌, ℤ, pos, ◌-ℤ◌, Bool, true, false, Option, Some, None, List, length, ◌≢◌, refl, sym, ap, ◌∙◌, arith, FitsSigned, to_z, of_z, w64}
+use Rattle.std.proofs.Common.{◌≡◌, ℕ, ◌<◌, ◌≤◌, ℤ, pos, ◌-ℤ◌, Bool, true, false, Option, Some, None, List, ◌≢◌, refl, sym, ap, ◌∙◌, arith, FitsSigned, to_z, of_z, w64}
 use Rattle.std.specs.Prelude.{is_some, if◌then◌else◌}
 use Rattle.std.proofs.lemmas.Int.{ints, to_z-of_z}
 use Rattle.node_sets.specs.Sums.{count_below}
 use Rattle.node_sets.specs.Sets.{has}
 use Rattle.node_sets.proofs.Below.{sum_below-none, count_below-le, count_below-removed, count_below-kept, count_below-none}
 use Rattle.tsp_windows.specs.Instance.{Instance}
-use Rattle.tsp_windows.specs.States.{TourState, must_of, moved, shown}
+use Rattle.tsp_windows.specs.States.{must_of, moved, shown}
 use Rattle.tsp_windows.proofs.Assembled.{time_cell}
 use Rattle.tsp_windows.proofs.StateLemmas.{fits_time, must-shown}
 

@@ -1,5 +1,5 @@
-use Rattle.std.proofs.Common.{◌≡◌, ◌+◌, pos, w64, length, take, replicate, arith, sym, subst, ◌∙◌, List, ℤ}
-use Rattle.std.proofs.lemmas.Int.{ints, to_z-of_z}
+use Rattle.std.proofs.Common.{◌≡◌, ◌+◌, pos, length, take, replicate, arith, sym, subst, List, ℤ}
+use Rattle.std.proofs.lemmas.Int.{ints}
 use Rattle.benefit_rows.proofs.Zeros.{zeros_before}
 use Rattle.max_two_sat.proofs.Writing.{tail-is, rank_of-tail}
 use Rattle.max_two_sat.proofs.row.write_step.Goals as goal

@@ -1,4 +1,4 @@
-use Rattle.std.proofs.Common.{◌+◌, ◌+ℤ◌, ◌++◌, ◌∷◌, pos, ℕ, ℤ, List, get_or, ◌<◌, ◌≤◌, arith, length, replicate, drop, w64, ap, sym, ◌∙◌}
+use Rattle.std.proofs.Common.{◌+◌, ◌+ℤ◌, ◌++◌, pos, ℕ, ℤ, List, get_or, ◌<◌, ◌≤◌, arith, length, replicate, drop, w64, ap, sym, ◌∙◌}
 use Rattle.std.proofs.lemmas.Int.{to_z-of_z}
 use Rattle.benefit_rows.specs.Benefits.{gain_of, rank_of, sums_of}
 use Rattle.max_two_sat.specs.InstanceNumbers.{instance_of-numbers_of}

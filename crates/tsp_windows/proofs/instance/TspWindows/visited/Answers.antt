@@ -1,4 +1,4 @@
-use Rattle.std.proofs.Common.{◌+◌, ◌||◌, nat_le, sym, ap, ap₂, ◌∙◌, arith}
+use Rattle.std.proofs.Common.{◌+◌, ◌||◌, nat_le, sym, ap, ap₂, ◌∙◌}
 use Rattle.node_sets.specs.Sets.{words_for}
 use Rattle.tsp_windows.specs.Instance.{closing}
 use Rattle.tsp_windows.specs.States.{shown}

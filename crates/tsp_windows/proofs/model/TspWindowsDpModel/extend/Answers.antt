@@ -1,4 +1,4 @@
-use Rattle.std.proofs.Common.{rules, ◌≡◌, ◌+◌, ◌<◌, pos, ◌-ℤ◌, max, arith, sym, subst, ap, ap₂, ◌∙◌, to_z, of_z, w64}
+use Rattle.std.proofs.Common.{rules, ◌≡◌, ◌<◌, pos, ◌-ℤ◌, max, arith, sym, subst, ap, ap₂, ◌∙◌, to_z, of_z, w64}
 use Rattle.std.specs.Prelude.{IsTrue}
 use Rattle.std.proofs.lemmas.List.{get_or_read}
 use Rattle.node_sets.specs.Sums.{count_below}
