@@ -78,8 +78,8 @@ module _ (dp : Dp) (k n : ℕ) (above : List ℤ) (words : ℕ) where
 -- Keys.
 
 module _ (dp : Dp) (k : ℕ) (rows : List ℤ) (words : ℕ) (ways : List Way) where
-  pub one-in : length ways * words ≤ length rows → AreWays dp k rows words ways → (key : Key) → IsKeyOf ways key → IsKeyIn dp k rows words key
-  one-in room good key h =
+  pub key-in : length ways * words ≤ length rows → AreWays dp k rows words ways → (keys : List Key) → Each (IsKeyOf ways) keys → Each (IsKeyIn dp k rows words) keys
+  key-in room good keys all = Each-then (IsKeyOf ways) (IsKeyIn dp k rows words) keys (λ key h. (
       let way = good key.place h.within in
       let low = row_before (length ways) key.place words h.within in
       record {
@@ -87,10 +87,7 @@ module _ (dp : Dp) (k : ℕ) (rows : List ℤ) (words : ℕ) (ways : List Way) w
         state = way.state;
         rank = ap (λ (x : Key). x.rank) h.is ∙ way.rank;
         value = subst IsNearly (ap (λ (x : Key). x.value) (sym h.is)) way.value;
-      }
-
-  pub key-in : length ways * words ≤ length rows → AreWays dp k rows words ways → (keys : List Key) → Each (IsKeyOf ways) keys → Each (IsKeyIn dp k rows words) keys
-  key-in room good keys all = Each-then (IsKeyOf ways) (IsKeyIn dp k rows words) keys (one-in room good) all
+      })) all
 
   keyed-of : (paths : ℕ → List ℕ) (keys : List Key) → Each (IsKeyOf ways) keys → all_keyed paths rows words ways keys ≡ all_of paths rows words ways keys
   keyed-of paths [] h = refl
