@@ -81,6 +81,12 @@ fn prints_what_it_must(rt: HostRuntime) -> Result<(), Fail> {
             0,
         ),
         (
+            "solve knapsack --workers 4 --width 1 --cutset frontier",
+            THREE_ITEMS,
+            "proved\nvalue 120\nassignment 0 1 1\n",
+            0,
+        ),
+        (
             "solve knapsack",
             "2 7\n10 3 2\n7 2 3\n",
             "proved\nvalue 24\nassignment 1 2\n",

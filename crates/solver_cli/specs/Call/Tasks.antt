@@ -16,7 +16,7 @@ is_plain settings journal cover = nat_le 1 settings.workers && (nat_le settings.
 
 -- what a search is asked for
 abbrev pub search_of : JobSettings → Search
-search_of settings = record { width = settings.width; workers = settings.workers; budget = settings.budget; stats = settings.stats }
+search_of settings = record { width = settings.width; workers = settings.workers; budget = settings.budget; cutset = settings.cutset; stats = settings.stats }
 
 -- the task of a job; what is still to come is refused as outside the grammar
 abbrev pub task_of : JobView → Result Task Refusal

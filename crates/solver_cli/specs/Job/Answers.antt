@@ -5,6 +5,7 @@ use Rattle.dp_model.specs.Solution.{Solution}
 use Rattle.dp_model.specs.Best.{best}
 use Rattle.dp_model.specs.Counts.{tree}
 use Rattle.dp_model.specs.Dp.{Dp}
+use Rattle.dp_model.specs.declared.cut_kind.CutKind.TheVariants.{LastExactLayer}
 use Rattle.dp_model.specs.Numbers.{AtMost}
 use Rattle.dp_model.specs.Prefixes.{IsSolution, value_of}
 use Rattle.problem_names.specs.declared.ModelName.{ModelName}
@@ -120,7 +121,7 @@ Solves dp own search _ = ⊥
 
 -- how an instance that is drawn is searched: with the default width, one worker, the greatest budget, and its counts
 abbrev pub by_default : Search
-by_default = record { width = None; workers = 1; budget = 2 ^ 64 - 1; stats = true }
+by_default = record { width = None; workers = 1; budget = 2 ^ 64 - 1; cutset = LastExactLayer; stats = true }
 
 -- what a digest may answer
 abbrev pub Digests : List ℕ → Answer → Type 0

@@ -51,6 +51,7 @@ fn task_of(job: &Job) -> Result<Task, WordsError>
                 width: settings.width,
                 workers: settings.workers,
                 budget: settings.budget,
+                cutset: settings.cutset,
                 stats: settings.stats,
             },
         })),

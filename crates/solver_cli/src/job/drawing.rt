@@ -4,6 +4,7 @@ ghost use Rattle.solver_cli.specs.Job.Answers.{Prints, Draws};
 
 use crate::job::solving::solve;
 use crate::job::text_job::Search;
+use dp_model::CutKind;
 use problem_names::ModelName;
 use problems::{Knapsack, MaxCut, MaxTwoSat, Problem, TspWindows};
 use solver_report::Answer;
@@ -17,6 +18,7 @@ const BY_DEFAULT: Search = Search {
     width: None,
     workers: 1,
     budget: u64::MAX,
+    cutset: CutKind::LastExactLayer,
     stats: true,
 };
 

@@ -35,7 +35,7 @@ pub fn solve<P: Problem, G: Gate + Sync, R: Threads + Wait + Sync>(
     ensures { Solves (P.meaning (P.numbers model)) (P.theory.own_value (P.numbers model)) search result }
 {
     let width = width_for(&model, search.width);
-    match desks_for(alloc, &model, width, search.workers) {
+    match desks_for(alloc, &model, width, search.workers, search.cutset) {
         Ok(desks) => match search_on(rt, alloc, model, desks, width, search, gate) {
             Ok(answer) => answer,
             Err(_) => Answer::OutOfMemory,
@@ -61,17 +61,18 @@ fn desks_for<M: DpModel>(
     model: &M,
     width: u32,
     workers: u32,
+    cutset: CutKind,
 ) -> Result<Vec<Desk>, PrepareError>
     requires { 1 ≤ workers }
     ensures { AreAllDesks (M.meaning (M.numbers model.now)) width workers result }
 {
-    let first = Desk::prepare(alloc, model, width, CutKind::LastExactLayer)?;
+    let first = Desk::prepare(alloc, model, width, cutset)?;
     let Ok(mut desks) = Vec::with_capacity(alloc, workers as usize) else {
         return Err(PrepareError::OutOfMemory);
     };
     desks.push_reserved(first);
     for _made in 1..workers {
-        desks.push_reserved(Desk::prepare(alloc, model, width, CutKind::LastExactLayer)?);
+        desks.push_reserved(Desk::prepare(alloc, model, width, cutset)?);
     }
     Ok(desks)
 }

@@ -1,3 +1,4 @@
+use dp_model::CutKind;
 use problem_names::ModelName;
 
 /// How an instance is searched.
@@ -9,6 +10,8 @@ pub struct Search {
     pub workers: u32,
     /// The greatest number of subproblems.
     pub budget: u64,
+    /// Of which kind the children are that a relaxed diagram leaves.
+    pub cutset: CutKind,
     /// Whether the counts of the search are told.
     pub stats: bool,
 }
