@@ -1,10 +1,10 @@
 -- What a prepared list is enough for.
-use Rattle.std.proofs.Common.{ℕ, ◌<◌, ◌≤◌, length, arith}
+use Rattle.std.proofs.Common.{ℕ, ◌<◌, length, arith}
 use Rattle.dp_model.specs.Dp.{Dp}
 use Rattle.dp_model.specs.declared.cut_kind.CutKind.TheVariants.{LastExactLayer, Frontier}
 use Rattle.dp_model.specs.Laws.{IsLawful, IsChained}
 use Rattle.dp_laws.specs.Diagrams.Nodes.{DdLayers}
-use Rattle.relaxed_dd.specs.Shown.{IsRelaxed, last_of}
+use Rattle.relaxed_dd.specs.Shown.{IsRelaxed}
 use Rattle.exact_cutset.specs.Prepared.{AreEnough, IsPreparedFor}
 use Rattle.exact_cutset.specs.Ready.{CutIsReady}
 use Rattle.exact_cutset.specs.Seen.{ChildrenView}
