@@ -376,6 +376,7 @@ impl DpModel for TspWindows {
         self.left(s)
     }
 
+    #[inline(always)]
     fn extend(
         &self,
         k: usize,

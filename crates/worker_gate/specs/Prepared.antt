@@ -1,7 +1,6 @@
 -- What a desk keeps between rounds.
 use Rattle.std.specs.Prelude.{◌≡◌, ℕ, ◌≤◌, [], length, Result, Ok, Err}
 use Rattle.dp_model.specs.Dp.{Dp}
-use Rattle.dp_model.specs.declared.cut_kind.CutKind.TheVariants.{LastExactLayer}
 use Rattle.dp_model.specs.Subproblem.{SubView}
 use Rattle.layer_build.specs.Layers.{IsWidth, IsPreparedFor}
 use Rattle.layer_build.specs.declared.workspace.PrepareError.{PrepareError}
@@ -25,7 +24,6 @@ pub record HasRoom (dp : Dp) (w : ℕ) (desk : Desk) : Type 0 where
   pub space : IsPreparedFor dp desk.space
   pub width : desk.space.width ≡ w
   pub cutset : HoldsChildren dp w desk.cutset
-  pub kind : desk.kind ≡ LastExactLayer
 
 -- a desk with room for the rounds on an instance, and nothing of an earlier round on it
 pub record IsPrepared (dp : Dp) (w : ℕ) (desk : Desk) : Type 0 where

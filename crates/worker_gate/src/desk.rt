@@ -20,14 +20,13 @@ pub struct Desk {
 
 impl Desk {
     /// A desk for the rounds on the model with diagrams of the width, which is at least 1 and at most the greatest one, and with
-    /// their children of the kind. The kind is that of the last exact layer; the frontier is to come.
+    /// their children of the kind.
     pub fn prepare<M: DpModel>(
         alloc: Global,
         model: &M,
         width: u32,
         kind: CutKind,
     ) -> Result<Desk, PrepareError>
-        requires kind { kind ≡ CutKind.LastExactLayer }
         ensures desk { AreDesks (M.meaning (M.numbers model.now)) width result }
         ensures kind { IfOk result (λ desk. desk.kind ≡ kind) }
     {

@@ -3,7 +3,7 @@
 //! In a round, a subproblem is taken and its restricted diagram is compiled with the incumbent's value as threshold; the beam is
 //! offered as a solution. Where the width took nothing from that diagram, no completion is better than the threshold and the beam,
 //! so the subproblem is finished without children. Otherwise its relaxed diagram is compiled with the incumbent's value as it is
-//! then; the solution that it finds is offered, and the nodes of its last exact layer are the children.
+//! then; the solution that it finds is offered, and its children are those of the kind that the desk was prepared for.
 //!
 //! The crate has two parts, and a `Desk` is what a round needs in either:
 //!

@@ -65,7 +65,6 @@ pub fn relax<M: DpModel>(
     kind: CutKind,
     model: &M,
 ) -> Option<i64>
-    requires kind { kind ≡ CutKind.LastExactLayer }
     requires numbers { board.old.numbers ≡ M.numbers model.now }
     requires own { IsOwn (M.meaning (M.numbers model.now)) taken.now.subproblem }
     requires prepared { IsPreparedFor (M.meaning (M.numbers model.now)) space.old }
@@ -94,7 +93,6 @@ pub fn fill<M: DpModel>(
     kind: CutKind,
     model: &M,
 )
-    requires kind { kind ≡ CutKind.LastExactLayer }
     requires own { IsOwn (M.meaning (M.numbers model.now)) taken.now.subproblem }
     requires prepared { IsPreparedFor (M.meaning (M.numbers model.now)) space.old }
     requires cutset { HoldsChildren (M.meaning (M.numbers model.now)) space.old.width cutset.old }

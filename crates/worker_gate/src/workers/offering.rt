@@ -106,7 +106,6 @@ pub fn relax_one<M: DpModel, G: Gate, R: Wait>(
     model: &M,
     seen: Option<i64>,
 )
-    requires kind { kind ≡ CutKind.LastExactLayer }
     requires numbers { (first_of turn.now).numbers ≡ M.numbers model.now }
     requires worker { IsWorker turn.now seat.old }
     requires seen { seen_of seat.old ≡ seen }

@@ -35,7 +35,6 @@ returns-in-Sub-clause-prepared g c =
         space = room.space;
         width = room.width;
         cutset = room.cutset;
-        kind = room.kind;
       };
       no_fates = c.requires.prepared.no_fates;
     }
