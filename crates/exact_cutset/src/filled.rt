@@ -35,7 +35,7 @@ impl Children {
     /// Fills the list with the children of a diagram and with the solution that it finds.
     pub(crate) fn fill<M: DpModel>(&mut self, model: &M, diagram: &Diagram, kind: CutKind)
         requires diagram { IsDiagramOf (M.meaning (M.numbers model.now)) diagram.now }
-        requires prepared { IsPreparedFor (M.meaning (M.numbers model.now)) (width_of diagram.now) self.old }
+        requires prepared { IsPreparedFor (M.meaning (M.numbers model.now)) (width_of diagram.now) kind self.old }
         ensures { self.new ≡ record self.old {
           places = children_at (M.meaning (M.numbers model.now)) (layers_of diagram.now) kind;
           subs = children_of (M.meaning (M.numbers model.now)) (layers_of diagram.now) kind;

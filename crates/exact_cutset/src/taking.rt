@@ -84,7 +84,7 @@ fn take_kind<M: DpModel>(
     out: &mut Listed,
 )
     requires diagram { IsDiagramOf (M.meaning (M.numbers model.now)) diagram.now }
-    requires prepared { IsPreparedFor (M.meaning (M.numbers model.now)) (width_of diagram.now) out.old }
+    requires prepared { IsPreparedFor (M.meaning (M.numbers model.now)) (width_of diagram.now) kind out.old }
     requires no_places { out.old.places ≡ [] }
     requires no_subs { out.old.subs ≡ [] }
     requires above_room { out.old.wide ≤ vec_capacity above.old }
@@ -112,7 +112,7 @@ pub(crate) fn take<M: DpModel>(
     out: &mut Listed,
 )
     requires diagram { IsDiagramOf (M.meaning (M.numbers model.now)) diagram.now }
-    requires prepared { IsPreparedFor (M.meaning (M.numbers model.now)) (width_of diagram.now) out.old }
+    requires prepared { IsPreparedFor (M.meaning (M.numbers model.now)) (width_of diagram.now) kind out.old }
     requires above_room { out.old.wide ≤ vec_capacity above.old }
     requires here_room { out.old.wide ≤ vec_capacity here.old }
     ensures children { out.new ≡ record out.old {
@@ -137,11 +137,11 @@ pub(crate) fn take<M: DpModel>(
 /// solution is the first exact node of the last layer. It takes no memory.
 pub fn children<M: DpModel>(model: &M, diagram: &Diagram, kind: CutKind, out: &mut Children)
     requires diagram { IsDiagramOf (M.meaning (M.numbers model.now)) diagram.now }
-    requires prepared { IsPreparedFor (M.meaning (M.numbers model.now)) (width_of diagram.now) out.old }
+    requires prepared { IsPreparedFor (M.meaning (M.numbers model.now)) (width_of diagram.now) kind out.old }
     ensures places { out.new.places ≡ children_at (M.meaning (M.numbers model.now)) (layers_of diagram.now) kind }
     ensures subs { out.new.subs ≡ children_of (M.meaning (M.numbers model.now)) (layers_of diagram.now) kind }
     ensures found { out.new.found ≡ found_in (M.meaning (M.numbers model.now)) (layers_of diagram.now) }
-    ensures prepared { IsPreparedFor (M.meaning (M.numbers model.now)) (width_of diagram.now) out.new }
+    ensures prepared { IsPreparedFor (M.meaning (M.numbers model.now)) (width_of diagram.now) kind out.new }
 {
     out.fill(model, diagram, kind);
 }

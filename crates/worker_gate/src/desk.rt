@@ -31,7 +31,7 @@ impl Desk {
         ensures kind { IfOk result (λ desk. desk.kind ≡ kind) }
     {
         let space = Workspace::prepare(alloc, model, width)?;
-        let cutset = Children::prepare(alloc, model, width)?;
+        let cutset = Children::prepare(alloc, model, width, kind)?;
         match Sub::blank(alloc, model.vars(), model.words()) {
             Ok(taken) => Ok(Desk {
                 taken,

@@ -69,13 +69,13 @@ pub fn relax<M: DpModel>(
     requires own { IsOwn (M.meaning (M.numbers model.now)) taken.now.subproblem }
     requires prepared { IsPreparedFor (M.meaning (M.numbers model.now)) space.old }
     requires width { space.old.width ≡ board.old.board.settings.width }
-    requires cutset { HoldsChildren (M.meaning (M.numbers model.now)) space.old.width cutset.old }
+    requires cutset { HoldsChildren (M.meaning (M.numbers model.now)) space.old.width kind cutset.old }
     ensures branched { IsBranched (M.meaning (M.numbers model.now)) board.new.board taken.now.subproblem.decisions result cutset.new.subs }
     ensures offered { IsOffered (M.meaning (M.numbers model.now)) board.old.board board.new.board }
     ensures tag { tag_of board.new ≡ tag_of board.old }
     ensures prepared { IsPreparedFor (M.meaning (M.numbers model.now)) space.new }
     ensures width { space.new.width ≡ space.old.width }
-    ensures cutset { HoldsChildren (M.meaning (M.numbers model.now)) space.old.width cutset.new }
+    ensures cutset { HoldsChildren (M.meaning (M.numbers model.now)) space.old.width kind cutset.new }
 {
     let threshold = board.incumbent_value();
     fill(space, cutset, taken, threshold, kind, model);
@@ -95,12 +95,12 @@ pub fn fill<M: DpModel>(
 )
     requires own { IsOwn (M.meaning (M.numbers model.now)) taken.now.subproblem }
     requires prepared { IsPreparedFor (M.meaning (M.numbers model.now)) space.old }
-    requires cutset { HoldsChildren (M.meaning (M.numbers model.now)) space.old.width cutset.old }
+    requires cutset { HoldsChildren (M.meaning (M.numbers model.now)) space.old.width kind cutset.old }
     ensures subs { cutset.new.subs ≡ children_of (M.meaning (M.numbers model.now)) (relaxed (M.meaning (M.numbers model.now)) (reached (M.meaning (M.numbers model.now)) taken.now.subproblem.decisions) space.old.width threshold) kind }
     ensures found { cutset.new.found ≡ found_in (M.meaning (M.numbers model.now)) (relaxed (M.meaning (M.numbers model.now)) (reached (M.meaning (M.numbers model.now)) taken.now.subproblem.decisions) space.old.width threshold) }
     ensures prepared { IsPreparedFor (M.meaning (M.numbers model.now)) space.new }
     ensures width { space.new.width ≡ space.old.width }
-    ensures cutset { HoldsChildren (M.meaning (M.numbers model.now)) space.old.width cutset.new }
+    ensures cutset { HoldsChildren (M.meaning (M.numbers model.now)) space.old.width kind cutset.new }
 {
     let diagram = relaxed(space, model, taken, threshold);
     children(model, &diagram, kind, cutset);

@@ -112,14 +112,14 @@ pub fn relax_one<M: DpModel, G: Gate, R: Wait>(
     requires own { IsOwn (M.meaning (M.numbers model.now)) taken.now.subproblem }
     requires prepared { IsPreparedFor (M.meaning (M.numbers model.now)) space.old }
     requires width { space.old.width ≡ (first_of turn.now).board.settings.width }
-    requires cutset { HoldsChildren (M.meaning (M.numbers model.now)) space.old.width cutset.old }
+    requires cutset { HoldsChildren (M.meaning (M.numbers model.now)) space.old.width kind cutset.old }
     ensures worker { IsWorker turn.now seat.new }
     ensures number { seat.new.number ≡ seat.old.number }
     ensures out { out_of seat.new ≡ out_of seat.old }
     ensures branched { AreBranched (M.meaning (M.numbers model.now)) (first_of turn.now).board.settings.width (seen_of seat.new) taken.now.subproblem.decisions seen cutset.new.subs }
     ensures prepared { IsPreparedFor (M.meaning (M.numbers model.now)) space.new }
     ensures width { space.new.width ≡ space.old.width }
-    ensures cutset { HoldsChildren (M.meaning (M.numbers model.now)) space.old.width cutset.new }
+    ensures cutset { HoldsChildren (M.meaning (M.numbers model.now)) space.old.width kind cutset.new }
 {
     fill(space, cutset, taken, seen, kind, model);
     let _ = offer_one(rt, turn, seat, gate, cutset.found(), seen);
