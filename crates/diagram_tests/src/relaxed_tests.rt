@@ -105,7 +105,7 @@ fn children_of_a_width_of_zero_are_refused(rt: HostRuntime) -> Result<(), Fail> 
     let model = instance::<Knapsack>(&rt, rt.alloc(), b"3 10\n60 5\n50 4\n70 6\n");
     let greatest = greatest_width(&model);
     for width in [0, greatest.saturating_add(1)] {
-        let refused = Children::prepare(rt.alloc(), &model, width).err();
+        let refused = Children::prepare(rt.alloc(), &model, width, CutKind::LastExactLayer).err();
         assert_eq!(rt; refused, Some(PrepareError::Width), "at {width}");
     }
     Ok(())

@@ -149,7 +149,7 @@ pub fn relax_root<M: DpModel>(
         return Err(PrepareError::OutOfMemory);
     };
     let mut space = Workspace::prepare(alloc, model, width)?;
-    let mut out = Children::prepare(alloc, model, width)?;
+    let mut out = Children::prepare(alloc, model, width, kind)?;
     let diagram = relaxed(&mut space, model, &root, threshold);
     children(model, &diagram, kind, &mut out);
     match gather(alloc, &diagram, &out) {
