@@ -7,6 +7,7 @@ pub mod Stored
 pub mod Shown
 pub mod Leaders
 pub mod Pruned
+pub mod Sifted
 pub mod Kept
 pub mod Merged
 pub mod MergedLayers
