@@ -17,6 +17,7 @@ use Rattle.dp_laws.specs.declared.arc.DdArc.{DdArc}
 use Rattle.dp_laws.specs.Diagrams.Nodes.{DdNode, prefix_at}
 use Rattle.dp_laws.specs.Diagrams.Seen.{decisions_at}
 use Rattle.dp_laws.proofs.Diagrams.Places.{same-Some, Has-at}
+use Rattle.dp_laws.specs.Rules.Compiling.{TwoLayers, expand}
 use Rattle.dp_laws.specs.Rules.Expanding.{makes, is_exact_row, node_for, new_layer, arc_of, with_arcs}
 use Rattle.dp_laws.proofs.Rules.Expanded.{RowsApart, found-row, one-place, new-apart}
 use Rattle.layer_candidates.specs.declared.key.Key.{Key}
@@ -37,7 +38,7 @@ use Rattle.layer_nodes.specs.Expanding.{Trial, trial, trials_at, trials_of, all_
 use Rattle.layer_nodes.proofs.Spans.{length-spanned}
 use Rattle.layer_nodes.proofs.Tried.{length-arcs}
 
-map-map : {X Y Z : Type 0} (f : X → Y) (g : Y → Z) (xs : List X) → map g (map f xs) ≡ map (λ x. g (f x)) xs
+pub map-map : {X Y Z : Type 0} (f : X → Y) (g : Y → Z) (xs : List X) → map g (map f xs) ≡ map (λ x. g (f x)) xs
 map-map f g [] = refl
 map-map f g (x ∷ xs) = ap (λ l. g (f x) ∷ l) (map-map f g xs)
 
@@ -59,7 +60,7 @@ exact-by dp k s exact rest row (d ∷ ds) =
     ap (λ b. (exact || not (row_same (dp.step k s d) row)) && b) (exact-by dp k s exact rest row ds)
     ∙ both-ways exact (row_same (dp.step k s d) row) (makes dp k s ds row) (all_exact dp k rest row)
 
-trials-exact : (dp : Dp) (k : ℕ) (cells : List ℤ) (words : ℕ) (arcs : List DdArc) (paths : ℕ → List ℕ) (i : ℕ) (nodes : List Node) (row : List ℤ) → k < dp.vars
+pub trials-exact : (dp : Dp) (k : ℕ) (cells : List ℤ) (words : ℕ) (arcs : List DdArc) (paths : ℕ → List ℕ) (i : ℕ) (nodes : List Node) (row : List ℤ) → k < dp.vars
     → all_exact dp k (trials_of dp k cells words nodes) row ≡ is_exact_row dp k (shown_from paths i (map (node_view words cells arcs) nodes)) row
 trials-exact dp k cells words arcs paths i [] row low = refl
 trials-exact dp k cells words arcs paths i (node ∷ nodes) row low =
@@ -69,19 +70,19 @@ trials-exact dp k cells words arcs paths i (node ∷ nodes) row low =
 
 -- The nodes as members.
 
-members-shown : (cells : List ℤ) (words : ℕ) (arcs : List DdArc) (paths : ℕ → List ℕ) (i : ℕ) (nodes : List Node)
+pub members-shown : (cells : List ℤ) (words : ℕ) (arcs : List DdArc) (paths : ℕ → List ℕ) (i : ℕ) (nodes : List Node)
     → members_as paths cells words (members_from i nodes) ≡ map prefix_at (shown_from paths i (map (node_view words cells arcs) nodes))
 members-shown cells words arcs paths i [] = refl
 members-shown cells words arcs paths i (node ∷ nodes) = ap (λ l. member_as paths cells words (member_of node i) ∷ l) (members-shown cells words arcs paths (i + 1) nodes)
 
 -- The place of a row.
 
-row-found : (next : List DdNode) (j : ℕ) (row : List ℤ) → slice_get (map (λ (n : DdNode). n.row) next) j ≡ Some row → (node : DdNode) × (slice_get next j ≡ Some node) × (node.row ≡ row)
+pub row-found : (next : List DdNode) (j : ℕ) (row : List ℤ) → slice_get (map (λ (n : DdNode). n.row) next) j ≡ Some row → (node : DdNode) × (slice_get next j ≡ Some node) × (node.row ≡ row)
 row-found [] j row h = absurd (let none : None ≡ Some row = h in cc)
 row-found (n ∷ next) zero row h = (n, refl, same-Some n.row row h)
 row-found (n ∷ next) (suc j) row h = row-found next j row h
 
-place-of : (next : List DdNode) (j : ℕ) (row : List ℤ) → RowsApart next → slice_get (map (λ (n : DdNode). n.row) next) j ≡ Some row
+pub place-of : (next : List DdNode) (j : ℕ) (row : List ℤ) → RowsApart next → slice_get (map (λ (n : DdNode). n.row) next) j ≡ Some row
     → position (λ (n : DdNode). row_same n.row row) next ≡ Some j
 place-of next j row apart h =
     let at_j = row-found next j row h in
@@ -105,11 +106,15 @@ module _ (dp : Dp) (k : ℕ) (rows : List ℤ) (words count : ℕ) (next : List 
       ∙ ap Some (ap (row_at rows words) n.same ∙ h.row))) in
       ap (led places) h.is ∙ (ap (arc_with (arc_to dp k t h.place)) n.is ∙ ap (arc_with (arc_to dp k t h.place)) (sym (place-of next n.number (dp.step k s d) apart there)))
 
-  arcs-led : (s : List ℤ) (exact : Bool) (ds : List ℕ) (arcs : List DdArc) → AreArcsOf dp k rows words count (map (trial s exact) ds) arcs → map (led places) arcs ≡ map (arc_of dp k next s) ds
+-- Arcs that are changed to those that a rule names.
+
+module _ (dp : Dp) (k : ℕ) (rows : List ℤ) (words count : ℕ) (change : DdArc → DdArc) (named : List ℤ → ℕ → DdArc)
+    (leads : (s : List ℤ) (exact : Bool) (d : ℕ) (arc : DdArc) → LeadsToRow dp k rows words count (trial s exact d) arc → change arc ≡ named s d) where
+  arcs-led : (s : List ℤ) (exact : Bool) (ds : List ℕ) (arcs : List DdArc) → AreArcsOf dp k rows words count (map (trial s exact) ds) arcs → map change arcs ≡ map (named s) ds
   arcs-led s exact [] [] h = refl
   arcs-led s exact [] (arc ∷ arcs) h = absurd h
   arcs-led s exact (d ∷ ds) [] h = absurd h
-  arcs-led s exact (d ∷ ds) (arc ∷ arcs) h = ap₂ (λ a l. a ∷ l) (arc-led s exact d arc h.0) (arcs-led s exact ds arcs h.1)
+  arcs-led s exact (d ∷ ds) (arc ∷ arcs) h = ap₂ (λ a l. a ∷ l) (leads s exact d arc h.0) (arcs-led s exact ds arcs h.1)
 
   arcs-first : (ts us : List Trial) (arcs : List DdArc) → AreArcsOf dp k rows words count (ts ++ us) arcs → AreArcsOf dp k rows words count ts (take (length ts) arcs)
   arcs-first [] us arcs h = tt
@@ -122,33 +127,37 @@ module _ (dp : Dp) (k : ℕ) (rows : List ℤ) (words count : ℕ) (next : List 
   arcs-rest (t ∷ ts) us (arc ∷ arcs) h = arcs-rest ts us arcs h.1
 
   module _ (cells : List ℤ) (old : List DdArc) (low : k < dp.vars) (paths : ℕ → List ℕ) where
+    -- the layer at depth k with these arcs
+    abbrev with_arcs_by : List DdNode → List DdNode
+    with_arcs_by layer = map (λ (node : DdNode). record node { arcs = map (named node.row) (decisions_at dp k node.row) }) layer
+
     abbrev view : List DdArc → Node → NodeView
     view arcs node = node_view words cells arcs node
 
-    above-from : (i : ℕ) (nodes : List Node) (first : ℕ) (before arcs : List DdArc) → length before ≡ first → AreArcsOf dp k rows words count (trials_of dp k cells words nodes) arcs
-        → shown_from paths i (map (view (before ++ map (led places) arcs)) (all_spanned dp k cells words first nodes)) ≡ with_arcs dp k next (shown_from paths i (map (view old) nodes))
+    pub above-from : (i : ℕ) (nodes : List Node) (first : ℕ) (before arcs : List DdArc) → length before ≡ first → AreArcsOf dp k rows words count (trials_of dp k cells words nodes) arcs
+        → shown_from paths i (map (view (before ++ map change arcs)) (all_spanned dp k cells words first nodes)) ≡ with_arcs_by (shown_from paths i (map (view old) nodes))
     above-from i [] first before arcs size h = refl
     above-from i (node ∷ nodes) first before arcs size h =
         let s = row_at cells words node.row in
         let ts = trials_at dp k cells words node in
         let n = length ts in
         let us = trials_of dp k cells words nodes in
-        let all = before ++ map (led places) arcs in
+        let all = before ++ map change arcs in
         let mine = take n arcs in
         let rest = drop n arcs in
-        let these : take n (drop first all) ≡ map (arc_of dp k next s) (decisions_at dp k s) =
-        ap (λ j. take n (drop j all)) (sym size) ∙ (ap (take n) (drop-append_seam before (map (led places) arcs))
-        ∙ (take-map (led places) n arcs ∙ (arcs-led s node.exact (all_allowed dp k s (below (dp.choices k))) mine (arcs-first ts us arcs h)
-        ∙ ap (map (arc_of dp k next s)) (allowed-at dp k s low)))) in
-        let split : all ≡ (before ++ map (led places) mine) ++ map (led places) rest =
-        ap (λ l. before ++ l) (ap (map (led places)) (sym (take-append-drop n arcs)) ∙ map-append (led places) mine rest)
-        ∙ sym (append_assoc before (map (led places) mine) (map (led places) rest)) in
+        let these : take n (drop first all) ≡ map (named s) (decisions_at dp k s) =
+        ap (λ j. take n (drop j all)) (sym size) ∙ (ap (take n) (drop-append_seam before (map change arcs))
+        ∙ (take-map change n arcs ∙ (arcs-led s node.exact (all_allowed dp k s (below (dp.choices k))) mine (arcs-first ts us arcs h)
+        ∙ ap (map (named s)) (allowed-at dp k s low)))) in
+        let split : all ≡ (before ++ map change mine) ++ map change rest =
+        ap (λ l. before ++ l) (ap (map change) (sym (take-append-drop n arcs)) ∙ map-append change mine rest)
+        ∙ sym (append_assoc before (map change mine) (map change rest)) in
         let count = length-arcs dp k rows words count ts mine (arcs-first ts us arcs h) in
-        let long = length-append before (map (led places) mine) in
-        let same = length-map mine (led places) in
+        let long = length-append before (map change mine) in
+        let same = length-map mine change in
         ap₂ (λ a l. a ∷ l) (ap (λ x. record (shown (paths i) (view old node)) { arcs = x }) these)
         (ap (λ x. shown_from paths (i + 1) (map (view x) (all_spanned dp k cells words (first + n) nodes))) split
-        ∙ above-from (i + 1) nodes (first + n) (before ++ map (led places) mine) rest (omega arith) (arcs-rest ts us arcs h))
+        ∙ above-from (i + 1) nodes (first + n) (before ++ map change mine) rest (omega arith) (arcs-rest ts us arcs h))
 
 -- Nothing else of the nodes above changes.
 
@@ -158,7 +167,7 @@ rest-stays dp k cells words old new first [] = refl
 rest-stays dp k cells words old new first (node ∷ nodes) =
     ap (λ l. without_arcs (node_view words cells old node) ∷ l) (rest-stays dp k cells words old new (first + length (trials_at dp k cells words node)) nodes)
 
-get_or-any : {X : Type 0} (xs : List X) (j : ℕ) (a b : X) → j < length xs → get_or xs j a ≡ get_or xs j b
+pub get_or-any : {X : Type 0} (xs : List X) (j : ℕ) (a b : X) → j < length xs → get_or xs j a ≡ get_or xs j b
 get_or-any [] j a b less = absurd (omega arith)
 get_or-any (x ∷ xs) zero a b less = refl
 get_or-any (x ∷ xs) (suc j) a b less = get_or-any xs j a b (omega arith)
@@ -245,7 +254,8 @@ module _ (dp : Dp) (k : ℕ) (low : k < dp.vars) (cells : List ℤ) (words : ℕ
   pub above-shown : (paths : ℕ → List ℕ) → shown_layer paths (map (node_view words cells led_arcs) nodes2) ≡ with_arcs dp k (new_layer dp k (layer_of paths)) (layer_of paths)
   above-shown paths =
       ap₂ (λ l m. shown_layer paths (map (node_view words cells l) m)) arranged.arcs_are spans
-      ∙ above-from dp k rows words (length ways) (new_layer dp k (layer_of paths)) keys arranged.places (new-apart dp k (layer_of paths)) (next-rows paths) all-numbered
+      ∙ above-from dp k rows words (length ways) (led arranged.places) (arc_of dp k (new_layer dp k (layer_of paths)))
+      (arc-led dp k rows words (length ways) (new_layer dp k (layer_of paths)) keys arranged.places (new-apart dp k (layer_of paths)) (next-rows paths) all-numbered)
       cells old low paths 0 nodes 0 [] arcs refl tried.arcs_are
 
   pub above-rest : map without_arcs (map (node_view words cells led_arcs) nodes2) ≡ map without_arcs (map (node_view words cells old) nodes)
@@ -296,7 +306,7 @@ pub whole : (dp : Dp) (k : ℕ) → k < dp.vars → (cells : List ℤ) (words : 
     (marks : List Bool) (arcs led_arcs : List DdArc) (nodes2 below : List Node) → AreDistinct dp (k + 1) rows words ways
     → ((paths : ℕ → List ℕ) → all_reached paths rows words ways ≡ all_joined [] (candidates dp k (members_as paths cells words (members_from 0 nodes))))
     → AreTried dp k rows words (length ways) (trials_of dp k cells words nodes) marks arcs → nodes2 ≡ all_spanned dp k cells words 0 nodes → length ways ≤ length nodes * dp.choices k
-    → length arcs ≤ length nodes * dp.choices k → AreArranged rows words ways marks arcs led_arcs below → IsExpanded dp k words cells nodes nodes2 led_arcs rows below
+    → length arcs ≤ length nodes * dp.choices k → AreArranged rows words ways marks arcs led_arcs below → IsExpanded (expand dp k) dp k words cells nodes nodes2 led_arcs rows below
 whole dp k low cells words nodes rows ways marks arcs led_arcs nodes2 below distinct list tried spans few few_arcs arranged = record {
   above_is = λ before paths. above-shown dp k low cells words before nodes rows ways marks arcs led_arcs nodes2 below distinct list tried spans arranged paths;
   next_is = λ before any paths. next-shown dp k low cells words before nodes rows ways marks arcs led_arcs nodes2 below distinct list tried spans arranged paths any;
@@ -320,10 +330,10 @@ arranged-by words words2 rows rows2 ways ways2 marks marks2 old old2 new nodes h
     (subst (λ x. AreArranged rows words ways x old2 new nodes) d
     (subst (λ x. AreArranged rows words ways marks x new nodes) e h))))
 
-pub expanded-by : (dp : Dp) (k words : ℕ) (cells cells2 : List ℤ) (old old2 new : List Node) (arcs : List DdArc) (rows : List ℤ) (below : List Node)
-    → IsExpanded dp k words cells old new arcs rows below → cells ≡ cells2 → old ≡ old2 → IsExpanded dp k words cells2 old2 new arcs rows below
-expanded-by dp k words cells cells2 old old2 new arcs rows below h a b =
-    subst (λ x. IsExpanded dp k words x old2 new arcs rows below) a (subst (λ x. IsExpanded dp k words cells x new arcs rows below) b h)
+pub expanded-by : (rule : List DdNode → TwoLayers) (dp : Dp) (k words : ℕ) (cells cells2 : List ℤ) (old old2 new : List Node) (arcs : List DdArc) (rows : List ℤ) (below : List Node)
+    → IsExpanded rule dp k words cells old new arcs rows below → cells ≡ cells2 → old ≡ old2 → IsExpanded rule dp k words cells2 old2 new arcs rows below
+expanded-by rule dp k words cells cells2 old old2 new arcs rows below h a b =
+    subst (λ x. IsExpanded rule dp k words x old2 new arcs rows below) a (subst (λ x. IsExpanded rule dp k words cells x new arcs rows below) b h)
 
 pub each-by : (dp : Dp) (k words : ℕ) (cells cells2 : List ℤ) (nodes nodes2 : List Node) → cells ≡ cells2 → nodes ≡ nodes2
     → Each (IsMemberOf dp k cells words) (members_from 0 nodes) → Each (IsMemberOf dp k cells2 words) (members_from 0 nodes2)

@@ -83,7 +83,7 @@ fn expand_rows<M: DpModel>(
     requires rows_room { length above.old * (M.meaning (M.numbers model.now)).choices k * words ≤ length rows.old }
     requires below_room { length above.old * (M.meaning (M.numbers model.now)).choices k ≤ vec_capacity below.old }
     requires room { length above.old * (M.meaning (M.numbers model.now)).choices k ≤ expansion.old }
-    ensures expanded { IsExpanded (M.meaning (M.numbers model.now)) k words cells.now above.old above.new arcs.new.items rows.new below.new.items }
+    ensures expanded { IsExpanded (expand (M.meaning (M.numbers model.now)) k) (M.meaning (M.numbers model.now)) k words cells.now above.old above.new arcs.new.items rows.new below.new.items }
     ensures arcs_capacity { vec_capacity arcs.new ≡ vec_capacity arcs.old }
     ensures below_capacity { vec_capacity below.new ≡ vec_capacity below.old }
     ensures expansion { expansion.new ≡ expansion.old }

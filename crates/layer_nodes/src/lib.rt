@@ -19,6 +19,7 @@ mod node;
 mod numbering;
 mod redirecting;
 mod rows;
+mod sorting;
 mod striking;
 
 pub use expanding::{Expansion, expand};
