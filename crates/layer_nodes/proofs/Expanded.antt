@@ -190,6 +190,56 @@ members-of dp k cells words room i old (node ∷ nodes) hold s h =
     let before = row_before (room + 1) node.row words (omega arith) in
     (record { within = omega arith; state = h.0.state; rank = h.0.rank; value = h.0.value }, members-of dp k cells words room (i + 1) old nodes hold s.1 h.1)
 
+-- The nodes of keys.
+
+pub rows-of : (dp : Dp) (k : ℕ) (rows : List ℤ) (words : ℕ) (ways : List Way) (layer : List DdNode) (paths : ℕ → List ℕ) (ks : List Key)
+    → map (λ (n : DdNode). n.row) (map (node_for dp k layer) (all_of paths rows words ways ks)) ≡ map (λ (key : Key). row_at rows words key.place) ks
+rows-of dp k rows words ways layer paths [] = refl
+rows-of dp k rows words ways layer paths (key ∷ ks) = ap (λ l. row_at rows words key.place ∷ l) (rows-of dp k rows words ways layer paths ks)
+
+module _ (dp : Dp) (k : ℕ) (low : k < dp.vars) (cells : List ℤ) (words : ℕ) (old : List DdArc) (nodes : List Node) (rows : List ℤ) (ways : List Way)
+    (marks : List Bool) (arcs : List DdArc) (tried : AreTried dp k rows words (length ways) (trials_of dp k cells words nodes) marks arcs) where
+  abbrev layer_in : (ℕ → List ℕ) → List DdNode
+  layer_in paths = shown_layer paths (map (node_view words cells old) nodes)
+
+  abbrev from : (ℕ → List ℕ) → Key → ℤ → Bool → DdNode
+  from paths key value exact = record {
+    row = row_at rows words key.place;
+    value = value;
+    exact = exact;
+    arcs = [];
+    path = paths (way_at ways key.place).parent ++ (way_at ways key.place).decision ∷ [];
+    suffix = None;
+  }
+
+  node-is : (paths : ℕ → List ℕ) (key : Key) → IsKeyOf ways key → from paths key key.value (mark_at marks key.place) ≡ node_for dp k (layer_in paths) (reached_of paths rows words ways key)
+  node-is paths key h =
+      let value : key.value ≡ (way_at ways key.place).value = ap (λ (x : Key). x.value) h.is in
+      let row = row_at rows words key.place in
+      ap₂ (from paths key) value (tried.marks_are key.place h.within ∙ trials-exact dp k cells words old paths 0 nodes row low)
+
+  pub keys-shown : (paths : ℕ → List ℕ) (any : List DdArc) (ks : List Key) → Each (IsKeyOf ways) ks
+      → shown_below paths (map (node_view words rows any) (map (node_of ways marks) ks)) ≡ map (node_for dp k (layer_in paths)) (all_of paths rows words ways ks)
+  keys-shown paths any [] h = refl
+  keys-shown paths any (key ∷ ks) h = ap₂ (λ a l. a ∷ l) (node-is paths key h.0) (keys-shown paths any ks h.1)
+
+module _ (dp : Dp) (k : ℕ) (rows : List ℤ) (words : ℕ) (ways : List Way) (marks : List Bool) where
+  pub keys-ranked : AreDistinct dp (k + 1) rows words ways → (any : List DdArc) (ks : List Key) → Each (IsKeyOf ways) ks → Each (IsRanked dp (k + 1)) (map (node_view words rows any) (map (node_of ways marks) ks))
+  keys-ranked distinct any [] h = tt
+  keys-ranked distinct any (key ∷ ks) h =
+      let way = distinct.good key.place h.0.within in
+      (record { state = way.state; rank = ap (λ (x : Key). x.rank) h.0.is ∙ way.rank }, keys-ranked distinct any ks h.1)
+
+  pub keys-unmerged : (any : List DdArc) (ks : List Key) → Each (λ (n : NodeView). IsSome n.parent) (map (node_view words rows any) (map (node_of ways marks) ks))
+  keys-unmerged any [] = tt
+  keys-unmerged any (key ∷ ks) = (refl, keys-unmerged any ks)
+
+  pub keys-stored : (room : ℕ) (any : List DdArc) (ks : List Key) → length ways ≤ room → Each (IsKeyOf ways) ks → Each (IsStored room any) (map (node_of ways marks) ks)
+  keys-stored room any [] few h = tt
+  keys-stored room any (key ∷ ks) few h =
+      let less = h.0.within in
+      (record { row = omega arith; fresh = λ _. omega arith; arcs_lie = omega arith }, keys-stored room any ks few h.1)
+
 -- The whole.
 
 module _ (dp : Dp) (k : ℕ) (low : k < dp.vars) (cells : List ℤ) (words : ℕ) (old : List DdArc) (nodes : List Node) (rows : List ℤ) (ways : List Way)
@@ -213,36 +263,11 @@ module _ (dp : Dp) (k : ℕ) (low : k < dp.vars) (cells : List ℤ) (words : ℕ
       in-order dp (k + 1) rows words ways keys distinct.apart distinct.good arranged.all arranged.sorted paths
       ∙ ap (in_order dp (k + 1)) (list paths ∙ ap (λ l. all_joined [] (candidates dp k l)) (members-shown cells words old paths 0 nodes))
 
-  abbrev from : (ℕ → List ℕ) → Key → ℤ → Bool → DdNode
-  from paths key value exact = record {
-    row = row_at rows words key.place;
-    value = value;
-    exact = exact;
-    arcs = [];
-    path = paths (way_at ways key.place).parent ++ (way_at ways key.place).decision ∷ [];
-    suffix = None;
-  }
-
-  node-is : (paths : ℕ → List ℕ) (key : Key) → IsKeyOf ways key → from paths key key.value (mark_at marks key.place) ≡ node_for dp k (layer_of paths) (reached_of paths rows words ways key)
-  node-is paths key h =
-      let value : key.value ≡ (way_at ways key.place).value = ap (λ (x : Key). x.value) h.is in
-      let row = row_at rows words key.place in
-      ap₂ (from paths key) value (tried.marks_are key.place h.within ∙ trials-exact dp k cells words old paths 0 nodes row low)
-
-  nodes-are : (paths : ℕ → List ℕ) (any : List DdArc) (ks : List Key) → Each (IsKeyOf ways) ks
-      → shown_below paths (map (node_view words rows any) (map (node_of ways marks) ks)) ≡ map (node_for dp k (layer_of paths)) (all_of paths rows words ways ks)
-  nodes-are paths any [] h = refl
-  nodes-are paths any (key ∷ ks) h = ap₂ (λ a l. a ∷ l) (node-is paths key h.0) (nodes-are paths any ks h.1)
-
   pub next-shown : (paths : ℕ → List ℕ) (any : List DdArc) → shown_below paths (map (node_view words rows any) below) ≡ new_layer dp k (layer_of paths)
-  next-shown paths any = ap (λ l. shown_below paths (map (node_view words rows any) l)) arranged.nodes_are ∙ (nodes-are paths any keys layer-keys ∙ ap (map (node_for dp k (layer_of paths))) (order-is paths))
-
-  rows-of : (paths : ℕ → List ℕ) (ks : List Key) → map (λ (n : DdNode). n.row) (map (node_for dp k (layer_of paths)) (all_of paths rows words ways ks)) ≡ map (λ (key : Key). row_at rows words key.place) ks
-  rows-of paths [] = refl
-  rows-of paths (key ∷ ks) = ap (λ l. row_at rows words key.place ∷ l) (rows-of paths ks)
+  next-shown paths any = ap (λ l. shown_below paths (map (node_view words rows any) l)) arranged.nodes_are ∙ (keys-shown dp k low cells words old nodes rows ways marks arcs tried paths any keys layer-keys ∙ ap (map (node_for dp k (layer_of paths))) (order-is paths))
 
   next-rows : (paths : ℕ → List ℕ) → map (λ (n : DdNode). n.row) (new_layer dp k (layer_of paths)) ≡ map (λ (key : Key). row_at rows words key.place) keys
-  next-rows paths = ap (λ l. map (λ (n : DdNode). n.row) (map (node_for dp k (layer_of paths)) l)) (sym (order-is paths)) ∙ rows-of paths keys
+  next-rows paths = ap (λ l. map (λ (n : DdNode). n.row) (map (node_for dp k (layer_of paths)) l)) (sym (order-is paths)) ∙ rows-of dp k rows words ways (layer_of paths) paths keys
 
   all-numbered : (p : ℕ) → p < length ways → IsNumbered (length keys) keys arranged.places p
   all-numbered p less =
@@ -273,33 +298,17 @@ module _ (dp : Dp) (k : ℕ) (low : k < dp.vars) (cells : List ℤ) (words : ℕ
   pub above-length : length nodes2 ≡ length nodes
   above-length = ap length spans ∙ length-spanned dp k cells words 0 nodes
 
-  ranked-all : (any : List DdArc) (ks : List Key) → Each (IsKeyOf ways) ks → Each (IsRanked dp (k + 1)) (map (node_view words rows any) (map (node_of ways marks) ks))
-  ranked-all any [] h = tt
-  ranked-all any (key ∷ ks) h =
-      let way = distinct.good key.place h.0.within in
-      (record { state = way.state; rank = ap (λ (x : Key). x.rank) h.0.is ∙ way.rank }, ranked-all any ks h.1)
-
   pub next-ranked : (any : List DdArc) → Each (IsRanked dp (k + 1)) (map (node_view words rows any) below)
-  next-ranked any = subst (λ l. Each (IsRanked dp (k + 1)) (map (node_view words rows any) l)) (sym arranged.nodes_are) (ranked-all any keys layer-keys)
-
-  unmerged-all : (any : List DdArc) (ks : List Key) → Each (λ (n : NodeView). IsSome n.parent) (map (node_view words rows any) (map (node_of ways marks) ks))
-  unmerged-all any [] = tt
-  unmerged-all any (key ∷ ks) = (refl, unmerged-all any ks)
+  next-ranked any = subst (λ l. Each (IsRanked dp (k + 1)) (map (node_view words rows any) l)) (sym arranged.nodes_are) (keys-ranked dp k rows words ways marks distinct any keys layer-keys)
 
   pub next-unmerged : (any : List DdArc) → Each (λ (n : NodeView). IsSome n.parent) (map (node_view words rows any) below)
-  next-unmerged any = subst (λ l. Each (λ (n : NodeView). IsSome n.parent) (map (node_view words rows any) l)) (sym arranged.nodes_are) (unmerged-all any keys)
+  next-unmerged any = subst (λ l. Each (λ (n : NodeView). IsSome n.parent) (map (node_view words rows any) l)) (sym arranged.nodes_are) (keys-unmerged dp k rows words ways marks any keys)
 
   pub next-length : length below ≡ length ways
   next-length = ap length arranged.nodes_are ∙ (length-map keys (node_of ways marks) ∙ length-keys ways keys arranged.all)
 
-  stored-all : (room : ℕ) (any : List DdArc) (ks : List Key) → length ways ≤ room → Each (IsKeyOf ways) ks → Each (IsStored room any) (map (node_of ways marks) ks)
-  stored-all room any [] few h = tt
-  stored-all room any (key ∷ ks) few h =
-      let less = h.0.within in
-      (record { row = omega arith; fresh = λ _. omega arith; arcs_lie = omega arith }, stored-all room any ks few h.1)
-
   pub next-stored : (room : ℕ) (any : List DdArc) → length ways ≤ room → Each (IsStored room any) below
-  next-stored room any few = subst (Each (IsStored room any)) (sym arranged.nodes_are) (stored-all room any keys few layer-keys)
+  next-stored room any few = subst (Each (IsStored room any)) (sym arranged.nodes_are) (keys-stored dp k rows words ways marks room any keys few layer-keys)
 
 -- the extended layer is put in order
 pub whole : (dp : Dp) (k : ℕ) → k < dp.vars → (cells : List ℤ) (words : ℕ) (nodes : List Node) (rows : List ℤ) (ways : List Way)

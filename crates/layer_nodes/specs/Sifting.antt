@@ -3,7 +3,7 @@ use Rattle.std.specs.Prelude.{◌≡◌, ℕ, ◌+◌, ◌<◌, nat_eq, ℤ, pos
 use Rattle.dp_model.specs.Dp.{Dp}
 use Rattle.dp_laws.specs.declared.arc.DdArc.{DdArc}
 use Rattle.dp_laws.specs.Diagrams.Nodes.{DdNode}
-use Rattle.dp_laws.specs.Rules.Compiling.{TwoLayers}
+use Rattle.dp_laws.specs.Rules.Compiling.{TwoLayers, expand}
 use Rattle.dp_laws.specs.Rules.Pruning.{is_struck}
 use Rattle.dp_laws.specs.Rules.Redirects.{Redirect, with_redirected}
 use Rattle.layer_candidates.specs.declared.key.Key.{Key}
@@ -28,6 +28,10 @@ sift_redirects dp k t place (node ∷ nodes) =
 -- the struck nodes of the next layer, at depth k, are left out
 abbrev pub sifted : Dp → ℕ → Option ℤ → TwoLayers → TwoLayers
 sifted dp k t two = record { above = with_redirected (sift_redirects dp k t 0 two.next) two.above; next = sifted_nodes dp k t two.next }
+
+-- the layer at depth k with its arcs, and of the next one the nodes that are not struck
+abbrev pub expand_sifted : Dp → ℕ → Option ℤ → List DdNode → TwoLayers
+expand_sifted dp k t layer = sifted dp (k + 1) t (expand dp k layer)
 
 -- the number of the way at the place p, or none where no key is that of this way
 abbrev pub number_in : List Key → List ℕ → ℕ → Option ℕ

@@ -22,7 +22,7 @@ mod rows;
 mod sorting;
 mod striking;
 
-pub use expanding::{Expansion, expand};
+pub use expanding::{Expansion, expand, expand_sifted};
 pub use keeping::keep_first;
 pub use layer::Layer;
 pub use merging::merge_rest;
