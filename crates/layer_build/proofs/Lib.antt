@@ -2,6 +2,7 @@ pub mod Rooms
 pub mod Shown
 pub mod Bare
 pub mod Depths
+pub mod Expansions
 pub mod Kept
 pub mod Stacks
 pub mod Going

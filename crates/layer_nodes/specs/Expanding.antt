@@ -4,7 +4,8 @@ use Rattle.dp_model.specs.Decisions.{below}
 use Rattle.dp_model.specs.Dp.{Dp}
 use Rattle.dp_model.specs.Lists.{Each}
 use Rattle.dp_model.specs.Rows.{row_same}
-use Rattle.dp_laws.specs.Rules.Compiling.{expand}
+use Rattle.dp_laws.specs.Rules.Compiling.{TwoLayers}
+use Rattle.dp_laws.specs.Diagrams.Nodes.{DdNode}
 use Rattle.dp_laws.specs.declared.arc.DdArc.{DdArc}
 use Rattle.layer_candidates.specs.declared.key.Key.{Key}
 use Rattle.layer_candidates.specs.declared.member.Member.{Member}
@@ -144,13 +145,13 @@ pub record AreArranged (rows : List ℤ) (words : ℕ) (ways : List Way) (marks 
   pub arcs_are : new ≡ map (led places) old
   pub nodes_are : nodes ≡ map (node_of ways marks) keys
 
--- the nodes of the layer at depth k are extended, and those below are the next layer, whatever the paths are, and whatever arcs
--- there were before; the rows of the nodes below lie in `rows`
-pub record IsExpanded (dp : Dp) (k words : ℕ) (cells : List ℤ) (old new : List Node) (arcs : List DdArc) (rows : List ℤ) (below : List Node) : Type 0 where
+-- the nodes of the layer at depth k are extended by the rule, and those below are the next layer, whatever the paths are, and
+-- whatever arcs there were before; the rows of the nodes below lie in `rows`
+pub record IsExpanded (rule : List DdNode → TwoLayers) (dp : Dp) (k words : ℕ) (cells : List ℤ) (old new : List Node) (arcs : List DdArc) (rows : List ℤ) (below : List Node) : Type 0 where
   pub above_is : (before : List DdArc) (paths : ℕ → List ℕ) → shown_layer paths (map (node_view words cells arcs) new)
-      ≡ (expand dp k (shown_layer paths (map (node_view words cells before) old))).above
+      ≡ (rule (shown_layer paths (map (node_view words cells before) old))).above
   pub next_is : (before any : List DdArc) (paths : ℕ → List ℕ) → shown_below paths (map (node_view words rows any) below)
-      ≡ (expand dp k (shown_layer paths (map (node_view words cells before) old))).next
+      ≡ (rule (shown_layer paths (map (node_view words cells before) old))).next
   pub rest : (before : List DdArc) → map without_arcs (map (node_view words cells arcs) new) ≡ map without_arcs (map (node_view words cells before) old)
   pub ranked : (any : List DdArc) → Each (IsRanked dp (k + 1)) (map (node_view words rows any) below)
   pub unmerged : (any : List DdArc) → Each (λ (n : NodeView). IsSome n.parent) (map (node_view words rows any) below)

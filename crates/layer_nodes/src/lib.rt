@@ -19,9 +19,10 @@ mod node;
 mod numbering;
 mod redirecting;
 mod rows;
+mod sorting;
 mod striking;
 
-pub use expanding::{Expansion, expand};
+pub use expanding::{Expansion, expand, expand_sifted};
 pub use keeping::keep_first;
 pub use layer::Layer;
 pub use merging::merge_rest;
