@@ -157,7 +157,7 @@ pub fn expand<M: DpModel>(
 }
 
 /// Extends the nodes of the layer at depth `k`, whose rows stand in `cells`, and makes the nodes of the next layer, whose rows
-/// are written to `rows`: of those only that are not struck.
+/// are written to `rows`: only those that are not struck.
 fn expand_sifted_rows<M: DpModel>(
     model: &M,
     k: usize,
