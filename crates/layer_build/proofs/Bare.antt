@@ -1,5 +1,5 @@
 -- A layer is expanded in the same way whatever arcs it had.
-use Rattle.std.proofs.Common.{◌≡◌, ℕ, ℤ, Option, Bool, ◌&&◌, ◌||◌, not, ◌+◌, List, [], ◌∷◌, map, None, refl, sym, ap, ap₂, ◌∙◌}
+use Rattle.std.proofs.Common.{◌≡◌, ℕ, ℤ, Option, Bool, ◌&&◌, ◌||◌, not, ◌+◌, List, [], ◌∷◌, map, None, refl, ap, ap₂, ◌∙◌}
 use Rattle.dp_model.specs.Dp.{Dp}
 use Rattle.dp_model.specs.Reached.{Reached}
 use Rattle.dp_laws.specs.Restricted.Beam.{expanded}

@@ -1,28 +1,26 @@
 -- A workspace in which a diagram is under way: what its last layers are in memory.
-use Rattle.std.proofs.Common.{◌≡◌, ◌≢◌, ℕ, zero, suc, ◌+◌, ◌-◌, ◌*◌, ◌<◌, ◌≤◌, ℤ, List, [], ◌∷◌, map, set, length, get_or, slice_index_or, IsSome, ◌⊎◌, inl, inr, refl, sym, ap, ap₂, ◌∙◌, subst, arith}
+use Rattle.std.proofs.Common.{◌≡◌, ℕ, suc, ◌+◌, ◌-◌, ◌*◌, ◌<◌, ◌≤◌, ℤ, List, [], ◌∷◌, map, set, length, get_or, slice_index_or, IsSome, ◌⊎◌, inl, inr, refl, sym, ap, ap₂, ◌∙◌, subst, arith}
 use Rattle.std.proofs.lemmas.List.{get_or_default, get_or-set_other}
 use Rattle.std.specs.Vec.{with_item}
 use Rattle.dp_model.specs.Dp.{Dp}
-use Rattle.dp_model.specs.Gaps.{IsStateOf}
-use Rattle.dp_model.specs.Laws.{IsLawful}
 use Rattle.dp_model.specs.Lists.{Each}
 use Rattle.dp_model.specs.Numbers.{IsFar}
 use Rattle.dp_model.proofs.Members.{Each-then}
 use Rattle.dp_laws.specs.declared.arc.DdArc.{DdArc}
 use Rattle.dp_laws.specs.Diagrams.Nodes.{DdNode, path_below}
 use Rattle.dp_laws.specs.Rules.Compiling.{TwoLayers}
-use Rattle.dp_laws.specs.Rules.Within.{IsBetween, IsLayerWithin, IsArcWithin, AreWithin}
+use Rattle.dp_laws.specs.Rules.Within.{IsLayerWithin, IsArcWithin, AreWithin}
 use Rattle.layer_nodes.specs.Nodes.{NodeView, LayerView, shown, shown_from, shown_layer, shown_below, without_arcs}
 use Rattle.layer_nodes.specs.Steps.{IsParent, IsNodeOf, MayBeLengthened, IsRanked, KeepsRoom}
 use Rattle.layer_build.specs.contracts.workspace.Workspace.{the_view, the_invariant}
 use Rattle.layer_build.specs.declared.workspace.Workspace.TheInside.{Inside}
 use Rattle.layer_build.specs.Layers.{SpaceView, last_depth, last_layer, expand_last, on_last_two}
-use Rattle.layer_build.specs.Stacked.{no_layer, place_of, place_above, room_of, HaveRooms, HasStack, HaveDepths, path_in, paths_at, paths_below, shown_down, shown_stack, nodes_in}
+use Rattle.layer_build.specs.Stacked.{no_layer, place_of, place_above, room_of, HaveRooms, HasStack, HaveDepths, path_in, paths_at, paths_below, shown_down, nodes_in}
 use Rattle.layer_build.specs.UnderWay.{IsUnderWay, last_two}
 use Rattle.layer_build.proofs.Depths.{depths-expanded}
 use Rattle.layer_build.proofs.Expansions.{Expands}
 use Rattle.layer_build.proofs.Kept.{last-of-two, expanded-under-way, wide-deep}
-use Rattle.layer_build.proofs.Shown.{length-down, parents-of, nodes-of, far-of, length-shown, last-is, two-are, paths-last, as-below, expand-shown, two-shown, bare-all, have-parents, have-paths, ranks-of}
+use Rattle.layer_build.proofs.Shown.{length-down, parents-of, nodes-of, far-of, length-shown, last-is, two-are, as-below, expand-shown, two-shown, bare-all, have-parents, have-paths, ranks-of}
 use Rattle.layer_build.proofs.Stacks.{at_depth, newest-at, above-at, depth-is, kept-at, put-at, place-low, places-apart, above-first, above-later, above-low, count-of, words-at, FitsAbove, fits-above, rooms-set, map-length}
 
 -- the layer above the last one in memory

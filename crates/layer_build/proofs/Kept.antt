@@ -1,5 +1,5 @@
 -- Each step keeps a diagram under way.
-use Rattle.std.proofs.Common.{◌≡◌, ℕ, zero, suc, ◌+◌, ◌-◌, ◌*◌, ◌<◌, ◌≤◌, ℤ, List, [], ◌∷◌, map, take, drop, ◌++◌, length, length-append, Option, Some, None, ◌⊎◌, inl, inr, mul-le-mul_right, refl, sym, ap, ◌∙◌, subst, arith}
+use Rattle.std.proofs.Common.{◌≡◌, ℕ, suc, ◌+◌, ◌-◌, ◌*◌, ◌<◌, ◌≤◌, ℤ, List, [], ◌∷◌, map, take, drop, length, length-append, Option, None, ◌⊎◌, inl, inr, mul-le-mul_right, refl, sym, ap, ◌∙◌, subst, arith}
 use Rattle.std.proofs.lemmas.List.{length-take-le}
 use Rattle.dp_model.specs.Dp.{Dp}
 use Rattle.dp_model.specs.Gaps.{IsStateOf}
@@ -7,7 +7,7 @@ use Rattle.dp_model.specs.Laws.{IsLawful}
 use Rattle.dp_model.specs.Lists.{Each}
 use Rattle.dp_model.specs.Prefixes.{IsPrefix}
 use Rattle.dp_model.specs.Reached.{reached}
-use Rattle.dp_model.proofs.Members.{Has, each-has, each-of-all}
+use Rattle.dp_model.proofs.Members.{each-has, each-of-all}
 use Rattle.dp_model.proofs.Paths.{IsPrefix-length}
 use Rattle.dp_laws.specs.Diagrams.Nodes.{DdNode}
 use Rattle.dp_laws.specs.Rules.Compiling.{TwoLayers, prune, keep_first, merge_rest, start_layer}

@@ -1,5 +1,5 @@
 -- A layer that was expanded in memory without its struck nodes is that of the rules, whatever the paths are.
-use Rattle.std.proofs.Common.{◌≡◌, ◌≢◌, ℕ, zero, suc, ◌+◌, ◌*◌, ◌<◌, ◌≤◌, nat_eq, ℤ, pos, ◌+ℤ◌, Bool, true, false, not, cond, List, [], ◌∷◌, ◌++◌, length, map, filter, get_or, slice_get, position, Option, Some, None, IsSome, IsTrue, IsPermutation, option_and_then, ◌⊎◌, inl, inr, refl, sym, ◌∙◌, ap, ap₂, subst, arith}
+use Rattle.std.proofs.Common.{◌≡◌, ◌≢◌, ℕ, zero, suc, ◌+◌, ◌*◌, ◌<◌, ◌≤◌, nat_eq, ℤ, pos, ◌+ℤ◌, Bool, true, false, not, cond, List, [], ◌∷◌, length, map, slice_get, Option, Some, None, IsSome, option_and_then, inl, inr, refl, sym, ◌∙◌, ap, ap₂, subst, arith}
 use Rattle.std.proofs.lemmas.Int.{ints}
 use Rattle.std.proofs.lemmas.List.{length-map}
 use Rattle.std.proofs.lemmas.Option.{slice_get-map, slice_get-get_or}
@@ -7,7 +7,6 @@ use Rattle.dp_model.specs.Dp.{Dp}
 use Rattle.dp_model.specs.Gaps.{is_struck_by}
 use Rattle.dp_model.specs.Lists.{Each}
 use Rattle.dp_model.specs.Reached.{Reached}
-use Rattle.dp_model.specs.Rows.{row_same}
 use Rattle.dp_model.proofs.Members.{Has, each-has, each-of-all, Has-map, Has-filter, Has-filter-from}
 use Rattle.dp_model.proofs.RowLemmas.{nat_eq-is, nat_eq-self}
 use Rattle.dp_laws.specs.declared.arc.DdArc.{DdArc}
@@ -17,7 +16,6 @@ use Rattle.dp_laws.specs.Restricted.Beam.{expanded}
 use Rattle.dp_laws.specs.Restricted.Extensions.{candidates, all_joined}
 use Rattle.dp_laws.specs.Restricted.Leaders.{unstruck}
 use Rattle.dp_laws.specs.Restricted.ReductionOrder.{in_order}
-use Rattle.dp_laws.specs.Rules.Compiling.{expand}
 use Rattle.dp_laws.specs.Rules.Expanding.{node_for, new_layer, arc_of, with_arcs}
 use Rattle.dp_laws.specs.Rules.Pruning.{is_struck}
 use Rattle.dp_laws.specs.Rules.Redirects.{Redirect, redirected_by, redirected, with_redirected}
@@ -28,11 +26,11 @@ use Rattle.dp_laws.proofs.Restricted.Permutations.{each-at, each-permutation, Ha
 use Rattle.dp_laws.proofs.Rules.Expanded.{RowsApart, one-place, new-apart}
 use Rattle.layer_candidates.specs.declared.key.Key.{Key}
 use Rattle.layer_candidates.specs.declared.way.Way.{Way}
-use Rattle.layer_candidates.specs.KeyOrder.{key_at, keys_of, reached_of, all_of, IsKeyOf}
+use Rattle.layer_candidates.specs.KeyOrder.{key_at, keys_of, all_of, IsKeyOf}
 use Rattle.layer_candidates.specs.Members.{members_as}
 use Rattle.layer_candidates.specs.Pruning.{struck, unstruck_keys}
 use Rattle.layer_candidates.specs.Rows.{row_at}
-use Rattle.layer_candidates.specs.Ways.{way_at, reached_at, all_reached, AreDistinct}
+use Rattle.layer_candidates.specs.Ways.{reached_at, all_reached, AreDistinct}
 use Rattle.layer_candidates.proofs.Layered.{has-table}
 use Rattle.layer_candidates.proofs.Sorted.{unstruck-are, unstruck-in-order, unstruck-length}
 use Rattle.layer_nodes.specs.declared.node.Node.{Node}

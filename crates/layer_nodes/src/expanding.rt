@@ -156,8 +156,8 @@ pub fn expand<M: DpModel>(
     );
 }
 
-/// Extends the nodes of the layer at depth `k`, whose rows stand in `cells`, and makes the nodes of the next layer, whose rows
-/// are written to `rows`: of those only that are not struck.
+/// Extends the nodes of the layer at depth `k`, whose rows stand in `cells`, and makes the nodes of the next layer that are not
+/// struck, whose rows are written to `rows`.
 fn expand_sifted_rows<M: DpModel>(
     model: &M,
     k: usize,

@@ -1,9 +1,8 @@
-use Rattle.std.proofs.Common.{◌≡◌, ◌<◌, ◌≤◌, ℕ, List, length, sym, ap, subst, ◌∙◌, arith, IsPermutation}
+use Rattle.std.proofs.Common.{◌<◌, length, sym, ap, subst, arith, IsPermutation}
 use Rattle.dp_model.specs.Lists.{Each}
 use Rattle.dp_model.proofs.Members.{Each-then}
 use Rattle.layer_candidates.specs.declared.key.Key.{Key}
 use Rattle.layer_candidates.specs.KeyOrder.{IsKeyOf}
-use Rattle.layer_candidates.specs.Pruning.{unstruck_keys}
 use Rattle.layer_candidates.specs.Rows.{row_at, HasZeros}
 use Rattle.layer_candidates.proofs.Sorted.{unstruck-zeros, unstruck-are, unstruck-length}
 use Rattle.layer_nodes.proofs.numbering.arrange_unstruck.Goals as goal

@@ -1,17 +1,12 @@
-use Rattle.std.proofs.Common.{◌≡◌, ℕ, ◌+◌, ◌-◌, ◌*◌, ◌<◌, ◌≤◌, ℤ, List, [], ◌∷◌, map, length, set, slice_index_or, vec_len, refl, rules, sym, ap, ◌∙◌, subst, arith}
-use Rattle.dp_model.specs.Dp.{Dp}
+use Rattle.std.proofs.Common.{◌≡◌, ℕ, ◌*◌, ◌≤◌, map, length, vec_len, rules, sym, ap, ◌∙◌, subst, arith}
 use Rattle.dp_model.specs.Laws.{IsLawful}
-use Rattle.dp_model.specs.Lists.{Each}
-use Rattle.dp_laws.specs.Diagrams.Nodes.{DdNode}
 use Rattle.layer_nodes.specs.Sifting.{expand_sifted}
-use Rattle.layer_nodes.specs.Nodes.{NodeView, LayerView, shown_layer, shown_below, without_arcs}
-use Rattle.layer_build.specs.Layers.{SpaceView, last_depth, last_layer, expand_last}
-use Rattle.layer_build.specs.Stacked.{no_layer, place_of, path_in, shown_down, HaveDepths}
+use Rattle.layer_nodes.specs.Nodes.{NodeView, LayerView}
+use Rattle.layer_build.specs.Layers.{SpaceView, last_depth, expand_last}
+use Rattle.layer_build.specs.Stacked.{place_of}
 use Rattle.layer_build.specs.UnderWay.{IsUnderWay}
 use Rattle.layer_build.proofs.Expansions.{expands-sifted}
-use Rattle.layer_build.proofs.Shown.{length-shown, have-paths, ranks-of, length-down}
-use Rattle.layer_build.proofs.Going.{deep, count-seen, last-seen, last_paths, parents-seen, expanded-view, under, low-of, words-seen, fits-seen, narrow-seen, lent, place-within, words-of, expanded-space, expanded-seen, expanded-kept}
-use Rattle.layer_build.proofs.Stacks.{FitsAbove, rooms-set}
+use Rattle.layer_build.proofs.Going.{parents-seen, under, low-of, words-seen, fits-seen, narrow-seen, lent, place-within, words-of, expanded-space, expanded-seen, expanded-kept}
 use Rattle.layer_build.proofs.workspace.Workspace.expand_sifted.Given as given
 use Rattle.layer_build.proofs.workspace.Workspace.expand_sifted.Goals as goal
 
