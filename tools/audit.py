@@ -2,7 +2,7 @@
 """Counts what a sceptic has to read: the definitions that a clause stands on, with their lines.
 
     tools/audit.py                     prints a table, for the clause of `run` and for parts of it
-    tools/audit.py CRATE/FILE NAME     lists the definitions under one, as solver_jobs/Answers IsProved
+    tools/audit.py CRATE/FILE NAME     lists the definitions under one, as solver_cli/Job/Answers IsProved
 
 It follows names through the imports of specs/ and through the re-exports of Lib.antt. Comments, blank lines and imports are
 not counted, nor is what the kit defines, nor the types that are declared in src/ (their number is given).
@@ -100,7 +100,7 @@ def under(specs, starts):
 
 def start(specs, place):
     file, name = place.split(" ")
-    at = "Rattle." + file.replace("/", ".specs.", 1)
+    at = "Rattle." + file.replace("/", ".specs.", 1).replace("/", ".")
     if at not in specs or name not in specs[at].lines:
         sys.exit(f"audit: there is no {name} in specs/ of {file}")
     return at, name
@@ -116,12 +116,12 @@ def main():
     if len(sys.argv) == 3:
         for at, name in under(specs, [start(specs, " ".join(sys.argv[1:]))]):
             lines = len(specs[at].lines[name]) if at != "declared" else "a type of src/"
-            print(f"{at.removeprefix('Rattle.').replace('.specs.', '/')} {name}: {lines}")
+            print(f"{at.removeprefix('Rattle.').replace('.specs.', '/').replace('.', '/')} {name}: {lines}")
         return
-    rows = [("all that the clause of `run` says (`HasEnded`)", ["solver_cli/Ended HasEnded"])]
-    rows += [("`proved`, for any problem (`IsProved`)", ["solver_jobs/Answers IsProved"])]
-    rows += [("`infeasible` (`IsInfeasible`)", ["solver_jobs/Answers IsInfeasible"])]
-    rows += [("`stopped` (`IsStopped`)", ["solver_jobs/Answers IsStopped"])]
+    rows = [("all that the clause of `run` says (`HasEnded`)", ["solver_cli/Call/Ended HasEnded"])]
+    rows += [("`proved`, for any problem (`IsProved`)", ["solver_cli/Job/Answers IsProved"])]
+    rows += [("`infeasible` (`IsInfeasible`)", ["solver_cli/Job/Answers IsInfeasible"])]
+    rows += [("`stopped` (`IsStopped`)", ["solver_cli/Job/Answers IsStopped"])]
     for name, (own, program, grammar) in PROBLEMS.items():
         rows += [(f"{name}: the value in its own words", [own]), (f"{name}: its dynamic program", [program])]
         rows += [(f"{name}: its grammar", [grammar])]

@@ -1,8 +1,8 @@
 -- What holds of rows of signed benefits.
-use Rattle.std.specs.Prelude.{◌≡◌, ℕ, zero, suc, ℤ, pos, ◌+ℤ◌, ◌-ℤ◌, ◌≤ℤ◌, List, [], ◌∷◌, ◌++◌, length, drop, refl}
-use Rattle.std.specs.Int.{int_max, int_min}
-use Rattle.std.proofs.Common.{arith}
+use Rattle.std.specs.Prelude.{◌≡◌, ℕ, zero, suc, ℤ, pos, ◌+ℤ◌, ◌-ℤ◌, ◌≤ℤ◌, List, [], ◌∷◌, ◌++◌, length, take, drop, replicate, refl}
+use Rattle.std.proofs.Common.{arith, ap, sym, ◌∙◌}
 use Rattle.std.proofs.lemmas.Int.{ints, clamps}
+use Rattle.std.proofs.lemmas.List.{take-append-drop}
 use Rattle.benefit_rows.specs.Benefits.{size_of, gain_of, gains_of, rank_of, gap_between, gap_of, benefit_merged, merged_of, differences, sums_of}
 
 -- One benefit.
@@ -48,10 +48,6 @@ gap_between-bounds a s (suc d) = omega (arith, ints, clamps)
 pub gap_between-by_sizes : (a s : ℤ) → gap_between a s +ℤ gap_between a s ≡ (size_of s -ℤ size_of a) +ℤ size_of (s -ℤ a)
 gap_between-by_sizes a s = omega (arith, ints, clamps)
 
--- the merged benefit is the one in the middle of the two and zero
-pub benefit_merged-middle : (a s : ℤ) → int_max (int_min a s) (int_min (int_max a s) (pos 0)) ≡ benefit_merged a s
-benefit_merged-middle a s = grind (arith, ints, clamps)
-
 pub benefit_merged-left : (a s : ℤ) → size_of (benefit_merged a s) ≤ℤ size_of a
 benefit_merged-left a s = grind (arith, ints, clamps)
 
@@ -67,6 +63,10 @@ rank_of-positive (s ∷ ss) = omega (arith, ints, size_of-positive s, rank_of-po
 pub rank_of-append : (ss more : List ℤ) → rank_of (ss ++ more) ≡ rank_of ss +ℤ rank_of more
 rank_of-append [] more = omega (arith, ints)
 rank_of-append (s ∷ ss) more = omega (arith, ints, rank_of-append ss more)
+
+pub rank_of-zeros : (n : ℕ) → rank_of (replicate n (pos 0)) ≡ pos 0
+rank_of-zeros zero = refl
+rank_of-zeros (suc n) = omega (arith, ints, rank_of-zeros n)
 
 pub rank_of-drop : (k : ℕ) (ss : List ℤ) → rank_of (drop k ss) ≤ℤ rank_of ss
 rank_of-drop zero ss = omega (arith, ints)
@@ -156,3 +156,22 @@ pub rank_of-sums_of : (ss as_ : List ℤ) → rank_of (sums_of ss as_) ≤ℤ (r
 rank_of-sums_of [] as_ = omega (arith, ints, rank_of-positive as_)
 rank_of-sums_of (s ∷ ss) [] = omega (arith, ints, rank_of-positive (s ∷ ss))
 rank_of-sums_of (s ∷ ss) (a ∷ as_) = omega (arith, ints, size_of-add s a, rank_of-sums_of ss as_)
+
+-- rows of equal lengths are merged one behind the other
+pub merged_of-append : (as_ ss more rest : List ℤ) → length as_ ≡ length ss → merged_of (as_ ++ more) (ss ++ rest) ≡ merged_of as_ ss ++ merged_of more rest
+merged_of-append [] [] more rest e = refl
+merged_of-append [] (s ∷ ss) more rest e = absurd (omega arith)
+merged_of-append (a ∷ as_) [] more rest e = absurd (omega arith)
+merged_of-append (a ∷ as_) (s ∷ ss) more rest e = ap (λ zs. benefit_merged a s ∷ zs) (merged_of-append as_ ss more rest (omega arith))
+
+pub merged_of-zeros : (n : ℕ) → merged_of (replicate n (pos 0)) (replicate n (pos 0)) ≡ replicate n (pos 0)
+merged_of-zeros zero = refl
+merged_of-zeros (suc n) = ap (λ zs. pos 0 ∷ zs) (merged_of-zeros n)
+
+-- rows whose first k benefits are zero are merged behind them
+pub merged_of-behind : (k : ℕ) (as_ ss : List ℤ) → take k as_ ≡ replicate k (pos 0) → take k ss ≡ replicate k (pos 0)
+    → merged_of as_ ss ≡ take k as_ ++ merged_of (drop k as_) (drop k ss)
+merged_of-behind k as_ ss e f =
+    let halves = merged_of-append (take k as_) (take k ss) (drop k as_) (drop k ss) (ap length (e ∙ sym f)) in
+    let front : merged_of (take k as_) (take k ss) ≡ take k as_ = rw (e, f) (merged_of-zeros k) in
+    rw (take-append-drop k as_, take-append-drop k ss, front) at halves

@@ -11,4 +11,5 @@ mod row;
 
 pub use row::{
     above_zero, below_zero, doubled_gap, gap, gap_within, merge_into, rank, size, write_sums,
+    write_zeros,
 };

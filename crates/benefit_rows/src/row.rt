@@ -1,6 +1,6 @@
 //! One pass over rows of signed benefits.
 
-ghost use Rattle.std.specs.Prelude.{◌≡◌, ◌^◌, ◌+◌, ◌*◌, ◌≤◌, pos, ◌+ℤ◌, ◌≤ℤ◌, length, take, drop};
+ghost use Rattle.std.specs.Prelude.{◌≡◌, ◌^◌, ◌+◌, ◌*◌, ◌≤◌, pos, ◌+ℤ◌, ◌≤ℤ◌, length, replicate, take, drop};
 ghost use Rattle.benefit_rows.specs.Benefits.{above_zero, below_zero, benefit_merged, differences, gap_between, gap_of, merged_of, rank_of, size_of, sums_of, where_at_most};
 
 // How many differences are added up before their sum is tested.
@@ -133,6 +133,16 @@ fn distance(from: &[i64], to: &[i64]) -> i64
     total
 }
 
+/// Writes zeros. So many first benefits as `done` are zero already, and are not written.
+pub fn write_zeros(out: &mut [i64], done: usize)
+    requires { take done out.old ≡ take done (replicate (length out.old) (pos 0)) }
+    ensures { out.new ≡ replicate (length out.old) (pos 0) }
+{
+    if done < out.len() {
+        out[done..].fill(0);
+    }
+}
+
 /// Writes the sums of two rows of the same length, and answers their rank. It needs ranks of at most `2^60`.
 pub fn write_sums(out: &mut [i64], row: &[i64], added: &[i64]) -> i64
     requires cells { length out.old ≡ length row.now }
@@ -166,5 +176,7 @@ pub fn merge_into(merged: &mut [i64], row: &[i64])
 fn middle(a: i64, s: i64) -> i64
     ensures { result ≡ benefit_merged a s }
 {
-    a.min(s).max(a.max(s).min(0))
+    // The lesser of the two where `a` is at least zero, else the greater. Where that lies beyond zero, zero is in the middle.
+    let inner = if (a < s) == (a < 0) { s } else { a };
+    if (inner < 0) == (a < 0) { inner } else { 0 }
 }

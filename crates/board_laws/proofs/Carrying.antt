@@ -1,21 +1,17 @@
 -- What is carried from one frontier to the next.
-use Rattle.std.proofs.Common.{◌≡◌, ℕ, ◌≤◌, ℤ, ◌+ℤ◌, ◌≤ℤ◌, pos, List, ◌++◌, length, true, Option, Some, None, ◌⊎◌, inl, inr, ap, subst, arith}
+use Rattle.std.proofs.Common.{◌≡◌, ℕ, ℤ, ◌+ℤ◌, ◌≤ℤ◌, pos, List, ◌++◌, length, true, Option, Some, None, ◌⊎◌, inl, inr, ap, subst, arith}
 use Rattle.std.proofs.lemmas.Int.{ints}
-use Rattle.dp_model.specs.Cover.{Covers}
 use Rattle.dp_model.specs.Dp.{Dp}
-use Rattle.dp_model.specs.Laws.{IsLawful}
 use Rattle.dp_model.specs.Lists.{OneOf}
 use Rattle.dp_model.specs.Numbers.{AtMost, OptionAtMost, is_above}
-use Rattle.dp_model.specs.Prefixes.{IsPrefix, IsCompletion, IsContinuation, IsMatched, gain_of, state_of, value_of}
+use Rattle.dp_model.specs.Prefixes.{IsContinuation, gain_of}
 use Rattle.dp_model.specs.Subproblem.{IsOwn}
 use Rattle.dp_model.proofs.Members.{Has, one-of-has}
-use Rattle.dp_model.proofs.Paths.{state_of-state, continued, value_of-split, value_of-append, completed}
-use Rattle.dp_laws.proofs.Matching.{completions-matched}
+use Rattle.dp_model.proofs.Paths.{value_of-append, completed}
 use Rattle.shared_fringe.specs.Tickets.{Ticketed}
 use Rattle.board_laws.proofs.Lists.{one-map, one-mapped}
 use Rattle.board_laws.specs.Board.{prefixes, reach_of}
-use Rattle.dp_laws.specs.Floors.{ReachesBelow, IsFloor, FloorsMatch, Carries}
-use Rattle.dp_laws.proofs.Reaches.{at-most-then, one-then}
+use Rattle.dp_laws.specs.Floors.{ReachesBelow, IsFloor, Carries}
 
 pub option-self : (reach : Option ℤ) → OptionAtMost reach reach
 option-self None = tt

@@ -14,7 +14,7 @@ use Rattle.shared_fringe.specs.Tickets.{Ticketed}
 use Rattle.board_laws.proofs.Lists.{two-map}
 use Rattle.board_laws.specs.Board.{prefixes}
 use Rattle.dp_laws.specs.Children.{AreApart}
-use Rattle.board_laws.specs.GoodBoard.{pot_of, rest_of}
+use Rattle.board_laws.specs.GoodBoard.{pot_of, share_of}
 
 -- together fewer prefixes begin with children that are apart than with their parent
 pub children-below : (dp : Dp) (p : List ℕ) (os : List Ticketed) → length p < dp.vars → Each (λ o. IsChild dp p o.subproblem) os
@@ -28,11 +28,11 @@ children-below dp p os short own two =
     omega arith
 
 -- the counts are the shares beside one for each
-pub pots-split : (dp : Dp) (os : List Ticketed) → Each (λ o. IsOwn dp o.subproblem) os → sum_by (pot_of dp) os ≡ sum_by (rest_of dp) os + length os
+pub pots-split : (dp : Dp) (os : List Ticketed) → Each (λ o. IsOwn dp o.subproblem) os → sum_by (pot_of dp) os ≡ sum_by (share_of dp) os + length os
 pots-split dp [] h = refl
 pots-split dp (o ∷ os) h =
     let some = pots-positive dp o.subproblem.decisions h.0.shorter in
-    let rest = pots-split dp os h.1 in let left = sum_by-cons (pot_of dp) o os in let right = sum_by-cons (rest_of dp) o os in omega arith
+    let rest = pots-split dp os h.1 in let left = sum_by-cons (pot_of dp) o os in let right = sum_by-cons (share_of dp) o os in omega arith
 
 -- there are at least as many prefixes as there are in the list
 pub pots-many : (dp : Dp) (os : List Ticketed) → Each (λ o. IsOwn dp o.subproblem) os → length os ≤ sum_by (pot_of dp) os

@@ -11,7 +11,7 @@ use Rattle.shared_fringe.specs.Tickets.{Ticketed, IsEarlier, without}
 use Rattle.shared_fringe.proofs.Rows.{same-none, same-others, different-turned}
 use Rattle.dominance_table.specs.Entries.{TableEntry}
 use Rattle.board_laws.proofs.Fates.{FatesHold, Replaces}
-use Rattle.board_laws.specs.Entering.{entering, replaced, is_among, staying}
+use Rattle.board_laws.specs.Entering.{entering, replaced, is_among, without_all}
 use Rattle.board_laws.specs.declared.fate.Fate.{Fate}
 use Rattle.board_laws.specs.declared.fate.Fate.TheVariants.{Below, Kept, Dominated, Replaced, Entered}
 
@@ -55,9 +55,9 @@ not-true true h = absurd (cc)
 not-true false h = refl
 
 pub kids-differ : (dp : Dp) (reach : Option ℤ) (os : List Ticketed) (es : List TableEntry) (ticket : ℕ) (cs : List Subproblem) (fs : List Fate) → FatesHold dp reach os es ticket cs fs
-    → EachTwo IsEarlier os → EachTwo AreDifferent os → Each (λ o. Each (AreDifferent o) (entering cs fs)) (staying (replaced fs) os)
+    → EachTwo IsEarlier os → EachTwo AreDifferent os → Each (λ o. Each (AreDifferent o) (entering cs fs)) (without_all (replaced fs) os)
 kids-differ dp reach os es ticket cs fs h rise two =
-    each-of-all (λ o. Each (AreDifferent o) (entering cs fs)) (staying (replaced fs) os)
+    each-of-all (λ o. Each (AreDifferent o) (entering cs fs)) (without_all (replaced fs) os)
     (λ o in_stay.
     let r = Has-filter-from (λ (q : Ticketed). not (is_among q.ticket (replaced fs))) os o in_stay in
     let from = kids-differ-from dp reach os es ticket cs fs o h r.0 rise two (not-true (is_among o.ticket (replaced fs)) r.1) in

@@ -23,7 +23,7 @@ use Rattle.board_laws.proofs.Frontier.{not-above}
 use Rattle.board_laws.proofs.Lists.{one-map, one-left, one-right, one-cases, one-each, one-out, each-back, one-has, each-both}
 use Rattle.board_laws.proofs.With.{IsWith, with-right, one-out_of}
 use Rattle.board_laws.specs.Board.{prefixes}
-use Rattle.board_laws.specs.Entering.{entering, replaced, is_among, staying, entry_of, put_all}
+use Rattle.board_laws.specs.Entering.{entering, replaced, is_among, without_all, entry_of, put_all}
 use Rattle.dp_laws.specs.Floors.{ReachesBelow, IsFloor}
 use Rattle.dp_laws.proofs.Reaches.{at-most-then, deep-less, floor-carried, floors-match, one-then, same-state-matches}
 use Rattle.board_laws.specs.GoodBoard.{IsEntry, HasFloor}
@@ -63,11 +63,11 @@ same-number a b h = grind (arith, nat_tests)
 -- an open one goes on, or what replaces it
 open-carries : (dp : Dp) → IsLawful dp → (reach : Option ℤ) (os : List Ticketed) (es : List TableEntry) (ticket : ℕ) (cs : List Subproblem) (fs : List Fate) → length fs ≡ length cs → FatesHold dp reach os es ticket cs fs
     → EachTwo IsEarlier os → Each (λ o. IsOwn dp o.subproblem) os → Each (IsOwn dp) cs
-    → (k : ℕ) (v : ℤ) → OneOf (Deep dp k v) os → OneOf (Deep dp k v) (staying (replaced fs) os ++ entering cs fs)
+    → (k : ℕ) (v : ℤ) → OneOf (Deep dp k v) os → OneOf (Deep dp k v) (without_all (replaced fs) os ++ entering cs fs)
 open-carries dp laws reach os es ticket cs fs long h rise own kids k v one =
     let r = one-has (Deep dp k v) os one in
     let o = r.0 in
-    let stay = staying (replaced fs) os in
+    let stay = without_all (replaced fs) os in
     let new = entering cs fs in
     let own_new = kids-each (IsOwn dp) cs fs kids in
     elim (stays-or-beaten dp reach os es ticket cs fs o long h r.1 rise) as (λ _. OneOf (Deep dp k v) (stay ++ new)) [
@@ -91,13 +91,13 @@ pub record IsFinish (dp : Dp) (reach : Option ℤ) (o : Ticketed) (full rest os 
   pub fates : FatesHold dp reach os es ticket cs fs
 
 abbrev pub after : List Ticketed → List Ticketed → List Subproblem → List Fate → List Ticketed
-after rest os cs fs = rest ++ (staying (replaced fs) os ++ entering cs fs)
+after rest os cs fs = rest ++ (without_all (replaced fs) os ++ entering cs fs)
 
 rest-carries : (dp : Dp) → IsLawful dp → (reach : Option ℤ) (o : Ticketed) (full rest os : List Ticketed) (es : List TableEntry) (ticket : ℕ) (cs : List Subproblem) (fs : List Fate)
     → IsFinish dp reach o full rest os es ticket cs fs → (k : ℕ) (v : ℤ) → OneOf (Deep dp k v) (rest ++ os) → OneOf (Deep dp k v) (after rest os cs fs)
 rest-carries dp laws reach o full rest os es ticket cs fs f k v one =
     let kids = Each-then (IsChild dp o.subproblem.decisions) (IsOwn dp) cs (λ c x. x.own) f.own_kids in
-    let tail = staying (replaced fs) os ++ entering cs fs in
+    let tail = without_all (replaced fs) os ++ entering cs fs in
     elim (one-cases (Deep dp k v) rest os one) as (λ _. OneOf (Deep dp k v) (after rest os cs fs)) [
       | inl a ↦ one-left (Deep dp k v) rest tail a
       | inr b ↦ one-right (Deep dp k v) rest tail (open-carries dp laws reach os es ticket cs fs f.long f.fates f.rise (each-back (λ (o : Ticketed). IsOwn dp o.subproblem) full os f.own) kids k v b)
@@ -157,7 +157,7 @@ parent-carries dp laws reach o full rest os es ticket cs fs f k v d =
     let P : Subproblem → Type 0 = λ c. ReachesBelow dp k v c.decisions in
     let Known : Subproblem → Type 0 = λ c. IsChild dp o.subproblem.decisions c × IsHeld dp reach c.decisions c.bound in
     let known = each-both (IsChild dp o.subproblem.decisions) (λ c. IsHeld dp reach c.decisions c.bound) cs f.own_kids f.held_kids in
-    let stay = staying (replaced fs) os in
+    let stay = without_all (replaced fs) os in
     let new = entering cs fs in
     elim (f.matched y d.reaches.completion) as (λ _. Answer) [
       | inl most ↦ inl (at-most-then v (value_of dp y) reach least most)
@@ -194,7 +194,7 @@ pub finish-floors : (dp : Dp) → IsLawful dp → (reach : Option ℤ) (o : Tick
     → IsFinish dp reach o full rest os es ticket cs fs → Each (HasFloor dp reach (after rest os cs fs)) (put_all limit es (map (entry_of dp) (entering cs fs)))
 finish-floors dp laws reach o full rest os es ticket limit cs fs f =
     let carries = carries-from dp reach (full ++ os) (after rest os cs fs) (finish-carries dp laws reach o full rest os es ticket cs fs f) in
-    let stay = staying (replaced fs) os in
+    let stay = without_all (replaced fs) os in
     let new = entering cs fs in
     let own_new = kids-each (IsOwn dp) cs fs (Each-then (IsChild dp o.subproblem.decisions) (IsOwn dp) cs (λ c x. x.own) f.own_kids) in
     each-put (HasFloor dp reach (after rest os cs fs)) limit es (map (entry_of dp) new)

@@ -29,10 +29,10 @@ use Rattle.board_laws.proofs.With.{with-right, each-out, two-out, sum-with, leng
 use Rattle.board_laws.specs.Board.{full_slots, prefixes, BoardState, frontier, reach}
 use Rattle.dp_laws.specs.Children.{AreApart, DifferInPlace}
 use Rattle.dp_laws.proofs.Reaches.{covers-carried}
-use Rattle.board_laws.specs.Entering.{entering, replaced, is_among, staying, entry_of, put_all}
+use Rattle.board_laws.specs.Entering.{entering, replaced, is_among, without_all, entry_of, put_all}
 use Rattle.board_laws.specs.Fates.{tickets_after, fate_of, fates_on}
 use Rattle.board_laws.specs.Finishing.{MayFinish}
-use Rattle.board_laws.specs.GoodBoard.{pot_of, rest_of, IsEntry, IsBoard, IsGood}
+use Rattle.board_laws.specs.GoodBoard.{pot_of, share_of, IsEntry, IsBoard, IsGood}
 use Rattle.board_laws.specs.Laws.{FinishKeeps}
 use Rattle.board_laws.specs.Steps.{finished_by}
 use Rattle.board_laws.specs.declared.fate.Fate.{Fate}
@@ -46,12 +46,13 @@ own-entry dp laws next o own given = record {
   shorter = own.shorter;
   state = subst (λ s. IsStateOf dp (length o.subproblem.decisions) s) (sym own.row) (state_of-state dp laws.states o.subproblem.decisions own.prefix);
   bucket = refl;
+  rank = refl;
   given = given;
 }
 
 -- an entry is one when more tickets were given out
 entry-later : (dp : Dp) (next more : ℕ) → next ≤ more → (e : TableEntry) → IsEntry dp next e → IsEntry dp more e
-entry-later dp next more le e h = record { shorter = h.shorter; state = h.state; bucket = h.bucket; given = (let less = h.given in omega arith) }
+entry-later dp next more le e h = record { shorter = h.shorter; state = h.state; bucket = h.bucket; rank = h.rank; given = (let less = h.given in omega arith) }
 
 put-few : (limit : ℕ) (es new : List TableEntry) → length es ≤ limit → length (put_all limit es new) ≤ limit
 put-few limit es [] h = h
@@ -73,7 +74,7 @@ finish-board dp laws b who threshold cs given_fates g m =
     let kids = kids-hold dp (reach b) os b.entries b.next_ticket cs fs long fates in
     let next = tickets_after b.next_ticket fs in
     let p : Ticketed → Bool = λ o. not (is_among o.ticket (replaced fs)) in
-    let stay = staying (replaced fs) os in
+    let stay = without_all (replaced fs) os in
     let new = entering cs fs in
     let same : (rest ++ stay) ++ new ≡ after rest os cs fs = append_assoc rest stay new in
     let empty = emptied b.slots who o (slot-full (slice_get b.slots who) o m.full) in
@@ -130,7 +131,7 @@ finish-good dp laws b who threshold cs given_fates g h m =
     let long = fates-many (fate_of dp (reach b) os b.entries) b.next_ticket cs in
     let kids = kids-hold dp (reach b) os b.entries b.next_ticket cs fs long fates in
     let p : Ticketed → Bool = λ o. not (is_among o.ticket (replaced fs)) in
-    let stay = staying (replaced fs) os in
+    let stay = without_all (replaced fs) os in
     let new = entering cs fs in
     let same : (rest ++ stay) ++ new ≡ after rest os cs fs = append_assoc rest stay new in
     let empty = emptied b.slots who o (slot-full (slice_get b.slots who) o m.full) in
@@ -161,11 +162,11 @@ finish-good dp laws b who threshold cs given_fates g h m =
     let fewer = children-below dp o.subproblem.decisions new own_out.0.shorter child_new apart_new in
     let split = pots-split dp new own_new in
     let ends_before = sum-with (pot_of dp) o (rest ++ os) (frontier b) out in
-    let shares_before = sum-with (rest_of dp) o (rest ++ os) (frontier b) out in
+    let shares_before = sum-with (share_of dp) o (rest ++ os) (frontier b) out in
     let ends_less = sum-less (pot_of dp) p rest os in
-    let shares_less = sum-less (rest_of dp) p rest os in
+    let shares_less = sum-less (share_of dp) p rest os in
     let ends_after = ap (sum_by (pot_of dp)) (sym same) ∙ sum_by-append (pot_of dp) (rest ++ stay) new in
-    let shares_after = ap (sum_by (rest_of dp)) (sym same) ∙ sum_by-append (rest_of dp) (rest ++ stay) new in
+    let shares_after = ap (sum_by (share_of dp)) (sym same) ∙ sum_by-append (share_of dp) (rest ++ stay) new in
     let many = kids.many in
     record {
       covers = covers-carried dp (reach b) (reach b) (prefixes (frontier b)) (prefixes (after rest os cs fs)) (option-self (reach b)) carries h.covers;

@@ -21,9 +21,9 @@ use Rattle.shared_fringe.specs.Tickets.{Ticketed, IsEarlier}
 use Rattle.board_laws.proofs.Lists.{two-then}
 use Rattle.board_laws.specs.Board.{AreSettings, BoardState, reach_of, value_held, full_slots, prefixes}
 use Rattle.dp_laws.specs.Children.{AreApart}
-use Rattle.board_laws.specs.GoodBoard.{IncumbentHolds, IsBoard, IsGood, pot_of, rest_of}
+use Rattle.board_laws.specs.GoodBoard.{IncumbentHolds, IsBoard, IsGood, pot_of, share_of}
 use Rattle.board_laws.specs.Laws.{IsFirstGood}
-use Rattle.board_laws.specs.Steps.{root_with, root_of, opened, empty_slots, first_incumbent, first_open}
+use Rattle.board_laws.specs.Steps.{root_with, root_subproblem, root_opened, empty_slots, first_incumbent, first_open}
 use Rattle.board_laws.specs.declared.settings.Settings.{Settings}
 
 pub full-none : (n : ℕ) → full_slots (empty_slots n) ≡ []
@@ -47,7 +47,7 @@ record Begins (dp : Dp) (within : ℤ) (best : Option Solution) (os : List Ticke
   pub different : EachTwo AreDifferent os
   pub given : Each (λ o. o.ticket < length os) os
   pub ends : sum_by (pot_of dp) os ≤ tree dp
-  pub shares : length os + sum_by (rest_of dp) os ≤ tree dp
+  pub shares : length os + sum_by (share_of dp) os ≤ tree dp
 
 abbrev fresh_board : Option Solution → List Ticketed → Settings → BoardState
 fresh_board incumbent os settings = record {
@@ -97,7 +97,7 @@ begin-good dp best os settings s =
     let far = reach_of settings.within (value_held best) in
     let empty : length (full_slots (empty_slots settings.workers)) ≡ 0 = ap length (full-none settings.workers) in
     let ends : sum_by (pot_of dp) (full_slots (empty_slots settings.workers) ++ os) ≡ sum_by (pot_of dp) os = ap (sum_by (pot_of dp)) (sym same) in
-    let shares : sum_by (rest_of dp) (full_slots (empty_slots settings.workers) ++ os) ≡ sum_by (rest_of dp) os = ap (sum_by (rest_of dp)) (sym same) in
+    let shares : sum_by (share_of dp) (full_slots (empty_slots settings.workers) ++ os) ≡ sum_by (share_of dp) os = ap (sum_by (share_of dp)) (sym same) in
     let sum = s.ends in let sum_shares = s.shares in
     record {
       covers = subst (λ (l : List Ticketed). Covers dp far (prefixes l)) same s.covers;
@@ -150,13 +150,13 @@ begins-whole dp within least none =
     let root = root_value-is dp in
     let most : value_of dp x ≤ℤ (dp.root_value +ℤ within) = omega (arith, ints) in inl most)
 
-begins-root : (dp : Dp) (within : ℤ) → IsLawful dp → 0 < dp.vars → (rough : Option ℤ) → dp.rough 0 dp.root ≡ rough → Begins dp within None (opened (root_with dp (add_some dp.root_value rough)))
+begins-root : (dp : Dp) (within : ℤ) → IsLawful dp → 0 < dp.vars → (rough : Option ℤ) → dp.rough 0 dp.root ≡ rough → Begins dp within None (root_opened (root_with dp (add_some dp.root_value rough)))
 begins-root dp within laws some None is =
     begins-none dp within None tt (λ x s. absurd (subst (λ r. AtMost (gain_of dp 0 dp.root x) r) is (laws.rough.bounds 0 dp.root x (root-state dp laws) (from-root dp x s))))
 begins-root dp within laws some (Some rough) is =
     let root : Ticketed = record { ticket = 0; subproblem = record { decisions = []; row = dp.root; value = dp.root_value; bound = dp.root_value +ℤ rough } } in
     let ends = sum_by-cons (pot_of dp) root [] in
-    let shares = sum_by-cons (rest_of dp) root [] in
+    let shares = sum_by-cons (share_of dp) root [] in
     let one = pots-positive dp [] some in
     let value = laws.sizes.root_value in
     let small = laws.sizes.rough 0 dp.root rough (root-state dp laws) is in
@@ -183,7 +183,7 @@ begins-root dp within laws some (Some rough) is =
 
 first-begins : (dp : Dp) (within : ℤ) → pos 0 ≤ℤ within → IsLawful dp → Begins dp within (first_incumbent dp) (first_open dp)
 first-begins dp within least laws =
-    let Goal : Bool → Type 0 = λ b. Begins dp within (cond b (Some (record { decisions = []; value = dp.root_value })) None) (cond b [] (opened (root_of dp))) in
+    let Goal : Bool → Type 0 = λ b. Begins dp within (cond b (Some (record { decisions = []; value = dp.root_value })) None) (cond b [] (root_opened (root_subproblem dp))) in
     let go : (b : Bool) → nat_eq dp.vars 0 ≡ b → Goal b = λ b. elim b as (λ b. nat_eq dp.vars 0 ≡ b → Goal b) [
       | true ↦ λ e. begins-whole dp within least (grind (arith, nat_tests))
       | false ↦ λ e. begins-root dp within laws (grind (arith, nat_tests)) (dp.rough 0 dp.root) refl

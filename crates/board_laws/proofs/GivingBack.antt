@@ -21,7 +21,7 @@ use Rattle.board_laws.proofs.With.{with-right, each-out, two-out, one-out_of, su
 use Rattle.board_laws.specs.Board.{reach, full_slots, prefixes, BoardState, frontier, slot_at}
 use Rattle.dp_laws.specs.Children.{AreApart}
 use Rattle.dp_laws.proofs.Reaches.{covers-carried, floor-carried}
-use Rattle.board_laws.specs.GoodBoard.{pot_of, rest_of, HasFloor, IsBoard, IsGood}
+use Rattle.board_laws.specs.GoodBoard.{pot_of, share_of, HasFloor, IsBoard, IsGood}
 use Rattle.board_laws.specs.Laws.{GiveBackKeeps}
 use Rattle.board_laws.specs.Steps.{given_back_from}
 
@@ -73,9 +73,9 @@ back-good dp b who o new at halted h p goes =
     let by : CarriesBy dp (reach b) (frontier b) (rest ++ new) = λ k v one. goes k v (one-out_of (Deep dp k v) o (rest ++ os) (frontier b) out one) in
     let carries = carries-from dp (reach b) (frontier b) (rest ++ new) by in
     let ends_before = sum-with (pot_of dp) o (rest ++ os) (frontier b) out in
-    let shares_before = sum-with (rest_of dp) o (rest ++ os) (frontier b) out in
+    let shares_before = sum-with (share_of dp) o (rest ++ os) (frontier b) out in
     let ends = p.sum (pot_of dp) in
-    let shares = p.sum (rest_of dp) in
+    let shares = p.sum (share_of dp) in
     record {
       covers = covers-carried dp (reach b) (reach b) (prefixes (frontier b)) (prefixes (rest ++ new)) (option-self (reach b)) carries h.covers;
       held = p.each (λ o. IsHeld dp (reach b) o.subproblem.decisions o.subproblem.bound) held.0 held.1;

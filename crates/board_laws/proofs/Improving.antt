@@ -18,7 +18,7 @@ use Rattle.board_laws.proofs.Lists.{each-less, two-less, sum-less, one-left, one
 use Rattle.board_laws.specs.Board.{reach, reach_of, incumbent_value, full_slots, prefixes, BoardState, frontier}
 use Rattle.dp_laws.specs.Children.{AreApart}
 use Rattle.dp_laws.proofs.Reaches.{at-most-raised, covers-carried, floor-carried}
-use Rattle.board_laws.specs.GoodBoard.{IncumbentHolds, pot_of, rest_of, HasFloor, IsBoard, IsGood}
+use Rattle.board_laws.specs.GoodBoard.{IncumbentHolds, pot_of, share_of, HasFloor, IsBoard, IsGood}
 use Rattle.board_laws.specs.Laws.{ImproveKeeps}
 use Rattle.board_laws.specs.Steps.{improved}
 
@@ -80,7 +80,7 @@ improve-good dp b best up h =
     let after = full ++ filter p os in
     let carries = carries-from dp more (frontier b) after (drop-carries dp more full os (each-back (λ o. IsHeld dp more o.subproblem.decisions o.subproblem.bound) full os held)) in
     let ends = sum-less (pot_of dp) p full os in
-    let shares = sum-less (rest_of dp) p full os in
+    let shares = sum-less (share_of dp) p full os in
     record {
       covers = covers-carried dp (reach b) more (prefixes (frontier b)) (prefixes after) le carries h.covers;
       held = each-less (λ o. IsHeld dp more o.subproblem.decisions o.subproblem.bound) p full os held;

@@ -14,7 +14,6 @@ pub mod FinishingBoard
 pub mod Improving
 mod Pushed
 pub mod GivingBack
-pub mod Firsts
 pub mod Taking
 pub mod Carrying
 pub mod Halting

@@ -11,7 +11,7 @@ use Rattle.dp_laws.proofs.Lists.{each-filter, two-filter}
 use Rattle.board_laws.proofs.Fates.{FatesHold, fates-hold, fates-many, found-one, same-ticket}
 use Rattle.board_laws.proofs.Lists.{two-append}
 use Rattle.dp_laws.specs.Children.{DifferInPlace}
-use Rattle.board_laws.specs.Entering.{entering, replaced, is_among, staying, put_all}
+use Rattle.board_laws.specs.Entering.{entering, replaced, is_among, without_all, put_all}
 use Rattle.board_laws.specs.Fates.{fate_of, fates_by, ticket_after}
 use Rattle.board_laws.specs.Pushes.{push_by, PushesAreFates, PutsAreEntries}
 use Rattle.board_laws.specs.declared.fate.Fate.{Fate}
@@ -85,21 +85,21 @@ find-without depth row old (x ∷ os) h =
       | false ↦ λ e. ap (λ s. cond (is_same depth row x) (Some x) s) rest
     ] in go (nat_eq x.ticket old) refl
 
-staying-none : (os : List Ticketed) → staying [] os ++ [] ≡ os
-staying-none [] = refl
-staying-none (x ∷ os) = ap (λ l. x ∷ l) (staying-none os)
+without_all-none : (os : List Ticketed) → without_all [] os ++ [] ≡ os
+without_all-none [] = refl
+without_all-none (x ∷ os) = ap (λ l. x ∷ l) (without_all-none os)
 
-staying-more : (ts : List ℕ) (os : List Ticketed) (k : Ticketed) → is_among k.ticket ts ≡ false → staying ts (os ++ k ∷ []) ≡ staying ts os ++ k ∷ []
-staying-more ts [] k h = ap (λ b. cond (not b) (k ∷ []) []) h
-staying-more ts (x ∷ os) k h =
-    let rest = staying-more ts os k h in
-    elim (is_among x.ticket ts) as (λ b. cond (not b) (x ∷ staying ts (os ++ k ∷ [])) (staying ts (os ++ k ∷ [])) ≡ cond (not b) (x ∷ staying ts os) (staying ts os) ++ k ∷ []) [ true ↦ rest | false ↦ ap (λ l. x ∷ l) rest ]
+without_all-more : (ts : List ℕ) (os : List Ticketed) (k : Ticketed) → is_among k.ticket ts ≡ false → without_all ts (os ++ k ∷ []) ≡ without_all ts os ++ k ∷ []
+without_all-more ts [] k h = ap (λ b. cond (not b) (k ∷ []) []) h
+without_all-more ts (x ∷ os) k h =
+    let rest = without_all-more ts os k h in
+    elim (is_among x.ticket ts) as (λ b. cond (not b) (x ∷ without_all ts (os ++ k ∷ [])) (without_all ts (os ++ k ∷ [])) ≡ cond (not b) (x ∷ without_all ts os) (without_all ts os) ++ k ∷ []) [ true ↦ rest | false ↦ ap (λ l. x ∷ l) rest ]
 
-staying-without : (old : ℕ) (ts : List ℕ) (os : List Ticketed) → staying ts (without old os) ≡ staying (old ∷ ts) os
-staying-without old ts [] = refl
-staying-without old ts (x ∷ os) =
-    let rest = staying-without old ts os in
-    elim (nat_eq x.ticket old) as (λ b. staying ts (cond (not b) (x ∷ without old os) (without old os)) ≡ cond (not (b || is_among x.ticket ts)) (x ∷ staying (old ∷ ts) os) (staying (old ∷ ts) os)) [
+without_all-without : (old : ℕ) (ts : List ℕ) (os : List Ticketed) → without_all ts (without old os) ≡ without_all (old ∷ ts) os
+without_all-without old ts [] = refl
+without_all-without old ts (x ∷ os) =
+    let rest = without_all-without old ts os in
+    elim (nat_eq x.ticket old) as (λ b. without_all ts (cond (not b) (x ∷ without old os) (without old os)) ≡ cond (not (b || is_among x.ticket ts)) (x ∷ without_all (old ∷ ts) os) (without_all (old ∷ ts) os)) [
       | true ↦ rest
       | false ↦ ap (λ l. cond (not (is_among x.ticket ts)) (x ∷ l) l) rest
     ]
@@ -165,8 +165,8 @@ own-below : (os : List Ticketed) (own ticket : ℕ) → own ≡ ticket → Each 
 own-below os own ticket is low = subst (λ n. Each (λ (x : Ticketed). x.ticket < n) os) (sym is) low
 
 pushes : (os : List Ticketed) (ticket : ℕ) (cs : List Subproblem) (fs : List Fate) → length fs ≡ length cs → PushesHold os ticket cs fs → EachTwo IsEarlier os → Each (λ x. x.ticket < ticket) os → EachTwo DifferInPlace cs
-    → push_by cs fs os ≡ staying (replaced fs) os ++ entering cs fs
-pushes os ticket [] [] long h rise low two = sym (staying-none os)
+    → push_by cs fs os ≡ without_all (replaced fs) os ++ entering cs fs
+pushes os ticket [] [] long h rise low two = sym (without_all-none os)
 pushes os ticket [] (f ∷ fs) long h rise low two = absurd (omega arith)
 pushes os ticket (c ∷ cs) [] long h rise low two = absurd h
 pushes os ticket (c ∷ cs) (Below ∷ fs) long h rise low two = pushes os ticket cs fs (omega arith) h.1 rise low two.1
@@ -179,8 +179,8 @@ pushes os ticket (c ∷ cs) (Entered own ∷ fs) long h rise low two =
     let own_low = own-below os own ticket is low in
     let step : after_push k os ≡ new = ap (pushed_beside k os) h.0.1 ∙ last-by_ticket k os own_low in
     let rest = pushes new (ticket + 1) cs fs (omega arith) (moved os new (ticket + 1) cs fs (beside-kid own c os cs two.0) h.1) (kid-rises os own ticket c is rise low) (kid-below os own ticket c is low) two.1 in
-    let there = staying-more (replaced fs) os k (old-below own os (ticket + 1) cs fs (omega arith) h.1 own_low) in
-    ap (push_by cs fs) step ∙ (rest ∙ (ap (λ l. l ++ entering cs fs) there ∙ append_assoc (staying (replaced fs) os) (k ∷ []) (entering cs fs)))
+    let there = without_all-more (replaced fs) os k (old-below own os (ticket + 1) cs fs (omega arith) h.1 own_low) in
+    ap (push_by cs fs) step ∙ (rest ∙ (ap (λ l. l ++ entering cs fs) there ∙ append_assoc (without_all (replaced fs) os) (k ∷ []) (entering cs fs)))
 pushes os ticket (c ∷ cs) (Replaced own old ∷ fs) long h rise low two =
     let k = kid own c in
     let other = h.0.other in
@@ -195,8 +195,8 @@ pushes os ticket (c ∷ cs) (Replaced own old ∷ fs) long h rise low two =
     let step : after_push k os ≡ new = ap (pushed_beside k os) h.0.found ∙ (put ∙ (ap (λ t. by_ticket k (without t os)) (sym h.0.old_is) ∙ last-by_ticket k left own_low)) in
     let same = each-both-find c own old other os cs rise h.0.found h.0.old_is two.0 in
     let rest = pushes new (ticket + 1) cs fs (omega arith) (moved os new (ticket + 1) cs fs same h.1) (kid-rises left own ticket c is rise_left low_left) (kid-below left own ticket c is low_left) two.1 in
-    let there = staying-more (replaced fs) left k (old-below own os (ticket + 1) cs fs (omega arith) h.1 (own-below os own ticket is low)) in
-    ap (push_by cs fs) step ∙ (rest ∙ (ap (λ l. l ++ entering cs fs) there ∙ (append_assoc (staying (replaced fs) left) (k ∷ []) (entering cs fs) ∙ ap (λ l. l ++ k ∷ entering cs fs) (staying-without old (replaced fs) os))))
+    let there = without_all-more (replaced fs) left k (old-below own os (ticket + 1) cs fs (omega arith) h.1 (own-below os own ticket is low)) in
+    ap (push_by cs fs) step ∙ (rest ∙ (ap (λ l. l ++ entering cs fs) there ∙ (append_assoc (without_all (replaced fs) left) (k ∷ []) (entering cs fs) ∙ ap (λ l. l ++ k ∷ entering cs fs) (without_all-without old (replaced fs) os))))
 
 pub pushes-are-fates : (dp : Dp) → PushesAreFates dp
 pushes-are-fates dp reach os es ticket cs rise low two =

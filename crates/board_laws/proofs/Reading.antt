@@ -12,7 +12,8 @@ use Rattle.board_laws.proofs.Counting.{pots-many}
 use Rattle.board_laws.proofs.Frontier.{MatchedBy, HeldBy, covers-by, matched-below}
 use Rattle.board_laws.proofs.Lists.{one-each, one-out}
 use Rattle.board_laws.specs.Board.{BoardState, incumbent_value, value_held, full_slots, frontier, reach, reach_of, is_explored}
-use Rattle.board_laws.specs.Bound.{raised, raised_by, bound_of, IsGreatest}
+use Rattle.shared_fringe.specs.Bounds.{raised}
+use Rattle.board_laws.specs.Bound.{raised_by, board_bound, IsGreatestBound}
 use Rattle.board_laws.specs.GoodBoard.{IsGood, IncumbentHolds, IsBoard}
 use Rattle.board_laws.specs.Laws.{NoneExceedsTheBound, ExploredIsWithinReach, ExploredIsBest}
 use Rattle.shared_fringe.specs.Tickets.{Ticketed}
@@ -62,9 +63,9 @@ option-most None most up = tt
 option-most (Some z) most up = up z (omega (arith, ints))
 
 -- the bound is the greatest of the reach and the bounds of all that is out or open
-pub bound-greatest : (b : BoardState) → IsGreatest b (bound_of b)
+pub bound-greatest : (b : BoardState) → IsGreatestBound b (board_bound b)
 bound-greatest b = record {
-  reached = option-most (reach b) (bound_of b) (raised-keeps (frontier b) (reach b));
+  reached = option-most (reach b) (board_bound b) (raised-keeps (frontier b) (reach b));
   each = raised-each (frontier b) (reach b);
   one = raised-one (frontier b) (reach b);
 }
@@ -77,7 +78,7 @@ held-by-more dp inc more up o h x c =
 pub bound-holds : (dp : Dp) → NoneExceedsTheBound dp
 bound-holds dp b g x s =
     let inc = reach b in
-    let most = bound_of b in
+    let most = board_bound b in
     let up : (z : ℤ) → AtMost z inc → AtMost z most = raised-keeps (frontier b) inc in
     elim (covers-by dp inc (frontier b) g.covers x s) as (λ _. AtMost (value_of dp x) most) [
       | inl a ↦ up (value_of dp x) a

@@ -19,8 +19,8 @@ use Rattle.board_laws.proofs.Improving.{improve-keeps}
 use Rattle.board_laws.proofs.Taking.{same-kept, take-keeps}
 use Rattle.board_laws.specs.Board.{BoardState, incumbent_value, slot_of, slot_at}
 use Rattle.board_laws.specs.Fates.{ticket_after, tickets_after, fates_on}
-use Rattle.board_laws.specs.Laws.{Keeps, StepsKeep, RunKeeps, RunsKeep}
-use Rattle.board_laws.specs.Runs.{Step, May, after, offered, worker_of, Follows, IsRun}
+use Rattle.board_laws.specs.Laws.{KeepsBoard, StepsKeep, RunKeeps, RunsKeep}
+use Rattle.board_laws.specs.Runs.{Step, May, after, offered, worker_of, IsLaterInRun, IsRun}
 use Rattle.board_laws.specs.Steps.{improved, given_back_from}
 use Rattle.board_laws.specs.Taking.{take_gives, checked_out, after_answer}
 use Rattle.board_laws.specs.declared.fate.Fate.{Fate}
@@ -38,10 +38,10 @@ pub option-then : (a b c : Option ℤ) → OptionAtMost a b → OptionAtMost b c
 option-then None b c h k = tt
 option-then (Some z) b c h k = at-most-raised z b c k h
 
-pub follows-self : (b : BoardState) → Follows b b
+pub follows-self : (b : BoardState) → IsLaterInRun b b
 follows-self b = record { settings = refl; better = option-self (incumbent_value b); taken = omega arith; finished = omega arith; next_ticket = omega arith }
 
-pub follows-then : (a b c : BoardState) → Follows a b → Follows b c → Follows a c
+pub follows-then : (a b c : BoardState) → IsLaterInRun a b → IsLaterInRun b c → IsLaterInRun a c
 follows-then a b c h k = record {
   settings = k.settings ∙ h.settings;
   better = option-then (incumbent_value a) (incumbent_value b) (incumbent_value c) h.better k.better;
@@ -50,11 +50,11 @@ follows-then a b c h k = record {
   next_ticket = (let first = h.next_ticket in let second = k.next_ticket in omega arith);
 }
 
-out-follows : (b : BoardState) (who : ℕ) (first : Option Ticketed) → Follows b (checked_out b who first)
+out-follows : (b : BoardState) (who : ℕ) (first : Option Ticketed) → IsLaterInRun b (checked_out b who first)
 out-follows b who None = follows-self b
 out-follows b who (Some o) = record { settings = refl; better = option-self (incumbent_value b); taken = omega arith; finished = omega arith; next_ticket = omega arith }
 
-answer-follows : (b : BoardState) (who : ℕ) (answer : Taken) → Follows b (after_answer b who answer)
+answer-follows : (b : BoardState) (who : ℕ) (answer : Taken) → IsLaterInRun b (after_answer b who answer)
 answer-follows b who Sub = out-follows b who (first_taken b.open_ones)
 answer-follows b who WaitForOthers = follows-self b
 answer-follows b who Finished = follows-self b
@@ -64,7 +64,7 @@ above-less : (inc : Option ℤ) (value : ℤ) → is_above inc value ≡ true �
 above-less None value h = tt
 above-less (Some old) value h = grind (arith, ints)
 
-pub improved-follows : (b : BoardState) (best : Solution) → is_above (incumbent_value b) best.value ≡ true → Follows b (improved b best)
+pub improved-follows : (b : BoardState) (best : Solution) → is_above (incumbent_value b) best.value ≡ true → IsLaterInRun b (improved b best)
 improved-follows b best up = record { settings = refl; better = above-less (incumbent_value b) best.value up; taken = omega arith; finished = omega arith; next_ticket = omega arith }
 
 fate-later : (ticket : ℕ) (f : Fate) → ticket ≤ ticket_after ticket f
@@ -78,7 +78,7 @@ pub tickets-later : (ticket : ℕ) (fs : List Fate) → ticket ≤ tickets_after
 tickets-later ticket [] = omega arith
 tickets-later ticket (f ∷ fs) = let first = fate-later ticket f in let rest = tickets-later (ticket_after ticket f) fs in omega arith
 
-back-follows : (b : BoardState) (who : ℕ) (slot : Option Ticketed) → Follows b (given_back_from b who slot)
+back-follows : (b : BoardState) (who : ℕ) (slot : Option Ticketed) → IsLaterInRun b (given_back_from b who slot)
 back-follows b who None = follows-self b
 back-follows b who (Some o) = record { settings = refl; better = option-self (incumbent_value b); taken = omega arith; finished = omega arith; next_ticket = omega arith }
 
@@ -90,9 +90,9 @@ offered-is P dp b x same better =
     let go : (up : Bool) → is_above (incumbent_value b) (value_of dp x) ≡ up → P (cond up later b) = λ up. elim up as (λ up. is_above (incumbent_value b) (value_of dp x) ≡ up → P (cond up later b)) [ true ↦ λ e. better e | false ↦ λ e. same ] in
     go (is_above (incumbent_value b) (value_of dp x)) refl
 
-pub step-follows : (dp : Dp) (b : BoardState) (step : Step) → Follows b (after dp b step)
+pub step-follows : (dp : Dp) (b : BoardState) (step : Step) → IsLaterInRun b (after dp b step)
 step-follows dp b (Take who) = answer-follows b who (take_gives b)
-step-follows dp b (Improve x) = offered-is (Follows b) dp b x (follows-self b) (improved-follows b (record { decisions = x; value = value_of dp x }))
+step-follows dp b (Improve x) = offered-is (IsLaterInRun b) dp b x (follows-self b) (improved-follows b (record { decisions = x; value = value_of dp x }))
 step-follows dp b (Finish who threshold cs) = record {
   settings = refl;
   better = option-self (incumbent_value b);
@@ -138,9 +138,9 @@ step-others dp b (Halt cause) other differ = refl
 
 -- The board.
 
-step-keeps : (dp : Dp) → IsLawful dp → (b : BoardState) (step : Step) → May dp b step → Keeps dp b (after dp b step)
+step-keeps : (dp : Dp) → IsLawful dp → (b : BoardState) (step : Step) → May dp b step → KeepsBoard dp b (after dp b step)
 step-keeps dp laws b (Take who) may = take-keeps dp b who may
-step-keeps dp laws b (Improve x) may = offered-is (Keeps dp b) dp b x (same-kept dp b) (improve-keeps dp b (record { decisions = x; value = value_of dp x }) (record { solution = may; value = refl }))
+step-keeps dp laws b (Improve x) may = offered-is (KeepsBoard dp b) dp b x (same-kept dp b) (improve-keeps dp b (record { decisions = x; value = value_of dp x }) (record { solution = may; value = refl }))
 step-keeps dp laws b (Finish who threshold cs) may = finish-keeps dp laws b who threshold cs (fates_on dp b cs) may
 step-keeps dp laws b (GiveBack who) may = (let h = give-back-keeps dp laws in record { board = h.board b who; good = h.good b who may.halted })
 step-keeps dp laws b (Halt cause) may = halt-keeps dp b cause
@@ -148,7 +148,7 @@ step-keeps dp laws b (Halt cause) may = halt-keeps dp b cause
 pub steps-keep : (dp : Dp) → IsLawful dp → StepsKeep dp
 steps-keep dp laws b step may = record { keeps = step-keeps dp laws b step may; follows = step-follows dp b step; others = step-others dp b step }
 
-keeps-then : (dp : Dp) (a b c : BoardState) → Keeps dp a b → Keeps dp b c → Keeps dp a c
+keeps-then : (dp : Dp) (a b c : BoardState) → KeepsBoard dp a b → KeepsBoard dp b c → KeepsBoard dp a c
 keeps-then dp a b c h k = record { board = λ g. k.board (h.board g); good = λ g x. k.good (h.board g) (h.good g x) }
 
 pub runs-keep : (dp : Dp) → IsLawful dp → RunsKeep dp
@@ -167,8 +167,8 @@ run-then dp a b c (step ∷ first) then h k = (h.0, run-then dp (after dp a step
 pub run-one : (dp : Dp) (b : BoardState) (step : Step) (later : BoardState) → May dp b step → later ≡ after dp b step → IsRun dp b (step ∷ []) later
 run-one dp b step later may is = (may, sym is)
 
-pub run-follows : (dp : Dp) (b : BoardState) (steps : List Step) (last : BoardState) → IsRun dp b steps last → Follows b last
-run-follows dp b [] last run = subst (Follows b) run (follows-self b)
+pub run-follows : (dp : Dp) (b : BoardState) (steps : List Step) (last : BoardState) → IsRun dp b steps last → IsLaterInRun b last
+run-follows dp b [] last run = subst (IsLaterInRun b) run (follows-self b)
 run-follows dp b (step ∷ steps) last run = follows-then b (after dp b step) last (step-follows dp b step) (run-follows dp (after dp b step) steps last run.1)
 
 -- a run by an offer

@@ -14,7 +14,7 @@ use Rattle.shared_fringe.specs.Fringe.{AreDifferent}
 use Rattle.shared_fringe.specs.Tickets.{Ticketed, IsEarlier, without}
 use Rattle.shared_fringe.proofs.Tickets.{without-later}
 use Rattle.board_laws.proofs.Carrying.{Deep, CarriesBy, carries-from, option-self}
-use Rattle.board_laws.proofs.Firsts.{first_taken-is}
+use Rattle.shared_fringe.proofs.Takings.{first_taken-is}
 use Rattle.board_laws.proofs.Frontier.{each-moved, one-moved, two-moved, sum-moved, tickets-flip, apart-flip}
 use Rattle.board_laws.proofs.Lists.{one-each, one-out}
 use Rattle.board_laws.proofs.Slots.{filled, full-few}
@@ -22,8 +22,8 @@ use Rattle.board_laws.proofs.With.{IsWith, with-left, with-right, length-with, w
 use Rattle.board_laws.specs.Board.{reach, full_slots, prefixes, BoardState, frontier, is_explored}
 use Rattle.dp_laws.specs.Children.{AreApart}
 use Rattle.dp_laws.proofs.Reaches.{covers-carried, floor-carried}
-use Rattle.board_laws.specs.GoodBoard.{pot_of, rest_of, HasFloor, IsBoard, IsGood}
-use Rattle.board_laws.specs.Laws.{TakeKeeps, Keeps}
+use Rattle.board_laws.specs.GoodBoard.{pot_of, share_of, HasFloor, IsBoard, IsGood}
+use Rattle.board_laws.specs.Laws.{TakeKeeps, KeepsBoard}
 use Rattle.board_laws.specs.Taking.{checked_out, is_budget_up, take_gives, take_open, take_unless, after_answer}
 use Rattle.board_laws.specs.declared.cause.Cause.{Cause}
 use Rattle.board_laws.specs.declared.cause.Cause.TheVariants.{Budget}
@@ -90,7 +90,7 @@ take-good dp b who o at from h =
     let more = length-with o full full2 fill in
     let carries = carries-from dp (reach b) (frontier b) after (moved-carries dp (reach b) o base (frontier b) after whole to) in
     let ends = sum-moved (pot_of dp) o base (frontier b) after whole to in
-    let shares = sum-moved (rest_of dp) o base (frontier b) after whole to in
+    let shares = sum-moved (share_of dp) o base (frontier b) after whole to in
     record {
       covers = covers-carried dp (reach b) (reach b) (prefixes (frontier b)) (prefixes after) (option-self (reach b)) carries h.covers;
       held = each-moved (λ o. IsHeld dp (reach b) o.subproblem.decisions o.subproblem.bound) o base (frontier b) after whole to h.held;
@@ -149,13 +149,13 @@ with-without (x ∷ os) o rise (inr h) =
     let rest : without o.ticket (x ∷ os) ≡ x ∷ without o.ticket os = ap (λ b. cond (not b) (x ∷ without o.ticket os) (without o.ticket os)) other in
     subst (λ l. IsWith o l (x ∷ os)) (sym rest) (with-there o x (without o.ticket os) os (with-without os o rise.1 h))
 
-pub same-kept : (dp : Dp) (b : BoardState) → Keeps dp b b
+pub same-kept : (dp : Dp) (b : BoardState) → KeepsBoard dp b b
 same-kept dp b = record { board = λ g. g; good = λ g h. h }
 
 pub first-out : (os : List Ticketed) (o : Ticketed) → first_taken os ≡ Some o → EachTwo IsEarlier os → IsWith o (without o.ticket os) os
 first-out os o is rise = with-without os o rise (first_taken-is os o (sym is)).one
 
-out-keeps : (dp : Dp) (b : BoardState) (who : ℕ) → slice_get b.slots who ≡ Some None → is_budget_up b ≡ false → (first : Option Ticketed) → first_taken b.open_ones ≡ first → Keeps dp b (checked_out b who first)
+out-keeps : (dp : Dp) (b : BoardState) (who : ℕ) → slice_get b.slots who ≡ Some None → is_budget_up b ≡ false → (first : Option Ticketed) → first_taken b.open_ones ≡ first → KeepsBoard dp b (checked_out b who first)
 out-keeps dp b who empty left None is = same-kept dp b
 out-keeps dp b who empty left (Some o) is =
     let parts = or-parts (nat_eq b.taken b.settings.budget) (nat_lt (2 ^ 64 - 2 ^ 29) b.next_ticket) left in
@@ -166,7 +166,7 @@ out-keeps dp b who empty left (Some o) is =
       good = λ g h. take-good dp b who o empty (first-out b.open_ones o is g.ordered) h;
     }
 
-answer-keeps : (dp : Dp) (b : BoardState) (who : ℕ) → slice_get b.slots who ≡ Some None → (answer : Taken) → take_gives b ≡ answer → Keeps dp b (after_answer b who answer)
+answer-keeps : (dp : Dp) (b : BoardState) (who : ℕ) → slice_get b.slots who ≡ Some None → (answer : Taken) → take_gives b ≡ answer → KeepsBoard dp b (after_answer b who answer)
 answer-keeps dp b who empty Sub is = (let h = hands b is in out-keeps dp b who empty h.left (first_taken b.open_ones) refl)
 answer-keeps dp b who empty WaitForOthers is = same-kept dp b
 answer-keeps dp b who empty Finished is = same-kept dp b

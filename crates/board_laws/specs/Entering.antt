@@ -3,6 +3,7 @@ use Rattle.std.specs.Prelude.{ℕ, Bool, false, not, ◌||◌, cond, List, [], �
 use Rattle.dp_model.specs.Dp.{Dp}
 use Rattle.dp_model.specs.Subproblem.{Subproblem}
 use Rattle.shared_fringe.specs.Tickets.{Ticketed}
+use Rattle.dominance_table.specs.Dominator.{entry_of_state}
 use Rattle.dominance_table.specs.Entries.{TableEntry}
 use Rattle.board_laws.specs.declared.fate.Fate.{Fate}
 use Rattle.board_laws.specs.declared.fate.Fate.TheVariants.{Below, Kept, Dominated, Replaced, Entered}
@@ -37,18 +38,12 @@ is_among t [] = false
 is_among t (s ∷ ts) = nat_eq t s || is_among t ts
 
 -- the open subproblems without those of these tickets
-abbrev pub staying : List ℕ → List Ticketed → List Ticketed
-staying ts os = filter (λ o. not (is_among o.ticket ts)) os
+abbrev pub without_all : List ℕ → List Ticketed → List Ticketed
+without_all ts os = filter (λ o. not (is_among o.ticket ts)) os
 
 -- the entry that a child leaves in the table
 abbrev pub entry_of : Dp → Ticketed → TableEntry
-entry_of dp o = record {
-  depth = length o.subproblem.decisions;
-  bucket = dp.bucket (length o.subproblem.decisions) o.subproblem.row;
-  row = o.subproblem.row;
-  value = o.subproblem.value;
-  ticket = o.ticket;
-}
+entry_of dp o = entry_of_state dp (length o.subproblem.decisions) o.subproblem.row o.subproblem.value o.ticket
 
 -- the entries with more of them, each unless the table has its limit
 abbrev pub put_all : ℕ → List TableEntry → List TableEntry → List TableEntry

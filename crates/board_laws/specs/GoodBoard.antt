@@ -11,6 +11,7 @@ use Rattle.dp_model.specs.Subproblem.{IsOwn}
 use Rattle.dp_laws.specs.Pairs.{EachTwo}
 use Rattle.shared_fringe.specs.Fringe.{AreDifferent}
 use Rattle.shared_fringe.specs.Tickets.{Ticketed, IsEarlier}
+use Rattle.dominance_table.specs.Dominator.{IsRankOf}
 use Rattle.dominance_table.specs.Entries.{TableEntry}
 use Rattle.board_laws.specs.declared.cause.Cause.TheVariants.{Budget}
 use Rattle.board_laws.specs.Board.{AreSettings, BoardState, reach, full_slots, frontier, prefixes}
@@ -27,12 +28,13 @@ pub record TicketsHold (next : ℕ) (os : List Ticketed) : Type 0 where
   pub distinct : EachTwo (λ a b. a.ticket ≢ b.ticket) os
   pub given : Each (λ o. o.ticket < next) os
 
--- an entry: its row is a state of its depth, which has variables to decide, its bucket is that of the state, and its ticket was
--- given out
+-- an entry: its row is a state of its depth, which has variables to decide, its bucket and its rank, where it was told, are those of
+-- the state, and its ticket was given out
 pub record IsEntry (dp : Dp) (next : ℕ) (e : TableEntry) : Type 0 where
   pub shorter : e.depth < dp.vars
   pub state : IsStateOf dp e.depth e.row
   pub bucket : e.bucket ≡ dp.bucket e.depth e.row
+  pub rank : IsRankOf dp e.depth e.row e.rank
   pub given : e.ticket < next
 
 -- what every board keeps, wherever it comes from: the incumbent is feasible, each of the frontier is a prefix of its own whose bound is
@@ -63,8 +65,8 @@ HasFloor dp reach os e = IsFloor dp reach (prefixes os) e.depth e.row e.value
 abbrev pub pot_of : Dp → Ticketed → ℕ
 pot_of dp o = pot dp o.subproblem.decisions
 
-abbrev pub rest_of : Dp → Ticketed → ℕ
-rest_of dp o = pot_of dp o - 1
+abbrev pub share_of : Dp → Ticketed → ℕ
+share_of dp o = pot_of dp o - 1
 
 -- what a good board keeps beside: the frontier covers with the reach, every bound is held, every entry has its floor, no prefix of the
 -- frontier begins with another, and the counts are bounded by the number of prefixes that there are
@@ -75,4 +77,4 @@ pub record IsGood (dp : Dp) (b : BoardState) : Type 0 where
   pub apart : EachTwo (λ a o. AreApart a.subproblem o.subproblem) (frontier b)
   pub ends : b.finished + sum_by (pot_of dp) (frontier b) ≤ tree dp
   pub balanced : b.cause ≡ None → b.finished + length (full_slots b.slots) ≡ b.taken
-  pub shares : b.next_ticket + sum_by (rest_of dp) (frontier b) ≤ tree dp
+  pub shares : b.next_ticket + sum_by (share_of dp) (frontier b) ≤ tree dp

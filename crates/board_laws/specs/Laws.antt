@@ -10,26 +10,26 @@ use Rattle.board_laws.specs.declared.cause.Cause.{Cause}
 use Rattle.board_laws.specs.declared.fate.Fate.{Fate}
 use Rattle.board_laws.specs.declared.settings.Settings.{Settings}
 use Rattle.board_laws.specs.Board.{AreSettings, BoardState, incumbent_value, reach, slot_at, is_explored}
-use Rattle.board_laws.specs.Bound.{bound_of}
+use Rattle.board_laws.specs.Bound.{board_bound}
 use Rattle.board_laws.specs.Finishing.{MayFinish}
 use Rattle.board_laws.specs.GoodBoard.{IncumbentHolds, IsBoard, IsGood}
-use Rattle.board_laws.specs.Runs.{Step, May, after, worker_of, IsRun, Follows}
+use Rattle.board_laws.specs.Runs.{Step, May, after, worker_of, IsRun, IsLaterInRun}
 use Rattle.board_laws.specs.Steps.{improved, finished_by, given_back, halted, first_board}
 use Rattle.board_laws.specs.Taking.{after_take}
 
 -- the second board keeps what the first one keeps
-pub record Keeps (dp : Dp) (b later : BoardState) : Type 0 where
+pub record KeepsBoard (dp : Dp) (b later : BoardState) : Type 0 where
   pub board : IsBoard dp b → IsBoard dp later
   pub good : IsBoard dp b → IsGood dp b → IsGood dp later
 
 abbrev pub TakeKeeps : Dp → Type 0
-TakeKeeps dp = (b : BoardState) (who : ℕ) → slice_get b.slots who ≡ Some None → Keeps dp b (after_take b who)
+TakeKeeps dp = (b : BoardState) (who : ℕ) → slice_get b.slots who ≡ Some None → KeepsBoard dp b (after_take b who)
 
 abbrev pub ImproveKeeps : Dp → Type 0
-ImproveKeeps dp = (b : BoardState) (best : Solution) → IncumbentHolds dp (Some best) → is_above (incumbent_value b) best.value ≡ true → Keeps dp b (improved b best)
+ImproveKeeps dp = (b : BoardState) (best : Solution) → IncumbentHolds dp (Some best) → is_above (incumbent_value b) best.value ≡ true → KeepsBoard dp b (improved b best)
 
 abbrev pub FinishKeeps : Dp → Type 0
-FinishKeeps dp = (b : BoardState) (who : ℕ) (threshold : Option ℤ) (cs : List Subproblem) (fs : List Fate) → MayFinish dp b who threshold cs fs → Keeps dp b (finished_by dp b who cs)
+FinishKeeps dp = (b : BoardState) (who : ℕ) (threshold : Option ℤ) (cs : List Subproblem) (fs : List Fate) → MayFinish dp b who threshold cs fs → KeepsBoard dp b (finished_by dp b who cs)
 
 -- (what every board keeps, GiveBack keeps whether a cause is held or not; a good one asks that one is)
 pub record GiveBackKeeps (dp : Dp) : Type 0 where
@@ -37,7 +37,7 @@ pub record GiveBackKeeps (dp : Dp) : Type 0 where
   pub good : (b : BoardState) (who : ℕ) → IsSome b.cause → IsBoard dp b → IsGood dp b → IsGood dp (given_back b who)
 
 abbrev pub HaltKeeps : Dp → Type 0
-HaltKeeps dp = (b : BoardState) (cause : Cause) → Keeps dp b (halted b cause)
+HaltKeeps dp = (b : BoardState) (cause : Cause) → KeepsBoard dp b (halted b cause)
 
 -- the first board is a good one
 pub record IsFirstGood (dp : Dp) (settings : Settings) : Type 0 where
@@ -49,8 +49,8 @@ FirstBoardsAreGood dp = (settings : Settings) → AreSettings settings → IsFir
 
 -- what one step keeps: the board, and each slot but the worker's own
 pub record StepKeeps (dp : Dp) (b : BoardState) (step : Step) : Type 0 where
-  pub keeps : Keeps dp b (after dp b step)
-  pub follows : Follows b (after dp b step)
+  pub keeps : KeepsBoard dp b (after dp b step)
+  pub follows : IsLaterInRun b (after dp b step)
   pub others : (who : ℕ) → worker_of step ≢ Some who → slot_at (after dp b step) who ≡ slot_at b who
 
 abbrev pub StepsKeep : Dp → Type 0
@@ -58,15 +58,15 @@ StepsKeep dp = (b : BoardState) (step : Step) → May dp b step → StepKeeps dp
 
 -- what a run keeps
 pub record RunKeeps (dp : Dp) (b last : BoardState) : Type 0 where
-  pub keeps : Keeps dp b last
-  pub follows : Follows b last
+  pub keeps : KeepsBoard dp b last
+  pub follows : IsLaterInRun b last
 
 abbrev pub RunsKeep : Dp → Type 0
 RunsKeep dp = (b : BoardState) (steps : List Step) (last : BoardState) → IsRun dp b steps last → RunKeeps dp b last
 
 -- on a good board no feasible solution exceeds the bound
 abbrev pub NoneExceedsTheBound : Dp → Type 0
-NoneExceedsTheBound dp = (b : BoardState) → IsGood dp b → (x : List ℕ) → IsSolution dp x → AtMost (value_of dp x) (bound_of b)
+NoneExceedsTheBound dp = (b : BoardState) → IsGood dp b → (x : List ℕ) → IsSolution dp x → AtMost (value_of dp x) (board_bound b)
 
 -- where nothing is open or out, each feasible solution is at most the reach
 abbrev pub ExploredIsWithinReach : Dp → Type 0

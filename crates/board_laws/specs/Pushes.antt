@@ -10,7 +10,7 @@ use Rattle.dominance_table.specs.Entries.{TableEntry, TableView, after_put}
 use Rattle.board_laws.specs.declared.fate.Fate.{Fate}
 use Rattle.board_laws.specs.declared.fate.Fate.TheVariants.{Below, Kept, Dominated, Replaced, Entered}
 use Rattle.dp_laws.specs.Children.{DifferInPlace}
-use Rattle.board_laws.specs.Entering.{let_in, entering, replaced, staying, entry_of, put_all}
+use Rattle.board_laws.specs.Entering.{let_in, entering, replaced, without_all, entry_of, put_all}
 use Rattle.board_laws.specs.Fates.{fate_of, fates_by}
 
 -- the open subproblems after a push by the fringe's rule, where the fate is to enter
@@ -58,7 +58,7 @@ AreThreaded next (Entered own ∷ fs) = (own ≡ next) × AreThreaded (next + 1)
 abbrev pub PushesAreFates : Dp → Type 0
 PushesAreFates dp = (reach : Option ℤ) (os : List Ticketed) (es : List TableEntry) (ticket : ℕ) (cs : List Subproblem) → EachTwo IsEarlier os → Each (λ o. o.ticket < ticket) os → EachTwo DifferInPlace cs
     → push_by cs (fates_by (fate_of dp reach os es) ticket cs) os
-    ≡ staying (replaced (fates_by (fate_of dp reach os es) ticket cs)) os ++ entering cs (fates_by (fate_of dp reach os es) ticket cs)
+    ≡ without_all (replaced (fates_by (fate_of dp reach os es) ticket cs)) os ++ entering cs (fates_by (fate_of dp reach os es) ticket cs)
 
 -- puts one after another give the entries with more of them
 abbrev pub PutsAreEntries : Type 0

@@ -65,7 +65,7 @@ IsRun dp b [] last = b ≡ last
 IsRun dp b (step ∷ steps) last = May dp b step × IsRun dp (after dp b step) steps last
 
 -- a later board of a run: the settings are the same, the incumbent is no worse, and no count and no ticket begins anew
-pub record Follows (b later : BoardState) : Type 0 where
+pub record IsLaterInRun (b later : BoardState) : Type 0 where
   pub settings : later.settings ≡ b.settings
   pub better : OptionAtMost (incumbent_value b) (incumbent_value later)
   pub taken : b.taken ≤ later.taken

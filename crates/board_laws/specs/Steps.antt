@@ -11,7 +11,7 @@ use Rattle.board_laws.specs.declared.cause.Cause.TheVariants.{Budget, Memory, Jo
 use Rattle.board_laws.specs.declared.fate.Fate.{Fate}
 use Rattle.board_laws.specs.declared.settings.Settings.{Settings}
 use Rattle.board_laws.specs.Board.{BoardState, reach_of, reach, slot_at}
-use Rattle.board_laws.specs.Entering.{entering, replaced, staying, entry_of, put_all}
+use Rattle.board_laws.specs.Entering.{entering, replaced, without_all, entry_of, put_all}
 use Rattle.board_laws.specs.Fates.{fates_on, tickets_after}
 
 -- Improve, by a better solution: it is the incumbent, and what is open is dropped where its bound is at most the new reach
@@ -21,7 +21,7 @@ improved b best = record b { incumbent = Some best; open_ones = filter (λ o. is
 -- Finish by these fates: the slot becomes empty, and the children enter in order
 abbrev pub finished_with : Dp → BoardState → ℕ → List Subproblem → List Fate → BoardState
 finished_with dp b who cs fs = record b {
-  open_ones = staying (replaced fs) b.open_ones ++ entering cs fs;
+  open_ones = without_all (replaced fs) b.open_ones ++ entering cs fs;
   slots = slice_set b.slots who None;
   entries = put_all b.settings.table_limit b.entries (map (entry_of dp) (entering cs fs));
   finished = b.finished + 1;
@@ -64,13 +64,13 @@ root_with dp None = None
 root_with dp (Some bound) = Some (record { decisions = []; row = dp.root; value = dp.root_value; bound = bound })
 
 -- the root as a subproblem, where it has a bound
-abbrev pub root_of : Dp → Option Subproblem
-root_of dp = root_with dp (root_bound dp)
+abbrev pub root_subproblem : Dp → Option Subproblem
+root_subproblem dp = root_with dp (root_bound dp)
 
 -- the list of one with ticket 0, or none
-abbrev pub opened : Option Subproblem → List Ticketed
-opened None = []
-opened (Some c) = record { ticket = 0; subproblem = c } ∷ []
+abbrev pub root_opened : Option Subproblem → List Ticketed
+root_opened None = []
+root_opened (Some c) = record { ticket = 0; subproblem = c } ∷ []
 
 abbrev pub empty_slots : ℕ → List (Option Ticketed)
 empty_slots zero = []
@@ -82,7 +82,7 @@ first_incumbent dp = cond (nat_eq dp.vars 0) (Some (record { decisions = []; val
 
 -- what is open at first: the root, where there are variables
 abbrev pub first_open : Dp → List Ticketed
-first_open dp = cond (nat_eq dp.vars 0) [] (opened (root_of dp))
+first_open dp = cond (nat_eq dp.vars 0) [] (root_opened (root_subproblem dp))
 
 -- the board at the start of a search: the table is empty, and the root is not put into it
 abbrev pub first_board : Dp → Settings → BoardState

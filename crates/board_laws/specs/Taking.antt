@@ -1,19 +1,13 @@
 -- Which open subproblem is taken, and what Take answers.
-use Rattle.std.specs.Prelude.{◌≡◌, ℕ, ◌+◌, ◌-◌, ◌^◌, Bool, false, cond, ◌||◌, List, [], ◌∷◌, nat_eq, nat_lt, slice_set, Option, Some, None}
-use Rattle.dp_model.specs.Lists.{Each, OneOf}
+use Rattle.std.specs.Prelude.{ℕ, ◌+◌, ◌-◌, ◌^◌, Bool, cond, ◌||◌, List, [], ◌∷◌, nat_eq, nat_lt, slice_set, Option, Some, None}
 use Rattle.dp_model.specs.Subproblem.{Subproblem}
-use Rattle.shared_fringe.specs.Firsts.{is_taken_before, first_taken}
+use Rattle.shared_fringe.specs.Firsts.{first_taken, IsFirst}
 use Rattle.shared_fringe.specs.Tickets.{without, Ticketed}
 use Rattle.board_laws.specs.declared.cause.Cause.{Cause}
 use Rattle.board_laws.specs.declared.cause.Cause.TheVariants.{Budget}
 use Rattle.board_laws.specs.declared.taken.Taken.{Taken}
 use Rattle.board_laws.specs.declared.taken.Taken.TheVariants.{Sub, WaitForOthers, Finished, Halted}
 use Rattle.board_laws.specs.Board.{BoardState, is_explored}
-
--- it is one of the list, and none of the list is taken before it
-pub record IsFirst (os : List Ticketed) (o : Ticketed) : Type 0 where
-  pub one : OneOf (λ a. a ≡ o) os
-  pub first : Each (λ a. is_taken_before a o ≡ false) os
 
 -- the slot has the first of the list
 abbrev pub HasFirst : List Ticketed → Option Ticketed → Type 0

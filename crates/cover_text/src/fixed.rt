@@ -9,6 +9,7 @@ use crate::cover_error::CoverError;
 use dd_text::Tokens;
 
 /// Whether a token is this word.
+#[inline]
 pub(crate) fn is_word(token: &[u8], word: &[u8]) -> bool
     ensures { result ≡ word_same token.now word.now }
 {
@@ -16,6 +17,7 @@ pub(crate) fn is_word(token: &[u8], word: &[u8]) -> bool
 }
 
 /// Passes over the word, where it is the next token.
+#[inline]
 #[tactic(auto, unfolding(crate::specs::Grammar::fixed_at))]
 pub(crate) fn pass_word(tokens: &mut Tokens<'_>, wanted: &[u8]) -> Result<(), CoverError>
     ensures { Reads (λ _. tokens.new) result (fixed_at wanted.now tokens.old) }

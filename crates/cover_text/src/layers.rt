@@ -7,7 +7,7 @@ ghost use Rattle.cover_text.specs.RowLines.{row_into};
 ghost use Rattle.cover_text.specs.Sections.{layer_at, sections_at};
 
 use crate::cover_error::CoverError;
-use crate::fixed::{is_word, next_small, pass_word};
+use crate::fixed::{next_small, pass_word};
 use crate::rows::{RowParts, read_row};
 use bound_cover::Cover;
 use dd_text::{Comment, Tokens};
@@ -62,7 +62,7 @@ fn read_layers(
     ensures { Reads (λ _. (cover.new, tokens.new)) result (until (stands (codes "end")) (layer_at most) most cover.old tokens.old) }
 {
     for _ in 0..most {
-        if is_word(tokens.peek_word(), b"end") {
+        if tokens.next_is(b"end") {
             return Ok(());
         }
         read_layer(tokens, most, parts, cover)?;

@@ -7,7 +7,7 @@ ghost use Rattle.cover_text.specs.Grammar.{Reads, until};
 ghost use Rattle.cover_text.specs.RowLines.{bound_at, semicolon_at, state_word_at, ends_words, arc_at, target_at, arcs_at, row_into};
 
 use crate::cover_error::CoverError;
-use crate::fixed::{early_end, is_word, next_small, pass_word};
+use crate::fixed::{early_end, next_small, pass_word};
 use bound_cover::{Cover, CoverArc};
 use dd_text::Tokens;
 use std::alloc::Global;
@@ -35,7 +35,7 @@ impl RowParts {
 fn read_bound(tokens: &mut Tokens<'_>) -> Result<Option<i64>, CoverError>
     ensures { Reads (λ b. (b, tokens.new)) result (bound_at tokens.old) }
 {
-    if is_word(tokens.peek_word(), b"none") {
+    if tokens.next_is(b"none") {
         tokens.next_word()?;
         return Ok(None);
     }
@@ -58,7 +58,7 @@ fn pass_semicolon(tokens: &mut Tokens<'_>) -> Result<(), CoverError>
 fn ends_words(tokens: &Tokens<'_>) -> bool
     ensures { result ≡ ends_words tokens.now }
 {
-    tokens.at_line_end() || is_word(tokens.peek_word(), b";")
+    tokens.at_line_end() || tokens.next_is(b";")
 }
 
 /// Reads a word of a state behind those before it.
@@ -93,7 +93,7 @@ fn read_target(tokens: &mut Tokens<'_>) -> Result<Option<u32>, CoverError>
     if tokens.at_line_end() {
         return Err(early_end(tokens));
     }
-    if is_word(tokens.peek_word(), b"r") {
+    if tokens.next_is(b"r") {
         tokens.next_word()?;
         return Ok(None);
     }

@@ -1,8 +1,8 @@
 -- A chain of tokens, step by step: what it gives where a token was read, and where there was a fault.
-use Rattle.std.proofs.Common.{◌≡◌, ℕ, suc, ◌+◌, ◌-◌, ◌<◌, ◌≤◌, List, ℤ, ◌∙◌, sym, refl, arith}
+use Rattle.std.proofs.Common.{◌≡◌, ℕ, suc, ◌+◌, ◌-◌, ◌<◌, ◌≤◌, ℤ, ◌∙◌, sym, refl, arith}
 use Rattle.std.specs.Prelude.{Result, Ok, Err}
-use Rattle.dd_text.specs.Text.{TextState, TextError, number_at, word_at, finish_at, after_token}
-use Rattle.dd_text.specs.Grammar.{InstanceError, of_text, number_then, word_then, end_then, part_then, times, Fails, ReadModelError}
+use Rattle.dd_text.specs.Text.{TextState, number_at, finish_at, after_token}
+use Rattle.dd_text.specs.Grammar.{InstanceError, number_then, end_then, part_then, times, Fails, ReadModelError}
 use Rattle.dd_text.specs.declared.read_model_error.ReadModelError.TheVariants as errors
 
 -- behind a number the chain goes on

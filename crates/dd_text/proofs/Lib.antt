@@ -4,4 +4,5 @@ pub mod Lengths
 pub mod Printing
 pub mod Ranges
 pub mod Repeats
+pub mod Scanning
 pub mod Values

@@ -13,7 +13,7 @@ capped_value_after bound n (d ∷ ds) =
     sym (capped_value_after bound (10 * min n bound + (d - 48)) ds) ∙ ap (λ x. min (value_after x ds) bound) cut ∙ capped_value_after bound (10 * n + (d - 48)) ds
 
 -- what stands behind the first byte
-behind_first : (x : ℕ) (xs : List ℕ) → take (length (x ∷ xs) - 1) (drop 1 (x ∷ xs)) ≡ xs
+pub behind_first : (x : ℕ) (xs : List ℕ) → take (length (x ∷ xs) - 1) (drop 1 (x ∷ xs)) ≡ xs
 behind_first x xs = grind (arith, common_steps)
 
 -- one digit of a list is a digit, and the others are judged as before

@@ -1,4 +1,5 @@
 pub mod Text
+pub mod Scanned
 pub mod Decimal
 pub mod Grammar
 pub mod Naturals

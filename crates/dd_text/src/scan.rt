@@ -1,18 +1,23 @@
-ghost use Rattle.std.specs.Prelude.{◌≡◌, ℕ, ◌+◌, ◌-◌, ◌*◌, ◌^◌, ◌<◌, ◌≤◌, min, length, false, option_map, SomeIff, pos, neg_ℤ, FitsSigned};
+ghost use Rattle.std.specs.Prelude.{◌≡◌, ℕ, Bool, ◌+◌, ◌-◌, ◌*◌, ◌^◌, ◌<◌, ◌≤◌, ◌==◌, ◌||◌, not, min, length, false, IfOk, IfSome, option_map, SomeIff, pos, neg_ℤ, FitsSigned, true, nat_eq};
+ghost use Rattle.std.specs.Cmp.Lexicographic.{pointwise};
+ghost use Rattle.std.specs.Result.{result_map_both};
 ghost use Rattle.std.specs.List.{prefix_len};
 ghost use Rattle.std.specs.Int.{w64};
-ghost use Rattle.dd_text.specs.Text.{is_blank, is_solid, opens_comment, is_passed, is_inside_after, place_after, skip, IsCountable, natural_of, signed_of, within, number_in, is_blank_line};
+ghost use Rattle.dd_text.specs.Text.{Comment, is_blank, is_solid, opens_comment, is_passed, is_inside_after, place_after, skip, IsCountable, natural_of, value_after, signed_of, within, number_in, is_blank_line};
+ghost use Rattle.dd_text.specs.Scanned.{first_token, behind_token, head_digits, behind_digits};
 
 use crate::comment::Comment;
 use crate::place::Place;
 use crate::text_error::TextError;
 
-/// Where a token begins, or the end of the text.
+/// A number below this has room for a further digit.
+const SURELY_SHORT: u64 = 1 << 59;
+
+/// Where a token begins, or the end of the text. It has no padding, which would be copied for each token.
 #[derive(Clone, Copy)]
 pub(crate) struct Spot<'a> {
     pub(crate) rest: &'a [u8],
     pub(crate) place: Place,
-    pub(crate) fresh: bool,
 }
 
 #[inline]
@@ -66,19 +71,38 @@ fn place_behind(b: u8, place: Place) -> Place
     }
 }
 
-/// Passes over blanks and comment lines.
-pub(crate) fn skip_to_token<'a>(
-    comment: Comment,
-    from_fresh: bool,
-    from: Place,
-    bytes: &'a [u8],
-) -> Spot<'a>
+/// Passes over blanks.
+#[inline]
+pub(crate) fn skip_blanks<'a>(from: Place, bytes: &'a [u8]) -> Spot<'a>
     requires { IsCountable from bytes.now }
-    ensures found { skip comment false from_fresh from bytes.now ≡ record { rest = result.rest.now; place = result.place; fresh = result.fresh; comment = comment } }
+    ensures found { (comment : Comment) (fresh : Bool) → skip comment false fresh from bytes.now ≡ skip comment false (fresh || not (result.place.line == from.line)) result.place result.rest.now }
     ensures countable { IsCountable result.place result.rest.now }
+    ensures line { is_blank_line bytes.now ≡ (length result.rest.now == 0 || not (result.place.line == from.line)) }
 {
     let mut rest = bytes;
     let mut place = from;
+    while let [first, after @ ..] = rest {
+        let b = *first;
+        if !is_blank_byte(b) {
+            break;
+        }
+        place = place_behind(b, place);
+        rest = after;
+    }
+    Spot { rest, place }
+}
+
+/// Passes over blanks and comment lines.
+#[inline]
+fn skip_to_token<'a>(comment: Comment, from_fresh: bool, from: Spot<'a>) -> Spot<'a>
+    requires { IsCountable from.place from.rest.now }
+    ensures rest { (skip comment false from_fresh from.entry.place from.entry.rest.now).rest ≡ result.rest.now }
+    ensures place { (skip comment false from_fresh from.entry.place from.entry.rest.now).place ≡ result.place }
+    ensures comment { (skip comment false from_fresh from.entry.place from.entry.rest.now).comment ≡ comment }
+    ensures countable { IsCountable result.place result.rest.now }
+{
+    let mut rest = from.rest;
+    let mut place = from.place;
     let mut fresh = from_fresh;
     let mut inside = false;
     while let [first, after @ ..] = rest {
@@ -91,7 +115,24 @@ pub(crate) fn skip_to_token<'a>(
         place = place_behind(b, place);
         rest = after;
     }
-    Spot { rest, place, fresh }
+    Spot { rest, place }
+}
+
+/// Passes over comment lines, where one begins here.
+#[inline]
+pub(crate) fn skip_comments<'a>(comment: Comment, fresh: bool, from: Spot<'a>) -> Spot<'a>
+    requires { IsCountable from.place from.rest.now }
+    ensures rest { (skip comment false fresh from.entry.place from.entry.rest.now).rest ≡ result.rest.now }
+    ensures place { (skip comment false fresh from.entry.place from.entry.rest.now).place ≡ result.place }
+    ensures comment { (skip comment false fresh from.entry.place from.entry.rest.now).comment ≡ comment }
+    ensures countable { IsCountable result.place result.rest.now }
+{
+    match from.rest {
+        [first, ..] if is_passed_over(comment, false, fresh, *first) => {
+            skip_to_token(comment, fresh, from)
+        }
+        _ => from,
+    }
 }
 
 /// How many bytes stand before the first blank.
@@ -110,36 +151,85 @@ pub(crate) fn token_len(bytes: &[u8]) -> usize
     len
 }
 
+/// Whether bytes begin otherwise than a word, which is not empty.
+#[inline]
+pub(crate) fn begin_apart(bytes: &[u8], word: &[u8]) -> bool
+    ensures { result ≡ true → pointwise nat_eq (first_token bytes.now) word.now ≡ false }
+{
+    match (bytes, word) {
+        ([first, ..], [wanted, ..]) => *first != *wanted,
+        _ => false,
+    }
+}
+
 /// The number behind one more digit, or 2^64 - 1 where it is greater.
 #[inline]
 fn capped_behind(total: u64, digit: u8) -> u64
-    requires { 48 ≤ digit }
+    requires least { 48 ≤ digit }
+    requires greatest { digit ≤ 57 }
     ensures { result ≡ min (10 * total + (digit - 48)) (2 ^ 64 - 1) }
 {
-    total
-        .saturating_mul(10)
-        .saturating_add(u64::from(digit - b'0'))
+    let digit = u64::from(digit - b'0');
+    if total < SURELY_SHORT {
+        total * 10 + digit
+    } else {
+        total.saturating_mul(10).saturating_add(digit)
+    }
 }
 
-/// The number that the digits write, or 2^64 - 1 where it is greater.
-#[tactic(auto, using(crate::proofs::Values::capped_value_after))]
-fn magnitude(digits: &[u8]) -> Option<u64>
-    ensures { result ≡ option_map (λ n. min n (2 ^ 64 - 1)) (natural_of digits.now) }
+/// What digits write, and what stands behind them.
+#[derive(Clone, Copy)]
+struct Digits<'a> {
+    /// The number, or 2^64 - 1 where it is greater.
+    size: u64,
+    behind: &'a [u8],
+}
+
+/// The digits at the head of the bytes, of which there may be none.
+#[tactic(auto, using(crate::proofs::Scanning::digit_steps))]
+fn leading_digits(bytes: &[u8]) -> Digits<'_>
+    ensures size { result.size ≡ min (value_after 0 (head_digits bytes.now)) (2 ^ 64 - 1) }
+    ensures behind { result.behind.now ≡ behind_digits bytes.now }
 {
-    if digits.is_empty() {
-        return None;
-    }
-    let mut total = 0u64;
-    let mut rest = digits;
-    while let [digit, after @ ..] = rest {
-        let digit = *digit;
-        if !digit.is_ascii_digit() {
-            return None;
+    let mut size = 0u64;
+    let mut rest = bytes;
+    while let [first, after @ ..] = rest {
+        let b = *first;
+        if !b.is_ascii_digit() {
+            break;
         }
-        total = capped_behind(total, digit);
+        size = capped_behind(size, b);
         rest = after;
     }
-    Some(total)
+    Digits { size, behind: rest }
+}
+
+/// Whether no token begins with the first byte.
+#[inline]
+fn begins_no_token(bytes: &[u8]) -> bool
+    ensures { result ≡ (length (first_token bytes.now) == 0) }
+{
+    match bytes {
+        [first, ..] => is_blank_byte(*first),
+        [] => true,
+    }
+}
+
+/// The natural number that the first token writes.
+#[inline]
+#[tactic(auto, using(crate::proofs::Scanning::natural_steps))]
+fn leading_natural(bytes: &[u8]) -> Option<Digits<'_>>
+    ensures size { option_map (λ d. d.size) result ≡ option_map (λ n. min n (2 ^ 64 - 1)) (natural_of (first_token bytes.now)) }
+    ensures behind { IfSome result (λ d. d.behind.now ≡ behind_token bytes.now) }
+{
+    let digits = leading_digits(bytes);
+    if digits.behind.len() == bytes.len() {
+        return None;
+    }
+    if !begins_no_token(digits.behind) {
+        return None;
+    }
+    Some(digits)
 }
 
 /// The number, where it fits 64 bits with a sign.
@@ -154,56 +244,54 @@ fn signed(is_negative: bool, size: u64) -> Option<i64>
     }
 }
 
-/// Reads digits, behind a minus or not, as a number from `least` to `greatest`.
-fn number_within(
+/// A number, and what stands behind it.
+#[derive(Clone, Copy)]
+pub(crate) struct Number<'a> {
+    pub(crate) value: i64,
+    pub(crate) behind: &'a [u8],
+}
+
+/// Reads the first token as digits, behind a minus or not, of a number from `least` to `greatest`.
+#[inline]
+fn number_within<'a>(
     is_negative: bool,
-    digits: &[u8],
-    place: Place,
+    digits: &'a [u8],
+    place: &Place,
     least: i64,
     greatest: i64,
-) -> Result<i64, TextError>
-    ensures { result ≡ within least greatest place (option_map (signed_of is_negative) (natural_of digits.now)) }
+) -> Result<Number<'a>, TextError>
+    ensures value { result_map_both (λ n. n.value) (λ e. e) result ≡ within least greatest place.now (option_map (signed_of is_negative) (natural_of (first_token digits.now))) }
+    ensures behind { IfOk result (λ n. n.behind.now ≡ behind_token digits.now) }
 {
-    let Some(size) = magnitude(digits) else {
-        return Err(TextError::NotNumber(place));
+    let Some(read) = leading_natural(digits) else {
+        return Err(TextError::NotNumber(*place));
     };
-    match signed(is_negative, size) {
-        Some(number) if least <= number && number <= greatest => Ok(number),
-        _ => Err(TextError::OutOfRange(place)),
+    match signed(is_negative, read.size) {
+        Some(number) if least <= number && number <= greatest => Ok(Number {
+            value: number,
+            behind: read.behind,
+        }),
+        _ => Err(TextError::OutOfRange(*place)),
     }
 }
 
-/// Reads a token as a number from `least` to `greatest`.
-#[tactic(auto, unfolding(crate::specs::Text::number_of))]
-pub(crate) fn number_of_token(
-    token: &[u8],
-    place: Place,
+/// Reads the first token as a number from `least` to `greatest`.
+#[inline]
+#[tactic(auto, using(crate::proofs::Scanning::number_steps))]
+pub(crate) fn leading_number<'a>(
+    bytes: &'a [u8],
+    place: &Place,
     least: i64,
     greatest: i64,
-) -> Result<i64, TextError>
-    ensures { result ≡ number_in least greatest place token.now }
+) -> Result<Number<'a>, TextError>
+    ensures value { result_map_both (λ n. n.value) (λ e. e) result ≡ number_in least greatest place.now (first_token bytes.now) }
+    ensures behind { IfOk result (λ n. n.behind.now ≡ behind_token bytes.now) }
 {
-    match token {
-        [] => Err(TextError::EndOfText(place)),
-        [first, ..] if *first >= 128 => Err(TextError::NotAscii(place)),
+    match bytes {
         [b'-', digits @ ..] => number_within(true, digits, place, least, greatest),
-        [_, ..] => number_within(false, token, place, least, greatest),
+        [first, ..] if is_blank_byte(*first) => Err(TextError::EndOfText(*place)),
+        [first, ..] if *first >= 128 => Err(TextError::NotAscii(*place)),
+        [_, ..] => number_within(false, bytes, place, least, greatest),
+        [] => Err(TextError::EndOfText(*place)),
     }
-}
-
-/// Whether only blanks stand before the line's end.
-pub(crate) fn is_line_blank(bytes: &[u8]) -> bool
-    ensures { result ≡ is_blank_line bytes.now }
-{
-    let mut rest = bytes;
-    while let [first, after @ ..] = rest {
-        if *first == b'\n' {
-            return true;
-        }
-        if !is_blank_byte(*first) {
-            return false;
-        }
-        rest = after;
-    }
-    true
 }

@@ -1,29 +1,65 @@
-ghost use Rattle.std.specs.Prelude.{◌≡◌, ◌+◌, ◌-◌, ◌^◌, ◌<◌, ◌≤◌, length, ◌≤ℤ◌, pos, OnOk, OnErr, IfOk, MatchResult, Ok, Err};
+ghost use Rattle.std.specs.Prelude.{◌≡◌, ◌+◌, ◌-◌, ◌^◌, ◌<◌, ◌≤◌, length, ◌≤ℤ◌, pos, OnOk, OnErr, IfOk, MatchResult, Ok, Err, nat_eq};
+ghost use Rattle.std.specs.Cmp.Lexicographic.{pointwise};
+ghost use Rattle.dd_text.specs.Scanned.{behind_token, IsNext};
 ghost use Rattle.dd_text.specs.Text.{text_start, at_token, IsCountable, token, place_of, ends_line, is_at_end, number_at, word_at, after_token, finish_at};
 
 use crate::comment::Comment;
 use crate::place::Place;
-use crate::scan::{Spot, is_line_blank, number_of_token, skip_to_token, token_len};
+use crate::scan::{Spot, begin_apart, leading_number, skip_blanks, skip_comments, token_len};
 use crate::text_error::TextError;
 use std::marker::Model;
+use std::snapshot::Snapshot;
+
+/// Where reading stands, right behind the last token.
+#[derive(Clone, Copy)]
+struct Here<'a> {
+    rest: &'a [u8],
+    place: Place,
+    fresh: bool,
+}
 
 /// The tokens of a text, one after another.
 #[derive(Drop)]
 pub struct Tokens<'a> {
-    rest: &'a [u8],
-    place: Place,
-    fresh: bool,
+    // Contracts alone speak of where reading stands.
+    here: Snapshot<Here<'a>>,
+    // Where the next token begins, or the end of the text.
+    next: Spot<'a>,
+    // Whether only blanks stand before the end of the line where reading stands.
+    ends_line: bool,
     comment: Comment,
 }
 
 impl<'a> Model for Tokens<'a> {
-    ghost use Rattle.dd_text.specs.Text.{TextState, IsCountable};
+    ghost use Rattle.std.specs.Prelude.{◌≡◌};
+    ghost use Rattle.dd_text.specs.Text.{TextState, IsCountable, is_blank_line};
+    ghost use Rattle.dd_text.specs.Scanned.{IsNext};
 
     ghost Value = { TextState };
 
-    ghost view = { λ t. record { rest = t.rest.now; place = t.place; fresh = t.fresh; comment = t.comment } };
+    ghost view = { λ t. record { rest = t.here.value.rest.now; place = t.here.value.place; fresh = t.here.value.fresh; comment = t.comment } };
 
-    ghost invariant = { λ t. IsCountable t.place t.rest.now };
+    ghost invariant = { λ t.
+        IsNext (record { rest = t.here.value.rest.now; place = t.here.value.place; fresh = t.here.value.fresh; comment = t.comment }) t.next.rest.now t.next.place
+        × (t.ends_line ≡ is_blank_line t.here.value.rest.now)
+        × IsCountable t.next.place t.next.rest.now };
+}
+
+/// Tokens that stand at this place.
+#[inline]
+#[tactic(auto, unfolding(crate::specs::Text::at_token))]
+fn tokens_from<'a>(comment: Comment, here: Here<'a>) -> Tokens<'a>
+    requires { IsCountable here.place here.rest.now }
+    ensures { result ≡ record { rest = here.entry.rest.now; place = here.entry.place; fresh = here.entry.fresh; comment = comment } }
+{
+    let blanks = skip_blanks(here.place, here.rest);
+    let is_later = blanks.place.line != here.place.line;
+    Tokens {
+        here: Snapshot::of(&here),
+        next: skip_comments(comment, here.fresh || is_later, blanks),
+        ends_line: blanks.rest.is_empty() || is_later,
+        comment,
+    }
 }
 
 impl<'a> Tokens<'a> {
@@ -32,20 +68,20 @@ impl<'a> Tokens<'a> {
         requires { length bytes.now < 2 ^ 32 - 1 }
         ensures { result ≡ text_start comment bytes.now }
     {
-        Tokens {
+        let here = Here {
             rest: bytes,
             place: Place { line: 1, column: 1 },
             fresh: true,
-            comment,
-        }
+        };
+        tokens_from(comment, here)
     }
 
-    #[tactic(auto, unfolding(crate::specs::Text::at_token))]
-    fn spot(&self) -> Spot<'a>
-        ensures found { at_token self.now ≡ record { rest = result.rest.now; place = result.place; fresh = result.fresh; comment = self.now.comment } }
-        ensures countable { IsCountable result.place result.rest.now }
+    #[inline]
+    fn spot(&self) -> &Spot<'a>
+        ensures found { IsNext self.now result.now.rest.now result.now.place }
+        ensures countable { IsCountable result.now.place result.now.rest.now }
     {
-        skip_to_token(self.comment, self.fresh, self.place, self.rest)
+        &self.next
     }
 
     /// Where the next token begins, or the end of the text.
@@ -61,7 +97,7 @@ impl<'a> Tokens<'a> {
     pub fn at_line_end(&self) -> bool
         ensures { result ≡ ends_line self.now }
     {
-        is_line_blank(self.rest)
+        self.ends_line
     }
 
     /// Whether no token is left.
@@ -81,19 +117,35 @@ impl<'a> Tokens<'a> {
         &spot.rest[..token_len(spot.rest)]
     }
 
-    #[tactic(auto, unfolding(crate::specs::Text::token, crate::specs::Text::after_token))]
-    fn pass(&mut self, spot: Spot<'a>, len: usize)
-        requires found { at_token self.old ≡ record { rest = spot.rest.now; place = spot.place; fresh = spot.fresh; comment = self.old.comment } }
-        requires countable { IsCountable spot.place spot.rest.now }
-        requires len { len ≡ length (token self.old) }
+    /// Whether the next token is this word.
+    #[inline]
+    #[tactic(auto, unfolding(crate::specs::Text::token))]
+    pub fn next_is(&self, word: &[u8]) -> bool
+        ensures { result ≡ pointwise nat_eq (token self.now) word.now }
+    {
+        if begin_apart(self.spot().rest, word) {
+            return false;
+        }
+        self.peek_word() == word
+    }
+
+    #[inline]
+    #[tactic(auto, unfolding(crate::specs::Text::token, crate::specs::Text::after_token), using(crate::proofs::Scanning::token_length))]
+    fn pass(&mut self, behind: &'a [u8])
+        requires { behind.now ≡ behind_token (at_token self.old).rest }
         ensures { self.new ≡ after_token self.old }
     {
-        self.rest = &spot.rest[len..];
-        self.place = Place {
-            line: spot.place.line,
-            column: spot.place.column + len as u32,
+        let spot = self.spot();
+        let len = spot.rest.len() - behind.len();
+        let here = Here {
+            rest: behind,
+            place: Place {
+                line: spot.place.line,
+                column: spot.place.column + len as u32,
+            },
+            fresh: false,
         };
-        self.fresh = false;
+        *self = tokens_from(self.comment, here);
     }
 
     /// Reads the next token as a number from `least` to `greatest`: an optional minus and one or more
@@ -110,10 +162,9 @@ impl<'a> Tokens<'a> {
         ensures err { OnErr result (self.new ≡ self.old) }
     {
         let spot = self.spot();
-        let len = token_len(spot.rest);
-        let number = number_of_token(&spot.rest[..len], spot.place, least, greatest)?;
-        self.pass(spot, len);
-        Ok(number)
+        let number = leading_number(spot.rest, &spot.place, least, greatest)?;
+        self.pass(number.behind);
+        Ok(number.value)
     }
 
     /// Reads the next token as a natural number from `least` to `greatest`, with the faults of `next_number`.
@@ -139,16 +190,16 @@ impl<'a> Tokens<'a> {
         ensures ok { OnOk result (self.new ≡ after_token self.old) }
         ensures err { OnErr result (self.new ≡ self.old) }
     {
-        let spot = self.spot();
-        let len = token_len(spot.rest);
-        let word = &spot.rest[..len];
+        let rest = self.spot().rest;
+        let len = token_len(rest);
+        let word = &rest[..len];
         let [first, ..] = word else {
-            return Err(TextError::EndOfText(spot.place));
+            return Err(TextError::EndOfText(self.place()));
         };
         if *first >= 128 {
-            return Err(TextError::NotAscii(spot.place));
+            return Err(TextError::NotAscii(self.place()));
         }
-        self.pass(spot, len);
+        self.pass(&rest[len..]);
         Ok(word)
     }
 

@@ -135,12 +135,13 @@ fn gather(alloc: Global, diagram: &Diagram, out: &Children) -> Result<Left, OutO
     })
 }
 
-/// The relaxed diagram of the empty prefix, and what it leaves.
+/// The relaxed diagram of the empty prefix, and what it leaves with the children of the kind.
 pub fn relax_root<M: DpModel>(
     alloc: Global,
     model: &M,
     width: u32,
     threshold: Option<i64>,
+    kind: CutKind,
 ) -> Result<Left, PrepareError>
     requires { 0 < (M.meaning (M.numbers model.now)).vars }
 {
@@ -148,9 +149,9 @@ pub fn relax_root<M: DpModel>(
         return Err(PrepareError::OutOfMemory);
     };
     let mut space = Workspace::prepare(alloc, model, width)?;
-    let mut out = Children::prepare(alloc, model, width)?;
+    let mut out = Children::prepare(alloc, model, width, kind)?;
     let diagram = relaxed(&mut space, model, &root, threshold);
-    children(model, &diagram, CutKind::LastExactLayer, &mut out);
+    children(model, &diagram, kind, &mut out);
     match gather(alloc, &diagram, &out) {
         Ok(left) => Ok(left),
         Err(_) => Err(PrepareError::OutOfMemory),

@@ -5,17 +5,16 @@ use Rattle.std.proofs.lemmas.Bool.Decides.{nat_tests}
 use Rattle.std.proofs.lemmas.List.{map-append, take_more, take_all, take-append-drop, get_or-drop}
 use Rattle.std.proofs.lemmas.List.Elements.{filter-append}
 use Rattle.dp_model.specs.Dp.{Dp}
-use Rattle.dp_model.specs.Gaps.{IsStateOf}
 use Rattle.dp_model.specs.Lists.{Each}
 use Rattle.dominance_table.specs.declared.entry.Entry.{Entry}
 use Rattle.dominance_table.specs.declared.groups.Link.{Link}
 use Rattle.dominance_table.specs.Groups.{fold_at}
-use Rattle.dominance_table.specs.Dominator.{lesser, least, dominates, dominator, AreStates}
+use Rattle.dominance_table.specs.Dominator.{lesser, least, dominates, dominator, IsReached, AreStates}
 use Rattle.dominance_table.specs.Entries.{TableEntry, AreGrouped, AreRising, entry_at, row_at, group_fold, with_row, with_rows}
 use Rattle.dominance_table.proofs.Rows.{least-append, with_rows_at, length_with_rows}
 
 no_entry : TableEntry
-no_entry = record { depth = 0; bucket = 0; row = []; value = pos 0; ticket = 0 }
+no_entry = record { depth = 0; bucket = 0; row = []; rank = None; value = pos 0; ticket = 0 }
 
 -- at a place of a list
 each_at : {X : Type 0} (P : X → Type 0) (xs : List X) (i : ℕ) (d : X) → i < length xs → Each P xs → P (get_or xs i d)
@@ -81,11 +80,11 @@ module _ (dp : Dp) (depth : ℕ) (row : List ℤ) (worth : ℤ) where
         ap (λ l. dominator dp l depth row worth) (one-more at less) ∙ (dominator-append (take at seen) (with_row (entry_at entries at) (row_at cells words at) ∷ [])
         ∙ (ap (λ o. lesser (dominator dp (take at seen) depth row worth) o) (alone (with_row (entry_at entries at) (row_at cells words at)) false is) ∙ none-left (dominator dp (take at seen) depth row worth)))
 
-    -- a row of the depth is a state
-    pub state_at : (at : ℕ) → at < length entries → AreStates dp depth seen → (entry_at entries at).depth ≡ depth → IsStateOf dp depth (row_at cells words at)
+    -- a row of the depth is a state, and a rank that was told is the state's
+    pub state_at : (at : ℕ) → at < length entries → AreStates dp depth seen → (entry_at entries at).depth ≡ depth → IsReached dp depth (row_at cells words at) (entry_at entries at).rank
     state_at at less states =
-        let here = each_at (λ (e : TableEntry). e.depth ≡ depth → IsStateOf dp depth e.row) seen at no_entry (subst (λ n. at < n) (sym (length_with_rows words entries cells)) less) states in
-        subst (λ (e : TableEntry). e.depth ≡ depth → IsStateOf dp depth e.row) (with_rows_at words entries cells at no_entry less) here
+        let here = each_at (λ (e : TableEntry). e.depth ≡ depth → IsReached dp depth e.row e.rank) seen at no_entry (subst (λ n. at < n) (sym (length_with_rows words entries cells)) less) states in
+        subst (λ (e : TableEntry). e.depth ≡ depth → IsReached dp depth e.row e.rank) (with_rows_at words entries cells at no_entry less) here
 
     -- past the last entry
     pub past_all : (at : ℕ) → length entries ≤ at → take at seen ≡ seen

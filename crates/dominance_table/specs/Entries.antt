@@ -1,5 +1,5 @@
 -- The entries of a table, and the table as its callers see it.
-use Rattle.std.specs.Prelude.{◌≡◌, ℕ, ◌-◌, ◌*◌, ◌<◌, ◌≤◌, ℤ, pos, Bool, cond, nat_eq, List, [], ◌∷◌, ◌++◌, length, take, drop, slice_index_or}
+use Rattle.std.specs.Prelude.{◌≡◌, ℕ, ◌-◌, ◌*◌, ◌<◌, ◌≤◌, ℤ, pos, Bool, cond, nat_eq, List, [], ◌∷◌, ◌++◌, length, take, drop, slice_index_or, Option, None}
 use Rattle.std.specs.Int.{w64, cast_signed}
 use Rattle.dp_model.specs.Folds.{fold_of}
 use Rattle.dominance_table.specs.declared.entry.Entry.{Entry}
@@ -8,11 +8,13 @@ use Rattle.dominance_table.specs.declared.put.Put.TheVariants.{Yes, AtLimit}
 use Rattle.dominance_table.specs.declared.groups.Link.{Link}
 use Rattle.dominance_table.specs.Groups.{fold_at}
 
--- a state that was reached: its depth, its bucket, its row, the value that it was reached with, and its ticket
+-- a state that was reached: its depth, its bucket, its row, the rank of the row, where it was told, the value that it was reached
+-- with, and its ticket
 pub record TableEntry : Type 0 where
   pub depth : ℕ
   pub bucket : ℕ
   pub row : List ℤ
+  pub rank : Option ℤ
   pub value : ℤ
   pub ticket : ℕ
 
@@ -37,7 +39,7 @@ after_put t e = cond (is_full t) t (record t { entries = t.entries ++ e ∷ []; 
 
 -- an entry in memory, with its row
 abbrev pub with_row : Entry → List ℤ → TableEntry
-with_row e row = record { depth = e.depth; bucket = e.bucket; row = row; value = e.value; ticket = e.ticket }
+with_row e row = record { depth = e.depth; bucket = e.bucket; row = row; rank = e.rank; value = e.value; ticket = e.ticket }
 
 -- entries in memory, with their rows, which lie one after another
 abbrev pub with_rows : ℕ → List Entry → List ℤ → List TableEntry
@@ -55,7 +57,7 @@ pub record HasRoom (words limit room len capacity cells cells_capacity : ℕ) : 
 
 -- the entry at a place, and the cells of its row
 abbrev pub entry_at : List Entry → ℕ → Entry
-entry_at entries i = slice_index_or entries i (record { depth = 0; bucket = 0; value = pos 0; ticket = 0 })
+entry_at entries i = slice_index_or entries i (record { depth = 0; bucket = 0; rank = None; value = pos 0; ticket = 0 })
 
 abbrev pub row_at : List ℤ → ℕ → ℕ → List ℤ
 row_at cells words place = take words (drop (place * words) cells)

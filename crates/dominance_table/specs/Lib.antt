@@ -1,7 +1,6 @@
 pub mod Groups
 pub mod Entries
 pub mod Dominator
-pub mod Boxes
 pub use Rattle.dp_model.specs.Dp
 pub use Rattle.dp_model.specs.Gaps
 pub use Rattle.dp_model.specs.Lists

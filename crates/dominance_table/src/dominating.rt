@@ -2,7 +2,7 @@
 
 ghost use Rattle.std.specs.Prelude.{◌≡◌, ◌+◌, ◌*◌, ◌≤◌, length, true, Option, Some};
 ghost use Rattle.dp_model.specs.Gaps.{IsStateOf, covers_at};
-ghost use Rattle.dominance_table.specs.Dominator.{lesser, dominates, dominator, AreStates};
+ghost use Rattle.dominance_table.specs.Dominator.{lesser, dominates, dominator, IsReached, AreStates};
 ghost use Rattle.dominance_table.specs.Entries.{AreGrouped, AreRising, group_fold, row_at, with_row, with_rows};
 
 use crate::entry::Entry;
@@ -45,19 +45,30 @@ fn lesser(least: Option<u64>, ticket: u64) -> Option<u64>
     }
 }
 
-/// Whether the gap of the row to the new state lifts that state's value to at most the row's. A gap is no less than zero, so
-/// the values alone often tell.
-fn covers<M: DpModel>(model: &M, row: &[i64], value: i64, sought: &Sought) -> bool
+/// The rank of the state, which is asked of the model where it was not told.
+fn rank_of<M: DpModel>(model: &M, depth: usize, row: &[i64], told: Option<i64>) -> i64
+    requires { IsReached (M.meaning (M.numbers model.now)) depth row.now told }
+    ensures { result ≡ (M.meaning (M.numbers model.now)).rank depth row.now }
+{
+    match told {
+        Some(rank) => rank,
+        None => model.rank(depth, row),
+    }
+}
+
+/// Whether the gap of the entry's row to the new state lifts that state's value to at most the entry's. A gap is no less than
+/// zero, so the values alone often tell.
+fn covers<M: DpModel>(model: &M, entry: &Entry, row: &[i64], sought: &Sought) -> bool
     requires state { IsStateOf (M.meaning (M.numbers model.now)) sought.now.depth sought.now.row.now }
     requires rank { sought.now.rank ≡ (M.meaning (M.numbers model.now)).rank sought.now.depth sought.now.row.now }
-    requires row { IsStateOf (M.meaning (M.numbers model.now)) sought.now.depth row.now }
-    ensures { result ≡ covers_at ((M.meaning (M.numbers model.now)).gap sought.now.depth row.now sought.now.row.now) value sought.now.value }
+    requires row { IsReached (M.meaning (M.numbers model.now)) sought.now.depth row.now entry.now.rank }
+    ensures { result ≡ covers_at ((M.meaning (M.numbers model.now)).gap sought.now.depth row.now sought.now.row.now) entry.now.value sought.now.value }
 {
-    if value < sought.value {
+    if entry.value < sought.value {
         return false;
     }
-    let most = value.saturating_sub(sought.value);
-    let rank = model.rank(sought.depth, row);
+    let most = entry.value.saturating_sub(sought.value);
+    let rank = rank_of(model, sought.depth, row, entry.rank);
     model
         .covers_within(sought.depth, row, rank, sought.row, sought.rank, most)
         .is_some()
@@ -68,13 +79,13 @@ fn dominates<M: DpModel>(model: &M, entry: &Entry, row: &[i64], sought: &Sought)
     requires state { IsStateOf (M.meaning (M.numbers model.now)) sought.now.depth sought.now.row.now }
     requires bucket { sought.now.bucket ≡ (M.meaning (M.numbers model.now)).bucket sought.now.depth sought.now.row.now }
     requires rank { sought.now.rank ≡ (M.meaning (M.numbers model.now)).rank sought.now.depth sought.now.row.now }
-    requires row { entry.now.depth ≡ sought.now.depth → IsStateOf (M.meaning (M.numbers model.now)) sought.now.depth row.now }
+    requires row { entry.now.depth ≡ sought.now.depth → IsReached (M.meaning (M.numbers model.now)) sought.now.depth row.now entry.now.rank }
     ensures { result ≡ dominates (M.meaning (M.numbers model.now)) sought.now.depth sought.now.row.now sought.now.value (with_row entry.now row.now) }
 {
     if entry.depth != sought.depth || entry.bucket != sought.bucket {
         return false;
     }
-    covers(model, row, entry.value, sought)
+    covers(model, entry, row, sought)
 }
 
 /// The least ticket of the entries that dominate, whose rows lie one after another in `cells`. Where tickets rise, that is the

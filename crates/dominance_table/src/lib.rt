@@ -1,10 +1,11 @@
-//! The table of states that a search has seen: rows with their depth, bucket, value and ticket, up to a limit, and which of
-//! them dominates a new state.
+//! The table of states that a search has seen: rows with their depth, bucket, rank, value and ticket, up to a limit, and which
+//! of them dominates a new state.
 //!
 //! It stands on `dp_model`, of which it asks buckets, gaps and ranks alone, and on the kit's `indexmap`, and knows of no board
 //! and no incumbent. A table is seen as the list of its entries in the order of their puts. Promised, each in the contract of
 //! its call: `put` puts one more entry at the end, or answers `AtLimit` and changes nothing exactly where there are as many as
-//! the limit; it takes no memory and lowers `spare` by one at most. `dominator` is exactly the least ticket of the entries of
+//! the limit; it takes no memory and lowers `spare` by one at most. `put_state` does the same with the bucket and the rank that
+//! a model tells, so that `dominator` need not ask for the rank again. `dominator` is exactly the least ticket of the entries of
 //! the depth and bucket that dominate: whose value is no less than the new one and their gap to it. `reserve` fails only for
 //! want of memory, and then changes nothing.
 //!
@@ -12,15 +13,11 @@
 //! each, so the answers are exact. Where no ticket was put after a greater one, the first entry that dominates is the answer.
 #![tactic(auto)]
 
-#[cfg(test)]
-mod boxes;
 mod dominating;
 mod entry;
 mod groups;
 mod put;
 mod table;
-#[cfg(test)]
-mod tests;
 
 pub use put::Put;
 pub use table::Table;

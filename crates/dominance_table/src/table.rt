@@ -1,7 +1,7 @@
-ghost use Rattle.std.specs.Prelude.{◌≡◌, ℕ, ◌+◌, ◌≤◌, ◌<◌, ◌⊎◌, [], length, true, IfOk, OnOk, OnErr};
+ghost use Rattle.std.specs.Prelude.{◌≡◌, ℕ, ◌+◌, ◌≤◌, ◌<◌, ◌⊎◌, [], length, true, None, IfOk, OnOk, OnErr};
 ghost use Rattle.dp_model.specs.Gaps.{IsStateOf};
-ghost use Rattle.dominance_table.specs.Dominator.{dominator, AreStates};
-ghost use Rattle.dominance_table.specs.Entries.{put_gives, after_put, entry_at};
+ghost use Rattle.dominance_table.specs.Dominator.{dominator, AreStates, entry_of_state};
+ghost use Rattle.dominance_table.specs.Entries.{put_gives, after_put, entry_at, with_row};
 
 use crate::dominating::{Sought, group_fold, least_dominator};
 use crate::entry::Entry;
@@ -89,19 +89,58 @@ impl Table {
         requires cells { length row.now ≡ self.old.words }
         requires room { (0 < self.old.spare) ⊎ (length self.old.entries ≡ self.old.limit) }
         ensures answer { result ≡ put_gives self.old }
-        ensures step { self.new ≡ after_put self.old (record { depth = depth; bucket = bucket; row = row.now; value = value; ticket = ticket }) }
+        ensures step { self.new ≡ after_put self.old (record { depth = depth; bucket = bucket; row = row.now; rank = None; value = value; ticket = ticket }) }
+    {
+        let entry = Entry {
+            depth,
+            bucket,
+            rank: None,
+            value,
+            ticket,
+        };
+        self.put_entry(entry, row)
+    }
+
+    /// Puts a state with the bucket and the rank that the model tells, as `put` does. So `dominator` need not ask for the rank.
+    ///
+    /// The row is a state of the depth and has `words` cells, and `spare` is above zero or the limit is reached.
+    pub fn put_state<M: DpModel>(
+        &mut self,
+        model: &M,
+        depth: usize,
+        row: &[i64],
+        value: i64,
+        ticket: u64,
+    ) -> Put
+        requires state { IsStateOf (M.meaning (M.numbers model.now)) depth row.now }
+        requires cells { length row.now ≡ self.old.words }
+        requires room { (0 < self.old.spare) ⊎ (length self.old.entries ≡ self.old.limit) }
+        ensures answer { result ≡ put_gives self.old }
+        ensures step { self.new ≡ after_put self.old (entry_of_state (M.meaning (M.numbers model.now)) depth row.now value ticket) }
+    {
+        let entry = Entry {
+            depth,
+            bucket: model.bucket(depth, row),
+            rank: Some(model.rank(depth, row)),
+            value,
+            ticket,
+        };
+        self.put_entry(entry, row)
+    }
+
+    /// Puts an entry with its row.
+    fn put_entry(&mut self, entry: Entry, row: &[i64]) -> Put
+        requires cells { length row.now ≡ self.old.words }
+        requires room { (0 < self.old.spare) ⊎ (length self.old.entries ≡ self.old.limit) }
+        ensures answer { result ≡ put_gives self.old }
+        ensures step { self.new ≡ after_put self.old (with_row entry row.now) }
     {
         if self.entries.len() == self.limit as usize {
             return Put::AtLimit;
         }
-        self.rising = rise_with(self.rising, self.entries.as_slice(), ticket);
-        self.groups.enter(group_fold(depth, bucket));
-        self.entries.push_reserved(Entry {
-            depth,
-            bucket,
-            value,
-            ticket,
-        });
+        self.rising = rise_with(self.rising, self.entries.as_slice(), entry.ticket);
+        self.groups.enter(group_fold(entry.depth, entry.bucket));
+        self.entries.push_reserved(entry);
         let _ = self.cells.extend_from_slice(row);
         Put::Yes
     }
@@ -109,7 +148,7 @@ impl Table {
     /// The least ticket of the entries of that depth and of the state's bucket that dominate the state with its value, or
     /// `None` exactly where there is none. It takes no memory.
     ///
-    /// The row is a state of the layer, and so are the rows of all entries of that depth.
+    /// The row is a state of the layer, and so are the rows of all entries of that depth; ranks that were told are of this model.
     pub fn dominator<M: DpModel>(
         &self,
         model: &M,

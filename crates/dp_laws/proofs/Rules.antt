@@ -14,3 +14,4 @@ pub mod Diagrams
 pub mod Within
 pub mod Fitting
 pub mod Ranked
+pub mod Stems

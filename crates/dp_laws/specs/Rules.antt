@@ -6,3 +6,4 @@ pub mod Reducing
 pub mod Compiling
 pub mod Within
 pub mod Ranked
+pub mod Stems

@@ -14,6 +14,7 @@ ghost use Rattle.dp_laws.specs.Children.{AreSound};
 ghost use Rattle.dp_laws.specs.Diagrams.Cutsets.{children_of, first_exact, found_in};
 ghost use Rattle.dp_laws.specs.Width.{WidthsFit};
 ghost use Rattle.dp_laws.specs.Rules.Ranked.{RelaxedChildrenStand, ExactAreUnstruck};
+ghost use Rattle.dp_laws.specs.Rules.Stems.{ExactStemFromExact};
 ghost use Rattle.dp_laws.specs.Rules.Compiling.{start_layer, relaxed, restricted_below, LayersFit};
 
 /// Each layer of a restricted diagram that is built by the rules has exact nodes alone, and they stand, in order, for the
@@ -59,4 +60,9 @@ pub fn relaxed_children_stand()
 /// No exact node of a compiled diagram below its first layer is struck.
 pub fn exact_nodes_are_unstruck()
     ensures { (dp : Dp) → ExactAreUnstruck dp }
+{}
+
+/// The kept path of an exact node of a compiled diagram leads through exact nodes.
+pub fn exact_nodes_stem_from_exact_ones()
+    ensures { (dp : Dp) → ExactStemFromExact dp }
 {}

@@ -23,9 +23,9 @@ pub use children::{
     frontier_is_outer, sound_children_follow, suffixes_bound, without_reduction_the_beam_is_found,
 };
 pub use compiling::{
-    exact_nodes_are_unstruck, layers_fit, relaxed_children_are_sound, relaxed_children_stand,
-    relaxed_diagrams_are_as_seen, restricted_diagrams_find_the_beam, restricted_layers_are_beams,
-    widths_fit,
+    exact_nodes_are_unstruck, exact_nodes_stem_from_exact_ones, layers_fit,
+    relaxed_children_are_sound, relaxed_children_stand, relaxed_diagrams_are_as_seen,
+    restricted_diagrams_find_the_beam, restricted_layers_are_beams, widths_fit,
 };
 pub use counts::{pots_are_below, pots_are_positive};
 pub use covers::{last_exact_layers_cover, whole_beams_are_best, whole_layers_cover};

@@ -1,4 +1,4 @@
-ghost use Rattle.std.specs.Prelude.{◌≡◌, ℕ, ◌+◌, ◌<◌, ◌≤◌, ℤ, pos, List, length, replicate, take, IsTrue};
+ghost use Rattle.std.specs.Prelude.{◌≡◌, ℕ, ◌+◌, ◌<◌, ◌≤◌, ℤ, pos, List, length, replicate, take, is_some, IsNone, IsSome, IfSome, IsTrue};
 ghost use Rattle.dp_model.specs.Dp.{Dp, IsAllowed};
 ghost use Rattle.dp_model.specs.Laws.{IsLawful, IsChained};
 ghost use Rattle.dp_model.specs.Gaps.{IsStateOf, within};
@@ -18,7 +18,7 @@ pub struct Extended {
 /// The type is a problem with its instance: the meaning of each call is that of the program that the instance's list of
 /// numbers spells, and this program meets the laws.
 ///
-/// `covers_within`, `extend` and `first_live` say nothing that the other calls don't. They are there for speed: each has a
+/// `covers_within`, `extend`, `rough_by_rank` and `first_live` say nothing that the other calls don't. They are there for speed: each has a
 /// body by the others, which a problem replaces where it knows a shorter way.
 pub trait DpModel: Send + Sync + Drop {
     /// The whole numbers of the instance.
@@ -123,20 +123,46 @@ pub trait DpModel: Send + Sync + Drop {
         if gap <= most { Some(gap) } else { None }
     }
 
-    /// Step, gain and the rank of the next state in one pass, where the rank of the state is told.
-    fn extend(&self, k: usize, s: &[i64], rank: i64, d: u32, out: &mut [i64]) -> Extended
+    /// Step, gain and the rank of the next state in one pass, where the rank of the state is told; `None` exactly where the
+    /// decision is not allowed, and then `out` stays as it was. So many first cells of `out` as `zeros` are zero already,
+    /// and need not be written where they are zero in the next state.
+    fn extend(
+        &self,
+        k: usize,
+        s: &[i64],
+        rank: i64,
+        d: u32,
+        zeros: usize,
+        out: &mut [i64],
+    ) -> Option<Extended>
+        requires layer { k < (meaning (numbers self.now)).vars }
         requires state { IsTrue ((meaning (numbers self.now)).is_state k s.now) }
         requires rank { rank ≡ (meaning (numbers self.now)).rank k s.now }
-        requires allowed { IsAllowed (meaning (numbers self.now)) k s.now d }
+        requires decision { d < (meaning (numbers self.now)).choices k }
         requires cells { length out.old ≡ (meaning (numbers self.now)).words }
-        ensures row { out.new ≡ (meaning (numbers self.now)).step k s.now d }
-        ensures gain { result.gain ≡ (meaning (numbers self.now)).gain k s.now d }
-        ensures rank { result.rank ≡ (meaning (numbers self.now)).rank (k + 1) ((meaning (numbers self.now)).step k s.now d) }
+        requires zeros { take zeros out.old ≡ replicate zeros (pos 0) }
+        ensures allowed { is_some result ≡ (meaning (numbers self.now)).allowed k s.now d }
+        ensures refused { IsNone result → out.new ≡ out.old }
+        ensures row { IsSome result → out.new ≡ (meaning (numbers self.now)).step k s.now d }
+        ensures extended { IfSome result (λ e. (e.gain ≡ (meaning (numbers self.now)).gain k s.now d)
+            × (e.rank ≡ (meaning (numbers self.now)).rank (k + 1) ((meaning (numbers self.now)).step k s.now d))) }
     {
+        if !self.allowed(k, s, d) {
+            return None;
+        }
         self.step(k, s, d, out);
         let gain = self.gain(k, s, d);
         let rank = self.rank(k + 1, out);
-        Extended { gain, rank }
+        Some(Extended { gain, rank })
+    }
+
+    /// The rough bound, where the rank of the state is told.
+    fn rough_by_rank(&self, k: usize, s: &[i64], rank: i64) -> Option<i64>
+        requires state { IsStateOf (meaning (numbers self.now)) k s.now }
+        requires rank { rank ≡ (meaning (numbers self.now)).rank k s.now }
+        ensures { result ≡ (meaning (numbers self.now)).rough k s.now }
+    {
+        self.rough(k, s)
     }
 
     /// So many first cells are zero in every state of the layer: two of its states are equal exactly where their other

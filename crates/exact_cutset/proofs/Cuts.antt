@@ -31,7 +31,7 @@ use Rattle.exact_cutset.proofs.Taken.{node-here}
 
 -- How many nodes the layer below the first one has.
 
-abbrev nth : List (List DdNode) → ℕ → List DdNode
+abbrev pub nth : List (List DdNode) → ℕ → List DdNode
 nth ls i = unwrap_or (slice_get ls i) []
 
 built-length : (dp : Dp) (first w : ℕ) (t : Option ℤ) (k : ℕ) (layer : List DdNode) → length (built dp first w t k layer).above ≡ length layer
@@ -63,7 +63,7 @@ next-few dp first w t k layer uncut =
     let most = layers-fit dp k layer in
     omega arith
 
-second-few : (dp : Dp) (p : List ℕ) (w : ℕ) (t : Option ℤ) → length p < dp.vars → length (nth (relaxed dp (reached dp p) w t).layers 1) ≤ dp.choices (length p)
+pub second-few : (dp : Dp) (p : List ℕ) (w : ℕ) (t : Option ℤ) → length p < dp.vars → length (nth (relaxed dp (reached dp p) w t).layers 1) ≤ dp.choices (length p)
 second-few dp p w t short =
     let k = length p in
     let start = start_layer (reached dp p) in
@@ -81,14 +81,14 @@ second-few dp p w t short =
 
 module _ (dp : Dp) (laws : IsLawful dp) (p : List ℕ) (w : ℕ) (t : Option ℤ) (d : DdLayers) (short : length p < dp.vars) (h : IsDiagram dp p w t d) where
   -- the layer at a depth
-  layer-there : (depth : ℕ) → length p ≤ depth → depth ≤ dp.vars → slice_get d.layers (depth - d.first) ≡ Some (layer_in d depth)
+  pub layer-there : (depth : ℕ) → length p ≤ depth → depth ≤ dp.vars → slice_get d.layers (depth - d.first) ≡ Some (layer_in d depth)
   layer-there depth deep low =
       let first = h.first in
       let long = h.depth in
       let l = there d.layers (depth - d.first) (omega arith) in
       l.1 ∙ ap Some (sym (ap (λ (o : Option (List DdNode)). unwrap_or o []) l.1))
 
-  few-nodes : (room depth : ℕ) → AreEnough dp w dp.vars room → length (nth d.layers 1) ≤ dp.choices (length p) → length p < depth → depth < dp.vars → length (layer_in d depth) ≤ room
+  pub few-nodes : (room depth : ℕ) → AreEnough dp w dp.vars room → length (nth d.layers 1) ≤ dp.choices (length p) → length p < depth → depth < dp.vars → length (layer_in d depth) ≤ room
   few-nodes room depth enough second deep low =
       let first = h.first in
       let wide = enough.width in
@@ -145,7 +145,7 @@ module _ (dp : Dp) (laws : IsLawful dp) (p : List ℕ) (w : ℕ) (t : Option ℤ
       }
 
 -- a relaxed diagram is one as seen
-abbrev seen : (dp : Dp) → IsLawful dp → IsChained dp → (w : ℕ) (d : DdLayers) (r : IsRelaxed dp w d) → IsDiagram dp r.prefix w r.threshold d
+abbrev pub seen : (dp : Dp) → IsLawful dp → IsChained dp → (w : ℕ) (d : DdLayers) (r : IsRelaxed dp w d) → IsDiagram dp r.prefix w r.threshold d
 seen dp laws chained w d r = subst (IsDiagram dp r.prefix w r.threshold) (sym r.layers) (compiled-is-diagram dp laws chained r.prefix w r.threshold r.is_prefix r.shorter r.width.positive)
 
 pub cut-is-ready : (dp : Dp) → IsLawful dp → IsChained dp → (w : ℕ) (d : DdLayers) → IsRelaxed dp w d → (room : ℕ) → AreEnough dp w dp.vars room → CutIsReady dp d room d.first_reduced

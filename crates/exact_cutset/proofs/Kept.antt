@@ -65,23 +65,24 @@ pub row-long : (words : ℕ) (o : Option DdNode) (row : List ℤ) → MayKeep wo
 row-long words o row h e = let k = kept-node words o h in sym (ap (λ r. length r) (of-node (λ (n : DdNode). n.row) o k.node row k.is e)) ∙ k.cells
 
 -- what is seen, by the fields
-abbrev pub seen_as : ℕ → ℕ → ℕ → ℕ → List Child → List ℤ → List ℕ → Option ℤ → List ℕ → ChildrenView
-seen_as width words vars room places rows paths found decisions = record {
+abbrev pub seen_as : ℕ → ℕ → ℕ → ℕ → ℕ → List Child → List ℤ → List ℕ → Option ℤ → List ℕ → ChildrenView
+seen_as width words vars wide room places rows paths found decisions = record {
   places = map place_of places;
   subs = shown_subs words places rows paths;
   found = shown_solution found decisions;
   width = width;
   vars = vars;
   words = words;
+  wide = wide;
   room = room;
 }
 
-pub seen-kept : (d : DdLayers) (width words vars room : ℕ) (places : List Child) (rows : List ℤ) (paths : List ℕ) (found : Option ℤ) (decisions : List ℕ) (c : Child) (row new-rows : List ℤ) (new-paths : List ℕ)
+pub seen-kept : (d : DdLayers) (width words vars wide room : ℕ) (places : List Child) (rows : List ℤ) (paths : List ℕ) (found : Option ℤ) (decisions : List ℕ) (c : Child) (row new-rows : List ℤ) (new-paths : List ℕ)
     → MayKeep words (node_at d c.depth c.node) → length rows ≡ length places * words → length paths ≡ depths_of places
     → option_map (λ (n : DdNode). n.value) (node_at d c.depth c.node) ≡ Some c.value → option_map (λ (n : DdNode). n.row) (node_at d c.depth c.node) ≡ Some row → new-rows ≡ rows ++ row
     → option_map (λ (n : DdNode). paths ++ n.path) (node_at d c.depth c.node) ≡ Some new-paths → length new-paths ≡ length paths + c.depth
-    → seen_as width words vars room (places ++ c ∷ []) new-rows new-paths found decisions ≡ with_child d (place_of c) (seen_as width words vars room places rows paths found decisions)
-seen-kept d width words vars room places rows paths found decisions c row new-rows new-paths h a b value-is row-is rows-are paths-are long =
+    → seen_as width words vars wide room (places ++ c ∷ []) new-rows new-paths found decisions ≡ with_child d (place_of c) (seen_as width words vars wide room places rows paths found decisions)
+seen-kept d width words vars wide room places rows paths found decisions c row new-rows new-paths h a b value-is row-is rows-are paths-are long =
     let o = node_at d c.depth c.node in
     let k = kept-node words o h in
     let value = of-node (λ (n : DdNode). n.value) o k.node c.value k.is value-is in
@@ -93,8 +94,8 @@ seen-kept d width words vars room places rows paths found decisions c row new-ro
     let subs : shown_subs words (places ++ c ∷ []) new-rows new-paths ≡ shown_subs words places rows paths ++ child_from d (place_of c) ∷ [] =
     ap (λ r. shown_subs words (places ++ c ∷ []) r new-paths) rows-are ∙ (ap (λ p. shown_subs words (places ++ c ∷ []) (rows ++ row) p) (sym all-paths)
     ∙ (shown-last words places c rows row paths k.node.path a (row-long words o row h row-is) b deep ∙ ap (λ s. shown_subs words places rows paths ++ s ∷ []) child)) in
-    ap (λ ps. record (seen_as width words vars room (places ++ c ∷ []) new-rows new-paths found decisions) { places = ps }) (map-last place_of places c)
-    ∙ ap (λ ss. record (seen_as width words vars room places rows paths found decisions) { places = map place_of places ++ place_of c ∷ []; subs = ss }) subs
+    ap (λ ps. record (seen_as width words vars wide room (places ++ c ∷ []) new-rows new-paths found decisions) { places = ps }) (map-last place_of places c)
+    ∙ ap (λ ss. record (seen_as width words vars wide room places rows paths found decisions) { places = map place_of places ++ place_of c ∷ []; subs = ss }) subs
 
 -- Room.
 

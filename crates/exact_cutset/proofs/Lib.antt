@@ -3,3 +3,11 @@ pub mod Made
 pub mod Searched
 pub mod Taken
 pub mod Cuts
+pub mod Passing
+pub mod Lefts
+pub mod Walked
+pub mod Leaving
+pub mod Freeing
+pub mod Looked
+pub mod Walkable
+pub mod Enough

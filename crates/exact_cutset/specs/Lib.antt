@@ -2,3 +2,4 @@ pub mod Seen
 pub mod Stored
 pub mod Ready
 pub mod Prepared
+pub mod Walking

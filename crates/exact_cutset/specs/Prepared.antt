@@ -1,26 +1,35 @@
 -- What a list of children is prepared for.
-use Rattle.std.specs.Prelude.{◌≡◌, ℕ, ◌<◌, ◌≤◌, Result, Ok, Err}
+use Rattle.std.specs.Prelude.{◌≡◌, ℕ, ◌*◌, ◌<◌, ◌≤◌, Result, Ok, Err}
 use Rattle.dp_model.specs.Dp.{Dp}
+use Rattle.dp_model.specs.declared.cut_kind.CutKind.{CutKind}
+use Rattle.dp_model.specs.declared.cut_kind.CutKind.TheVariants.{LastExactLayer, Frontier}
 use Rattle.layer_build.specs.Layers.{IsWidth}
 use Rattle.layer_build.specs.declared.workspace.PrepareError.{PrepareError}
 use Rattle.layer_build.specs.declared.workspace.PrepareError.TheVariants.{Width, OutOfMemory}
 use Rattle.exact_cutset.specs.Seen.{ChildrenView}
 
--- so many children are enough for a layer of the width, and for one below a single node
-pub record AreEnough (dp : Dp) (w n room : ℕ) : Type 0 where
-  pub width : w ≤ room
-  pub choices : (k : ℕ) → k < n → dp.choices k ≤ room
+-- so many nodes are enough for a layer of the width, and for one below a single node
+pub record AreEnough (dp : Dp) (w n wide : ℕ) : Type 0 where
+  pub width : w ≤ wide
+  pub choices : (k : ℕ) → k < n → dp.choices k ≤ wide
 
--- it was prepared for the sizes of the program, and for the children of diagrams of the width
-pub record IsPreparedFor (dp : Dp) (w : ℕ) (c : ChildrenView) : Type 0 where
+-- how many children a diagram leaves at most: of the last exact layer as many as a layer has nodes, of the frontier as many as all
+-- layers have
+abbrev pub room_for : Dp → CutKind → ℕ → ℕ
+room_for dp LastExactLayer wide = wide
+room_for dp Frontier wide = dp.vars * wide
+
+-- it was prepared for the sizes of the program, and for the children of the kind of diagrams of the width
+pub record IsPreparedFor (dp : Dp) (w : ℕ) (kind : CutKind) (c : ChildrenView) : Type 0 where
   pub is_width : IsWidth dp w
   pub width : c.width ≡ w
   pub vars : c.vars ≡ dp.vars
   pub words : c.words ≡ dp.words
-  pub enough : AreEnough dp w dp.vars c.room
+  pub enough : AreEnough dp w dp.vars c.wide
+  pub room : room_for dp kind c.wide ≤ c.room
 
 -- a list for the width; a refused width exactly where it is not positive or does not fit
-abbrev pub IsPrepared : Dp → ℕ → Result ChildrenView PrepareError → Type 0
-IsPrepared dp w (Ok c) = IsPreparedFor dp w c
-IsPrepared dp w (Err Width) = IsWidth dp w → ⊥
-IsPrepared dp w (Err OutOfMemory) = IsWidth dp w
+abbrev pub IsPrepared : Dp → ℕ → CutKind → Result ChildrenView PrepareError → Type 0
+IsPrepared dp w kind (Ok c) = IsPreparedFor dp w kind c
+IsPrepared dp w kind (Err Width) = IsWidth dp w → ⊥
+IsPrepared dp w kind (Err OutOfMemory) = IsWidth dp w

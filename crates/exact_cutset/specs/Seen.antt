@@ -7,7 +7,7 @@ use Rattle.dp_laws.specs.Diagrams.Nodes.{DdNode, DdLayers, node_at}
 use Rattle.dp_laws.specs.Diagrams.Cutsets.{ChildAt, child_from}
 
 -- the places of the children with their bounds, and the children as subproblems; the solution that the diagram finds; and the
--- sizes that it was prepared for, with for how many children there is room
+-- sizes that it was prepared for, with for how many nodes of a layer and for how many children there is room
 pub record ChildrenView : Type 0 where
   pub places : List ChildAt
   pub subs : List Subproblem
@@ -15,6 +15,7 @@ pub record ChildrenView : Type 0 where
   pub width : ℕ
   pub vars : ℕ
   pub words : ℕ
+  pub wide : ℕ
   pub room : ℕ
 
 -- with one child more

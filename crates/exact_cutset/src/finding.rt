@@ -5,7 +5,7 @@ ghost use Rattle.dp_laws.specs.Diagrams.Cutsets.{found_in};
 ghost use Rattle.relaxed_dd.specs.Shown.{layers_of, last_of, layer_in};
 ghost use Rattle.exact_cutset.specs.Ready.{FindsExact};
 
-use crate::listed::Children;
+use crate::listed::Listed;
 use dp_model::DpModel;
 use relaxed_dd::Diagram;
 
@@ -25,7 +25,7 @@ fn first_exact(diagram: &Diagram) -> Option<usize>
 }
 
 /// Puts in the solution that the diagram finds.
-pub(crate) fn find<M: DpModel>(model: &M, diagram: &Diagram, out: &mut Children)
+pub(crate) fn find<M: DpModel>(model: &M, diagram: &Diagram, out: &mut Listed)
     requires none { out.old.found ≡ None }
     requires some { 0 < length (layers_of diagram.now).layers }
     requires last { last_of (layers_of diagram.now) ≡ out.old.vars }

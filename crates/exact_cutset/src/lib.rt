@@ -1,19 +1,22 @@
 //! The children that a relaxed diagram leaves of its prefix.
 //!
-//! It stands on `relaxed_dd`. `children` fills a list of the exact nodes of the last exact layer, each with a bound on all
-//! completions that begin with its path, and of the first exact node of the last layer, which is a solution. They are those that
-//! `dp_laws` defines on the diagram's layers, whose laws say that no completion that counts is lost. It takes no memory; the list is
-//! prepared once. `subs` gives the children as subproblems of their own.
+//! It stands on `relaxed_dd`. `children` fills a list of exact nodes, those of the last exact layer or those of the frontier, each
+//! with a bound on all completions that begin with its path, and of the first exact node of the last layer, which is a solution.
+//! They are those that `dp_laws` defines on the diagram's layers, whose laws say that no completion that counts is lost. It looks at
+//! each node and each arc once at most, and takes no memory; the list is prepared once. `subs` gives the children as subproblems
+//! of their own.
 #![tactic(auto)]
 
 mod appending;
 mod bounding;
 mod child;
+mod filled;
 mod finding;
+mod frontier;
 mod listed;
 mod making;
 mod preparing;
 mod taking;
 
-pub use listed::Children;
+pub use filled::Children;
 pub use taking::children;

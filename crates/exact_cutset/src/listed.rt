@@ -11,12 +11,13 @@ use relaxed_dd::Diagram;
 use std::alloc::Global;
 use std::marker::Model;
 
-/// The children of a diagram, in order, and the solution that it finds. Its memory is made once and used again.
+/// Children in memory, in order, and the solution that is found. `wide` is for how many nodes of a layer there is room.
 #[derive(Debug, Drop)]
-pub struct Children {
+pub(crate) struct Listed {
     pub(crate) width: usize,
     pub(crate) words: usize,
     pub(crate) vars: usize,
+    pub(crate) wide: usize,
     pub(crate) room: usize,
     pub(crate) places: Vec<Child>,
     // the rows of the children and their decisions, one after another
@@ -28,7 +29,7 @@ pub struct Children {
     pub(crate) path: Vec<u32>,
 }
 
-impl Model for Children {
+impl Model for Listed {
     ghost use Rattle.std.specs.Prelude.{map, vec_capacity};
     ghost use Rattle.exact_cutset.specs.Seen.{ChildrenView};
 
@@ -43,13 +44,14 @@ impl Model for Children {
       width = c.width;
       vars = c.vars;
       words = c.words;
+      wide = c.wide;
       room = c.room;
     } };
 
     ghost invariant = { λ c. HasChildren c.words c.vars c.room c.places.items (vec_capacity c.places) c.rows.items (vec_capacity c.rows) c.paths.items (vec_capacity c.paths) c.decisions.items c.path.items };
 }
 
-impl Children {
+impl Listed {
     /// Takes out all children, and the solution.
     pub(crate) fn clear(&mut self)
         ensures { self.new ≡ record self.old { places = []; subs = []; found = None } }
@@ -86,14 +88,14 @@ impl Children {
     }
 
     /// How many children there are.
-    pub fn len(&self) -> usize
+    pub(crate) fn len(&self) -> usize
         ensures { result ≡ length self.now.places }
     {
         self.places.len()
     }
 
     /// The depth and the place of a child's node in the diagram.
-    pub fn node(&self, i: usize) -> (usize, usize)
+    pub(crate) fn node(&self, i: usize) -> (usize, usize)
         requires { i < length self.now.places }
         ensures { option_map (λ c. (c.depth, c.place)) (slice_get self.now.places i) ≡ Some result }
     {
@@ -102,7 +104,7 @@ impl Children {
     }
 
     /// A bound on the completions of a child.
-    pub fn bound(&self, i: usize) -> i64
+    pub(crate) fn bound(&self, i: usize) -> i64
         requires { i < length self.now.places }
         ensures { option_map (λ c. c.bound) (slice_get self.now.places i) ≡ Some result }
     {
@@ -110,7 +112,7 @@ impl Children {
     }
 
     /// The solution that the diagram finds, or none where its last layer has no exact node.
-    pub fn found(&self) -> Option<Found<'_>>
+    pub(crate) fn found(&self) -> Option<Found<'_>>
         ensures { ShowsSolution self.now.found result }
     {
         let value = self.found?;
@@ -121,7 +123,7 @@ impl Children {
     }
 
     /// The children as subproblems of their own, in order.
-    pub fn subs(&self, alloc: Global) -> Result<Vec<Sub>, OutOfMemory>
+    pub(crate) fn subs(&self, alloc: Global) -> Result<Vec<Sub>, OutOfMemory>
         ensures { IfOk result (λ subs. subproblems subs.items ≡ self.now.subs) }
     {
         make_subs(

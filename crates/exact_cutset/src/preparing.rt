@@ -1,61 +1,104 @@
 ghost use Rattle.std.specs.Prelude.{◌≡◌, ◌<◌, ◌≤◌, ◌*◌, ◌^◌, IfOk};
 ghost use Rattle.layer_build.specs.Layers.{IsWidth};
-ghost use Rattle.exact_cutset.specs.Prepared.{AreEnough, IsPreparedFor, IsPrepared};
+ghost use Rattle.exact_cutset.specs.Prepared.{AreEnough, IsPreparedFor, IsPrepared, room_for};
 
-use crate::listed::Children;
-use dp_model::{DpModel, OutOfMemory};
+use crate::filled::Children;
+use crate::listed::Listed;
+use dp_model::{CutKind, DpModel, OutOfMemory};
 use layer_build::{PrepareError, greatest_width};
 use std::alloc::Global;
 
-/// The greatest number of children: a layer has as many nodes as the width, and the one below the first as many as choices.
-fn room_for<M: DpModel>(model: &M, width: usize) -> usize
+/// How many nodes a layer above the last one has at most: as many as the width, and the one below the first as many as choices.
+fn widest<M: DpModel>(model: &M, width: usize) -> usize
     ensures enough { AreEnough (M.meaning (M.numbers model.now)) width (M.meaning (M.numbers model.now)).vars result }
     ensures few { width ≤ 2 ^ 24 → result ≤ 2 ^ 24 }
 {
-    let mut room = width;
+    let mut widest = width;
     'layers: for k in 0..model.vars() {
-        room = room.max(model.choices(k) as usize);
+        widest = widest.max(model.choices(k) as usize);
     }
-    room
+    widest
+}
+
+/// How many children of the kind a diagram leaves at most whose layers have so many nodes.
+fn room_for<M: DpModel>(model: &M, kind: CutKind, wide: usize) -> usize
+    requires { wide ≤ 2 ^ 24 }
+    ensures room { result ≡ room_for (M.meaning (M.numbers model.now)) kind wide }
+    ensures few { result ≤ 2 ^ 34 }
+{
+    match kind {
+        CutKind::LastExactLayer => wide,
+        CutKind::Frontier => model.vars() * wide,
+    }
+}
+
+/// A list with room for the children of the kind where layers have so many nodes.
+fn prepare_list<M: DpModel>(
+    alloc: Global,
+    model: &M,
+    width: usize,
+    kind: CutKind,
+    wide: usize,
+) -> Result<Listed, OutOfMemory>
+    requires width { IsWidth (M.meaning (M.numbers model.now)) width }
+    requires enough { AreEnough (M.meaning (M.numbers model.now)) width (M.meaning (M.numbers model.now)).vars wide }
+    requires few { wide ≤ 2 ^ 24 }
+    ensures prepared { IfOk result (λ c. IsPreparedFor (M.meaning (M.numbers model.now)) width kind c) }
+    ensures wide { IfOk result (λ c. c.wide ≡ wide) }
+{
+    let words = model.words();
+    let vars = model.vars();
+    let room = room_for(model, kind, wide);
+    Ok(Listed {
+        width,
+        words,
+        vars,
+        wide,
+        room,
+        places: Vec::with_capacity(alloc, room)?,
+        rows: Vec::with_capacity(alloc, room * words)?,
+        paths: Vec::with_capacity(alloc, room * vars)?,
+        found: None,
+        decisions: vec![in alloc; 0u32; vars]?,
+        path: vec![in alloc; 0u32; vars]?,
+    })
 }
 
 impl Children {
-    /// A list for the children of diagrams of the model and the width, which is at least 1 and at most the greatest one.
+    /// A list for the children of the kind of diagrams of the model and the width, which is at least 1 and at most the greatest
+    /// one. There is room for as many children as a layer has nodes, and of the frontier for as many as all layers have.
     pub fn prepare<M: DpModel>(
         alloc: Global,
         model: &M,
         width: u32,
+        kind: CutKind,
     ) -> Result<Children, PrepareError>
-        ensures { IsPrepared (M.meaning (M.numbers model.now)) width result }
+        ensures { IsPrepared (M.meaning (M.numbers model.now)) width kind result }
     {
         if width == 0 || width > greatest_width(model) {
             return Err(PrepareError::Width);
         }
-        match Children::make(alloc, model, width as usize) {
+        match Children::make(alloc, model, width as usize, kind) {
             Ok(children) => Ok(children),
             Err(_) => Err(PrepareError::OutOfMemory),
         }
     }
 
     /// A list for a width that fits.
-    fn make<M: DpModel>(alloc: Global, model: &M, width: usize) -> Result<Children, OutOfMemory>
+    fn make<M: DpModel>(
+        alloc: Global,
+        model: &M,
+        width: usize,
+        kind: CutKind,
+    ) -> Result<Children, OutOfMemory>
         requires { IsWidth (M.meaning (M.numbers model.now)) width }
-        ensures { IfOk result (λ c. IsPreparedFor (M.meaning (M.numbers model.now)) width c) }
+        ensures { IfOk result (λ c. IsPreparedFor (M.meaning (M.numbers model.now)) width kind c) }
     {
-        let room = room_for(model, width);
-        let words = model.words();
-        let vars = model.vars();
+        let wide = widest(model, width);
         Ok(Children {
-            width,
-            words,
-            vars,
-            room,
-            places: Vec::with_capacity(alloc, room)?,
-            rows: Vec::with_capacity(alloc, room * words)?,
-            paths: Vec::with_capacity(alloc, room * vars)?,
-            found: None,
-            decisions: vec![in alloc; 0u32; vars]?,
-            path: vec![in alloc; 0u32; vars]?,
+            list: prepare_list(alloc, model, width, kind, wide)?,
+            above: Vec::with_capacity(alloc, wide)?,
+            here: Vec::with_capacity(alloc, wide)?,
         })
     }
 }

@@ -1,7 +1,6 @@
 //! The children of a diagram.
 
-ghost use Rattle.std.specs.Prelude.{◌≡◌, ◌<◌, ◌≤◌, [], None, length, map, true};
-ghost use Rattle.dp_model.specs.declared.cut_kind.CutKind.TheVariants.{LastExactLayer};
+ghost use Rattle.std.specs.Prelude.{◌≡◌, ◌<◌, ◌≤◌, [], None, is_some, length, map, true, vec_capacity};
 ghost use Rattle.dp_laws.specs.Diagrams.Nodes.{node_at};
 ghost use Rattle.dp_laws.specs.Diagrams.Cutsets.{children_at, children_of, found_in, last_exact_at, places_where, child_from};
 ghost use Rattle.relaxed_dd.specs.Shown.{layers_of, width_of, layer_in, IsDiagramOf};
@@ -9,28 +8,38 @@ ghost use Rattle.exact_cutset.specs.Prepared.{IsPreparedFor};
 ghost use Rattle.exact_cutset.specs.Ready.{IsReadyAt, IsCut, CutIsReady, bound_at, with_bounded};
 
 use crate::bounding::bound_of;
+use crate::filled::Children;
 use crate::finding::find;
-use crate::listed::Children;
+use crate::frontier::take_frontier;
+use crate::listed::Listed;
 use dp_model::{CutKind, DpModel};
 use relaxed_dd::Diagram;
 
-/// Puts a node in as a child where it has a bound.
-fn offer<M: DpModel>(model: &M, diagram: &Diagram, depth: usize, node: usize, out: &mut Children)
+/// Puts a node in as a child where it has a bound, and tells whether it has.
+pub(crate) fn offer<M: DpModel>(
+    model: &M,
+    diagram: &Diagram,
+    depth: usize,
+    node: usize,
+    out: &mut Listed,
+) -> bool
     requires first { (layers_of diagram.now).first ≤ depth }
     requires depth { depth ≤ out.old.vars }
     requires words { out.old.words ≡ (M.meaning (M.numbers model.now)).words }
     requires ready { IsReadyAt (M.meaning (M.numbers model.now)) depth (node_at (layers_of diagram.now) depth node) }
     requires room { length out.old.places < out.old.room }
-    ensures { out.new ≡ with_bounded (layers_of diagram.now) depth node (bound_at (M.meaning (M.numbers model.now)) (layers_of diagram.now) depth node) out.old }
+    ensures kept { out.new ≡ with_bounded (layers_of diagram.now) depth node (bound_at (M.meaning (M.numbers model.now)) (layers_of diagram.now) depth node) out.old }
+    ensures told { result ≡ is_some (bound_at (M.meaning (M.numbers model.now)) (layers_of diagram.now) depth node) }
 {
     let Some(bound) = bound_of(model, diagram, depth, node) else {
-        return;
+        return false;
     };
     out.keep(diagram, depth, node, bound);
+    true
 }
 
 /// Puts in the nodes of a layer that have a bound, in order.
-fn take_layer<M: DpModel>(model: &M, diagram: &Diagram, depth: usize, out: &mut Children)
+fn take_layer<M: DpModel>(model: &M, diagram: &Diagram, depth: usize, out: &mut Listed)
     requires cut { IsCut (M.meaning (M.numbers model.now)) (layers_of diagram.now) depth out.old.room }
     requires vars { out.old.vars ≡ (M.meaning (M.numbers model.now)).vars }
     requires words { out.old.words ≡ (M.meaning (M.numbers model.now)).words }
@@ -48,7 +57,7 @@ fn take_layer<M: DpModel>(model: &M, diagram: &Diagram, depth: usize, out: &mut 
 }
 
 /// Puts in the nodes of the last exact layer.
-fn take_last_exact<M: DpModel>(model: &M, diagram: &Diagram, out: &mut Children)
+fn take_last_exact<M: DpModel>(model: &M, diagram: &Diagram, out: &mut Listed)
     requires cut { CutIsReady (M.meaning (M.numbers model.now)) (layers_of diagram.now) out.old.room (layers_of diagram.now).first_reduced }
     requires vars { out.old.vars ≡ (M.meaning (M.numbers model.now)).vars }
     requires words { out.old.words ≡ (M.meaning (M.numbers model.now)).words }
@@ -65,23 +74,74 @@ fn take_last_exact<M: DpModel>(model: &M, diagram: &Diagram, out: &mut Children)
     take_layer(model, diagram, reduced - 1, out);
 }
 
-/// Fills `out` with the children of a diagram and with the solution that it finds. The children are the nodes just above the first
-/// layer that was reduced, where they have a suffix and a rough bound, in the order of their layer; where no layer was
-/// reduced there are none. The bound of each is its value and the lesser of the two. The solution is the first exact node of the
-/// last layer. The kind is that of the last exact layer; the frontier is to come. It takes no memory.
-pub fn children<M: DpModel>(model: &M, diagram: &Diagram, kind: CutKind, out: &mut Children)
-    requires kind { kind ≡ CutKind.LastExactLayer }
+/// Puts in the children of either kind.
+fn take_kind<M: DpModel>(
+    model: &M,
+    diagram: &Diagram,
+    kind: CutKind,
+    above: &mut Vec<bool>,
+    here: &mut Vec<bool>,
+    out: &mut Listed,
+)
     requires diagram { IsDiagramOf (M.meaning (M.numbers model.now)) diagram.now }
-    requires prepared { IsPreparedFor (M.meaning (M.numbers model.now)) (width_of diagram.now) out.old }
+    requires prepared { IsPreparedFor (M.meaning (M.numbers model.now)) (width_of diagram.now) kind out.old }
+    requires no_places { out.old.places ≡ [] }
+    requires no_subs { out.old.subs ≡ [] }
+    requires above_room { out.old.wide ≤ vec_capacity above.old }
+    requires here_room { out.old.wide ≤ vec_capacity here.old }
+    ensures children { out.new ≡ record out.old {
+      places = children_at (M.meaning (M.numbers model.now)) (layers_of diagram.now) kind;
+      subs = children_of (M.meaning (M.numbers model.now)) (layers_of diagram.now) kind;
+    } }
+    ensures above_room { out.old.wide ≤ vec_capacity above.new }
+    ensures here_room { out.old.wide ≤ vec_capacity here.new }
+{
+    match kind {
+        CutKind::LastExactLayer => take_last_exact(model, diagram, out),
+        CutKind::Frontier => take_frontier(model, diagram, above, here, out),
+    }
+}
+
+/// Fills the list with the children of either kind and with the solution.
+pub(crate) fn take<M: DpModel>(
+    model: &M,
+    diagram: &Diagram,
+    kind: CutKind,
+    above: &mut Vec<bool>,
+    here: &mut Vec<bool>,
+    out: &mut Listed,
+)
+    requires diagram { IsDiagramOf (M.meaning (M.numbers model.now)) diagram.now }
+    requires prepared { IsPreparedFor (M.meaning (M.numbers model.now)) (width_of diagram.now) kind out.old }
+    requires above_room { out.old.wide ≤ vec_capacity above.old }
+    requires here_room { out.old.wide ≤ vec_capacity here.old }
+    ensures children { out.new ≡ record out.old {
+      places = children_at (M.meaning (M.numbers model.now)) (layers_of diagram.now) kind;
+      subs = children_of (M.meaning (M.numbers model.now)) (layers_of diagram.now) kind;
+      found = found_in (M.meaning (M.numbers model.now)) (layers_of diagram.now);
+    } }
+    ensures above_room { out.old.wide ≤ vec_capacity above.new }
+    ensures here_room { out.old.wide ≤ vec_capacity here.new }
+{
+    out.clear();
+    take_kind(model, diagram, kind, above, here, out);
+    find(model, diagram, out);
+}
+
+/// Fills `out` with the children of a diagram and with the solution that it finds.
+///
+/// The children of the last exact layer are the nodes just above the first layer that was reduced; where no layer was reduced
+/// there are none. Those of the frontier are the exact nodes below the prefix with an arc to an inexact node, but for those
+/// whose kept decisions lead through another such node. Of either kind they have a suffix and a rough bound, and the bound of
+/// each is its value and the lesser of the two. They stand by depth, and within a depth in the order of their layer. The
+/// solution is the first exact node of the last layer. It takes no memory.
+pub fn children<M: DpModel>(model: &M, diagram: &Diagram, kind: CutKind, out: &mut Children)
+    requires diagram { IsDiagramOf (M.meaning (M.numbers model.now)) diagram.now }
+    requires prepared { IsPreparedFor (M.meaning (M.numbers model.now)) (width_of diagram.now) kind out.old }
     ensures places { out.new.places ≡ children_at (M.meaning (M.numbers model.now)) (layers_of diagram.now) kind }
     ensures subs { out.new.subs ≡ children_of (M.meaning (M.numbers model.now)) (layers_of diagram.now) kind }
     ensures found { out.new.found ≡ found_in (M.meaning (M.numbers model.now)) (layers_of diagram.now) }
-    ensures prepared { IsPreparedFor (M.meaning (M.numbers model.now)) (width_of diagram.now) out.new }
+    ensures prepared { IsPreparedFor (M.meaning (M.numbers model.now)) (width_of diagram.now) kind out.new }
 {
-    out.clear();
-    match kind {
-        CutKind::LastExactLayer => take_last_exact(model, diagram, out),
-        CutKind::Frontier => unreachable!(),
-    }
-    find(model, diagram, out);
+    out.fill(model, diagram, kind);
 }

@@ -1,5 +1,5 @@
 -- A layer is expanded in the same way whatever arcs it had.
-use Rattle.std.proofs.Common.{◌≡◌, ℕ, ℤ, Bool, ◌&&◌, ◌||◌, not, ◌+◌, List, [], ◌∷◌, map, None, refl, sym, ap, ap₂, ◌∙◌}
+use Rattle.std.proofs.Common.{◌≡◌, ℕ, ℤ, Option, Bool, ◌&&◌, ◌||◌, not, ◌+◌, List, [], ◌∷◌, map, None, refl, ap, ap₂, ◌∙◌}
 use Rattle.dp_model.specs.Dp.{Dp}
 use Rattle.dp_model.specs.Reached.{Reached}
 use Rattle.dp_laws.specs.Restricted.Beam.{expanded}
@@ -7,7 +7,9 @@ use Rattle.dp_laws.specs.Diagrams.Nodes.{DdNode, prefix_at}
 use Rattle.dp_laws.specs.Diagrams.Seen.{decisions_at}
 use Rattle.dp_laws.specs.Rules.Expanding.{makes, is_exact_row, node_for, new_layer, with_arcs, arc_of}
 use Rattle.dp_laws.specs.Rules.Compiling.{expand}
+use Rattle.dp_laws.specs.Rules.Redirects.{with_redirected}
 use Rattle.layer_nodes.specs.Nodes.{NodeView, shown_from, shown_layer, without_arcs}
+use Rattle.layer_nodes.specs.Sifting.{sifted_nodes, sift_redirects, expand_sifted}
 
 -- a node without its arcs
 abbrev pub bare : DdNode → DdNode
@@ -38,6 +40,13 @@ bare-next dp k layer = next-bare dp k layer
 
 pub bare-above : (dp : Dp) (k : ℕ) (layer : List DdNode) → (expand dp k (map bare layer)).above ≡ (expand dp k layer).above
 bare-above dp k layer = ap (λ (l : List DdNode). with_arcs dp k l (map bare layer)) (next-bare dp k layer) ∙ arcs-bare dp k (new_layer dp k layer) layer
+
+-- and without its struck nodes
+pub sifted-bare-next : (dp : Dp) (k : ℕ) (t : Option ℤ) (layer : List DdNode) → (expand_sifted dp k t (map bare layer)).next ≡ (expand_sifted dp k t layer).next
+sifted-bare-next dp k t layer = ap (sifted_nodes dp (k + 1) t) (bare-next dp k layer)
+
+pub sifted-bare-above : (dp : Dp) (k : ℕ) (t : Option ℤ) (layer : List DdNode) → (expand_sifted dp k t (map bare layer)).above ≡ (expand_sifted dp k t layer).above
+sifted-bare-above dp k t layer = ap₂ (λ next above. with_redirected (sift_redirects dp (k + 1) t 0 next) above) (bare-next dp k layer) (bare-above dp k layer)
 
 shown-bare-from : (paths : ℕ → List ℕ) (i : ℕ) (nodes : List NodeView) → shown_from paths i (map without_arcs nodes) ≡ map bare (shown_from paths i nodes)
 shown-bare-from paths i [] = refl

@@ -1,27 +1,26 @@
 -- A workspace in which a diagram is under way: what its last layers are in memory.
-use Rattle.std.proofs.Common.{◌≡◌, ◌≢◌, ℕ, zero, suc, ◌+◌, ◌-◌, ◌*◌, ◌<◌, ◌≤◌, ℤ, List, [], ◌∷◌, map, set, length, get_or, slice_index_or, IsSome, ◌⊎◌, inl, inr, refl, sym, ap, ap₂, ◌∙◌, subst, arith}
+use Rattle.std.proofs.Common.{◌≡◌, ℕ, suc, ◌+◌, ◌-◌, ◌*◌, ◌<◌, ◌≤◌, ℤ, List, [], ◌∷◌, map, set, length, get_or, slice_index_or, IsSome, ◌⊎◌, inl, inr, refl, sym, ap, ap₂, ◌∙◌, subst, arith}
 use Rattle.std.proofs.lemmas.List.{get_or_default, get_or-set_other}
 use Rattle.std.specs.Vec.{with_item}
 use Rattle.dp_model.specs.Dp.{Dp}
-use Rattle.dp_model.specs.Gaps.{IsStateOf}
-use Rattle.dp_model.specs.Laws.{IsLawful}
 use Rattle.dp_model.specs.Lists.{Each}
 use Rattle.dp_model.specs.Numbers.{IsFar}
 use Rattle.dp_model.proofs.Members.{Each-then}
 use Rattle.dp_laws.specs.declared.arc.DdArc.{DdArc}
 use Rattle.dp_laws.specs.Diagrams.Nodes.{DdNode, path_below}
-use Rattle.dp_laws.specs.Rules.Compiling.{TwoLayers, expand}
-use Rattle.dp_laws.specs.Rules.Within.{IsBetween, IsLayerWithin, IsArcWithin, AreWithin}
+use Rattle.dp_laws.specs.Rules.Compiling.{TwoLayers}
+use Rattle.dp_laws.specs.Rules.Within.{IsLayerWithin, IsArcWithin, AreWithin}
 use Rattle.layer_nodes.specs.Nodes.{NodeView, LayerView, shown, shown_from, shown_layer, shown_below, without_arcs}
 use Rattle.layer_nodes.specs.Steps.{IsParent, IsNodeOf, MayBeLengthened, IsRanked, KeepsRoom}
 use Rattle.layer_build.specs.contracts.workspace.Workspace.{the_view, the_invariant}
 use Rattle.layer_build.specs.declared.workspace.Workspace.TheInside.{Inside}
 use Rattle.layer_build.specs.Layers.{SpaceView, last_depth, last_layer, expand_last, on_last_two}
-use Rattle.layer_build.specs.Stacked.{no_layer, place_of, place_above, room_of, HaveRooms, HasStack, HaveDepths, path_in, paths_at, paths_below, shown_down, shown_stack, nodes_in}
+use Rattle.layer_build.specs.Stacked.{no_layer, place_of, place_above, room_of, HaveRooms, HasStack, HaveDepths, path_in, paths_at, paths_below, shown_down, nodes_in}
 use Rattle.layer_build.specs.UnderWay.{IsUnderWay, last_two}
-use Rattle.layer_build.proofs.Depths.{depths-expanded, expanded-above, expanded-next}
+use Rattle.layer_build.proofs.Depths.{depths-expanded}
+use Rattle.layer_build.proofs.Expansions.{Expands}
 use Rattle.layer_build.proofs.Kept.{last-of-two, expanded-under-way, wide-deep}
-use Rattle.layer_build.proofs.Shown.{length-down, parents-of, nodes-of, far-of, length-shown, last-is, two-are, paths-last, as-below, expand-shown, two-shown, bare-all, have-parents, have-paths, ranks-of}
+use Rattle.layer_build.proofs.Shown.{length-down, parents-of, nodes-of, far-of, length-shown, last-is, two-are, as-below, expand-shown, two-shown, bare-all, have-parents, have-paths, ranks-of}
 use Rattle.layer_build.proofs.Stacks.{at_depth, newest-at, above-at, depth-is, kept-at, put-at, place-low, places-apart, above-first, above-later, above-low, count-of, words-at, FitsAbove, fits-above, rooms-set, map-length}
 
 -- the layer above the last one in memory
@@ -257,16 +256,16 @@ expanded-stack dp i h low x n at old d same e rooms next =
       top = ap (λ (l : LayerView). l.nodes) (get_or-set_other i.stack.layers.items at (i.stack.vars + 1) x no_layer (λ f. absurd (omega arith))) ∙ h.stack.top;
     }
 
-pub expanded-space : (dp : Dp) (i : Inside) → the_invariant i → IsUnderWay dp (the_view i) → i.stack.last < i.stack.vars → (x n : LayerView) (at expansion : ℕ) (old d : LayerView)
+pub expanded-space : (dp : Dp) (rule : ℕ → List DdNode → TwoLayers) → Expands dp rule → (i : Inside) → the_invariant i → IsUnderWay dp (the_view i) → i.stack.last < i.stack.vars → (x n : LayerView) (at expansion : ℕ) (old d : LayerView)
     → at ≡ place_of i.stack.vars i.stack.first i.stack.last → old ≡ get_or i.stack.layers.items at d
     → map without_arcs x.nodes ≡ map without_arcs i.stack.newest.nodes
-    → ((paths : ℕ → List ℕ) → shown_layer paths x.nodes ≡ (expand dp i.stack.last (shown_layer paths i.stack.newest.nodes)).above)
-    → ((paths : ℕ → List ℕ) → shown_below paths n.nodes ≡ (expand dp i.stack.last (shown_layer paths i.stack.newest.nodes)).next)
+    → ((paths : ℕ → List ℕ) → shown_layer paths x.nodes ≡ (rule i.stack.last (shown_layer paths i.stack.newest.nodes)).above)
+    → ((paths : ℕ → List ℕ) → shown_below paths n.nodes ≡ (rule i.stack.last (shown_layer paths i.stack.newest.nodes)).next)
     → KeepsRoom old x → KeepsRoom i.stack.newest n → expansion ≡ i.expansion
     → the_invariant (record i { stack = record { vars = i.stack.vars; first = i.stack.first; last = i.stack.last + 1; layers = with_item i.stack.layers at x; newest = n }; expansion = expansion })
-expanded-space dp i h u low x n at expansion old d same e rest above next rooms next_rooms kept =
+expanded-space dp rule expands i h u low x n at expansion old d same e rest above next rooms next_rooms kept =
     let ordered = h.stack.first in
-    let seen = expanded-view (expand dp i.stack.last) i h low x n rest above next in
+    let seen = expanded-view (rule i.stack.last) i h low x n rest above next in
     let long = length-down (nodes_in i.stack) (i.prefix.items ∷ []) i.stack.first (i.stack.last - i.stack.first) in
     let vars = u.prepared.vars in
     record {
@@ -278,7 +277,7 @@ expanded-space dp i h u low x n at expansion old d same e rest above next rooms 
       path = h.path;
       depths = subst (λ (k : ℕ). HaveDepths i.stack.first (shown_down (at_depth i.stack.vars i.stack.first (i.stack.last + 1) (set i.stack.layers.items k x) n) (i.prefix.items ∷ []) i.stack.first (i.stack.last + 1 - i.stack.first))) (sym same)
           (subst (HaveDepths i.stack.first) (sym seen)
-          (depths-expanded (expand dp i.stack.last) i.stack.last (λ l a. expanded-above dp i.stack.last l a) (λ l a. expanded-next dp i.stack.last l (omega arith) a) i.stack.first (the_view i).layers (omega arith) h.depths));
+          (depths-expanded (rule i.stack.last) i.stack.last (λ l a. expands.above i.stack.last l a) (λ l a. expands.next i.stack.last l (omega arith) a) i.stack.first (the_view i).layers (omega arith) h.depths));
       has_layers = h.has_layers;
     }
 
@@ -291,31 +290,31 @@ below-length paths nodes = map-length (λ (node : NodeView). shown (path_below p
 ranks-below : (dp : Dp) (k : ℕ) (ps : List (List ℕ)) (n : LayerView) → Each (IsRanked dp k) n.nodes → ranks_in n ≡ map (λ (node : DdNode). dp.rank k node.row) (shown_below (path_in ps) n.nodes)
 ranks-below dp k ps n h = ranks-of dp k (path_in (paths_below ps n.nodes)) 0 n.nodes h ∙ ap (map (λ (node : DdNode). dp.rank k node.row)) (as-below ps n.nodes)
 
-pub expanded-seen : (dp : Dp) (i : Inside) → the_invariant i → i.stack.last < i.stack.vars → (x n : LayerView) (at expansion : ℕ)
+pub expanded-seen : (rule : ℕ → List DdNode → TwoLayers) (i : Inside) → the_invariant i → i.stack.last < i.stack.vars → (x n : LayerView) (at expansion : ℕ)
     → at ≡ place_of i.stack.vars i.stack.first i.stack.last
     → map without_arcs x.nodes ≡ map without_arcs i.stack.newest.nodes
-    → ((paths : ℕ → List ℕ) → shown_layer paths x.nodes ≡ (expand dp i.stack.last (shown_layer paths i.stack.newest.nodes)).above)
-    → ((paths : ℕ → List ℕ) → shown_below paths n.nodes ≡ (expand dp i.stack.last (shown_layer paths i.stack.newest.nodes)).next)
+    → ((paths : ℕ → List ℕ) → shown_layer paths x.nodes ≡ (rule i.stack.last (shown_layer paths i.stack.newest.nodes)).above)
+    → ((paths : ℕ → List ℕ) → shown_below paths n.nodes ≡ (rule i.stack.last (shown_layer paths i.stack.newest.nodes)).next)
     → KeepsRoom i.stack.newest n
     → the_view (record i { stack = record { vars = i.stack.vars; first = i.stack.first; last = i.stack.last + 1; layers = with_item i.stack.layers at x; newest = n }; expansion = expansion })
-    ≡ record (the_view i) { layers = expand_last (expand dp (last_depth (the_view i))) (the_view i).layers; ranks = ranks_in n }
-expanded-seen dp i h low x n at expansion same rest above next next_rooms =
-    let seen = expanded-view (expand dp i.stack.last) i h low x n rest above next in
+    ≡ record (the_view i) { layers = expand_last (rule (last_depth (the_view i))) (the_view i).layers; ranks = ranks_in n }
+expanded-seen rule i h low x n at expansion same rest above next next_rooms =
+    let seen = expanded-view (rule i.stack.last) i h low x n rest above next in
     ap₂ (λ (r : ℕ) (l : List (List DdNode)). record (the_view i) { room = r; layers = l; ranks = ranks_in n }) next_rooms.nodes_room
-    (subst (λ (k : ℕ). shown_down (at_depth i.stack.vars i.stack.first (i.stack.last + 1) (set i.stack.layers.items k x) n) (i.prefix.items ∷ []) i.stack.first (i.stack.last + 1 - i.stack.first) ≡ expand_last (expand dp i.stack.last) (the_view i).layers) (sym same) seen
-    ∙ ap (λ (k : ℕ). expand_last (expand dp k) (the_view i).layers) (sym (deep i h)))
+    (subst (λ (k : ℕ). shown_down (at_depth i.stack.vars i.stack.first (i.stack.last + 1) (set i.stack.layers.items k x) n) (i.prefix.items ∷ []) i.stack.first (i.stack.last + 1 - i.stack.first) ≡ expand_last (rule i.stack.last) (the_view i).layers) (sym same) seen
+    ∙ ap (λ (k : ℕ). expand_last (rule k) (the_view i).layers) (sym (deep i h)))
 
-pub expanded-kept : (dp : Dp) → IsLawful dp → (i : Inside) → the_invariant i → IsUnderWay dp (the_view i) → i.stack.last < i.stack.vars → (n : LayerView)
+pub expanded-kept : (dp : Dp) (rule : ℕ → List DdNode → TwoLayers) → Expands dp rule → (i : Inside) → the_invariant i → IsUnderWay dp (the_view i) → i.stack.last < i.stack.vars → (n : LayerView)
     → (i.stack.first + 2 ≤ i.stack.last → length i.stack.newest.nodes ≤ i.width)
-    → ((paths : ℕ → List ℕ) → shown_below paths n.nodes ≡ (expand dp i.stack.last (shown_layer paths i.stack.newest.nodes)).next)
+    → ((paths : ℕ → List ℕ) → shown_below paths n.nodes ≡ (rule i.stack.last (shown_layer paths i.stack.newest.nodes)).next)
     → Each (IsRanked dp (i.stack.last + 1)) n.nodes → Each (λ (node : NodeView). IsSome node.parent) n.nodes → length n.nodes ≤ length i.stack.newest.nodes * dp.choices i.stack.last
-    → IsUnderWay dp (record (the_view i) { layers = expand_last (expand dp (last_depth (the_view i))) (the_view i).layers; ranks = ranks_in n })
-expanded-kept dp laws i h u low n narrow next ranked unmerged few =
+    → IsUnderWay dp (record (the_view i) { layers = expand_last (rule (last_depth (the_view i))) (the_view i).layers; ranks = ranks_in n })
+expanded-kept dp rule expands i h u low n narrow next ranked unmerged few =
     let V = the_view i in
     let ps = last_paths i in
     let at = deep i h in
-    let is : (expand dp (last_depth V) (last_layer V.layers)).next ≡ shown_below (path_in ps) n.nodes =
-    ap (λ (k : ℕ). (expand dp k (last_layer V.layers)).next) at ∙ (ap (λ (l : List DdNode). (expand dp i.stack.last l).next) (last-seen i h) ∙ sym (next (path_in ps))) in
+    let is : (rule (last_depth V) (last_layer V.layers)).next ≡ shown_below (path_in ps) n.nodes =
+    ap (λ (k : ℕ). (rule k (last_layer V.layers)).next) at ∙ (ap (λ (l : List DdNode). (rule i.stack.last l).next) (last-seen i h) ∙ sym (next (path_in ps))) in
     let vars = u.prepared.vars in
     let long = below-length (path_in ps) n.nodes in
     let count = count-seen i h in
@@ -323,8 +322,8 @@ expanded-kept dp laws i h u low n narrow next ranked unmerged few =
     let candidates = fits.candidates in
     let choices = ap dp.choices at in
     let ranks = ranks-below dp (i.stack.last + 1) ps n ranked in
-    expanded-under-way dp laws V (ranks_in n) u (omega arith)
-    (subst (λ (k : ℕ). ranks_in n ≡ map (λ (node : DdNode). dp.rank (k + 1) node.row) (expand dp (last_depth V) (last_layer V.layers)).next) (sym at)
+    expanded-under-way dp rule expands V (ranks_in n) u (omega arith)
+    (subst (λ (k : ℕ). ranks_in n ≡ map (λ (node : DdNode). dp.rank (k + 1) node.row) (rule (last_depth V) (last_layer V.layers)).next) (sym at)
     (subst (λ (l : List DdNode). ranks_in n ≡ map (λ (node : DdNode). dp.rank (i.stack.last + 1) node.row) l) (sym is) ranks))
     (subst (Each (λ (node : DdNode). 1 ≤ length node.path)) (sym is) (have-paths (path_in ps) n.nodes unmerged))
     (subst (λ (l : List DdNode). length l ≤ length (last_layer V.layers) * dp.choices (last_depth V)) (sym is)

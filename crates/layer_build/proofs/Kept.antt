@@ -1,5 +1,5 @@
 -- Each step keeps a diagram under way.
-use Rattle.std.proofs.Common.{◌≡◌, ℕ, zero, suc, ◌+◌, ◌-◌, ◌*◌, ◌<◌, ◌≤◌, ℤ, List, [], ◌∷◌, map, take, drop, ◌++◌, length, length-append, Option, Some, None, ◌⊎◌, inl, inr, mul-le-mul_right, refl, sym, ap, ◌∙◌, subst, arith}
+use Rattle.std.proofs.Common.{◌≡◌, ℕ, suc, ◌+◌, ◌-◌, ◌*◌, ◌<◌, ◌≤◌, ℤ, List, [], ◌∷◌, map, take, drop, length, length-append, Option, None, ◌⊎◌, inl, inr, mul-le-mul_right, refl, sym, ap, ◌∙◌, subst, arith}
 use Rattle.std.proofs.lemmas.List.{length-take-le}
 use Rattle.dp_model.specs.Dp.{Dp}
 use Rattle.dp_model.specs.Gaps.{IsStateOf}
@@ -7,17 +7,18 @@ use Rattle.dp_model.specs.Laws.{IsLawful}
 use Rattle.dp_model.specs.Lists.{Each}
 use Rattle.dp_model.specs.Prefixes.{IsPrefix}
 use Rattle.dp_model.specs.Reached.{reached}
-use Rattle.dp_model.proofs.Members.{Has, each-has, each-of-all}
+use Rattle.dp_model.proofs.Members.{each-has, each-of-all}
 use Rattle.dp_model.proofs.Paths.{IsPrefix-length}
 use Rattle.dp_laws.specs.Diagrams.Nodes.{DdNode}
-use Rattle.dp_laws.specs.Rules.Compiling.{TwoLayers, expand, prune, keep_first, merge_rest, start_layer}
+use Rattle.dp_laws.specs.Rules.Compiling.{TwoLayers, prune, keep_first, merge_rest, start_layer}
 use Rattle.dp_laws.specs.Rules.Pruning.{pruned_nodes}
 use Rattle.dp_laws.specs.Rules.Reducing.{merged_node, merged_layer}
 use Rattle.dp_laws.specs.Rules.Within.{IsBetween, IsLayerWithin, AreWithin}
 use Rattle.dp_laws.proofs.Rules.Pruned.{pruned-has, few-pruned}
-use Rattle.dp_laws.proofs.Rules.Within.{start-within, expand-within, prune-within, keep-first-within, merge-within}
+use Rattle.dp_laws.proofs.Rules.Within.{start-within, prune-within, keep-first-within, merge-within}
 use Rattle.layer_build.specs.Layers.{SpaceView, IsPreparedFor, last_depth, last_layer, expand_last, on_last_two}
 use Rattle.layer_build.specs.UnderWay.{last_two, IsUnderWay}
+use Rattle.layer_build.proofs.Expansions.{Expands}
 
 -- ---- the ends of a list of layers
 
@@ -79,38 +80,38 @@ last-of-two (x ∷ y ∷ z ∷ l) = last-of-two (y ∷ z ∷ l)
 
 -- ---- the steps
 
-pub expanded-under-way : (dp : Dp) → IsLawful dp → (s : SpaceView) (ranks : List ℤ) → IsUnderWay dp s → last_depth s < dp.vars
-    → ranks ≡ map (λ (n : DdNode). dp.rank (last_depth s + 1) n.row) (expand dp (last_depth s) (last_layer s.layers)).next
-    → Each (λ (n : DdNode). 1 ≤ length n.path) (expand dp (last_depth s) (last_layer s.layers)).next
-    → length (expand dp (last_depth s) (last_layer s.layers)).next ≤ length (last_layer s.layers) * dp.choices (last_depth s)
-    → length (expand dp (last_depth s) (last_layer s.layers)).next ≤ s.room
-    → IsUnderWay dp (record s { layers = expand_last (expand dp (last_depth s)) s.layers; ranks = ranks })
-expanded-under-way dp laws s ranks u low ranked paths few room =
+pub expanded-under-way : (dp : Dp) (rule : ℕ → List DdNode → TwoLayers) → Expands dp rule → (s : SpaceView) (ranks : List ℤ) → IsUnderWay dp s → last_depth s < dp.vars
+    → ranks ≡ map (λ (n : DdNode). dp.rank (last_depth s + 1) n.row) (rule (last_depth s) (last_layer s.layers)).next
+    → Each (λ (n : DdNode). 1 ≤ length n.path) (rule (last_depth s) (last_layer s.layers)).next
+    → length (rule (last_depth s) (last_layer s.layers)).next ≤ length (last_layer s.layers) * dp.choices (last_depth s)
+    → length (rule (last_depth s) (last_layer s.layers)).next ≤ s.room
+    → IsUnderWay dp (record s { layers = expand_last (rule (last_depth s)) s.layers; ranks = ranks })
+expanded-under-way dp rule expands s ranks u low ranked paths few room =
     let d = last_depth s in
-    let rule = expand dp d in
+    let here = rule d in
     let some = u.some in
-    let long = length-expand rule s.layers some in
-    let deep : length s.prefix + (length (expand_last rule s.layers) - 1) ≡ d + 1 = omega arith in
-    let last = last-expand rule s.layers some in
-    let both : AreWithin dp d s.width (rule (last_layer s.layers)) = expand-within dp laws d s.width (last_layer s.layers) low u.within in
+    let long = length-expand here s.layers some in
+    let deep : length s.prefix + (length (expand_last here s.layers) - 1) ≡ d + 1 = omega arith in
+    let last = last-expand here s.layers some in
+    let both : AreWithin dp d s.width (here (last_layer s.layers)) = expands.within d s.width (last_layer s.layers) low u.within in
     record {
       lawful = u.lawful;
       prepared = record { vars = u.prepared.vars; words = u.prepared.words; choices = u.prepared.choices; width = u.prepared.width; enough = u.prepared.enough; path = u.prepared.path };
       prefix = u.prefix;
       some = omega arith;
       low = omega arith;
-      within = subst (λ (k : ℕ). IsLayerWithin dp k s.width (last_layer (expand_last rule s.layers))) (sym deep) (subst (IsLayerWithin dp (d + 1) s.width) (sym last) both.next);
-      two = λ less. (let above : length s.prefix + (length (expand_last rule s.layers) - 1) - 1 ≡ d = omega arith in
-          subst (λ (k : ℕ). AreWithin dp k s.width (last_two (expand_last rule s.layers))) (sym above) (subst (AreWithin dp d s.width) (sym (two-expand rule s.layers some)) both));
-      ranks = ranked ∙ (ap (λ (k : ℕ). map (λ (n : DdNode). dp.rank k n.row) (rule (last_layer s.layers)).next) (sym deep)
-          ∙ ap (map (λ (n : DdNode). dp.rank (length s.prefix + (length (expand_last rule s.layers) - 1)) n.row)) (sym last));
+      within = subst (λ (k : ℕ). IsLayerWithin dp k s.width (last_layer (expand_last here s.layers))) (sym deep) (subst (IsLayerWithin dp (d + 1) s.width) (sym last) both.next);
+      two = λ less. (let above : length s.prefix + (length (expand_last here s.layers) - 1) - 1 ≡ d = omega arith in
+          subst (λ (k : ℕ). AreWithin dp k s.width (last_two (expand_last here s.layers))) (sym above) (subst (AreWithin dp d s.width) (sym (two-expand here s.layers some)) both));
+      ranks = ranked ∙ (ap (λ (k : ℕ). map (λ (n : DdNode). dp.rank k n.row) (here (last_layer s.layers)).next) (sym deep)
+          ∙ ap (map (λ (n : DdNode). dp.rank (length s.prefix + (length (expand_last here s.layers) - 1)) n.row)) (sym last));
       unmerged = λ wide. subst (Each (λ (n : DdNode). 1 ≤ length n.path)) (sym last) paths;
       few = subst (λ (l : List DdNode). length l ≤ s.room) (sym last) room;
       one = λ same. absurd (omega arith);
       second = λ same. (let at : d ≡ length s.prefix = omega arith in
           let first : length (last_layer s.layers) ≤ 1 = u.one at in
           let product : length (last_layer s.layers) * dp.choices d ≤ 1 * dp.choices d = mul-le-mul_right (dp.choices d) first in
-          let here = ap dp.choices at in
+          let choices = ap dp.choices at in
           subst (λ (l : List DdNode). length l ≤ dp.choices (length s.prefix)) (sym last) (omega arith));
     }
 

@@ -2,6 +2,7 @@ pub mod Rooms
 pub mod Shown
 pub mod Bare
 pub mod Depths
+pub mod Expansions
 pub mod Kept
 pub mod Stacks
 pub mod Going
@@ -13,3 +14,4 @@ pub mod Walked
 pub mod Suffixed
 pub mod Standing
 pub mod Ready
+pub mod Parents

@@ -70,7 +70,7 @@ path-by-parent nodes prefix first k at less within =
     ∙ get_or-map (λ (node : NodeView). path_below (path_in above) node.parent node.decision) (nodes k) at no_node [] within
 
 -- a place with a path that is not empty is one of a node
-place-is : (nodes : ℕ → List NodeView) (prefix : List ℕ) (first k at : ℕ) → first < k → length (path_of nodes prefix first k at) ≡ k → at < length (nodes k)
+pub place-is : (nodes : ℕ → List NodeView) (prefix : List ℕ) (first k at : ℕ) → first < k → length (path_of nodes prefix first k at) ≡ k → at < length (nodes k)
 place-is nodes prefix first k at less long = go (grind arith)
   where
     go : (at < length (nodes k)) ⊎ (length (nodes k) ≤ at) → at < length (nodes k)

@@ -1,6 +1,6 @@
 //! What the layers of a workspace are, as its readers show them.
 
-ghost use Rattle.std.specs.Prelude.{◌≡◌, ◌+◌, ◌-◌, ◌<◌, ◌≤◌, true, Some, IsSome, length, take, slice_get, option_map, option_and_then};
+ghost use Rattle.std.specs.Prelude.{◌≡◌, ◌+◌, ◌-◌, ◌<◌, ◌≤◌, true, [], ◌∷◌, ◌++◌, Some, IsSome, length, take, slice_get, option_map, option_and_then};
 ghost use Rattle.std.specs.Borrow.{sem};
 ghost use Rattle.dp_model.specs.Dp.{Dp};
 ghost use Rattle.dp_laws.specs.Diagrams.Nodes.{node_at};
@@ -10,7 +10,7 @@ ghost use Rattle.layer_build.specs.Finding.{IsFound, IsFoundAs, StaysButPath, St
 ghost use Rattle.layer_build.specs.UnderWay.{IsUnderWay};
 
 use crate::stack::{layer_at, place_of};
-use crate::walking::{exact_place, live_rows, write_front, write_path};
+use crate::walking::{exact_place, live_rows, parent_or_first, write_front, write_path};
 use crate::workspace::Workspace;
 use dp_laws::DdArc;
 use dp_model::Found;
@@ -131,6 +131,25 @@ impl Workspace {
         ensures { option_map (λ n. n.path) (node_at (diagram_of self.now) depth node) ≡ Some out.new }
     {
         write_path(&self.stack, self.prefix.as_slice(), depth, node, out);
+    }
+
+    /// The last of the kept decisions of an exact node below the first layer.
+    pub fn decision(&self, depth: usize, node: usize) -> u32
+        requires first { length self.now.prefix < depth }
+        requires exact { option_map (λ n. n.exact) (node_at (diagram_of self.now) depth node) ≡ Some true }
+        ensures { option_map (λ n. n.path) (node_at (diagram_of self.now) depth node) ≡ option_map (λ n. take (depth - 1) n.path ++ result ∷ []) (node_at (diagram_of self.now) depth node) }
+    {
+        layer_at(&self.stack, depth).decision(node)
+    }
+
+    /// The place of the node in the layer above that the kept decisions of an exact node lead through, where that is below the
+    /// first layer.
+    pub fn parent(&self, depth: usize, node: usize) -> usize
+        requires first { length self.now.prefix + 1 < depth }
+        requires exact { option_map (λ n. n.exact) (node_at (diagram_of self.now) depth node) ≡ Some true }
+        ensures { option_map (λ n. n.path) (node_at (diagram_of self.now) (depth - 1) result) ≡ option_map (λ n. take (depth - 1) n.path) (node_at (diagram_of self.now) depth node) }
+    {
+        parent_or_first(layer_at(&self.stack, depth), node)
     }
 
     /// How many rows are held.

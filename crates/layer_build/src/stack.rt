@@ -4,11 +4,12 @@ ghost use Rattle.std.specs.Prelude.{◌≡◌, ◌≢◌, ◌+◌, ◌-◌, ◌*
 ghost use Rattle.dp_model.specs.Lists.{Each};
 ghost use Rattle.dp_laws.specs.Rules.Compiling.{expand};
 ghost use Rattle.layer_nodes.specs.Nodes.{shown_layer, shown_below, without_arcs};
+ghost use Rattle.layer_nodes.specs.Sifting.{expand_sifted};
 ghost use Rattle.layer_nodes.specs.Steps.{IsParent, IsRanked, KeepsRoom};
 ghost use Rattle.layer_build.specs.Stacked.{place_of, place_above, layer_in};
 
 use dp_model::DpModel;
-use layer_nodes::{Expansion, Layer, expand};
+use layer_nodes::{Expansion, Layer, expand, expand_sifted};
 
 /// A layer for each depth, then the one just below the first, and an empty one, which stands above the first; and the last
 /// layer of all, which is wide before it is reduced. `first` and `last` are the depths of the first and the last one.
@@ -84,4 +85,35 @@ pub(crate) fn expand_newest<M: DpModel>(
 {
     above.copy_nodes(newest);
     expand(model, k, above, newest, expansion);
+}
+
+/// Does as `expand_newest` does, but of the next layer the nodes are left out that are struck by their rough bound.
+pub(crate) fn expand_newest_sifted<M: DpModel>(
+    model: &M,
+    k: usize,
+    threshold: Option<i64>,
+    above: &mut Layer,
+    newest: &mut Layer,
+    expansion: &mut Expansion,
+)
+    requires layer { k < (M.meaning (M.numbers model.now)).vars }
+    requires above_words { above.old.words ≡ (M.meaning (M.numbers model.now)).words }
+    requires next_words { newest.old.words ≡ (M.meaning (M.numbers model.now)).words }
+    requires nodes { Each (IsParent (M.meaning (M.numbers model.now)) k) newest.old.nodes }
+    requires copy_room { length newest.old.nodes ≤ above.old.nodes_room }
+    requires arcs_room { length newest.old.nodes * (M.meaning (M.numbers model.now)).choices k ≤ above.old.arcs_room }
+    requires nodes_room { length newest.old.nodes * (M.meaning (M.numbers model.now)).choices k ≤ newest.old.nodes_room }
+    requires room { length newest.old.nodes * (M.meaning (M.numbers model.now)).choices k ≤ expansion.old }
+    ensures above { (paths : ℕ → List ℕ) → shown_layer paths above.new.nodes ≡ (expand_sifted (M.meaning (M.numbers model.now)) k threshold (shown_layer paths newest.old.nodes)).above }
+    ensures next { (paths : ℕ → List ℕ) → shown_below paths newest.new.nodes ≡ (expand_sifted (M.meaning (M.numbers model.now)) k threshold (shown_layer paths newest.old.nodes)).next }
+    ensures ranked { Each (IsRanked (M.meaning (M.numbers model.now)) (k + 1)) newest.new.nodes }
+    ensures unmerged { Each (λ n. IsSome n.parent) newest.new.nodes }
+    ensures few { length newest.new.nodes ≤ length newest.old.nodes * (M.meaning (M.numbers model.now)).choices k }
+    ensures rest { map without_arcs above.new.nodes ≡ map without_arcs newest.old.nodes }
+    ensures above_rooms { KeepsRoom above.old above.new }
+    ensures next_rooms { KeepsRoom newest.old newest.new }
+    ensures expansion { expansion.new ≡ expansion.old }
+{
+    above.copy_nodes(newest);
+    expand_sifted(model, k, threshold, above, newest, expansion);
 }

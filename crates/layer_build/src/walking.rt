@@ -1,6 +1,6 @@
 //! Paths of nodes, the first exact one of a layer, and how many rows are held.
 
-ghost use Rattle.std.specs.Prelude.{◌≡◌, ◌≢◌, ◌+◌, ◌-◌, ◌<◌, ◌≤◌, ℕ, List, [], ◌∷◌, ◌++◌, length, drop, position, sum_by, Some};
+ghost use Rattle.std.specs.Prelude.{◌≡◌, ◌≢◌, ◌+◌, ◌-◌, ◌<◌, ◌≤◌, ℕ, List, [], ◌∷◌, ◌++◌, length, drop, option_map, position, slice_get, sum_by, Some};
 ghost use Rattle.dp_laws.specs.Diagrams.Nodes.{DdNode};
 ghost use Rattle.layer_nodes.specs.Nodes.{NodeView};
 ghost use Rattle.layer_build.specs.Stacked.{place_of, nodes_in, path_in, paths_at, shown_stack, HoldFew};
@@ -52,6 +52,14 @@ fn place_or_first(place: Option<u32>) -> usize
         Some(place) => place as usize,
         None => 0,
     }
+}
+
+/// The place of a node's parent, or 0 where it has none.
+pub(crate) fn parent_or_first(layer: &Layer, node: usize) -> usize
+    requires { node < length layer.now.nodes }
+    ensures { (i : ℕ) → option_map (λ (n : NodeView). n.parent) (slice_get layer.now.nodes node) ≡ Some (Some i) → result ≡ i }
+{
+    place_or_first(layer.parent(node))
 }
 
 /// The place of the first exact node.

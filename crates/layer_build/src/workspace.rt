@@ -5,13 +5,14 @@ ghost use Rattle.dp_model.specs.Reached.{reached};
 ghost use Rattle.dp_model.specs.Subproblem.{IsOwn};
 ghost use Rattle.dp_laws.specs.Restricted.Beams.{beam, wide};
 ghost use Rattle.dp_laws.specs.Rules.Compiling.{expand, prune, keep_first, merge_rest, start_layer};
+ghost use Rattle.layer_nodes.specs.Sifting.{expand_sifted};
 ghost use Rattle.layer_candidates.specs.Beaming.{IsFirst};
 ghost use Rattle.layer_build.specs.Layers.{IsWidth, IsPreparedFor, last_depth, last_layer, expand_last, on_last_two, reduced_first};
 ghost use Rattle.layer_build.specs.Space.{IsPrepared};
 ghost use Rattle.layer_build.specs.UnderWay.{IsUnderWay};
 
 use crate::preparing::{choices_of, prepare_stack, room_for};
-use crate::stack::{Stack, expand_newest, place_above, place_of};
+use crate::stack::{Stack, expand_newest, expand_newest_sifted, place_above, place_of};
 use crate::width::greatest_width;
 use dp_model::{DpModel, OutOfMemory, Sub};
 use layer_candidates::{Beam, Beamed};
@@ -154,6 +155,30 @@ impl Workspace {
         expand_newest(
             model,
             self.stack.last,
+            &mut self.stack.layers[at],
+            &mut self.stack.newest,
+            &mut self.expansion,
+        );
+        self.stack.last += 1;
+    }
+
+    /// Expands the last layer as `expand_layer` does, but of the new last layer those nodes are left out that are struck by their
+    /// rough bound; the arcs to them have no target. They are neither put in order nor made, and `strike` finds them no more.
+    pub fn expand_sifted<M: DpModel>(&mut self, model: &M, threshold: Option<i64>)
+        requires under_way { IsUnderWay (M.meaning (M.numbers model.now)) self.old }
+        requires below { last_depth self.old < (M.meaning (M.numbers model.now)).vars }
+        requires narrow { length self.old.prefix + 2 ≤ last_depth self.old → length (last_layer self.old.layers) ≤ self.old.width }
+        ensures layers { self.new ≡ record self.old {
+          layers = expand_last (expand_sifted (M.meaning (M.numbers model.now)) (last_depth self.old) threshold) self.old.layers;
+          ranks = self.new.ranks;
+        } }
+        ensures under_way { IsUnderWay (M.meaning (M.numbers model.now)) self.new }
+    {
+        let at = place_of(self.stack.vars, self.stack.first, self.stack.last);
+        expand_newest_sifted(
+            model,
+            self.stack.last,
+            threshold,
             &mut self.stack.layers[at],
             &mut self.stack.newest,
             &mut self.expansion,

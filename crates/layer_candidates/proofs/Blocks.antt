@@ -1,10 +1,14 @@
 -- Rows in a block of cells.
-use Rattle.std.proofs.Common.{◌≡◌, ℕ, suc, ◌+◌, ◌-◌, ◌*◌, ◌<◌, ◌≤◌, ℤ, pos, List, ◌++◌, length, get_or, take, drop, sym, ap, ◌∙◌, arith, mul-le-mul_right, length-append}
-use Rattle.std.proofs.lemmas.List.{ext_get_or, get_or-take, get_or-drop, get_or_append_left, get_or-append_right, length-take-le, length-drop}
+use Rattle.std.proofs.Common.{◌≡◌, ℕ, suc, ◌+◌, ◌-◌, ◌*◌, ◌<◌, ◌≤◌, ℤ, pos, List, ◌++◌, length, get_or, take, drop, sym, ap, ap₂, ◌∙◌, arith, mul-le-mul_right, length-append}
+use Rattle.std.proofs.lemmas.List.{ext_get_or, get_or-take, get_or-drop, get_or_append_left, get_or-append_right, length-take-le, length-drop, take-append-drop}
 use Rattle.std.proofs.Math.Nat.{suc-mul}
-use Rattle.layer_candidates.specs.Rows.{row_at, with_row}
+use Rattle.layer_candidates.specs.Rows.{row_at, with_row, HasZeros}
 use Rattle.dp_model.specs.Folds.{fold_of}
 use Rattle.layer_candidates.specs.Table.{IsTable}
+
+-- rows that begin with so many zeros are the same where their other cells are
+pub zeros-same : (count : ℕ) (a b : List ℤ) → HasZeros count a → HasZeros count b → drop count a ≡ drop count b → a ≡ b
+zeros-same count a b za zb e = sym (take-append-drop count a) ∙ (ap₂ (λ x y. x ++ y) (za ∙ sym zb) e ∙ take-append-drop count b)
 
 -- a row ends before a later one begins
 pub row_before : (p q words : ℕ) → q < p → q * words + words ≤ p * words
@@ -59,13 +63,13 @@ module _ (cells row : List ℤ) (words p : ℕ) (room : p * words + words ≤ le
       ∙ get_or_append_left row (drop (p * words + length row) cells) (pos 0) k (omega arith))))
 
   -- and the table of the rows before stays
-  pub table-with : (folds heads next : List ℕ) → IsTable cells words p folds heads next → IsTable new words p folds heads next
-  table-with folds heads next t = record {
+  pub table-with : (live : ℕ) (folds heads next : List ℕ) → IsTable cells words live p folds heads next → IsTable new words live p folds heads next
+  table-with live folds heads next t = record {
     room = let r = t.room in let e = length-with in omega arith;
     folds_size = t.folds_size;
     next_size = t.next_size;
     some = t.some;
-    folds_are = λ k less. t.folds_are k less ∙ ap (fold_of 0) (sym (before-with k less));
+    folds_are = λ k less. t.folds_are k less ∙ ap (λ r. fold_of 0 (drop live r)) (sym (before-with k less));
     heads_are = t.heads_are;
     next_are = t.next_are;
   }

@@ -1,7 +1,7 @@
 -- A layer is extended, decision by decision and member by member.
-use Rattle.std.proofs.Common.{◌≡◌, ℕ, zero, suc, ◌+◌, ◌*◌, ◌<◌, ◌≤◌, ℤ, ◌+ℤ◌, true, false, cond, List, [], ◌∷◌, ◌++◌, length, map, drop, get_or, replicate, mul-le-mul_right, refl, sym, ap, subst, ◌∙◌, arith, add-one, IsTrue}
+use Rattle.std.proofs.Common.{◌≡◌, ℕ, zero, suc, ◌+◌, ◌*◌, ◌<◌, ◌≤◌, ℤ, ◌+ℤ◌, true, false, cond, List, [], ◌∷◌, ◌++◌, length, map, drop, get_or, replicate, mul-le-mul_right, refl, sym, ap, subst, ◌∙◌, arith, add-one, IsTrue, length-append, inl, inr}
 use Rattle.std.proofs.lemmas.Int.{ints}
-use Rattle.std.proofs.lemmas.List.{map-append, append-nil, length-replicate, get_or-replicate, length-map, drop_all, drop_more, drop-map}
+use Rattle.std.proofs.lemmas.List.{map-append, length-replicate, get_or-replicate, length-map, drop_all, drop_more, drop-map}
 use Rattle.std.proofs.lemmas.List.Elements.{filter-append}
 use Rattle.dp_model.specs.Decisions.{below}
 use Rattle.dp_model.specs.Dp.{Dp, IsAllowed}
@@ -10,14 +10,15 @@ use Rattle.dp_model.specs.Laws.{IsLawful}
 use Rattle.dp_model.specs.Lists.{Each}
 use Rattle.dp_model.specs.Numbers.{IsSmall}
 use Rattle.dp_laws.specs.Restricted.Extensions.{extended, extensions, joined, all_joined, candidates}
+use Rattle.dp_laws.proofs.Diagrams.Places.{length-below}
 use Rattle.layer_candidates.specs.declared.way.Way.{Way}
 use Rattle.layer_candidates.specs.declared.member.Member.{Member}
-use Rattle.layer_candidates.specs.Rows.{row_at, with_row}
-use Rattle.layer_candidates.specs.Ways.{way_at, reached_by, reached_at, all_reached, IsNear, IsNearly, IsWay, AreJoined}
+use Rattle.layer_candidates.specs.Rows.{row_at, with_row, HasZeros}
+use Rattle.layer_candidates.specs.Ways.{way_at, reached_by, reached_at, all_reached, IsNear, IsNearly, IsWay, AllHaveZeros, AreWays, AreJoined}
 use Rattle.layer_candidates.specs.Members.{member_as, members_as, IsMemberOf}
-use Rattle.layer_candidates.specs.Extending.{HasRoom, parent_as, allowed_below, HasExtended, AreExtended}
+use Rattle.layer_candidates.specs.Extending.{HasRoom, AreSame, parent_as, all_allowed, HasExtended, AreExtended}
 use Rattle.layer_candidates.proofs.Blocks.{before-with, here-with, table-with}
-use Rattle.layer_candidates.proofs.Joined.{table_same, all_joined_push, all_joined_both}
+use Rattle.layer_candidates.proofs.Joined.{last_or, table_same, all_joined_both}
 
 -- A row is written behind the ways.
 
@@ -25,11 +26,11 @@ module _ (rows row : List ℤ) (words : ℕ) (ways : List Way) (room : length wa
   abbrev after : List ℤ
   after = with_row rows (length ways * words) row
 
-  pub joined-with : (dp : Dp) (k : ℕ) (folds heads next : List ℕ) → AreJoined dp k rows words ways folds heads next → AreJoined dp k after words ways folds heads next
-  joined-with dp k folds heads next j =
+  pub joined-with : (dp : Dp) (k live : ℕ) (folds heads next : List ℕ) → AreJoined dp k rows words live ways folds heads next → AreJoined dp k after words live ways folds heads next
+  joined-with dp k live folds heads next j =
       let same = before-with rows row words (length ways) room long in
       record {
-        table = table-with rows row words (length ways) room long folds heads next j.table;
+        table = table-with rows row words (length ways) room long live folds heads next j.table;
         apart = λ a b less within e. j.apart a b less within (sym (same a (omega arith)) ∙ (e ∙ same b within));
         good = λ i less. subst (λ r. IsWay dp k r (way_at ways i)) (sym (same i less)) (j.good i less);
       }
@@ -43,7 +44,8 @@ module _ (rows row : List ℤ) (words : ℕ) (ways : List Way) (room : length wa
 pub record Written (dp : Dp) (k : ℕ) (s : List ℤ) (d : ℕ) (rows rows2 : List ℤ) (ways : List Way) : Type 0 where
   pub here : IsStateOf dp k s
   pub row : row_at rows2 (length s) (length ways) ≡ dp.step k s d
-  pub joined : (folds heads next : List ℕ) → AreJoined dp (k + 1) rows (length s) ways folds heads next → AreJoined dp (k + 1) rows2 (length s) ways folds heads next
+  pub state : IsStateOf dp (k + 1) (row_at rows2 (length s) (length ways))
+  pub joined : (live : ℕ) (folds heads next : List ℕ) → AreJoined dp (k + 1) rows (length s) live ways folds heads next → AreJoined dp (k + 1) rows2 (length s) live ways folds heads next
   pub reached : (paths : ℕ → List ℕ) → all_reached paths rows2 (length s) ways ≡ all_reached paths rows (length s) ways
   pub before : (i : ℕ) → i < length ways → row_at rows2 (length s) i ≡ row_at rows (length s) i
 
@@ -57,13 +59,23 @@ written dp laws k s d count rows rows2 ways size test allowed cells hold are =
     let long : length out ≡ length s = laws.sizes.cells (k + 1) out next ∙ sym cells in
     let room : length ways * length s + length s ≤ length rows = omega arith in
     let is : rows2 ≡ with_row rows (length ways * length s) out = are ∙ ap (λ n. with_row rows (n * length s) out) size in
+    let row = ap (λ r. row_at r (length s) (length ways)) is ∙ here-with rows out (length s) (length ways) room long in
     record {
       here = here;
-      row = ap (λ r. row_at r (length s) (length ways)) is ∙ here-with rows out (length s) (length ways) room long;
-      joined = λ folds heads next j. subst (λ r. AreJoined dp (k + 1) r (length s) ways folds heads next) (sym is) (joined-with rows out (length s) ways room long dp (k + 1) folds heads next j);
+      row = row;
+      state = subst (IsStateOf dp (k + 1)) (sym row) next;
+      joined = λ live folds heads next j. subst (λ r. AreJoined dp (k + 1) r (length s) live ways folds heads next) (sym is) (joined-with rows out (length s) ways room long dp (k + 1) live folds heads next j);
       reached = λ paths. ap (λ r. all_reached paths r (length s) ways) is ∙ reached-with rows out (length s) ways room long paths;
       before = λ i less. ap (λ r. row_at r (length s) i) is ∙ before-with rows out (length s) (length ways) room long i less;
     }
+
+-- the rows of the ways, and one more, begin with zeros
+pub rows-zeros : (dp : Dp) (k live : ℕ) (rows : List ℤ) (words : ℕ) (ways : List Way) → AllHaveZeros dp k live → AreWays dp k rows words ways → IsStateOf dp k (row_at rows words (length ways))
+    → (i : ℕ) → i ≤ length ways → HasZeros live (row_at rows words i)
+rows-zeros dp k live rows words ways zeros good new i less = elim (last_or i (length ways) (omega arith)) as (λ _. HasZeros live (row_at rows words i)) [
+  | inl e ↦ subst (λ (j : ℕ). HasZeros live (row_at rows words j)) (sym e) (zeros (row_at rows words (length ways)) new)
+  | inr before ↦ zeros (row_at rows words i) (good i before).state
+]
 
 -- A way by an allowed decision.
 
@@ -82,19 +94,7 @@ pub way-reaches : (dp : Dp) (k : ℕ) (paths : ℕ → List ℕ) (row s : List �
     → reached_by paths row way ≡ extended dp k (parent_as paths step s value) d
 way-reaches dp k paths row s d step way value a b c e = cc
 
--- One decision more.
-
-pub allowed-more : (dp : Dp) (k : ℕ) (s : List ℤ) (n : ℕ) → dp.allowed k s n ≡ true → allowed_below dp k s (n + 1) ≡ allowed_below dp k s n ++ n ∷ []
-allowed-more dp k s n e =
-    ap (allowed_below dp k s) (add-one n) ∙ (filter-append (dp.allowed k s) (below n) (n ∷ [])
-    ∙ ap (λ b. allowed_below dp k s n ++ cond b (n ∷ []) []) e)
-
-pub refused-more : (dp : Dp) (k : ℕ) (s : List ℤ) (n : ℕ) → dp.allowed k s n ≡ false → allowed_below dp k s (n + 1) ≡ allowed_below dp k s n
-refused-more dp k s n e =
-    ap (allowed_below dp k s) (add-one n) ∙ (filter-append (dp.allowed k s) (below n) (n ∷ [])
-    ∙ (ap (λ b. allowed_below dp k s n ++ cond b (n ∷ []) []) e ∙ append-nil (allowed_below dp k s n)))
-
--- One member more.
+-- Decisions.
 
 pub room-less : (words m n : ℕ) (rows rows2 : List ℤ) (cap cap2 : ℕ) (folds folds2 next next2 : List ℕ) → HasRoom words n rows cap folds next → m ≤ n
     → length rows2 ≡ length rows → cap2 ≡ cap → length folds2 ≡ length folds → length next2 ≡ length next → HasRoom words m rows2 cap2 folds2 next2
@@ -103,54 +103,72 @@ room-less words m n rows rows2 cap cap2 folds folds2 next next2 h few a b c d =
     let one = h.rows_hold in let two = h.ways_hold in let three = h.folds_hold in let four = h.next_hold in let five = h.small in
     record { rows_hold = omega arith; ways_hold = omega arith; folds_hold = omega arith; next_hold = omega arith; small = omega arith }
 
--- a decision that is allowed, and one that is not
-pub extended-one : (dp : Dp) (k step : ℕ) (s : List ℤ) (value : ℤ) (n words : ℕ) (old_rows : List ℤ) (old_ways : List Way) (rows rows2 : List ℤ) (ways ways2 : List Way) (folds heads next folds2 heads2 next2 : List ℕ)
-    → HasExtended dp k step s value n words old_rows old_ways rows ways folds heads next → dp.allowed k s n ≡ true → AreJoined dp (k + 1) rows2 words ways2 folds2 heads2 next2
-    → ((paths : ℕ → List ℕ) → all_reached paths rows2 words ways2 ≡ joined (all_reached paths rows words ways) (extended dp k (parent_as paths step s value) n))
-    → length ways2 ≤ length ways + 1 → length rows2 ≡ length rows
-    → HasExtended dp k step s value (n + 1) words old_rows old_ways rows2 ways2 folds2 heads2 next2
-extended-one dp k step s value n words old_rows old_ways rows rows2 ways ways2 folds heads next folds2 heads2 next2 h test j list few size =
-    let low = h.few in
-    record {
-      joined = j;
-      list = λ paths. (
-          let r = parent_as paths step s value in
-          let rs = all_reached paths old_rows words old_ways in
-          list paths ∙ (ap (λ l. joined l (extended dp k r n)) (h.list paths)
-          ∙ (sym (all_joined_push rs (map (extended dp k r) (allowed_below dp k s n)) (extended dp k r n))
-          ∙ ap (all_joined rs) (sym (ap (map (extended dp k r)) (allowed-more dp k s n test) ∙ map-append (extended dp k r) (allowed_below dp k s n) (n ∷ []))))));
-      few = omega arith;
-      size = size ∙ h.size;
-    }
+module _ (dp : Dp) (k step : ℕ) (s : List ℤ) (value : ℤ) (words live : ℕ) where
+  -- no decision
+  pub extended-none : (rows : List ℤ) (ways : List Way) (folds heads next : List ℕ) → AreJoined dp (k + 1) rows words live ways folds heads next
+      → HasExtended dp k step s value [] words live rows ways rows ways folds heads next
+  extended-none rows ways folds heads next j = record { joined = j; list = λ paths. refl; few = omega arith; size = refl }
 
-pub extended-none : (dp : Dp) (k step : ℕ) (s : List ℤ) (value : ℤ) (n words : ℕ) (old_rows : List ℤ) (old_ways : List Way) (rows : List ℤ) (ways : List Way) (folds heads next : List ℕ)
-    → HasExtended dp k step s value n words old_rows old_ways rows ways folds heads next → dp.allowed k s n ≡ false
-    → HasExtended dp k step s value (n + 1) words old_rows old_ways rows ways folds heads next
-extended-none dp k step s value n words old_rows old_ways rows ways folds heads next h test =
-    let low = h.few in
-    record {
-      joined = h.joined;
-      list = λ paths. h.list paths ∙ ap (λ ds. all_joined (all_reached paths old_rows words old_ways) (map (extended dp k (parent_as paths step s value)) ds)) (sym (refused-more dp k s n test));
-      few = omega arith;
-      size = h.size;
-    }
+  -- one that is allowed
+  pub extended-one : (d : ℕ) (rows rows2 : List ℤ) (ways ways2 : List Way) (folds heads next : List ℕ) → dp.allowed k s d ≡ true → AreJoined dp (k + 1) rows2 words live ways2 folds heads next
+      → ((paths : ℕ → List ℕ) → all_reached paths rows2 words ways2 ≡ joined (all_reached paths rows words ways) (extended dp k (parent_as paths step s value) d))
+      → length ways2 ≤ length ways + 1 → length rows2 ≡ length rows
+      → HasExtended dp k step s value (d ∷ []) words live rows ways rows2 ways2 folds heads next
+  extended-one d rows rows2 ways ways2 folds heads next test j list few size = record {
+    joined = j;
+    list = λ paths. list paths ∙ sym (ap (λ b. all_joined (all_reached paths rows words ways) (map (extended dp k (parent_as paths step s value)) (cond b (d ∷ []) []))) test);
+    few = few;
+    size = size;
+  }
 
--- the same by equal parts
-pub extended-by : (dp : Dp) (k step : ℕ) (s : List ℤ) (value : ℤ) (n words : ℕ) (old_rows : List ℤ) (old_ways : List Way) (rows rows2 : List ℤ) (ways ways2 : List Way) (folds heads next folds2 heads2 next2 : List ℕ)
-    → HasExtended dp k step s value n words old_rows old_ways rows ways folds heads next → rows2 ≡ rows → ways2 ≡ ways → folds2 ≡ folds → heads2 ≡ heads → next2 ≡ next
-    → HasExtended dp k step s value n words old_rows old_ways rows2 ways2 folds2 heads2 next2
-extended-by dp k step s value n words old_rows old_ways rows rows2 ways ways2 folds heads next folds2 heads2 next2 h a b c d e =
-    subst (λ x. HasExtended dp k step s value n words old_rows old_ways x ways2 folds2 heads2 next2) (sym a)
-    (subst (λ x. HasExtended dp k step s value n words old_rows old_ways rows x folds2 heads2 next2) (sym b)
-    (subst (λ x. HasExtended dp k step s value n words old_rows old_ways rows ways x heads2 next2) (sym c)
-    (subst (λ x. HasExtended dp k step s value n words old_rows old_ways rows ways folds x next2) (sym d)
-    (subst (λ x. HasExtended dp k step s value n words old_rows old_ways rows ways folds heads x) (sym e) h))))
+  -- one that is not
+  pub extended-same : (d : ℕ) (rows rows2 : List ℤ) (ways ways2 : List Way) (folds heads next folds2 heads2 next2 : List ℕ) → dp.allowed k s d ≡ false → AreJoined dp (k + 1) rows words live ways folds heads next
+      → AreSame rows ways folds heads next rows2 ways2 folds2 heads2 next2 → HasExtended dp k step s value (d ∷ []) words live rows ways rows2 ways2 folds2 heads2 next2
+  extended-same d rows rows2 ways ways2 folds heads next folds2 heads2 next2 test j same =
+      subst (λ x. HasExtended dp k step s value (d ∷ []) words live rows ways x ways2 folds2 heads2 next2) (sym same.rows_are)
+      (subst (λ x. HasExtended dp k step s value (d ∷ []) words live rows ways rows x folds2 heads2 next2) (sym same.ways_are)
+      (subst (λ x. HasExtended dp k step s value (d ∷ []) words live rows ways rows ways x heads2 next2) (sym same.folds_are)
+      (subst (λ x. HasExtended dp k step s value (d ∷ []) words live rows ways rows ways folds x next2) (sym same.heads_are)
+      (subst (λ x. HasExtended dp k step s value (d ∷ []) words live rows ways rows ways folds heads x) (sym same.next_are) (record {
+        joined = j;
+        list = λ paths. sym (ap (λ b. all_joined (all_reached paths rows words ways) (map (extended dp k (parent_as paths step s value)) (cond b (d ∷ []) []))) test);
+        few = omega arith;
+        size = refl;
+      })))))
+
+  -- some, and then others
+  extended-both : (ds es : List ℕ) (old_rows rows rows2 : List ℤ) (old_ways ways ways2 : List Way) (folds heads next folds2 heads2 next2 : List ℕ)
+      → HasExtended dp k step s value ds words live old_rows old_ways rows ways folds heads next → HasExtended dp k step s value es words live rows ways rows2 ways2 folds2 heads2 next2
+      → HasExtended dp k step s value (ds ++ es) words live old_rows old_ways rows2 ways2 folds2 heads2 next2
+  extended-both ds es old_rows rows rows2 old_ways ways ways2 folds heads next folds2 heads2 next2 g h =
+      let sum = length-append ds es in
+      let one = g.few in
+      let two = h.few in
+      record {
+        joined = h.joined;
+        list = λ paths. (
+            let f = extended dp k (parent_as paths step s value) in
+            let rs = all_reached paths old_rows words old_ways in
+            h.list paths ∙ (ap (λ l. all_joined l (map f (all_allowed dp k s es))) (g.list paths)
+            ∙ (sym (all_joined_both rs (map f (all_allowed dp k s ds)) (map f (all_allowed dp k s es)))
+            ∙ ap (all_joined rs) (sym (ap (map f) (filter-append (dp.allowed k s) ds es) ∙ map-append f (all_allowed dp k s ds) (all_allowed dp k s es))))));
+        few = omega arith;
+        size = h.size ∙ g.size;
+      }
+
+  -- those below n, and then n
+  pub extended-next : (n : ℕ) (old_rows rows rows2 : List ℤ) (old_ways ways ways2 : List Way) (folds heads next folds2 heads2 next2 : List ℕ)
+      → HasExtended dp k step s value (below n) words live old_rows old_ways rows ways folds heads next → HasExtended dp k step s value (n ∷ []) words live rows ways rows2 ways2 folds2 heads2 next2
+      → HasExtended dp k step s value (below (n + 1)) words live old_rows old_ways rows2 ways2 folds2 heads2 next2
+  extended-next n old_rows rows rows2 old_ways ways ways2 folds heads next folds2 heads2 next2 g h =
+      subst (λ l. HasExtended dp k step s value l words live old_rows old_ways rows2 ways2 folds2 heads2 next2) (sym (ap below (add-one n)))
+      (extended-both (below n) (n ∷ []) old_rows rows rows2 old_ways ways ways2 folds heads next folds2 heads2 next2 g h)
 
 -- Members.
 
-pub members-start : (dp : Dp) (k : ℕ) (above : List ℤ) (words : ℕ) (members : List Member) (rows : List ℤ) (folds next : List ℕ) (size : ℕ) → 0 < size
-    → AreExtended dp k 0 above words members rows [] folds (replicate size 0) next
-members-start dp k above words members rows folds next size some = record {
+pub members-start : (dp : Dp) (k : ℕ) (above : List ℤ) (words live : ℕ) (members : List Member) (rows : List ℤ) (folds next : List ℕ) (size : ℕ) → 0 < size
+    → AreExtended dp k 0 above words live members rows [] folds (replicate size 0) next
+members-start dp k above words live members rows folds next size some = record {
   joined = record {
     table = record {
       room = omega arith;
@@ -179,13 +197,13 @@ drop-members paths above words members i d less =
     let f = member_as paths above words in
     drop-map f i members ∙ (ap (map f) (drop_more members i d less) ∙ ap (λ l. f (get_or members i d) ∷ l) (sym (drop-map f (i + 1) members)))
 
-pub members-more : (dp : Dp) (k i : ℕ) (above : List ℤ) (words : ℕ) (members : List Member) (d : Member) (s : List ℤ) (rows rows2 : List ℤ) (ways ways2 : List Way) (folds heads next folds2 heads2 next2 : List ℕ)
-    → AreExtended dp k i above words members rows ways folds heads next → i < length members → s ≡ row_at above words (get_or members i d).row
-    → HasExtended dp k (get_or members i d).step s (get_or members i d).value (dp.choices k) words rows ways rows2 ways2 folds2 heads2 next2
-    → AreExtended dp k (i + 1) above words members rows2 ways2 folds2 heads2 next2
-members-more dp k i above words members d s rows rows2 ways ways2 folds heads next folds2 heads2 next2 h less row e =
+pub members-more : (dp : Dp) (k i : ℕ) (above : List ℤ) (words live : ℕ) (members : List Member) (d : Member) (s : List ℤ) (rows rows2 : List ℤ) (ways ways2 : List Way) (folds heads next folds2 heads2 next2 : List ℕ)
+    → AreExtended dp k i above words live members rows ways folds heads next → i < length members → s ≡ row_at above words (get_or members i d).row
+    → HasExtended dp k (get_or members i d).step s (get_or members i d).value (below (dp.choices k)) words live rows ways rows2 ways2 folds2 heads2 next2
+    → AreExtended dp k (i + 1) above words live members rows2 ways2 folds2 heads2 next2
+members-more dp k i above words live members d s rows rows2 ways ways2 folds heads next folds2 heads2 next2 h less row e =
     let m = get_or members i d in
-    let low = h.few in let more = e.few in
+    let low = h.few in let more = e.few in let all = length-below (dp.choices k) in
     record {
       joined = e.joined;
       list = λ paths. (
@@ -199,10 +217,10 @@ members-more dp k i above words members d s rows rows2 ways ways2 folds heads ne
       few = omega arith;
     }
 
-pub members-all : (dp : Dp) (k i : ℕ) (above : List ℤ) (words : ℕ) (members : List Member) (rows : List ℤ) (ways : List Way) (folds heads next : List ℕ)
-    → AreExtended dp k i above words members rows ways folds heads next → i ≡ length members
+pub members-all : (dp : Dp) (k i : ℕ) (above : List ℤ) (words live : ℕ) (members : List Member) (rows : List ℤ) (ways : List Way) (folds heads next : List ℕ)
+    → AreExtended dp k i above words live members rows ways folds heads next → i ≡ length members
     → (paths : ℕ → List ℕ) → all_reached paths rows words ways ≡ all_joined [] (candidates dp k (members_as paths above words members))
-members-all dp k i above words members rows ways folds heads next h whole paths =
+members-all dp k i above words live members rows ways folds heads next h whole paths =
     let L = members_as paths above words members in
     let none : drop i L ≡ [] = drop_all i L (let e = length-map members (member_as paths above words) in omega arith) in
     ap (λ l. all_joined (all_reached paths rows words ways) (candidates dp k l)) (sym none) ∙ h.list paths

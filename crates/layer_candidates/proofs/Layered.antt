@@ -8,25 +8,26 @@ use Rattle.dp_model.specs.Dp.{Dp}
 use Rattle.dp_model.specs.Lists.{Each}
 use Rattle.dp_model.specs.Reached.{Reached}
 use Rattle.dp_model.proofs.Members.{Has, Has-append-left, Has-append-right, each-has, Each-append, Each-then}
-use Rattle.dp_laws.specs.Restricted.Beam.{pruned, whole_layer}
+use Rattle.dp_laws.specs.Restricted.Beam.{whole_layer}
 use Rattle.dp_laws.specs.Restricted.Extensions.{extended, extensions, candidates, all_joined}
+use Rattle.dp_laws.specs.Restricted.Leaders.{unstruck, undominated}
 use Rattle.dp_laws.specs.Restricted.ReductionOrder.{in_order}
 use Rattle.dp_laws.proofs.Restricted.Keeping.{each-all_joined}
 use Rattle.layer_candidates.specs.declared.key.Key.{Key}
 use Rattle.layer_candidates.specs.declared.member.Member.{Member}
 use Rattle.layer_candidates.specs.declared.step.Step.{Step}
 use Rattle.layer_candidates.specs.declared.way.Way.{Way}
-use Rattle.layer_candidates.specs.KeyOrder.{keys_of, goes_before, all_of, IsKeyOf}
+use Rattle.layer_candidates.specs.KeyOrder.{goes_before, all_of, IsKeyOf}
 use Rattle.layer_candidates.specs.Layering.{IsEntered}
 use Rattle.layer_candidates.specs.Members.{member_as, members_as}
-use Rattle.layer_candidates.specs.Pruning.{keyed, all_keyed, IsKeyIn, HasPruned}
+use Rattle.layer_candidates.specs.Pruning.{keyed, all_keyed, unstruck_keys, IsKeyIn, HasPruned}
 use Rattle.layer_candidates.specs.Rows.{row_at}
 use Rattle.layer_candidates.specs.Steps.{path_at, step_of, step_at, entered, AreBackward, IsReachedWithin}
-use Rattle.layer_candidates.specs.Ways.{table, way_at, reached_at, all_reached, IsNearly, AreWays, AreJoined}
+use Rattle.layer_candidates.specs.Ways.{table, way_at, reached_at, all_reached, IsNearly, AreWays, AreDistinct}
 use Rattle.layer_candidates.proofs.Blocks.{row_before}
 use Rattle.layer_candidates.proofs.Descended.{descended}
 use Rattle.layer_candidates.proofs.Joined.{last_or}
-use Rattle.layer_candidates.proofs.Sorted.{keys-are, in-order}
+use Rattle.layer_candidates.proofs.Sorted.{unstruck-are, unstruck-in-order}
 
 -- Each way's parent is a member of the layer above.
 
@@ -99,22 +100,23 @@ module _ (dp : Dp) (k : ℕ) (rows : List ℤ) (words : ℕ) (ways : List Way) w
 
 -- The whole layer.
 
-module _ (dp : Dp) (k : ℕ) (t : Option ℤ) (most : ℕ) (above : List ℤ) (words : ℕ) (members : List Member) (rows : List ℤ) (ways : List Way) (folds heads next : List ℕ) (keys kept : List Key) (steps : List Step) (more : Bool)
-    (joined : AreJoined dp (k + 1) rows words ways folds heads next)
+module _ (dp : Dp) (k : ℕ) (t : Option ℤ) (most : ℕ) (above : List ℤ) (words : ℕ) (members : List Member) (rows : List ℤ) (ways : List Way) (keys kept : List Key) (steps : List Step) (more : Bool)
+    (distinct : AreDistinct dp (k + 1) rows words ways)
     (list : (paths : ℕ → List ℕ) → all_reached paths rows words ways ≡ all_joined [] (candidates dp k (members_as paths above words members)))
-    (moved : IsPermutation (keys_of ways) keys) (sorted : IsSortedBy (goes_before rows words) keys)
-    (done : HasPruned dp (k + 1) t most rows words keys kept more)
+    (moved : IsPermutation (unstruck_keys dp (k + 1) t rows words ways) keys) (sorted : IsSortedBy (goes_before rows words) keys)
+    (done : HasPruned dp (k + 1) most rows words keys kept more)
     (reached : Each (IsReachedWithin (length steps)) members) where
   abbrev paths_of : List ℕ → ℕ → List ℕ
   paths_of prefix = path_at prefix steps
 
   pub layer-keys : Each (IsKeyOf ways) keys
-  layer-keys = keys-are dp (k + 1) rows words ways keys joined.apart joined.good moved sorted
+  layer-keys = unstruck-are dp (k + 1) t rows words ways keys moved
 
-  pub whole : (prefix : List ℕ) → pruned dp (k + 1) t (all_keyed (paths_of prefix) rows words ways keys) ≡ whole_layer dp k t (members_as (paths_of prefix) above words members)
+  pub whole : (prefix : List ℕ) → undominated dp (k + 1) [] (all_keyed (paths_of prefix) rows words ways keys) ≡ whole_layer dp k t (members_as (paths_of prefix) above words members)
   whole prefix =
-      ap (pruned dp (k + 1) t) (keyed-of dp (k + 1) rows words ways (paths_of prefix) keys layer-keys
-      ∙ (in-order dp (k + 1) rows words ways keys joined.apart joined.good moved sorted (paths_of prefix) ∙ ap (in_order dp (k + 1)) (list (paths_of prefix))))
+      ap (undominated dp (k + 1) []) (keyed-of dp (k + 1) rows words ways (paths_of prefix) keys layer-keys
+      ∙ (unstruck-in-order dp (k + 1) t rows words ways keys moved distinct.apart distinct.good sorted (paths_of prefix)
+      ∙ ap (λ rs. unstruck dp (k + 1) t (in_order dp (k + 1) rs)) (list (paths_of prefix))))
 
   pub kept-places : Each (λ key. key.place < length ways) kept
   kept-places = done.places (length ways) (Each-then (IsKeyOf ways) (λ key. key.place < length ways) keys (λ key h. h.within) layer-keys)

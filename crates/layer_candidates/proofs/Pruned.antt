@@ -1,20 +1,19 @@
 -- Keys that are taken out, or stay, one after another.
-use Rattle.std.proofs.Common.{◌≡◌, ℕ, zero, suc, ◌+◌, ◌<◌, ◌≤◌, nat_le, nat_lt, ℤ, ◌+ℤ◌, ◌-ℤ◌, int_le, Bool, true, false, not, cond, ◌||◌, List, [], ◌∷◌, ◌++◌, length, take, drop, get_or, Option, Some, None, is_some, refl, sym, ap, ◌∙◌, append_assoc, arith}
+use Rattle.std.proofs.Common.{◌≡◌, ℕ, zero, suc, ◌+◌, ◌<◌, ◌≤◌, nat_le, nat_lt, ℤ, ◌+ℤ◌, ◌-ℤ◌, int_le, Bool, true, false, cond, ◌||◌, List, [], ◌∷◌, ◌++◌, length, take, drop, get_or, Option, Some, None, is_some, refl, sym, ap, ◌∙◌, append_assoc, arith}
 use Rattle.std.proofs.lemmas.Int.{ints}
 use Rattle.std.proofs.lemmas.Bool.Decides.{nat_tests}
 use Rattle.std.proofs.lemmas.List.{map-append, append-nil, length-map, drop_all, drop_more, length_push, take_all, length-append}
 use Rattle.std.proofs.Math.Seq.{take-append_seam}
 use Rattle.dp_model.specs.Dp.{Dp}
-use Rattle.dp_model.specs.Gaps.{covers_at, is_struck_by, within}
+use Rattle.dp_model.specs.Gaps.{covers_at, within}
 use Rattle.dp_model.specs.Lists.{Each}
 use Rattle.dp_model.specs.Reached.{Reached}
 use Rattle.dp_model.proofs.Members.{Each-append}
-use Rattle.dp_laws.specs.Restricted.Beam.{pruned}
-use Rattle.dp_laws.specs.Restricted.Leaders.{unstruck, dominated, undominated}
+use Rattle.dp_laws.specs.Restricted.Leaders.{dominated, undominated}
 use Rattle.layer_candidates.specs.declared.key.Key.{Key}
 use Rattle.layer_candidates.specs.declared.way.Way.{Way}
 use Rattle.layer_candidates.specs.Rows.{row_at}
-use Rattle.layer_candidates.specs.Pruning.{keyed, all_keyed, IsKeyIn, led_by, is_out, with_leader, ArePruned, HasPruned}
+use Rattle.layer_candidates.specs.Pruning.{keyed, all_keyed, IsKeyIn, led_by, with_leader, ArePruned, HasPruned}
 
 pub place-each : (n : ℕ) (keys : List Key) (i : ℕ) (d : Key) → Each (λ key. key.place < n) keys → i < length keys → (get_or keys i d).place < n
 place-each n [] i d h less = absurd (omega arith)
@@ -70,40 +69,30 @@ module _ (dp : Dp) (k : ℕ) (rows : List ℤ) (words : ℕ) where
 
 -- One key.
 
--- a member that is struck or dominated goes
-goes : (dp : Dp) (k : ℕ) (t : Option ℤ) (ls : List Reached) (r : Reached) (rs : List Reached) (s d : Bool) → is_struck_by r.value (dp.rough k r.row) t ≡ s → dominated dp k ls r ≡ d → (s || d) ≡ true
-    → undominated dp k ls (unstruck dp k t (r ∷ rs)) ≡ undominated dp k ls (unstruck dp k t rs)
-goes dp k t ls r rs true d a b h = ap (λ c. undominated dp k ls (cond (not c) (r ∷ unstruck dp k t rs) (unstruck dp k t rs))) a
-goes dp k t ls r rs false true a b h =
-    ap (λ c. undominated dp k ls (cond (not c) (r ∷ unstruck dp k t rs) (unstruck dp k t rs))) a
-    ∙ ap (λ c. cond c [] (r ∷ []) ++ undominated dp k (cond (c || nat_le 16 (length ls)) ls (ls ++ r ∷ [])) (unstruck dp k t rs)) b
-goes dp k t ls r rs false false a b h = absurd (cc)
+-- a member that is dominated goes
+goes : (dp : Dp) (k : ℕ) (ls : List Reached) (r : Reached) (rs : List Reached) → dominated dp k ls r ≡ true → undominated dp k ls (r ∷ rs) ≡ undominated dp k ls rs
+goes dp k ls r rs out = ap (λ c. cond c [] (r ∷ []) ++ undominated dp k (cond (c || nat_le 16 (length ls)) ls (ls ++ r ∷ [])) rs) out
 
 -- and another one stays
-stays : (dp : Dp) (k : ℕ) (t : Option ℤ) (ls : List Reached) (r : Reached) (rs : List Reached) (s d : Bool) → is_struck_by r.value (dp.rough k r.row) t ≡ s → dominated dp k ls r ≡ d → (s || d) ≡ false
-    → undominated dp k ls (unstruck dp k t (r ∷ rs)) ≡ r ∷ undominated dp k (cond (nat_le 16 (length ls)) ls (ls ++ r ∷ [])) (unstruck dp k t rs)
-stays dp k t ls r rs true d a b h = absurd (cc)
-stays dp k t ls r rs false true a b h = absurd (cc)
-stays dp k t ls r rs false false a b h =
-    ap (λ c. undominated dp k ls (cond (not c) (r ∷ unstruck dp k t rs) (unstruck dp k t rs))) a
-    ∙ ap (λ c. cond c [] (r ∷ []) ++ undominated dp k (cond (c || nat_le 16 (length ls)) ls (ls ++ r ∷ [])) (unstruck dp k t rs)) b
+stays : (dp : Dp) (k : ℕ) (ls : List Reached) (r : Reached) (rs : List Reached) → dominated dp k ls r ≡ false → undominated dp k ls (r ∷ rs) ≡ r ∷ undominated dp k (cond (nat_le 16 (length ls)) ls (ls ++ r ∷ [])) rs
+stays dp k ls r rs out = ap (λ c. cond c [] (r ∷ []) ++ undominated dp k (cond (c || nat_le 16 (length ls)) ls (ls ++ r ∷ [])) rs) out
 
-module _ (dp : Dp) (k : ℕ) (t : Option ℤ) (most : ℕ) (rows : List ℤ) (words : ℕ) (keys leaders kept : List Key) (i : ℕ) (d : Key)
-    (h : ArePruned dp k t most rows words keys leaders kept i) (less : i < length keys) where
+module _ (dp : Dp) (k : ℕ) (most : ℕ) (rows : List ℤ) (words : ℕ) (keys leaders kept : List Key) (i : ℕ) (d : Key)
+    (h : ArePruned dp k most rows words keys leaders kept i) (less : i < length keys) where
   abbrev key : Key
   key = get_or keys i d
 
   next : (paths : ℕ → List ℕ) (ways : List Way) → all_keyed paths rows words ways (drop i keys) ≡ keyed paths rows words ways key ∷ all_keyed paths rows words ways (drop (i + 1) keys)
   next paths ways = ap (all_keyed paths rows words ways) (drop_more keys i d less)
 
-  pub pruned-out : is_out dp k t rows words leaders key ≡ true → ArePruned dp k t most rows words keys leaders kept (i + 1)
+  pub pruned-out : led_by dp k rows words leaders key ≡ true → ArePruned dp k most rows words keys leaders kept (i + 1)
   pruned-out out =
       let low = h.few in
       record {
         list = λ paths ways. (
             let ls = all_keyed paths rows words ways leaders in
-            let gone = goes dp k t ls (keyed paths rows words ways key) (all_keyed paths rows words ways (drop (i + 1) keys)) _ _ refl (led-keyed dp k rows words paths ways leaders key) out in
-            ap (λ l. all_keyed paths rows words ways kept ++ l) (sym (ap (λ l. undominated dp k ls (unstruck dp k t l)) (next paths ways) ∙ gone)) ∙ h.list paths ways);
+            let gone = goes dp k ls (keyed paths rows words ways key) (all_keyed paths rows words ways (drop (i + 1) keys)) (led-keyed dp k rows words paths ways leaders key ∙ out) in
+            ap (λ l. all_keyed paths rows words ways kept ++ l) (sym (ap (λ l. undominated dp k ls l) (next paths ways) ∙ gone)) ∙ h.list paths ways);
         leading = h.leading;
         within = h.within;
         places = h.places;
@@ -111,23 +100,23 @@ module _ (dp : Dp) (k : ℕ) (t : Option ℤ) (most : ℕ) (rows : List ℤ) (wo
         most_stay = h.most_stay;
       }
 
-  left : (paths : ℕ → List ℕ) (ways : List Way) → is_out dp k t rows words leaders key ≡ false
-      → undominated dp k (all_keyed paths rows words ways leaders) (unstruck dp k t (all_keyed paths rows words ways (drop i keys)))
-      ≡ keyed paths rows words ways key ∷ undominated dp k (all_keyed paths rows words ways (with_leader leaders key)) (unstruck dp k t (all_keyed paths rows words ways (drop (i + 1) keys)))
+  left : (paths : ℕ → List ℕ) (ways : List Way) → led_by dp k rows words leaders key ≡ false
+      → undominated dp k (all_keyed paths rows words ways leaders) (all_keyed paths rows words ways (drop i keys))
+      ≡ keyed paths rows words ways key ∷ undominated dp k (all_keyed paths rows words ways (with_leader leaders key)) (all_keyed paths rows words ways (drop (i + 1) keys))
   left paths ways out =
       let ls = all_keyed paths rows words ways leaders in
       let rest = all_keyed paths rows words ways (drop (i + 1) keys) in
-      ap (λ l. undominated dp k ls (unstruck dp k t l)) (next paths ways)
-      ∙ (stays dp k t ls (keyed paths rows words ways key) rest _ _ refl (led-keyed dp k rows words paths ways leaders key) out
-      ∙ ap (λ l. keyed paths rows words ways key ∷ undominated dp k l (unstruck dp k t rest)) (sym (leaders-keyed dp k rows words paths ways leaders key)))
+      ap (λ l. undominated dp k ls l) (next paths ways)
+      ∙ (stays dp k ls (keyed paths rows words ways key) rest (led-keyed dp k rows words paths ways leaders key ∙ out)
+      ∙ ap (λ l. keyed paths rows words ways key ∷ undominated dp k l rest) (sym (leaders-keyed dp k rows words paths ways leaders key)))
 
-  pub pruned-stays : is_out dp k t rows words leaders key ≡ false → IsKeyIn dp k rows words key → length kept < most → ArePruned dp k t most rows words keys (with_leader leaders key) (kept ++ key ∷ []) (i + 1)
+  pub pruned-stays : led_by dp k rows words leaders key ≡ false → IsKeyIn dp k rows words key → length kept < most → ArePruned dp k most rows words keys (with_leader leaders key) (kept ++ key ∷ []) (i + 1)
   pruned-stays out one short =
       let low = h.few in
       let longer = length_push kept key in
       record {
         list = λ paths ways. (
-            let later = undominated dp k (all_keyed paths rows words ways (with_leader leaders key)) (unstruck dp k t (all_keyed paths rows words ways (drop (i + 1) keys))) in
+            let later = undominated dp k (all_keyed paths rows words ways (with_leader leaders key)) (all_keyed paths rows words ways (drop (i + 1) keys)) in
             ap (λ l. l ++ later) (map-append (keyed paths rows words ways) kept (key ∷ []))
             ∙ (append_assoc (all_keyed paths rows words ways kept) (keyed paths rows words ways key ∷ []) later
             ∙ (ap (λ l. all_keyed paths rows words ways kept ++ l) (sym (left paths ways out)) ∙ h.list paths ways)));
@@ -139,10 +128,10 @@ module _ (dp : Dp) (k : ℕ) (t : Option ℤ) (most : ℕ) (rows : List ℤ) (wo
       }
 
   abbrev later : (ℕ → List ℕ) → List Way → List Reached
-  later paths ways = undominated dp k (all_keyed paths rows words ways (with_leader leaders key)) (unstruck dp k t (all_keyed paths rows words ways (drop (i + 1) keys)))
+  later paths ways = undominated dp k (all_keyed paths rows words ways (with_leader leaders key)) (all_keyed paths rows words ways (drop (i + 1) keys))
 
   -- there is one more than may stay
-  pub pruned-full : is_out dp k t rows words leaders key ≡ false → length kept ≡ most → HasPruned dp k t most rows words keys kept true
+  pub pruned-full : led_by dp k rows words leaders key ≡ false → length kept ≡ most → HasPruned dp k most rows words keys kept true
   pruned-full out full = record {
     list = λ paths ways. (
         let f = all_keyed paths rows words ways kept in
@@ -158,7 +147,7 @@ module _ (dp : Dp) (k : ℕ) (t : Option ℤ) (most : ℕ) (rows : List ℤ) (wo
     most_stay = h.most_stay;
   }
     where
-      whole : (paths : ℕ → List ℕ) (ways : List Way) → pruned dp k t (all_keyed paths rows words ways keys) ≡ all_keyed paths rows words ways kept ++ (keyed paths rows words ways key ∷ later paths ways)
+      whole : (paths : ℕ → List ℕ) (ways : List Way) → undominated dp k [] (all_keyed paths rows words ways keys) ≡ all_keyed paths rows words ways kept ++ (keyed paths rows words ways key ∷ later paths ways)
       whole paths ways = sym (h.list paths ways) ∙ ap (λ l. all_keyed paths rows words ways kept ++ l) (left paths ways out)
 
       front : (f rs : List Reached) → length f ≡ most → take most (f ++ rs) ≡ f
@@ -168,9 +157,9 @@ module _ (dp : Dp) (k : ℕ) (t : Option ℤ) (most : ℕ) (rows : List ℤ) (wo
       more f r rs size = let sum = length-append f (r ∷ rs) in grind (arith, nat_tests)
 
 -- all keys were looked at
-pub pruned-end : (dp : Dp) (k : ℕ) (t : Option ℤ) (most : ℕ) (rows : List ℤ) (words : ℕ) (keys leaders kept : List Key) (i : ℕ) → ArePruned dp k t most rows words keys leaders kept i → i ≡ length keys
-    → HasPruned dp k t most rows words keys kept false
-pruned-end dp k t most rows words keys leaders kept i h end = record {
+pub pruned-end : (dp : Dp) (k : ℕ) (most : ℕ) (rows : List ℤ) (words : ℕ) (keys leaders kept : List Key) (i : ℕ) → ArePruned dp k most rows words keys leaders kept i → i ≡ length keys
+    → HasPruned dp k most rows words keys kept false
+pruned-end dp k most rows words keys leaders kept i h end = record {
   list = λ paths ways. (
       let f = all_keyed paths rows words ways kept in
       let size = length-map kept (keyed paths rows words ways) in let few = h.most_stay in
@@ -185,17 +174,17 @@ pruned-end dp k t most rows words keys leaders kept i h end = record {
   most_stay = h.most_stay;
 }
   where
-    whole : (paths : ℕ → List ℕ) (ways : List Way) → all_keyed paths rows words ways kept ≡ pruned dp k t (all_keyed paths rows words ways keys)
+    whole : (paths : ℕ → List ℕ) (ways : List Way) → all_keyed paths rows words ways kept ≡ undominated dp k [] (all_keyed paths rows words ways keys)
     whole paths ways =
         sym (append-nil (all_keyed paths rows words ways kept))
-        ∙ (ap (λ l. all_keyed paths rows words ways kept ++ undominated dp k (all_keyed paths rows words ways leaders) (unstruck dp k t (all_keyed paths rows words ways l))) (sym (drop_all i keys (omega arith)))
+        ∙ (ap (λ l. all_keyed paths rows words ways kept ++ undominated dp k (all_keyed paths rows words ways leaders) (all_keyed paths rows words ways l)) (sym (drop_all i keys (omega arith)))
         ∙ h.list paths ways)
 
     fewer : (m n : ℕ) → n ≤ m → false ≡ nat_lt m n
     fewer m n le = grind (arith, nat_tests)
 
-pub pruned-none : (dp : Dp) (k : ℕ) (t : Option ℤ) (most : ℕ) (rows : List ℤ) (words : ℕ) (keys : List Key) → ArePruned dp k t most rows words keys [] [] 0
-pruned-none dp k t most rows words keys = record { list = λ paths ways. refl; leading = tt; within = tt; places = λ n all. tt; few = omega arith; most_stay = omega arith }
+pub pruned-none : (dp : Dp) (k : ℕ) (most : ℕ) (rows : List ℤ) (words : ℕ) (keys : List Key) → ArePruned dp k most rows words keys [] [] 0
+pruned-none dp k most rows words keys = record { list = λ paths ways. refl; leading = tt; within = tt; places = λ n all. tt; few = omega arith; most_stay = omega arith }
 
 pub strictly : (p n : ℕ) → p ≤ n → (p ≡ n → ⊥) → p < n
 strictly p n h k = grind arith

@@ -1,7 +1,6 @@
 -- A layer is extended: the ways to the next layer.
 use Rattle.std.specs.Prelude.{◌≡◌, ℕ, ◌+◌, ◌*◌, ◌^◌, ◌<◌, ◌≤◌, ℤ, List, [], length, map, filter, drop}
 use Rattle.dp_model.specs.Dp.{Dp}
-use Rattle.dp_model.specs.Decisions.{below}
 use Rattle.dp_model.specs.Reached.{Reached}
 use Rattle.dp_laws.specs.Restricted.Extensions.{extended, candidates, all_joined}
 use Rattle.layer_candidates.specs.declared.way.Way.{Way}
@@ -21,23 +20,31 @@ pub record HasRoom (words count : ℕ) (rows : List ℤ) (ways_room : ℕ) (fold
 abbrev pub parent_as : (ℕ → List ℕ) → ℕ → List ℤ → ℤ → Reached
 parent_as paths step row value = record { decisions = paths step; row = row; value = value }
 
--- the decisions below n that are allowed in the state
-abbrev pub allowed_below : Dp → ℕ → List ℤ → ℕ → List ℕ
-allowed_below dp k s n = filter (dp.allowed k s) (below n)
+-- rows, ways and table are as they were
+pub record AreSame (old_rows : List ℤ) (old_ways : List Way) (old_folds old_heads old_next : List ℕ) (rows : List ℤ) (ways : List Way) (folds heads next : List ℕ) : Type 0 where
+  pub rows_are : rows ≡ old_rows
+  pub ways_are : ways ≡ old_ways
+  pub folds_are : folds ≡ old_folds
+  pub heads_are : heads ≡ old_heads
+  pub next_are : next ≡ old_next
 
--- a parent's ways by the allowed decisions below n were taken in
-pub record HasExtended (dp : Dp) (k step : ℕ) (s : List ℤ) (value : ℤ) (n words : ℕ) (old_rows : List ℤ) (old_ways : List Way)
+-- those of the decisions that are allowed in the state
+abbrev pub all_allowed : Dp → ℕ → List ℤ → List ℕ → List ℕ
+all_allowed dp k s decisions = filter (dp.allowed k s) decisions
+
+-- a parent's ways by those of the decisions that are allowed were taken in
+pub record HasExtended (dp : Dp) (k step : ℕ) (s : List ℤ) (value : ℤ) (decisions : List ℕ) (words live : ℕ) (old_rows : List ℤ) (old_ways : List Way)
     (rows : List ℤ) (ways : List Way) (folds heads next : List ℕ) : Type 0 where
-  pub joined : AreJoined dp (k + 1) rows words ways folds heads next
+  pub joined : AreJoined dp (k + 1) rows words live ways folds heads next
   pub list : (paths : ℕ → List ℕ) → all_reached paths rows words ways
-      ≡ all_joined (all_reached paths old_rows words old_ways) (map (extended dp k (parent_as paths step s value)) (allowed_below dp k s n))
-  pub few : length ways ≤ length old_ways + n
+      ≡ all_joined (all_reached paths old_rows words old_ways) (map (extended dp k (parent_as paths step s value)) (all_allowed dp k s decisions))
+  pub few : length ways ≤ length old_ways + length decisions
   pub size : length rows ≡ length old_rows
 
 -- the ways of the first i members of a layer were taken in
-pub record AreExtended (dp : Dp) (k i : ℕ) (above : List ℤ) (words : ℕ) (members : List Member)
+pub record AreExtended (dp : Dp) (k i : ℕ) (above : List ℤ) (words live : ℕ) (members : List Member)
     (rows : List ℤ) (ways : List Way) (folds heads next : List ℕ) : Type 0 where
-  pub joined : AreJoined dp (k + 1) rows words ways folds heads next
+  pub joined : AreJoined dp (k + 1) rows words live ways folds heads next
   pub list : (paths : ℕ → List ℕ) → all_joined (all_reached paths rows words ways) (candidates dp k (drop i (members_as paths above words members)))
       ≡ all_joined [] (candidates dp k (members_as paths above words members))
   pub few : length ways ≤ i * dp.choices k

@@ -1,11 +1,11 @@
 -- The ways to the states of a layer: of each state the best candidate.
-use Rattle.std.specs.Prelude.{◌≡◌, ◌≢◌, ℕ, zero, suc, ◌+◌, ◌^◌, ◌<◌, ℤ, pos, ◌≤ℤ◌, int_lt, cond, set, List, [], ◌∷◌, ◌++◌, length, slice_index_or}
+use Rattle.std.specs.Prelude.{◌≡◌, ◌≢◌, ℕ, zero, suc, ◌+◌, ◌*◌, ◌^◌, ◌<◌, ◌≤◌, ℤ, pos, ◌≤ℤ◌, int_lt, cond, set, List, [], ◌∷◌, ◌++◌, length, slice_index_or}
 use lib.IntN.{neg_ℤ}
 use Rattle.dp_model.specs.Dp.{Dp}
 use Rattle.dp_model.specs.Gaps.{IsStateOf}
 use Rattle.dp_model.specs.Reached.{Reached}
 use Rattle.layer_candidates.specs.declared.way.Way.{Way}
-use Rattle.layer_candidates.specs.Rows.{row_at}
+use Rattle.layer_candidates.specs.Rows.{row_at, HasZeros}
 use Rattle.layer_candidates.specs.Table.{IsTable}
 
 -- the values of the numbers below n, in order
@@ -49,6 +49,10 @@ pub record IsWay (dp : Dp) (k : ℕ) (row : List ℤ) (way : Way) : Type 0 where
   pub rank : way.rank ≡ dp.rank k row
   pub value : IsNearly way.value
 
+-- so many first cells are zero in each state of the layer at depth k
+abbrev pub AllHaveZeros : Dp → ℕ → ℕ → Type 0
+AllHaveZeros dp k count = (s : List ℤ) → IsStateOf dp k s → HasZeros count s
+
 -- no two rows are the same
 abbrev pub AreApart : List ℤ → ℕ → ℕ → Type 0
 AreApart rows words count = (j k : ℕ) → j < k → k < count → row_at rows words j ≢ row_at rows words k
@@ -57,8 +61,14 @@ AreApart rows words count = (j k : ℕ) → j < k → k < count → row_at rows 
 abbrev pub AreWays : Dp → ℕ → List ℤ → ℕ → List Way → Type 0
 AreWays dp k rows words ways = (i : ℕ) → i < length ways → IsWay dp k (row_at rows words i) (way_at ways i)
 
+-- the ways lead to different states of the layer at depth k, whose rows lie in the cells
+pub record AreDistinct (dp : Dp) (k : ℕ) (rows : List ℤ) (words : ℕ) (ways : List Way) : Type 0 where
+  pub room : length ways * words ≤ length rows
+  pub apart : AreApart rows words (length ways)
+  pub good : AreWays dp k rows words ways
+
 -- the ways lead to different states, which the table has
-pub record AreJoined (dp : Dp) (k : ℕ) (rows : List ℤ) (words : ℕ) (ways : List Way) (folds heads next : List ℕ) : Type 0 where
-  pub table : IsTable rows words (length ways) folds heads next
+pub record AreJoined (dp : Dp) (k : ℕ) (rows : List ℤ) (words live : ℕ) (ways : List Way) (folds heads next : List ℕ) : Type 0 where
+  pub table : IsTable rows words live (length ways) folds heads next
   pub apart : AreApart rows words (length ways)
   pub good : AreWays dp k rows words ways

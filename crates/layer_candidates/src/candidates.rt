@@ -9,9 +9,10 @@ use crate::descending::descend;
 use crate::extending::extend_layer;
 use crate::key::Key;
 use crate::member::Member;
-use crate::ordering::put_in_order;
+use crate::ordering::sort;
 use crate::pruning::{MOST_LEADERS, prune};
 use crate::step::Step;
+use crate::striking::list_unstruck;
 use crate::way::Way;
 use dp_model::{DpModel, OutOfMemory};
 use std::alloc::Global;
@@ -93,11 +94,19 @@ impl Candidates {
             self.heads.as_mut_slice(),
             self.next.as_mut_slice(),
         );
-        put_in_order(rows, words, self.ways.as_slice(), &mut self.keys);
-        let more = prune(
+        list_unstruck(
             model,
             k + 1,
             threshold,
+            rows,
+            words,
+            self.ways.as_slice(),
+            &mut self.keys,
+        );
+        sort(rows, words, model.first_live(k + 1), &mut self.keys);
+        let more = prune(
+            model,
+            k + 1,
             most,
             rows,
             words,

@@ -1,8 +1,8 @@
 //! Beams in memory: the layers of a restricted diagram, made one after another, and its beam.
 //!
 //! The members of a layer are extended by each allowed decision. Of each state the first way of greatest value is kept: equal
-//! states are found by a table of folds, and compared cell by cell. The ways are put into the reduction order, those that are
-//! struck or dominated go, and the first ones stay.
+//! states are found by a table of folds, and compared cell by cell. The ways that are not struck are put into the reduction order,
+//! those that are dominated go, and the first ones stay.
 //!
 //! It stands on `dp_model` and `dp_laws`, and each layer is proved to be the one that is defined there on plain lists of
 //! prefixes. States stand as rows of one length in a block of cells. No call but `prepare` takes memory.
@@ -19,6 +19,7 @@ mod ordering;
 mod pruning;
 mod rows;
 mod step;
+mod striking;
 mod table;
 mod walking;
 mod way;
@@ -29,8 +30,9 @@ pub use extending::{Taken, extend_by};
 pub use key::Key;
 pub use member::Member;
 pub use ordering::put_in_order;
-pub use pruning::{MOST_LEADERS, is_struck_by};
+pub use pruning::MOST_LEADERS;
 pub use rows::row;
 pub use step::Step;
-pub use table::reset;
+pub use striking::is_struck_by;
+pub use table::{reset, slots_for};
 pub use way::Way;

@@ -1,12 +1,11 @@
-//! Of the keys in order those are taken out that are struck or that a leader dominates, and the first ones stay.
+//! Of the keys in order those are taken out that a leader dominates, and the first ones stay.
 
-ghost use Rattle.std.specs.Prelude.{◌≡◌, ◌*◌, ◌+◌, ◌≤◌, ◌-ℤ◌, IfSome, length, vec_capacity};
-ghost use Rattle.dp_model.specs.Gaps.{IsStateOf, covers_at, is_struck_by};
+ghost use Rattle.std.specs.Prelude.{◌≡◌, ◌≤◌, ◌-ℤ◌, length, vec_capacity};
+ghost use Rattle.dp_model.specs.Gaps.{covers_at};
 ghost use Rattle.dp_model.specs.Lists.{Each};
-ghost use Rattle.dp_model.specs.Numbers.{IsSmall};
 ghost use Rattle.layer_candidates.specs.Rows.{row_at};
 ghost use Rattle.layer_candidates.specs.Ways.{IsNearly};
-ghost use Rattle.layer_candidates.specs.Pruning.{IsKeyIn, led_by, struck, is_out, with_leader, HasPruned};
+ghost use Rattle.layer_candidates.specs.Pruning.{IsKeyIn, led_by, with_leader, HasPruned};
 
 use crate::key::Key;
 use crate::rows::row;
@@ -14,37 +13,6 @@ use dp_model::DpModel;
 
 /// No layer has more leaders.
 pub const MOST_LEADERS: usize = 16;
-
-/// Whether the value and the rough bound are at most the threshold; no rough bound is at most each.
-pub fn is_struck_by(value: i64, rough: Option<i64>, threshold: Option<i64>) -> bool
-    requires near { IsNearly value }
-    requires small { IfSome rough (λ r. IsSmall r) }
-    ensures { result ≡ is_struck_by value rough threshold }
-{
-    let Some(rough) = rough else {
-        return true;
-    };
-    match threshold {
-        Some(threshold) => value + rough <= threshold,
-        None => false,
-    }
-}
-
-/// Whether no completion of the key's state is known to be above the threshold.
-fn is_struck<M: DpModel>(
-    model: &M,
-    k: usize,
-    threshold: Option<i64>,
-    rows: &[i64],
-    words: usize,
-    key: Key,
-) -> bool
-    requires key { IsKeyIn (M.meaning (M.numbers model.now)) k rows.now words key }
-    ensures { result ≡ struck (M.meaning (M.numbers model.now)) k threshold rows.now words key }
-{
-    let rough = model.rough(k, row(rows, words, key.place as usize));
-    is_struck_by(key.value, rough, threshold)
-}
 
 /// By how much the leader's value is above the key's.
 fn room(leader: Key, key: Key) -> i64
@@ -97,23 +65,6 @@ fn is_led<M: DpModel>(
     false
 }
 
-/// Whether the key is struck, or one of the leaders dominates it.
-fn is_out<M: DpModel>(
-    model: &M,
-    k: usize,
-    threshold: Option<i64>,
-    rows: &[i64],
-    words: usize,
-    leaders: &[Key],
-    key: Key,
-) -> bool
-    requires leaders { Each (IsKeyIn (M.meaning (M.numbers model.now)) k rows.now words) leaders.now }
-    requires key { IsKeyIn (M.meaning (M.numbers model.now)) k rows.now words key }
-    ensures { result ≡ is_out (M.meaning (M.numbers model.now)) k threshold rows.now words leaders.now key }
-{
-    is_struck(model, k, threshold, rows, words, key) || is_led(model, k, rows, words, leaders, key)
-}
-
 /// A key that stays becomes a leader while there are fewer than 16.
 fn lead(leaders: &mut Vec<Key>, key: Key)
     requires room { MOST_LEADERS ≤ vec_capacity leaders.old }
@@ -125,12 +76,11 @@ fn lead(leaders: &mut Vec<Key>, key: Key)
     }
 }
 
-/// Takes the keys out that are struck, and those that one of the first 16 that stay dominates. The first ones that stay are
-/// kept, as many as `most`. Answers whether more would stay.
+/// Takes the keys out that one of the first 16 that stay dominates. The first ones that stay are kept, as many as `most`.
+/// Answers whether more would stay.
 pub fn prune<M: DpModel>(
     model: &M,
     k: usize,
-    threshold: Option<i64>,
     most: usize,
     rows: &[i64],
     words: usize,
@@ -141,7 +91,7 @@ pub fn prune<M: DpModel>(
     requires keys { Each (IsKeyIn (M.meaning (M.numbers model.now)) k rows.now words) keys.now }
     requires leaders_room { MOST_LEADERS ≤ vec_capacity leaders.old }
     requires kept_room { length keys.now ≤ vec_capacity kept.old }
-    ensures pruned { HasPruned (M.meaning (M.numbers model.now)) k threshold most rows.now words keys.now kept.new.items result }
+    ensures pruned { HasPruned (M.meaning (M.numbers model.now)) k most rows.now words keys.now kept.new.items result }
     ensures leaders_capacity { vec_capacity leaders.new ≡ vec_capacity leaders.old }
     ensures kept_capacity { vec_capacity kept.new ≡ vec_capacity kept.old }
 {
@@ -149,7 +99,7 @@ pub fn prune<M: DpModel>(
     kept.clear();
     'keys: for i in 0..keys.len() {
         let key = keys[i];
-        if !is_out(model, k, threshold, rows, words, leaders.as_slice(), key) {
+        if !is_led(model, k, rows, words, leaders.as_slice(), key) {
             if kept.len() == most {
                 return true;
             }

@@ -1,7 +1,7 @@
 //! Rows of one length in a block of cells.
 
-ghost use Rattle.std.specs.Prelude.{◌≡◌, ◌+◌, ◌*◌, ◌≤◌, ◌↔◌, length, IsTrue};
-ghost use Rattle.layer_candidates.specs.Rows.{row_at};
+ghost use Rattle.std.specs.Prelude.{◌≡◌, ◌+◌, ◌*◌, ◌≤◌, ◌↔◌, length, IfSome, IsTrue};
+ghost use Rattle.layer_candidates.specs.Rows.{row_at, live_at};
 
 /// The cells of a row.
 pub fn row(rows: &[i64], words: usize, place: usize) -> &[i64]
@@ -10,6 +10,15 @@ pub fn row(rows: &[i64], words: usize, place: usize) -> &[i64]
 {
     let at = place * words;
     &rows[at..at + words]
+}
+
+/// The cells of a row from the first live one on.
+pub fn live_cells(rows: &[i64], words: usize, live: usize, place: usize) -> &[i64]
+    requires room { place * words + words ≤ length rows.now }
+    requires live { live ≤ words }
+    ensures { result.now ≡ live_at rows.now words live place }
+{
+    &row(rows, words, place)[live..]
 }
 
 /// Whether two rows are equal.
@@ -32,5 +41,30 @@ pub fn row_within(rows: &[i64], words: usize, place: usize) -> &[i64]
     match rest.get(..words) {
         Some(row) => row,
         None => rest,
+    }
+}
+
+/// The cells of a row from the first live one on, where the block has the row.
+fn live_inside(rows: &[i64], words: usize, live: usize, place: usize) -> Option<&[i64]>
+    ensures { IfSome result (λ cells. cells.now ≡ live_at rows.now words live place) }
+{
+    let end = place.checked_mul(words)?.checked_add(words)?;
+    if live <= words && end <= rows.len() {
+        Some(live_cells(rows, words, live, place))
+    } else {
+        None
+    }
+}
+
+/// The cells of a row from the first live one on, of which those are left out that the block does not have.
+pub fn live_within(rows: &[i64], words: usize, live: usize, place: usize) -> &[i64]
+    ensures { result.now ≡ live_at rows.now words live place }
+{
+    if let Some(cells) = live_inside(rows, words, live, place) {
+        return cells;
+    }
+    match row_within(rows, words, place).get(live..) {
+        Some(cells) => cells,
+        None => &[],
     }
 }

@@ -1,11 +1,11 @@
-//! The table of the rows that are kept.
+//! The table of the rows that are kept. Rows are compared from the first live cell on.
 
 ghost use Rattle.std.specs.Prelude.{◌≡◌, ◌≢◌, ℕ, ◌+◌, ◌*◌, ◌^◌, ◌<◌, ◌≤◌, ℤ, List, ◌↔◌, length, replicate, slice_index_or, IsTrue};
-ghost use Rattle.layer_candidates.specs.Rows.{row_at};
+ghost use Rattle.layer_candidates.specs.Rows.{live_at};
 ghost use Rattle.dp_model.specs.Folds.{fold_of};
 ghost use Rattle.layer_candidates.specs.Table.{slot_of, IsTable, IsFound};
 
-use crate::rows::{row, same_row};
+use crate::rows::{live_cells, same_row};
 
 /// The slot of a fold among so many.
 fn slot(fold: u64, size: usize) -> usize
@@ -16,6 +16,16 @@ fn slot(fold: u64, size: usize) -> usize
     fold as usize & (size - 1)
 }
 
+/// How many of the slots that there are serve for so many rows: at most about half of them are taken.
+pub fn slots_for(rows: usize, slots: usize) -> usize
+    requires some { 0 < slots }
+    requires small { rows + 1 < 2 ^ 32 }
+    ensures some { 0 < result }
+    ensures within { result ≤ slots }
+{
+    (2 * rows).next_power_of_two().min(slots)
+}
+
 /// Takes all rows out.
 pub fn reset(heads: &mut [u32])
     ensures { heads.new ≡ replicate (length heads.old) 0 }
@@ -23,37 +33,48 @@ pub fn reset(heads: &mut [u32])
     heads.fill(0);
 }
 
-/// Whether the row at the place is the new one.
-fn is_at(rows: &[i64], words: usize, place: usize, new: &[i64], fold: u64, folds: &[u64]) -> bool
+/// Whether the row at the place has these live cells.
+fn is_at(
+    rows: &[i64],
+    words: usize,
+    live: usize,
+    place: usize,
+    new: &[i64],
+    fold: u64,
+    folds: &[u64],
+) -> bool
     requires within { place < length folds.now }
     requires room { place * words + words ≤ length rows.now }
-    requires folds { slice_index_or folds.now place 0 ≡ fold_of 0 (row_at rows.now words place) }
+    requires live { live ≤ words }
+    requires folds { slice_index_or folds.now place 0 ≡ fold_of 0 (live_at rows.now words live place) }
     requires fold { fold ≡ fold_of 0 new.now }
-    ensures { IsTrue result ↔ (row_at rows.now words place ≡ new.now) }
+    ensures { IsTrue result ↔ (live_at rows.now words live place ≡ new.now) }
 {
-    folds[place] == fold && same_row(row(rows, words, place), new)
+    folds[place] == fold && same_row(live_cells(rows, words, live, place), new)
 }
 
-/// The place below `count` at which the row at `count` is kept, or `count`.
+/// The place below `count` at which the row has the live cells of the one at `count`, or `count`.
 pub fn find(
     rows: &[i64],
     words: usize,
+    live: usize,
     count: usize,
     fold: u64,
     folds: &[u64],
     heads: &[u32],
     next: &[u32],
 ) -> usize
-    requires table { IsTable rows.now words count folds.now heads.now next.now }
+    requires table { IsTable rows.now words live count folds.now heads.now next.now }
     requires room { count * words + words ≤ length rows.now }
-    requires fold { fold ≡ fold_of 0 (row_at rows.now words count) }
-    ensures { IsFound rows.now words count result }
+    requires live { live ≤ words }
+    requires fold { fold ≡ fold_of 0 (live_at rows.now words live count) }
+    ensures { IsFound rows.now words live count result }
 {
-    let new = row(rows, words, count);
+    let new = live_cells(rows, words, live, count);
     let mut i = heads[slot(fold, heads.len())] as usize;
     'chain: while i > 0 {
         let k = i - 1;
-        if is_at(rows, words, k, new, fold, folds) {
+        if is_at(rows, words, live, k, new, fold, folds) {
             return k;
         }
         i = next[k] as usize;
@@ -67,7 +88,7 @@ pub fn insert(count: usize, fold: u64, folds: &mut [u64], heads: &mut [u32], nex
     requires folds { count < length folds.old }
     requires next { count < length next.old }
     requires heads { 0 < length heads.old }
-    ensures table { (rows : List ℤ) (words : ℕ) → IsTable rows words count folds.old heads.old next.old → count * words + words ≤ length rows → fold ≡ fold_of 0 (row_at rows words count) → IsTable rows words (count + 1) folds.new heads.new next.new }
+    ensures table { (rows : List ℤ) (words live : ℕ) → IsTable rows words live count folds.old heads.old next.old → count * words + words ≤ length rows → fold ≡ fold_of 0 (live_at rows words live count) → IsTable rows words live (count + 1) folds.new heads.new next.new }
     ensures heads_len { length heads.new ≡ length heads.old }
 {
     let at = slot(fold, heads.len());

@@ -4,6 +4,7 @@ use Rattle.std.proofs.Math.Seq.{drop-append_seam}
 use Rattle.std.proofs.lemmas.List.{map-append, length-map, take-append-drop}
 use Rattle.std.proofs.lemmas.Option.{slice_get-map, slice_get-get_or}
 use Rattle.std.specs.List.{take-map}
+use Rattle.dp_model.specs.Decisions.{below}
 use Rattle.dp_model.specs.Dp.{Dp}
 use Rattle.dp_model.specs.Lists.{Each}
 use Rattle.dp_model.specs.Rows.{row_same}
@@ -16,15 +17,16 @@ use Rattle.dp_laws.specs.declared.arc.DdArc.{DdArc}
 use Rattle.dp_laws.specs.Diagrams.Nodes.{DdNode, prefix_at}
 use Rattle.dp_laws.specs.Diagrams.Seen.{decisions_at}
 use Rattle.dp_laws.proofs.Diagrams.Places.{same-Some, Has-at}
+use Rattle.dp_laws.specs.Rules.Compiling.{TwoLayers, expand}
 use Rattle.dp_laws.specs.Rules.Expanding.{makes, is_exact_row, node_for, new_layer, arc_of, with_arcs}
 use Rattle.dp_laws.proofs.Rules.Expanded.{RowsApart, found-row, one-place, new-apart}
 use Rattle.layer_candidates.specs.declared.key.Key.{Key}
 use Rattle.layer_candidates.specs.declared.way.Way.{Way}
-use Rattle.layer_candidates.specs.Extending.{allowed_below}
+use Rattle.layer_candidates.specs.Extending.{all_allowed}
 use Rattle.layer_candidates.specs.KeyOrder.{key_at, keys_of, reached_of, all_of, IsKeyOf}
 use Rattle.layer_candidates.specs.Members.{member_as, members_as, IsMemberOf}
 use Rattle.layer_candidates.specs.Rows.{row_at}
-use Rattle.layer_candidates.specs.Ways.{way_at, all_reached, AreJoined}
+use Rattle.layer_candidates.specs.Ways.{way_at, all_reached, AreDistinct}
 use Rattle.layer_candidates.proofs.Blocks.{row_before}
 use Rattle.layer_candidates.proofs.Layered.{has-table}
 use Rattle.layer_candidates.proofs.Sorted.{keys-are, in-order, length-keys}
@@ -36,13 +38,13 @@ use Rattle.layer_nodes.specs.Expanding.{Trial, trial, trials_at, trials_of, all_
 use Rattle.layer_nodes.proofs.Spans.{length-spanned}
 use Rattle.layer_nodes.proofs.Tried.{length-arcs}
 
-map-map : {X Y Z : Type 0} (f : X → Y) (g : Y → Z) (xs : List X) → map g (map f xs) ≡ map (λ x. g (f x)) xs
+pub map-map : {X Y Z : Type 0} (f : X → Y) (g : Y → Z) (xs : List X) → map g (map f xs) ≡ map (λ x. g (f x)) xs
 map-map f g [] = refl
 map-map f g (x ∷ xs) = ap (λ l. g (f x) ∷ l) (map-map f g xs)
 
 -- the decisions of a layer above the last one
-allowed-at : (dp : Dp) (k : ℕ) (s : List ℤ) → k < dp.vars → allowed_below dp k s (dp.choices k) ≡ decisions_at dp k s
-allowed-at dp k s low = let inside : nat_lt k dp.vars ≡ true = grind arith in sym (ap (λ b. cond b (allowed_below dp k s (dp.choices k)) []) inside)
+allowed-at : (dp : Dp) (k : ℕ) (s : List ℤ) → k < dp.vars → all_allowed dp k s (below (dp.choices k)) ≡ decisions_at dp k s
+allowed-at dp k s low = let inside : nat_lt k dp.vars ≡ true = grind arith in sym (ap (λ b. cond b (all_allowed dp k s (below (dp.choices k))) []) inside)
 
 -- Exact rows.
 
@@ -58,29 +60,29 @@ exact-by dp k s exact rest row (d ∷ ds) =
     ap (λ b. (exact || not (row_same (dp.step k s d) row)) && b) (exact-by dp k s exact rest row ds)
     ∙ both-ways exact (row_same (dp.step k s d) row) (makes dp k s ds row) (all_exact dp k rest row)
 
-trials-exact : (dp : Dp) (k : ℕ) (cells : List ℤ) (words : ℕ) (arcs : List DdArc) (paths : ℕ → List ℕ) (i : ℕ) (nodes : List Node) (row : List ℤ) → k < dp.vars
+pub trials-exact : (dp : Dp) (k : ℕ) (cells : List ℤ) (words : ℕ) (arcs : List DdArc) (paths : ℕ → List ℕ) (i : ℕ) (nodes : List Node) (row : List ℤ) → k < dp.vars
     → all_exact dp k (trials_of dp k cells words nodes) row ≡ is_exact_row dp k (shown_from paths i (map (node_view words cells arcs) nodes)) row
 trials-exact dp k cells words arcs paths i [] row low = refl
 trials-exact dp k cells words arcs paths i (node ∷ nodes) row low =
     let s = row_at cells words node.row in
-    exact-by dp k s node.exact (trials_of dp k cells words nodes) row (allowed_below dp k s (dp.choices k))
+    exact-by dp k s node.exact (trials_of dp k cells words nodes) row (all_allowed dp k s (below (dp.choices k)))
     ∙ ap₂ (λ ds b. (node.exact || not (makes dp k s ds row)) && b) (allowed-at dp k s low) (trials-exact dp k cells words arcs paths (i + 1) nodes row low)
 
 -- The nodes as members.
 
-members-shown : (cells : List ℤ) (words : ℕ) (arcs : List DdArc) (paths : ℕ → List ℕ) (i : ℕ) (nodes : List Node)
+pub members-shown : (cells : List ℤ) (words : ℕ) (arcs : List DdArc) (paths : ℕ → List ℕ) (i : ℕ) (nodes : List Node)
     → members_as paths cells words (members_from i nodes) ≡ map prefix_at (shown_from paths i (map (node_view words cells arcs) nodes))
 members-shown cells words arcs paths i [] = refl
 members-shown cells words arcs paths i (node ∷ nodes) = ap (λ l. member_as paths cells words (member_of node i) ∷ l) (members-shown cells words arcs paths (i + 1) nodes)
 
 -- The place of a row.
 
-row-found : (next : List DdNode) (j : ℕ) (row : List ℤ) → slice_get (map (λ (n : DdNode). n.row) next) j ≡ Some row → (node : DdNode) × (slice_get next j ≡ Some node) × (node.row ≡ row)
+pub row-found : (next : List DdNode) (j : ℕ) (row : List ℤ) → slice_get (map (λ (n : DdNode). n.row) next) j ≡ Some row → (node : DdNode) × (slice_get next j ≡ Some node) × (node.row ≡ row)
 row-found [] j row h = absurd (let none : None ≡ Some row = h in cc)
 row-found (n ∷ next) zero row h = (n, refl, same-Some n.row row h)
 row-found (n ∷ next) (suc j) row h = row-found next j row h
 
-place-of : (next : List DdNode) (j : ℕ) (row : List ℤ) → RowsApart next → slice_get (map (λ (n : DdNode). n.row) next) j ≡ Some row
+pub place-of : (next : List DdNode) (j : ℕ) (row : List ℤ) → RowsApart next → slice_get (map (λ (n : DdNode). n.row) next) j ≡ Some row
     → position (λ (n : DdNode). row_same n.row row) next ≡ Some j
 place-of next j row apart h =
     let at_j = row-found next j row h in
@@ -104,11 +106,15 @@ module _ (dp : Dp) (k : ℕ) (rows : List ℤ) (words count : ℕ) (next : List 
       ∙ ap Some (ap (row_at rows words) n.same ∙ h.row))) in
       ap (led places) h.is ∙ (ap (arc_with (arc_to dp k t h.place)) n.is ∙ ap (arc_with (arc_to dp k t h.place)) (sym (place-of next n.number (dp.step k s d) apart there)))
 
-  arcs-led : (s : List ℤ) (exact : Bool) (ds : List ℕ) (arcs : List DdArc) → AreArcsOf dp k rows words count (map (trial s exact) ds) arcs → map (led places) arcs ≡ map (arc_of dp k next s) ds
+-- Arcs that are changed to those that a rule names.
+
+module _ (dp : Dp) (k : ℕ) (rows : List ℤ) (words count : ℕ) (change : DdArc → DdArc) (named : List ℤ → ℕ → DdArc)
+    (leads : (s : List ℤ) (exact : Bool) (d : ℕ) (arc : DdArc) → LeadsToRow dp k rows words count (trial s exact d) arc → change arc ≡ named s d) where
+  arcs-led : (s : List ℤ) (exact : Bool) (ds : List ℕ) (arcs : List DdArc) → AreArcsOf dp k rows words count (map (trial s exact) ds) arcs → map change arcs ≡ map (named s) ds
   arcs-led s exact [] [] h = refl
   arcs-led s exact [] (arc ∷ arcs) h = absurd h
   arcs-led s exact (d ∷ ds) [] h = absurd h
-  arcs-led s exact (d ∷ ds) (arc ∷ arcs) h = ap₂ (λ a l. a ∷ l) (arc-led s exact d arc h.0) (arcs-led s exact ds arcs h.1)
+  arcs-led s exact (d ∷ ds) (arc ∷ arcs) h = ap₂ (λ a l. a ∷ l) (leads s exact d arc h.0) (arcs-led s exact ds arcs h.1)
 
   arcs-first : (ts us : List Trial) (arcs : List DdArc) → AreArcsOf dp k rows words count (ts ++ us) arcs → AreArcsOf dp k rows words count ts (take (length ts) arcs)
   arcs-first [] us arcs h = tt
@@ -121,33 +127,37 @@ module _ (dp : Dp) (k : ℕ) (rows : List ℤ) (words count : ℕ) (next : List 
   arcs-rest (t ∷ ts) us (arc ∷ arcs) h = arcs-rest ts us arcs h.1
 
   module _ (cells : List ℤ) (old : List DdArc) (low : k < dp.vars) (paths : ℕ → List ℕ) where
+    -- the layer at depth k with these arcs
+    abbrev with_arcs_by : List DdNode → List DdNode
+    with_arcs_by layer = map (λ (node : DdNode). record node { arcs = map (named node.row) (decisions_at dp k node.row) }) layer
+
     abbrev view : List DdArc → Node → NodeView
     view arcs node = node_view words cells arcs node
 
-    above-from : (i : ℕ) (nodes : List Node) (first : ℕ) (before arcs : List DdArc) → length before ≡ first → AreArcsOf dp k rows words count (trials_of dp k cells words nodes) arcs
-        → shown_from paths i (map (view (before ++ map (led places) arcs)) (all_spanned dp k cells words first nodes)) ≡ with_arcs dp k next (shown_from paths i (map (view old) nodes))
+    pub above-from : (i : ℕ) (nodes : List Node) (first : ℕ) (before arcs : List DdArc) → length before ≡ first → AreArcsOf dp k rows words count (trials_of dp k cells words nodes) arcs
+        → shown_from paths i (map (view (before ++ map change arcs)) (all_spanned dp k cells words first nodes)) ≡ with_arcs_by (shown_from paths i (map (view old) nodes))
     above-from i [] first before arcs size h = refl
     above-from i (node ∷ nodes) first before arcs size h =
         let s = row_at cells words node.row in
         let ts = trials_at dp k cells words node in
         let n = length ts in
         let us = trials_of dp k cells words nodes in
-        let all = before ++ map (led places) arcs in
+        let all = before ++ map change arcs in
         let mine = take n arcs in
         let rest = drop n arcs in
-        let these : take n (drop first all) ≡ map (arc_of dp k next s) (decisions_at dp k s) =
-        ap (λ j. take n (drop j all)) (sym size) ∙ (ap (take n) (drop-append_seam before (map (led places) arcs))
-        ∙ (take-map (led places) n arcs ∙ (arcs-led s node.exact (allowed_below dp k s (dp.choices k)) mine (arcs-first ts us arcs h)
-        ∙ ap (map (arc_of dp k next s)) (allowed-at dp k s low)))) in
-        let split : all ≡ (before ++ map (led places) mine) ++ map (led places) rest =
-        ap (λ l. before ++ l) (ap (map (led places)) (sym (take-append-drop n arcs)) ∙ map-append (led places) mine rest)
-        ∙ sym (append_assoc before (map (led places) mine) (map (led places) rest)) in
+        let these : take n (drop first all) ≡ map (named s) (decisions_at dp k s) =
+        ap (λ j. take n (drop j all)) (sym size) ∙ (ap (take n) (drop-append_seam before (map change arcs))
+        ∙ (take-map change n arcs ∙ (arcs-led s node.exact (all_allowed dp k s (below (dp.choices k))) mine (arcs-first ts us arcs h)
+        ∙ ap (map (named s)) (allowed-at dp k s low)))) in
+        let split : all ≡ (before ++ map change mine) ++ map change rest =
+        ap (λ l. before ++ l) (ap (map change) (sym (take-append-drop n arcs)) ∙ map-append change mine rest)
+        ∙ sym (append_assoc before (map change mine) (map change rest)) in
         let count = length-arcs dp k rows words count ts mine (arcs-first ts us arcs h) in
-        let long = length-append before (map (led places) mine) in
-        let same = length-map mine (led places) in
+        let long = length-append before (map change mine) in
+        let same = length-map mine change in
         ap₂ (λ a l. a ∷ l) (ap (λ x. record (shown (paths i) (view old node)) { arcs = x }) these)
         (ap (λ x. shown_from paths (i + 1) (map (view x) (all_spanned dp k cells words (first + n) nodes))) split
-        ∙ above-from (i + 1) nodes (first + n) (before ++ map (led places) mine) rest (omega arith) (arcs-rest ts us arcs h))
+        ∙ above-from (i + 1) nodes (first + n) (before ++ map change mine) rest (omega arith) (arcs-rest ts us arcs h))
 
 -- Nothing else of the nodes above changes.
 
@@ -157,7 +167,7 @@ rest-stays dp k cells words old new first [] = refl
 rest-stays dp k cells words old new first (node ∷ nodes) =
     ap (λ l. without_arcs (node_view words cells old node) ∷ l) (rest-stays dp k cells words old new (first + length (trials_at dp k cells words node)) nodes)
 
-get_or-any : {X : Type 0} (xs : List X) (j : ℕ) (a b : X) → j < length xs → get_or xs j a ≡ get_or xs j b
+pub get_or-any : {X : Type 0} (xs : List X) (j : ℕ) (a b : X) → j < length xs → get_or xs j a ≡ get_or xs j b
 get_or-any [] j a b less = absurd (omega arith)
 get_or-any (x ∷ xs) zero a b less = refl
 get_or-any (x ∷ xs) (suc j) a b less = get_or-any xs j a b (omega arith)
@@ -180,28 +190,17 @@ members-of dp k cells words room i old (node ∷ nodes) hold s h =
     let before = row_before (room + 1) node.row words (omega arith) in
     (record { within = omega arith; state = h.0.state; rank = h.0.rank; value = h.0.value }, members-of dp k cells words room (i + 1) old nodes hold s.1 h.1)
 
--- The whole.
+-- The nodes of keys.
 
-module _ (dp : Dp) (k : ℕ) (low : k < dp.vars) (cells : List ℤ) (words : ℕ) (old : List DdArc) (nodes : List Node) (rows : List ℤ) (ways : List Way) (folds heads next : List ℕ)
-    (marks : List Bool) (arcs led_arcs : List DdArc) (nodes2 below : List Node)
-    (joined : AreJoined dp (k + 1) rows words ways folds heads next)
-    (list : (paths : ℕ → List ℕ) → all_reached paths rows words ways ≡ all_joined [] (candidates dp k (members_as paths cells words (members_from 0 nodes))))
-    (tried : AreTried dp k rows words (length ways) (trials_of dp k cells words nodes) marks arcs)
-    (spans : nodes2 ≡ all_spanned dp k cells words 0 nodes)
-    (arranged : AreArranged rows words ways marks arcs led_arcs below) where
-  abbrev keys : List Key
-  keys = arranged.keys
+pub rows-of : (dp : Dp) (k : ℕ) (rows : List ℤ) (words : ℕ) (ways : List Way) (layer : List DdNode) (paths : ℕ → List ℕ) (ks : List Key)
+    → map (λ (n : DdNode). n.row) (map (node_for dp k layer) (all_of paths rows words ways ks)) ≡ map (λ (key : Key). row_at rows words key.place) ks
+rows-of dp k rows words ways layer paths [] = refl
+rows-of dp k rows words ways layer paths (key ∷ ks) = ap (λ l. row_at rows words key.place ∷ l) (rows-of dp k rows words ways layer paths ks)
 
-  abbrev layer_of : (ℕ → List ℕ) → List DdNode
-  layer_of paths = shown_layer paths (map (node_view words cells old) nodes)
-
-  layer-keys : Each (IsKeyOf ways) keys
-  layer-keys = keys-are dp (k + 1) rows words ways keys joined.apart joined.good arranged.all arranged.sorted
-
-  order-is : (paths : ℕ → List ℕ) → all_of paths rows words ways keys ≡ expanded dp k (map prefix_at (layer_of paths))
-  order-is paths =
-      in-order dp (k + 1) rows words ways keys joined.apart joined.good arranged.all arranged.sorted paths
-      ∙ ap (in_order dp (k + 1)) (list paths ∙ ap (λ l. all_joined [] (candidates dp k l)) (members-shown cells words old paths 0 nodes))
+module _ (dp : Dp) (k : ℕ) (low : k < dp.vars) (cells : List ℤ) (words : ℕ) (old : List DdArc) (nodes : List Node) (rows : List ℤ) (ways : List Way)
+    (marks : List Bool) (arcs : List DdArc) (tried : AreTried dp k rows words (length ways) (trials_of dp k cells words nodes) marks arcs) where
+  abbrev layer_in : (ℕ → List ℕ) → List DdNode
+  layer_in paths = shown_layer paths (map (node_view words cells old) nodes)
 
   abbrev from : (ℕ → List ℕ) → Key → ℤ → Bool → DdNode
   from paths key value exact = record {
@@ -213,26 +212,62 @@ module _ (dp : Dp) (k : ℕ) (low : k < dp.vars) (cells : List ℤ) (words : ℕ
     suffix = None;
   }
 
-  node-is : (paths : ℕ → List ℕ) (key : Key) → IsKeyOf ways key → from paths key key.value (mark_at marks key.place) ≡ node_for dp k (layer_of paths) (reached_of paths rows words ways key)
+  node-is : (paths : ℕ → List ℕ) (key : Key) → IsKeyOf ways key → from paths key key.value (mark_at marks key.place) ≡ node_for dp k (layer_in paths) (reached_of paths rows words ways key)
   node-is paths key h =
       let value : key.value ≡ (way_at ways key.place).value = ap (λ (x : Key). x.value) h.is in
       let row = row_at rows words key.place in
       ap₂ (from paths key) value (tried.marks_are key.place h.within ∙ trials-exact dp k cells words old paths 0 nodes row low)
 
-  nodes-are : (paths : ℕ → List ℕ) (any : List DdArc) (ks : List Key) → Each (IsKeyOf ways) ks
-      → shown_below paths (map (node_view words rows any) (map (node_of ways marks) ks)) ≡ map (node_for dp k (layer_of paths)) (all_of paths rows words ways ks)
-  nodes-are paths any [] h = refl
-  nodes-are paths any (key ∷ ks) h = ap₂ (λ a l. a ∷ l) (node-is paths key h.0) (nodes-are paths any ks h.1)
+  pub keys-shown : (paths : ℕ → List ℕ) (any : List DdArc) (ks : List Key) → Each (IsKeyOf ways) ks
+      → shown_below paths (map (node_view words rows any) (map (node_of ways marks) ks)) ≡ map (node_for dp k (layer_in paths)) (all_of paths rows words ways ks)
+  keys-shown paths any [] h = refl
+  keys-shown paths any (key ∷ ks) h = ap₂ (λ a l. a ∷ l) (node-is paths key h.0) (keys-shown paths any ks h.1)
+
+module _ (dp : Dp) (k : ℕ) (rows : List ℤ) (words : ℕ) (ways : List Way) (marks : List Bool) where
+  pub keys-ranked : AreDistinct dp (k + 1) rows words ways → (any : List DdArc) (ks : List Key) → Each (IsKeyOf ways) ks → Each (IsRanked dp (k + 1)) (map (node_view words rows any) (map (node_of ways marks) ks))
+  keys-ranked distinct any [] h = tt
+  keys-ranked distinct any (key ∷ ks) h =
+      let way = distinct.good key.place h.0.within in
+      (record { state = way.state; rank = ap (λ (x : Key). x.rank) h.0.is ∙ way.rank }, keys-ranked distinct any ks h.1)
+
+  pub keys-unmerged : (any : List DdArc) (ks : List Key) → Each (λ (n : NodeView). IsSome n.parent) (map (node_view words rows any) (map (node_of ways marks) ks))
+  keys-unmerged any [] = tt
+  keys-unmerged any (key ∷ ks) = (refl, keys-unmerged any ks)
+
+  pub keys-stored : (room : ℕ) (any : List DdArc) (ks : List Key) → length ways ≤ room → Each (IsKeyOf ways) ks → Each (IsStored room any) (map (node_of ways marks) ks)
+  keys-stored room any [] few h = tt
+  keys-stored room any (key ∷ ks) few h =
+      let less = h.0.within in
+      (record { row = omega arith; fresh = λ _. omega arith; arcs_lie = omega arith }, keys-stored room any ks few h.1)
+
+-- The whole.
+
+module _ (dp : Dp) (k : ℕ) (low : k < dp.vars) (cells : List ℤ) (words : ℕ) (old : List DdArc) (nodes : List Node) (rows : List ℤ) (ways : List Way)
+    (marks : List Bool) (arcs led_arcs : List DdArc) (nodes2 below : List Node)
+    (distinct : AreDistinct dp (k + 1) rows words ways)
+    (list : (paths : ℕ → List ℕ) → all_reached paths rows words ways ≡ all_joined [] (candidates dp k (members_as paths cells words (members_from 0 nodes))))
+    (tried : AreTried dp k rows words (length ways) (trials_of dp k cells words nodes) marks arcs)
+    (spans : nodes2 ≡ all_spanned dp k cells words 0 nodes)
+    (arranged : AreArranged rows words ways marks arcs led_arcs below) where
+  abbrev keys : List Key
+  keys = arranged.keys
+
+  abbrev layer_of : (ℕ → List ℕ) → List DdNode
+  layer_of paths = shown_layer paths (map (node_view words cells old) nodes)
+
+  layer-keys : Each (IsKeyOf ways) keys
+  layer-keys = keys-are dp (k + 1) rows words ways keys distinct.apart distinct.good arranged.all arranged.sorted
+
+  order-is : (paths : ℕ → List ℕ) → all_of paths rows words ways keys ≡ expanded dp k (map prefix_at (layer_of paths))
+  order-is paths =
+      in-order dp (k + 1) rows words ways keys distinct.apart distinct.good arranged.all arranged.sorted paths
+      ∙ ap (in_order dp (k + 1)) (list paths ∙ ap (λ l. all_joined [] (candidates dp k l)) (members-shown cells words old paths 0 nodes))
 
   pub next-shown : (paths : ℕ → List ℕ) (any : List DdArc) → shown_below paths (map (node_view words rows any) below) ≡ new_layer dp k (layer_of paths)
-  next-shown paths any = ap (λ l. shown_below paths (map (node_view words rows any) l)) arranged.nodes_are ∙ (nodes-are paths any keys layer-keys ∙ ap (map (node_for dp k (layer_of paths))) (order-is paths))
-
-  rows-of : (paths : ℕ → List ℕ) (ks : List Key) → map (λ (n : DdNode). n.row) (map (node_for dp k (layer_of paths)) (all_of paths rows words ways ks)) ≡ map (λ (key : Key). row_at rows words key.place) ks
-  rows-of paths [] = refl
-  rows-of paths (key ∷ ks) = ap (λ l. row_at rows words key.place ∷ l) (rows-of paths ks)
+  next-shown paths any = ap (λ l. shown_below paths (map (node_view words rows any) l)) arranged.nodes_are ∙ (keys-shown dp k low cells words old nodes rows ways marks arcs tried paths any keys layer-keys ∙ ap (map (node_for dp k (layer_of paths))) (order-is paths))
 
   next-rows : (paths : ℕ → List ℕ) → map (λ (n : DdNode). n.row) (new_layer dp k (layer_of paths)) ≡ map (λ (key : Key). row_at rows words key.place) keys
-  next-rows paths = ap (λ l. map (λ (n : DdNode). n.row) (map (node_for dp k (layer_of paths)) l)) (sym (order-is paths)) ∙ rows-of paths keys
+  next-rows paths = ap (λ l. map (λ (n : DdNode). n.row) (map (node_for dp k (layer_of paths)) l)) (sym (order-is paths)) ∙ rows-of dp k rows words ways (layer_of paths) paths keys
 
   all-numbered : (p : ℕ) → p < length ways → IsNumbered (length keys) keys arranged.places p
   all-numbered p less =
@@ -244,7 +279,8 @@ module _ (dp : Dp) (k : ℕ) (low : k < dp.vars) (cells : List ℤ) (words : ℕ
   pub above-shown : (paths : ℕ → List ℕ) → shown_layer paths (map (node_view words cells led_arcs) nodes2) ≡ with_arcs dp k (new_layer dp k (layer_of paths)) (layer_of paths)
   above-shown paths =
       ap₂ (λ l m. shown_layer paths (map (node_view words cells l) m)) arranged.arcs_are spans
-      ∙ above-from dp k rows words (length ways) (new_layer dp k (layer_of paths)) keys arranged.places (new-apart dp k (layer_of paths)) (next-rows paths) all-numbered
+      ∙ above-from dp k rows words (length ways) (led arranged.places) (arc_of dp k (new_layer dp k (layer_of paths)))
+      (arc-led dp k rows words (length ways) (new_layer dp k (layer_of paths)) keys arranged.places (new-apart dp k (layer_of paths)) (next-rows paths) all-numbered)
       cells old low paths 0 nodes 0 [] arcs refl tried.arcs_are
 
   pub above-rest : map without_arcs (map (node_view words cells led_arcs) nodes2) ≡ map without_arcs (map (node_view words cells old) nodes)
@@ -262,51 +298,35 @@ module _ (dp : Dp) (k : ℕ) (low : k < dp.vars) (cells : List ℤ) (words : ℕ
   pub above-length : length nodes2 ≡ length nodes
   above-length = ap length spans ∙ length-spanned dp k cells words 0 nodes
 
-  ranked-all : (any : List DdArc) (ks : List Key) → Each (IsKeyOf ways) ks → Each (IsRanked dp (k + 1)) (map (node_view words rows any) (map (node_of ways marks) ks))
-  ranked-all any [] h = tt
-  ranked-all any (key ∷ ks) h =
-      let way = joined.good key.place h.0.within in
-      (record { state = way.state; rank = ap (λ (x : Key). x.rank) h.0.is ∙ way.rank }, ranked-all any ks h.1)
-
   pub next-ranked : (any : List DdArc) → Each (IsRanked dp (k + 1)) (map (node_view words rows any) below)
-  next-ranked any = subst (λ l. Each (IsRanked dp (k + 1)) (map (node_view words rows any) l)) (sym arranged.nodes_are) (ranked-all any keys layer-keys)
-
-  unmerged-all : (any : List DdArc) (ks : List Key) → Each (λ (n : NodeView). IsSome n.parent) (map (node_view words rows any) (map (node_of ways marks) ks))
-  unmerged-all any [] = tt
-  unmerged-all any (key ∷ ks) = (refl, unmerged-all any ks)
+  next-ranked any = subst (λ l. Each (IsRanked dp (k + 1)) (map (node_view words rows any) l)) (sym arranged.nodes_are) (keys-ranked dp k rows words ways marks distinct any keys layer-keys)
 
   pub next-unmerged : (any : List DdArc) → Each (λ (n : NodeView). IsSome n.parent) (map (node_view words rows any) below)
-  next-unmerged any = subst (λ l. Each (λ (n : NodeView). IsSome n.parent) (map (node_view words rows any) l)) (sym arranged.nodes_are) (unmerged-all any keys)
+  next-unmerged any = subst (λ l. Each (λ (n : NodeView). IsSome n.parent) (map (node_view words rows any) l)) (sym arranged.nodes_are) (keys-unmerged dp k rows words ways marks any keys)
 
   pub next-length : length below ≡ length ways
   next-length = ap length arranged.nodes_are ∙ (length-map keys (node_of ways marks) ∙ length-keys ways keys arranged.all)
 
-  stored-all : (room : ℕ) (any : List DdArc) (ks : List Key) → length ways ≤ room → Each (IsKeyOf ways) ks → Each (IsStored room any) (map (node_of ways marks) ks)
-  stored-all room any [] few h = tt
-  stored-all room any (key ∷ ks) few h =
-      let less = h.0.within in
-      (record { row = omega arith; fresh = λ _. omega arith; arcs_lie = omega arith }, stored-all room any ks few h.1)
-
   pub next-stored : (room : ℕ) (any : List DdArc) → length ways ≤ room → Each (IsStored room any) below
-  next-stored room any few = subst (Each (IsStored room any)) (sym arranged.nodes_are) (stored-all room any keys few layer-keys)
+  next-stored room any few = subst (Each (IsStored room any)) (sym arranged.nodes_are) (keys-stored dp k rows words ways marks room any keys few layer-keys)
 
 -- the extended layer is put in order
-pub whole : (dp : Dp) (k : ℕ) → k < dp.vars → (cells : List ℤ) (words : ℕ) (nodes : List Node) (rows : List ℤ) (ways : List Way) (folds heads next : List ℕ)
-    (marks : List Bool) (arcs led_arcs : List DdArc) (nodes2 below : List Node) → AreJoined dp (k + 1) rows words ways folds heads next
+pub whole : (dp : Dp) (k : ℕ) → k < dp.vars → (cells : List ℤ) (words : ℕ) (nodes : List Node) (rows : List ℤ) (ways : List Way)
+    (marks : List Bool) (arcs led_arcs : List DdArc) (nodes2 below : List Node) → AreDistinct dp (k + 1) rows words ways
     → ((paths : ℕ → List ℕ) → all_reached paths rows words ways ≡ all_joined [] (candidates dp k (members_as paths cells words (members_from 0 nodes))))
     → AreTried dp k rows words (length ways) (trials_of dp k cells words nodes) marks arcs → nodes2 ≡ all_spanned dp k cells words 0 nodes → length ways ≤ length nodes * dp.choices k
-    → length arcs ≤ length nodes * dp.choices k → AreArranged rows words ways marks arcs led_arcs below → IsExpanded dp k words cells nodes nodes2 led_arcs rows below
-whole dp k low cells words nodes rows ways folds heads next marks arcs led_arcs nodes2 below joined list tried spans few few_arcs arranged = record {
-  above_is = λ before paths. above-shown dp k low cells words before nodes rows ways folds heads next marks arcs led_arcs nodes2 below joined list tried spans arranged paths;
-  next_is = λ before any paths. next-shown dp k low cells words before nodes rows ways folds heads next marks arcs led_arcs nodes2 below joined list tried spans arranged paths any;
-  rest = λ before. above-rest dp k low cells words before nodes rows ways folds heads next marks arcs led_arcs nodes2 below joined list tried spans arranged;
-  ranked = λ any. next-ranked dp k low cells words any nodes rows ways folds heads next marks arcs led_arcs nodes2 below joined list tried spans arranged any;
-  unmerged = λ any. next-unmerged dp k low cells words any nodes rows ways folds heads next marks arcs led_arcs nodes2 below joined list tried spans arranged any;
-  stored = λ before room h. above-stored dp k low cells words before nodes rows ways folds heads next marks arcs led_arcs nodes2 below joined list tried spans arranged room h;
-  below_stored = λ any room fits. next-stored dp k low cells words any nodes rows ways folds heads next marks arcs led_arcs nodes2 below joined list tried spans arranged room any (omega arith);
-  same = above-length dp k low cells words arcs nodes rows ways folds heads next marks arcs led_arcs nodes2 below joined list tried spans arranged;
-  few = (let size = next-length dp k low cells words arcs nodes rows ways folds heads next marks arcs led_arcs nodes2 below joined list tried spans arranged in omega arith);
-  few_arcs = (let size = length-led dp k low cells words arcs nodes rows ways folds heads next marks arcs led_arcs nodes2 below joined list tried spans arranged in omega arith);
+    → length arcs ≤ length nodes * dp.choices k → AreArranged rows words ways marks arcs led_arcs below → IsExpanded (expand dp k) dp k words cells nodes nodes2 led_arcs rows below
+whole dp k low cells words nodes rows ways marks arcs led_arcs nodes2 below distinct list tried spans few few_arcs arranged = record {
+  above_is = λ before paths. above-shown dp k low cells words before nodes rows ways marks arcs led_arcs nodes2 below distinct list tried spans arranged paths;
+  next_is = λ before any paths. next-shown dp k low cells words before nodes rows ways marks arcs led_arcs nodes2 below distinct list tried spans arranged paths any;
+  rest = λ before. above-rest dp k low cells words before nodes rows ways marks arcs led_arcs nodes2 below distinct list tried spans arranged;
+  ranked = λ any. next-ranked dp k low cells words any nodes rows ways marks arcs led_arcs nodes2 below distinct list tried spans arranged any;
+  unmerged = λ any. next-unmerged dp k low cells words any nodes rows ways marks arcs led_arcs nodes2 below distinct list tried spans arranged any;
+  stored = λ before room h. above-stored dp k low cells words before nodes rows ways marks arcs led_arcs nodes2 below distinct list tried spans arranged room h;
+  below_stored = λ any room fits. next-stored dp k low cells words any nodes rows ways marks arcs led_arcs nodes2 below distinct list tried spans arranged room any (omega arith);
+  same = above-length dp k low cells words arcs nodes rows ways marks arcs led_arcs nodes2 below distinct list tried spans arranged;
+  few = (let size = next-length dp k low cells words arcs nodes rows ways marks arcs led_arcs nodes2 below distinct list tried spans arranged in omega arith);
+  few_arcs = (let size = length-led dp k low cells words arcs nodes rows ways marks arcs led_arcs nodes2 below distinct list tried spans arranged in omega arith);
 }
 
 -- the same by equal parts
@@ -319,10 +339,10 @@ arranged-by words words2 rows rows2 ways ways2 marks marks2 old old2 new nodes h
     (subst (λ x. AreArranged rows words ways x old2 new nodes) d
     (subst (λ x. AreArranged rows words ways marks x new nodes) e h))))
 
-pub expanded-by : (dp : Dp) (k words : ℕ) (cells cells2 : List ℤ) (old old2 new : List Node) (arcs : List DdArc) (rows : List ℤ) (below : List Node)
-    → IsExpanded dp k words cells old new arcs rows below → cells ≡ cells2 → old ≡ old2 → IsExpanded dp k words cells2 old2 new arcs rows below
-expanded-by dp k words cells cells2 old old2 new arcs rows below h a b =
-    subst (λ x. IsExpanded dp k words x old2 new arcs rows below) a (subst (λ x. IsExpanded dp k words cells x new arcs rows below) b h)
+pub expanded-by : (rule : List DdNode → TwoLayers) (dp : Dp) (k words : ℕ) (cells cells2 : List ℤ) (old old2 new : List Node) (arcs : List DdArc) (rows : List ℤ) (below : List Node)
+    → IsExpanded rule dp k words cells old new arcs rows below → cells ≡ cells2 → old ≡ old2 → IsExpanded rule dp k words cells2 old2 new arcs rows below
+expanded-by rule dp k words cells cells2 old old2 new arcs rows below h a b =
+    subst (λ x. IsExpanded rule dp k words x old2 new arcs rows below) a (subst (λ x. IsExpanded rule dp k words cells x new arcs rows below) b h)
 
 pub each-by : (dp : Dp) (k words : ℕ) (cells cells2 : List ℤ) (nodes nodes2 : List Node) → cells ≡ cells2 → nodes ≡ nodes2
     → Each (IsMemberOf dp k cells words) (members_from 0 nodes) → Each (IsMemberOf dp k cells2 words) (members_from 0 nodes2)

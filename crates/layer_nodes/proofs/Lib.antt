@@ -7,6 +7,8 @@ pub mod Stored
 pub mod Shown
 pub mod Leaders
 pub mod Pruned
+pub mod Sifted
+pub mod SiftedLayers
 pub mod Kept
 pub mod Merged
 pub mod MergedLayers

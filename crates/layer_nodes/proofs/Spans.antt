@@ -2,6 +2,7 @@
 use Rattle.std.proofs.Common.{◌≡◌, ℕ, zero, suc, ◌+◌, ◌<◌, ◌≤◌, ℤ, Bool, List, [], ◌∷◌, ◌++◌, length, take, drop, set, get_or, append_assoc, append-nil, length-append, refl, sym, ap, ap₂, subst, ◌∙◌, arith}
 use Rattle.std.proofs.lemmas.List.{take_more, drop_more, set_at, take_all, drop_all, length-take-le}
 use Rattle.std.proofs.Math.Seq.{get_or-append_seam}
+use Rattle.dp_model.specs.Decisions.{below}
 use Rattle.dp_model.specs.Dp.{Dp}
 use Rattle.dp_model.specs.Lists.{Each}
 use Rattle.layer_candidates.specs.declared.member.Member.{Member}
@@ -91,22 +92,22 @@ module _ (dp : Dp) (k : ℕ) (cells : List ℤ) (words : ℕ) where
         ∙ (sym (append_assoc S (x ∷ []) (drop (i + 1) nodes)) ∙ ap (λ l. l ++ drop (i + 1) nodes) (sym more))))
 
     -- the ways of one node more
-    pub extended-next : (s rows rows2 : List ℤ) (ways ways2 : List Way) (folds heads next folds2 heads2 next2 : List ℕ)
-        → AreExtended dp k i cells words (members_from 0 nodes) rows ways folds heads next → s ≡ row_at cells words (node_in now i).row
-        → HasExtended dp k i s (node_in now i).value (dp.choices k) words rows ways rows2 ways2 folds2 heads2 next2
-        → AreExtended dp k (i + 1) cells words (members_from 0 nodes) rows2 ways2 folds2 heads2 next2
-    extended-next s rows rows2 ways ways2 folds heads next folds2 heads2 next2 h row e =
-        members-more dp k i cells words (members_from 0 nodes) _ s rows rows2 ways ways2 folds heads next folds2 heads2 next2 h
+    pub extended-next : (live : ℕ) (s rows rows2 : List ℤ) (ways ways2 : List Way) (folds heads next folds2 heads2 next2 : List ℕ)
+        → AreExtended dp k i cells words live (members_from 0 nodes) rows ways folds heads next → s ≡ row_at cells words (node_in now i).row
+        → HasExtended dp k i s (node_in now i).value (below (dp.choices k)) words live rows ways rows2 ways2 folds2 heads2 next2
+        → AreExtended dp k (i + 1) cells words live (members_from 0 nodes) rows2 ways2 folds2 heads2 next2
+    extended-next live s rows rows2 ways ways2 folds heads next folds2 heads2 next2 h row e =
+        members-more dp k i cells words live (members_from 0 nodes) _ s rows rows2 ways ways2 folds heads next folds2 heads2 next2 h
         (let e = length-members 0 nodes in omega arith) (row ∙ ap (λ (m : Member). row_at cells words m.row) (sym member-next))
-        (subst (λ (m : Member). HasExtended dp k m.step s m.value (dp.choices k) words rows ways rows2 ways2 folds2 heads2 next2) (sym member-next) e)
+        (subst (λ (m : Member). HasExtended dp k m.step s m.value (below (dp.choices k)) words live rows ways rows2 ways2 folds2 heads2 next2) (sym member-next) e)
 
     -- its trials
     pub tried-next : (s rows : List ℤ) (count : ℕ) (marks : List Bool) (arcs : List DdArc) → s ≡ row_at cells words (node_in now i).row
-        → AreTried dp k rows words count (trials_of dp k cells words (take i nodes) ++ trials_by dp k s (node_in now i).exact (dp.choices k)) marks arcs
+        → AreTried dp k rows words count (trials_of dp k cells words (take i nodes) ++ trials_by dp k s (node_in now i).exact (below (dp.choices k))) marks arcs
         → AreTried dp k rows words count (trials_of dp k cells words (take (i + 1) nodes)) marks arcs
     tried-next s rows count marks arcs row h =
         subst (λ ts. AreTried dp k rows words count ts marks arcs)
-        (ap (λ r. trials_of dp k cells words (take i nodes) ++ trials_by dp k r (node_in now i).exact (dp.choices k)) row
+        (ap (λ r. trials_of dp k cells words (take i nodes) ++ trials_by dp k r (node_in now i).exact (below (dp.choices k))) row
         ∙ (ap (λ n. trials_of dp k cells words (take i nodes) ++ trials_at dp k cells words n) node-next ∙ sym (trials-next nodes i less))) h
 
   pub spanned-all : (nodes now : List Node) (i : ℕ) → length nodes ≤ i → now ≡ all_spanned dp k cells words 0 (take i nodes) ++ drop i nodes → now ≡ all_spanned dp k cells words 0 nodes

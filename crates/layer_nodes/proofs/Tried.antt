@@ -1,15 +1,16 @@
 -- One trial more.
-use Rattle.std.proofs.Common.{◌≡◌, ◌≢◌, ℕ, ◌+◌, ◌<◌, ◌≤◌, nat_eq, ℤ, Bool, true, false, not, ◌&&◌, ◌||◌, List, [], ◌∷◌, ◌++◌, length, map, ◌⊎◌, inl, inr, refl, sym, ap, ap₂, subst, ◌∙◌, arith}
+use Rattle.std.proofs.Common.{◌≡◌, ◌≢◌, ℕ, ◌+◌, ◌<◌, ◌≤◌, nat_eq, ℤ, Bool, true, false, not, cond, add-one, ◌&&◌, ◌||◌, List, [], ◌∷◌, ◌++◌, length, map, ◌⊎◌, inl, inr, refl, sym, ap, ap₂, subst, ◌∙◌, arith}
 use Rattle.std.proofs.lemmas.Bool.Decides.{nat_tests}
 use Rattle.std.proofs.lemmas.List.{map-append, get_or-set_same, get_or-set_other}
+use Rattle.std.proofs.lemmas.List.Elements.{filter-append}
+use Rattle.dp_model.specs.Decisions.{below}
 use Rattle.dp_model.specs.Dp.{Dp}
 use Rattle.dp_model.specs.Rows.{row_same}
 use Rattle.dp_laws.specs.declared.arc.DdArc.{DdArc}
-use Rattle.layer_candidates.specs.Extending.{allowed_below}
+use Rattle.layer_candidates.specs.Extending.{all_allowed}
 use Rattle.layer_candidates.specs.Rows.{row_at}
 use Rattle.layer_candidates.specs.Table.{IsPlaced}
 use Rattle.layer_candidates.specs.Ways.{AreApart}
-use Rattle.layer_candidates.proofs.Extended.{allowed-more, refused-more}
 use Rattle.layer_candidates.proofs.Joined.{same_rows, other_rows}
 use Rattle.layer_nodes.specs.Expanding.{Trial, trial, made_by, trials_by, arc_to, AreArcsOf, all_exact, mark_at, marked, AreTried}
 
@@ -150,13 +151,19 @@ module _ (dp : Dp) (k : ℕ) (rows rows2 : List ℤ) (words count count2 : ℕ) 
           (get_or-set_same marks place value _ room ∙ here)
       go i less (inr n) = get_or-set_other marks place i value _ n ∙ there i less n
 
--- One decision more.
+-- Decisions.
 
-pub trials-more : (dp : Dp) (k : ℕ) (s : List ℤ) (exact : Bool) (n : ℕ) → dp.allowed k s n ≡ true → trials_by dp k s exact (n + 1) ≡ trials_by dp k s exact n ++ trial s exact n ∷ []
-trials-more dp k s exact n e = ap (map (trial s exact)) (allowed-more dp k s n e) ∙ map-append (trial s exact) (allowed_below dp k s n) (n ∷ [])
+module _ (dp : Dp) (k : ℕ) (s : List ℤ) (exact : Bool) where
+  pub trials-one : (d : ℕ) → dp.allowed k s d ≡ true → trials_by dp k s exact (d ∷ []) ≡ trial s exact d ∷ []
+  trials-one d e = ap (λ b. map (trial s exact) (cond b (d ∷ []) [])) e
 
-pub trials-same : (dp : Dp) (k : ℕ) (s : List ℤ) (exact : Bool) (n : ℕ) → dp.allowed k s n ≡ false → trials_by dp k s exact (n + 1) ≡ trials_by dp k s exact n
-trials-same dp k s exact n e = ap (map (trial s exact)) (refused-more dp k s n e)
+  pub trials-none : (d : ℕ) → dp.allowed k s d ≡ false → trials_by dp k s exact (d ∷ []) ≡ []
+  trials-none d e = ap (λ b. map (trial s exact) (cond b (d ∷ []) [])) e
+
+  pub trials-next : (n : ℕ) → trials_by dp k s exact (below (n + 1)) ≡ trials_by dp k s exact (below n) ++ trials_by dp k s exact (n ∷ [])
+  trials-next n =
+      ap (λ l. trials_by dp k s exact l) (ap below (add-one n))
+      ∙ (ap (map (trial s exact)) (filter-append (dp.allowed k s) (below n) (n ∷ [])) ∙ map-append (trial s exact) (all_allowed dp k s (below n)) (all_allowed dp k s (n ∷ [])))
 
 -- the same by equal parts
 pub tried-by : (dp : Dp) (k words : ℕ) (rows rows2 : List ℤ) (count count2 : ℕ) (ts ts2 : List Trial) (marks marks2 : List Bool) (arcs arcs2 : List DdArc)

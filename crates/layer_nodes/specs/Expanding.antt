@@ -1,14 +1,16 @@
 -- A layer is expanded: what its nodes are tried by, and what comes of it.
 use Rattle.std.specs.Prelude.{◌≡◌, ℕ, ◌+◌, ◌*◌, ◌<◌, ◌≤◌, nat_eq, ℤ, pos, Bool, true, false, not, ◌&&◌, ◌||◌, List, [], ◌∷◌, ◌++◌, length, map, set, slice_index_or, slice_get, Some, None, option_and_then, IsSome, IsPermutation, IsSortedBy}
+use Rattle.dp_model.specs.Decisions.{below}
 use Rattle.dp_model.specs.Dp.{Dp}
 use Rattle.dp_model.specs.Lists.{Each}
 use Rattle.dp_model.specs.Rows.{row_same}
-use Rattle.dp_laws.specs.Rules.Compiling.{expand}
+use Rattle.dp_laws.specs.Rules.Compiling.{TwoLayers}
+use Rattle.dp_laws.specs.Diagrams.Nodes.{DdNode}
 use Rattle.dp_laws.specs.declared.arc.DdArc.{DdArc}
 use Rattle.layer_candidates.specs.declared.key.Key.{Key}
 use Rattle.layer_candidates.specs.declared.member.Member.{Member}
 use Rattle.layer_candidates.specs.declared.way.Way.{Way}
-use Rattle.layer_candidates.specs.Extending.{allowed_below}
+use Rattle.layer_candidates.specs.Extending.{all_allowed}
 use Rattle.layer_candidates.specs.KeyOrder.{keys_of, goes_before}
 use Rattle.layer_candidates.specs.Rows.{row_at}
 use Rattle.layer_candidates.specs.Ways.{way_at}
@@ -44,13 +46,13 @@ trial s exact d = record { state = s; exact = exact; decision = d }
 abbrev pub made_by : Dp → ℕ → Trial → List ℤ
 made_by dp k t = dp.step k t.state t.decision
 
--- the trials by the allowed decisions below n
-abbrev pub trials_by : Dp → ℕ → List ℤ → Bool → ℕ → List Trial
-trials_by dp k s exact n = map (trial s exact) (allowed_below dp k s n)
+-- the trials by those of the decisions that are allowed
+abbrev pub trials_by : Dp → ℕ → List ℤ → Bool → List ℕ → List Trial
+trials_by dp k s exact decisions = map (trial s exact) (all_allowed dp k s decisions)
 
 -- those of a node whose row lies in the cells
 abbrev pub trials_at : Dp → ℕ → List ℤ → ℕ → Node → List Trial
-trials_at dp k cells words node = trials_by dp k (row_at cells words node.row) node.exact (dp.choices k)
+trials_at dp k cells words node = trials_by dp k (row_at cells words node.row) node.exact (below (dp.choices k))
 
 -- those of some nodes
 abbrev pub trials_of : Dp → ℕ → List ℤ → ℕ → List Node → List Trial
@@ -143,13 +145,13 @@ pub record AreArranged (rows : List ℤ) (words : ℕ) (ways : List Way) (marks 
   pub arcs_are : new ≡ map (led places) old
   pub nodes_are : nodes ≡ map (node_of ways marks) keys
 
--- the nodes of the layer at depth k are extended, and those below are the next layer, whatever the paths are, and whatever arcs
--- there were before; the rows of the nodes below lie in `rows`
-pub record IsExpanded (dp : Dp) (k words : ℕ) (cells : List ℤ) (old new : List Node) (arcs : List DdArc) (rows : List ℤ) (below : List Node) : Type 0 where
+-- the nodes of the layer at depth k are extended by the rule, and those below are the next layer, whatever the paths are, and
+-- whatever arcs there were before; the rows of the nodes below lie in `rows`
+pub record IsExpanded (rule : List DdNode → TwoLayers) (dp : Dp) (k words : ℕ) (cells : List ℤ) (old new : List Node) (arcs : List DdArc) (rows : List ℤ) (below : List Node) : Type 0 where
   pub above_is : (before : List DdArc) (paths : ℕ → List ℕ) → shown_layer paths (map (node_view words cells arcs) new)
-      ≡ (expand dp k (shown_layer paths (map (node_view words cells before) old))).above
+      ≡ (rule (shown_layer paths (map (node_view words cells before) old))).above
   pub next_is : (before any : List DdArc) (paths : ℕ → List ℕ) → shown_below paths (map (node_view words rows any) below)
-      ≡ (expand dp k (shown_layer paths (map (node_view words cells before) old))).next
+      ≡ (rule (shown_layer paths (map (node_view words cells before) old))).next
   pub rest : (before : List DdArc) → map without_arcs (map (node_view words cells arcs) new) ≡ map without_arcs (map (node_view words cells before) old)
   pub ranked : (any : List DdArc) → Each (IsRanked dp (k + 1)) (map (node_view words rows any) below)
   pub unmerged : (any : List DdArc) → Each (λ (n : NodeView). IsSome n.parent) (map (node_view words rows any) below)

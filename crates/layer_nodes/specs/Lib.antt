@@ -5,5 +5,6 @@ pub mod Expanding
 pub mod Redirecting
 pub mod Leading
 pub mod Striking
+pub mod Sifting
 pub mod Keeping
 pub mod Merging

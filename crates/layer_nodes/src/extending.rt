@@ -1,18 +1,18 @@
 //! The nodes of a layer are extended by each allowed decision: the ways to the next layer, their marks, and the arcs to them.
 
 ghost use Rattle.std.specs.Prelude.{◌≡◌, ℕ, ◌+◌, ◌*◌, ◌^◌, ◌<◌, ◌≤◌, [], ◌∷◌, ◌++◌, List, length, vec_capacity, IsTrue};
-ghost use Rattle.dp_model.specs.Dp.{IsAllowed};
+ghost use Rattle.dp_model.specs.Decisions.{below};
 ghost use Rattle.dp_model.specs.Lists.{Each};
-ghost use Rattle.dp_laws.specs.Restricted.Extensions.{extended, candidates, joined, all_joined};
-ghost use Rattle.layer_candidates.specs.Ways.{all_reached, IsNear, AreJoined};
+ghost use Rattle.dp_laws.specs.Restricted.Extensions.{candidates, all_joined};
+ghost use Rattle.layer_candidates.specs.Ways.{all_reached, IsNear, AllHaveZeros, AreJoined, AreDistinct};
 ghost use Rattle.layer_candidates.specs.Members.{members_as, IsMemberOf};
-ghost use Rattle.layer_candidates.specs.Extending.{HasRoom, parent_as, HasExtended};
-ghost use Rattle.layer_nodes.specs.Expanding.{member_of, members_from, Trial, trial, trials_by, trials_of, spanned, all_spanned, marked, AreTried};
+ghost use Rattle.layer_candidates.specs.Extending.{HasRoom, HasExtended};
+ghost use Rattle.layer_nodes.specs.Expanding.{member_of, members_from, Trial, trials_by, trials_of, spanned, all_spanned, marked, AreTried};
 
 use crate::node::Node;
 use dp_laws::DdArc;
 use dp_model::DpModel;
-use layer_candidates::{Member, Way, extend_by, reset, row};
+use layer_candidates::{Member, Way, extend_by, reset, row, slots_for};
 
 /// Marks the row at the place, which is a new one where the place is `count`: it is exact while each way to it is.
 fn mark(marks: &mut [bool], count: usize, place: usize, exact: bool)
@@ -22,7 +22,7 @@ fn mark(marks: &mut [bool], count: usize, place: usize, exact: bool)
     marks[place] = exact && (place == count || marks[place]);
 }
 
-/// Tries a node by an allowed decision: its way is taken in, its row marked, and its arc put behind the others.
+/// Tries a node by a decision: where it is allowed, its way is taken in, its row marked, and its arc put behind the others.
 fn try_by<M: DpModel>(
     model: &M,
     k: usize,
@@ -30,53 +30,7 @@ fn try_by<M: DpModel>(
     exact: bool,
     s: &[i64],
     decision: u32,
-    rows: &mut [i64],
-    ways: &mut Vec<Way>,
-    folds: &mut [u64],
-    heads: &mut [u32],
-    next: &mut [u32],
-    marks: &mut [bool],
-    arcs: &mut Vec<DdArc>,
-)
-    requires state { IsTrue ((M.meaning (M.numbers model.now)).is_state k s.now) }
-    requires cells { length s.now ≡ (M.meaning (M.numbers model.now)).words }
-    requires value { IsNear parent.value }
-    requires rank { parent.rank ≡ (M.meaning (M.numbers model.now)).rank k s.now }
-    requires allowed { IsAllowed (M.meaning (M.numbers model.now)) k s.now decision }
-    requires joined { AreJoined (M.meaning (M.numbers model.now)) (k + 1) rows.old (length s.now) ways.old.items folds.old heads.old next.old }
-    requires room { HasRoom (length s.now) (length ways.old.items + 1) rows.old (vec_capacity ways.old) folds.old next.old }
-    requires marks_room { length ways.old.items < length marks.old }
-    requires arcs_room { length arcs.old.items < vec_capacity arcs.old }
-    ensures joined { AreJoined (M.meaning (M.numbers model.now)) (k + 1) rows.new (length s.now) ways.new.items folds.new heads.new next.new }
-    ensures list { (paths : ℕ → List ℕ) → all_reached paths rows.new (length s.now) ways.new.items ≡ joined (all_reached paths rows.old (length s.now) ways.old.items) (extended (M.meaning (M.numbers model.now)) k (parent_as paths parent.step s.now parent.value) decision) }
-    ensures tried { (ts : List Trial) → AreTried (M.meaning (M.numbers model.now)) k rows.old (length s.now) (length ways.old.items) ts marks.old arcs.old.items
-        → AreTried (M.meaning (M.numbers model.now)) k rows.new (length s.now) (length ways.new.items) (ts ++ trial s.now exact decision ∷ []) marks.new arcs.new.items }
-    ensures few { length ways.new.items ≤ length ways.old.items + 1 }
-    ensures size { length rows.new ≡ length rows.old }
-    ensures capacity { vec_capacity ways.new ≡ vec_capacity ways.old }
-    ensures arcs_len { length arcs.new.items ≡ length arcs.old.items + 1 }
-    ensures arcs_capacity { vec_capacity arcs.new ≡ vec_capacity arcs.old }
-{
-    let count = ways.len();
-    let taken = extend_by(
-        model, k, parent, s, decision, rows, ways, folds, heads, next,
-    );
-    mark(marks, count, taken.place, exact);
-    arcs.push_reserved(DdArc {
-        decision,
-        target: Some(taken.place as u32),
-        gain: taken.gain,
-        longer: 0,
-    });
-}
-
-/// Tries a node by all allowed decisions, the lesser first.
-fn try_node<M: DpModel>(
-    model: &M,
-    k: usize,
-    parent: Member,
-    exact: bool,
-    s: &[i64],
+    live: usize,
     rows: &mut [i64],
     ways: &mut Vec<Way>,
     folds: &mut [u64],
@@ -90,23 +44,73 @@ fn try_node<M: DpModel>(
     requires cells { length s.now ≡ (M.meaning (M.numbers model.now)).words }
     requires value { IsNear parent.value }
     requires rank { parent.rank ≡ (M.meaning (M.numbers model.now)).rank k s.now }
-    requires joined { AreJoined (M.meaning (M.numbers model.now)) (k + 1) rows.old (length s.now) ways.old.items folds.old heads.old next.old }
+    requires choice { decision < (M.meaning (M.numbers model.now)).choices k }
+    requires live { live ≤ length s.now }
+    requires zeros { AllHaveZeros (M.meaning (M.numbers model.now)) (k + 1) live }
+    requires joined { AreJoined (M.meaning (M.numbers model.now)) (k + 1) rows.old (length s.now) live ways.old.items folds.old heads.old next.old }
+    requires room { HasRoom (length s.now) (length ways.old.items + 1) rows.old (vec_capacity ways.old) folds.old next.old }
+    requires marks_room { length ways.old.items < length marks.old }
+    requires arcs_room { length arcs.old.items < vec_capacity arcs.old }
+    ensures extended { HasExtended (M.meaning (M.numbers model.now)) k parent.step s.now parent.value (decision ∷ []) (length s.now) live rows.old ways.old.items rows.new ways.new.items folds.new heads.new next.new }
+    ensures tried { (ts : List Trial) → AreTried (M.meaning (M.numbers model.now)) k rows.old (length s.now) (length ways.old.items) ts marks.old arcs.old.items
+        → AreTried (M.meaning (M.numbers model.now)) k rows.new (length s.now) (length ways.new.items) (ts ++ trials_by (M.meaning (M.numbers model.now)) k s.now exact (decision ∷ [])) marks.new arcs.new.items }
+    ensures capacity { vec_capacity ways.new ≡ vec_capacity ways.old }
+    ensures arcs_few { length arcs.new.items ≤ length arcs.old.items + 1 }
+    ensures arcs_capacity { vec_capacity arcs.new ≡ vec_capacity arcs.old }
+{
+    let count = ways.len();
+    let Some(taken) = extend_by(
+        model, k, parent, s, decision, live, rows, ways, folds, heads, next,
+    ) else {
+        return;
+    };
+    mark(marks, count, taken.place, exact);
+    arcs.push_reserved(DdArc {
+        decision,
+        target: Some(taken.place as u32),
+        gain: taken.gain,
+        longer: 0,
+    });
+}
+
+/// Tries a node by all decisions, the lesser first.
+fn try_node<M: DpModel>(
+    model: &M,
+    k: usize,
+    parent: Member,
+    exact: bool,
+    s: &[i64],
+    live: usize,
+    rows: &mut [i64],
+    ways: &mut Vec<Way>,
+    folds: &mut [u64],
+    heads: &mut [u32],
+    next: &mut [u32],
+    marks: &mut [bool],
+    arcs: &mut Vec<DdArc>,
+)
+    requires layer { k < (M.meaning (M.numbers model.now)).vars }
+    requires state { IsTrue ((M.meaning (M.numbers model.now)).is_state k s.now) }
+    requires cells { length s.now ≡ (M.meaning (M.numbers model.now)).words }
+    requires value { IsNear parent.value }
+    requires rank { parent.rank ≡ (M.meaning (M.numbers model.now)).rank k s.now }
+    requires live { live ≤ length s.now }
+    requires zeros { AllHaveZeros (M.meaning (M.numbers model.now)) (k + 1) live }
+    requires joined { AreJoined (M.meaning (M.numbers model.now)) (k + 1) rows.old (length s.now) live ways.old.items folds.old heads.old next.old }
     requires room { HasRoom (length s.now) (length ways.old.items + (M.meaning (M.numbers model.now)).choices k) rows.old (vec_capacity ways.old) folds.old next.old }
     requires marks_room { length ways.old.items + (M.meaning (M.numbers model.now)).choices k ≤ length marks.old }
     requires arcs_room { length arcs.old.items + (M.meaning (M.numbers model.now)).choices k ≤ vec_capacity arcs.old }
-    ensures extended { HasExtended (M.meaning (M.numbers model.now)) k parent.step s.now parent.value ((M.meaning (M.numbers model.now)).choices k) (length s.now) rows.old ways.old.items rows.new ways.new.items folds.new heads.new next.new }
+    ensures extended { HasExtended (M.meaning (M.numbers model.now)) k parent.step s.now parent.value (below ((M.meaning (M.numbers model.now)).choices k)) (length s.now) live rows.old ways.old.items rows.new ways.new.items folds.new heads.new next.new }
     ensures tried { (ts : List Trial) → AreTried (M.meaning (M.numbers model.now)) k rows.old (length s.now) (length ways.old.items) ts marks.old arcs.old.items
-        → AreTried (M.meaning (M.numbers model.now)) k rows.new (length s.now) (length ways.new.items) (ts ++ trials_by (M.meaning (M.numbers model.now)) k s.now exact ((M.meaning (M.numbers model.now)).choices k)) marks.new arcs.new.items }
+        → AreTried (M.meaning (M.numbers model.now)) k rows.new (length s.now) (length ways.new.items) (ts ++ trials_by (M.meaning (M.numbers model.now)) k s.now exact (below ((M.meaning (M.numbers model.now)).choices k))) marks.new arcs.new.items }
     ensures capacity { vec_capacity ways.new ≡ vec_capacity ways.old }
     ensures arcs_few { length arcs.new.items ≤ length arcs.old.items + (M.meaning (M.numbers model.now)).choices k }
     ensures arcs_capacity { vec_capacity arcs.new ≡ vec_capacity arcs.old }
 {
     'decisions: for decision in 0..model.choices(k) {
-        if model.allowed(k, s, decision) {
-            try_by(
-                model, k, parent, exact, s, decision, rows, ways, folds, heads, next, marks, arcs,
-            );
-        }
+        try_by(
+            model, k, parent, exact, s, decision, live, rows, ways, folds, heads, next, marks, arcs,
+        );
     }
 }
 
@@ -158,7 +162,7 @@ pub fn extend_layer<M: DpModel>(
     requires room { HasRoom words (length nodes.old * (M.meaning (M.numbers model.now)).choices k) rows.old (vec_capacity ways.old) folds.old next.old }
     requires marks_room { length nodes.old * (M.meaning (M.numbers model.now)).choices k ≤ length marks.old }
     requires arcs_room { length nodes.old * (M.meaning (M.numbers model.now)).choices k ≤ vec_capacity arcs.old }
-    ensures joined { AreJoined (M.meaning (M.numbers model.now)) (k + 1) rows.new words ways.new.items folds.new heads.new next.new }
+    ensures distinct { AreDistinct (M.meaning (M.numbers model.now)) (k + 1) rows.new words ways.new.items }
     ensures list { (paths : ℕ → List ℕ) → all_reached paths rows.new words ways.new.items ≡ all_joined [] (candidates (M.meaning (M.numbers model.now)) k (members_as paths cells.now words (members_from 0 nodes.old))) }
     ensures tried { AreTried (M.meaning (M.numbers model.now)) k rows.new words (length ways.new.items) (trials_of (M.meaning (M.numbers model.now)) k cells.now words nodes.old) marks.new arcs.new.items }
     ensures nodes { nodes.new ≡ all_spanned (M.meaning (M.numbers model.now)) k cells.now words 0 nodes.old }
@@ -167,6 +171,9 @@ pub fn extend_layer<M: DpModel>(
     ensures arcs_few { length arcs.new.items ≤ length nodes.old * (M.meaning (M.numbers model.now)).choices k }
     ensures arcs_capacity { vec_capacity arcs.new ≡ vec_capacity arcs.old }
 {
+    let live = model.first_live(k + 1);
+    let slots = slots_for(nodes.len() * model.choices(k) as usize, heads.len());
+    let heads = &mut heads[..slots];
     reset(heads);
     ways.clear();
     arcs.clear();
@@ -176,7 +183,7 @@ pub fn extend_layer<M: DpModel>(
         let s = row(cells, words, node.row as usize);
         let first = arcs.len();
         try_node(
-            model, k, parent, node.exact, s, rows, ways, folds, heads, next, marks, arcs,
+            model, k, parent, node.exact, s, live, rows, ways, folds, heads, next, marks, arcs,
         );
         span(&mut nodes[i], first, arcs.len());
     }

@@ -29,7 +29,7 @@ fn is_struck<M: DpModel>(
     requires node { IsNodeIn (M.meaning (M.numbers model.now)) k rows.now words node }
     ensures { result ≡ is_struck (M.meaning (M.numbers model.now)) k threshold (bare rows.now words node) }
 {
-    let rough = model.rough(k, row(rows, words, node.row as usize));
+    let rough = model.rough_by_rank(k, row(rows, words, node.row as usize), node.rank);
     is_struck_by(node.value, rough, threshold)
 }
 

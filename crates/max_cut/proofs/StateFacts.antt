@@ -5,7 +5,7 @@ use Rattle.std.proofs.lemmas.Bool.{and_parts, and_from}
 use Rattle.std.proofs.lemmas.Bool.Decides.{nat_tests}
 use Rattle.std.proofs.lemmas.List.{length-drop, length-replicate, take_at, take-append-drop}
 use Rattle.benefit_rows.specs.Benefits.{size_of, rank_of}
-use Rattle.benefit_rows.specs.BenefitLaws.{rank_of-positive, rank_of-drop, rank_of-append}
+use Rattle.benefit_rows.specs.BenefitLaws.{rank_of-positive, rank_of-drop, rank_of-append, rank_of-zeros}
 use Rattle.dp_model.specs.NumberLaws.{int_le-is}
 use Rattle.dp_model.specs.Gaps.{IsStateOf}
 use Rattle.max_cut.specs.declared.instance.MaxCut.{MaxCut}
@@ -13,7 +13,6 @@ use Rattle.max_cut.specs.Graph.{Graph, IsGraph, row_of, weights_from}
 use Rattle.max_cut.specs.GraphLaws.{length-row_of, rank_of-split, rank_of-most, rank_of-weights_from}
 use Rattle.max_cut.specs.Program.{zeros, pulls_of, grown_by, is_within, limits_of, words_of, stepped}
 use Rattle.benefit_rows.specs.Benefits.{sums_of}
-use Rattle.max_cut.specs.PullLaws.{rank_of-zeros}
 use Rattle.max_cut.specs.Shown.{instance_in, program_in}
 use Rattle.max_cut.specs.StateLaws.{length-state, rank_of-state, words_of-some}
 use Rattle.benefit_rows.proofs.Steps.{size_of-at}
@@ -144,4 +143,25 @@ step_facts m k s deep test =
       size = omega (arith, ints);
       rest = omega (arith, ints, rank_of-drop (k + 1) s);
       row = omega (arith, ints, rank_of-split g k, rank_of-weights_from g graph k, rank_of-positive (weights_from g (k + 1)));
+    }
+
+-- the rough bound, by the rank that is told
+pub record BoundFacts (g : Graph) (k : ℕ) (s : List ℤ) (rank size : ℤ) : Type 0 where
+  pub fits : FitsSigned w64 (to_z w64 (of_z w64 rank) +ℤ to_z w64 (of_z w64 size))
+  pub is : to_z w64 (of_z w64 (to_z w64 (of_z w64 rank) +ℤ to_z w64 (of_z w64 size))) ≡ rank_of (drop k s) +ℤ rank_of (weights_from g k)
+
+pub bound_facts : (m : MaxCut) (k : ℕ) (s : List ℤ) (rank size : ℤ) → IsStateOf (program_in m) k s → rank ≡ rank_of s → size ≡ rank_of (weights_from (instance_in m) k)
+    → BoundFacts (instance_in m) k s rank size
+bound_facts m k s rank size state rank_is size_is =
+    let g = instance_in m in
+    let own = state_facts m k s state in
+    let low = rank_of-positive (drop k s) in
+    let weights_low = rank_of-positive (weights_from g k) in
+    let all = own.all in
+    let read = read_rank rank (drop k s) (rank_is ∙ sym own.same) (omega (arith, ints)) in
+    let read_size = read_rank size (weights_from g k) size_is (omega (arith, ints)) in
+    let fits : FitsSigned w64 (rank_of (drop k s) +ℤ rank_of (weights_from g k)) = omega (arith, ints) in
+    record {
+      fits = rw (read, read_size) fits;
+      is = rw (read, read_size) (to_z-of_z w64 (rank_of (drop k s) +ℤ rank_of (weights_from g k)) fits);
     }

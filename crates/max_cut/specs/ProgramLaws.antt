@@ -6,7 +6,7 @@ use Rattle.std.proofs.lemmas.Bool.Decides.{nat_tests}
 use Rattle.std.proofs.lemmas.List.{length-drop, drop_more, drop_all}
 use Rattle.benefit_rows.specs.Benefits.{gain_of, gains_of, rank_of, gap_of, merged_of}
 use Rattle.benefit_rows.proofs.Steps.{size_of-at}
-use Rattle.benefit_rows.specs.BenefitLaws.{size_of-bounds, rank_of-positive, rank_of-drop, gain_of-positive, gain_of-most, gains_of-most, gap_of-self, gap_of-positive, gap_of-most, gap_of-chain, gap_of-bounds}
+use Rattle.benefit_rows.specs.BenefitLaws.{size_of-bounds, rank_of-positive, rank_of-drop, gain_of-positive, gain_of-most, gains_of-most, gap_of-self, gap_of-positive, gap_of-most, gap_of-chain, gap_of-bounds, rank_of-zeros}
 use Rattle.dp_model.specs.Gaps.{IsStateOf}
 use Rattle.dp_model.specs.Laws.{IsLawful, IsChained, StepsAreStates, GapsAreSound, RoughBounds, SizesHold}
 use Rattle.dp_model.specs.Lists.{Each}
@@ -17,7 +17,7 @@ use Rattle.max_cut.specs.Graph.{Graph, IsGraph, row_of, weights_from, negatives_
 use Rattle.max_cut.specs.GraphLaws.{negatives_of-bounds, length-row_of, rank_of-split, rank_of-most, weights_from-none}
 use Rattle.max_cut.specs.Program.{zeros, pulls_of, settled_of, is_within, words_of, limits_of, stepped, program_of}
 use Rattle.benefit_rows.specs.Benefits.{sums_of}
-use Rattle.max_cut.specs.PullLaws.{settled_of-gains, settled_of-positive, settled_of-most, rank_of-pulls, length-pulls, rank_of-zeros}
+use Rattle.max_cut.specs.PullLaws.{settled_of-gains, settled_of-positive, settled_of-most, rank_of-pulls, length-pulls}
 use Rattle.max_cut.specs.StateLaws.{is_within-zeros, is_within-merged, is_within-rank, drop-stepped, stepped-state, length-state, rank_of-state, words_of-some}
 
 -- the pairs' part: what each side gains from the weights to the later vertices

@@ -1,5 +1,5 @@
 -- What a side adds to benefits, and what it settles.
-use Rattle.std.specs.Prelude.{◌≡◌, ℕ, zero, suc, ◌≤◌, ℤ, pos, neg_ℤ, ◌+ℤ◌, ◌≤ℤ◌, List, [], ◌∷◌, length}
+use Rattle.std.specs.Prelude.{◌≡◌, ℕ, zero, suc, ◌≤◌, ℤ, pos, ◌+ℤ◌, ◌≤ℤ◌, List, [], ◌∷◌, length}
 use Rattle.std.proofs.Common.{arith, ap, sym, subst, refl}
 use Rattle.std.proofs.lemmas.Int.{ints, clamps}
 use Rattle.std.proofs.lemmas.List.{length-map}
@@ -73,10 +73,6 @@ pub gain_of_S : (z : ℤ) (d : ℕ) → d ≡ 0 → gain_of z d ≡ below_zero z
 gain_of_S z d h = ap (gain_of z) h
 
 -- Zeros have and gain nothing.
-
-pub rank_of-zeros : (n : ℕ) → rank_of (zeros n) ≡ pos 0
-rank_of-zeros zero = refl
-rank_of-zeros (suc n) = omega (arith, ints, clamps, rank_of-zeros n)
 
 pub gains_of-zeros : (n : ℕ) (ds : List ℕ) → gains_of (zeros n) ds ≡ pos 0
 gains_of-zeros zero ds = refl

@@ -1,12 +1,12 @@
 //! One pass over a row of benefits and a row of weights.
 
-ghost use Rattle.std.specs.Prelude.{◌≡◌, ◌+◌, ◌*◌, ◌-◌, ◌^◌, ◌<◌, ◌≤◌, ◌++◌, drop, length, slice_index_or, pos, ◌+ℤ◌, ◌≤ℤ◌};
+ghost use Rattle.std.specs.Prelude.{◌≡◌, ◌+◌, ◌*◌, ◌-◌, ◌^◌, ◌<◌, ◌≤◌, ◌++◌, drop, take, length, slice_index_or, pos, ◌+ℤ◌, ◌≤ℤ◌};
 ghost use Rattle.benefit_rows.specs.Benefits.{gain_of, rank_of, size_of};
 ghost use Rattle.max_cut.specs.Graph.{IsGraph, negatives_of, pairs_of, row_of, row_start};
 ghost use Rattle.max_cut.specs.Program.{pull_of, pulls_of, settled_of, zeros};
 ghost use Rattle.benefit_rows.specs.Benefits.{sums_of};
 
-use benefit_rows::{above_zero, below_zero, doubled_gap, size};
+use benefit_rows::{above_zero, below_zero, doubled_gap, size, write_zeros};
 use dp_model::Extended;
 
 /// Where the weights of the pairs begin whose first vertex is `k`.
@@ -47,19 +47,19 @@ pub(crate) fn tail<T>(row: &[T], from: usize) -> &[T]
     &row[from..]
 }
 
-/// Writes zeros.
-pub(crate) fn write_zeros(out: &mut [i64])
-    ensures { out.new ≡ zeros (length out.old) }
-{
-    for cell in out.iter_mut() {
-        *cell = 0;
-    }
-}
-
-/// Writes what the step of vertex `k` makes of a state, with the weights to the later vertices. Answers its rank.
-pub(crate) fn write_step(out: &mut [i64], k: usize, s: &[i64], d: u32, weights: &[i64]) -> i64
+/// Writes what the step of vertex `k` makes of a state, with the weights to the later vertices. So many first cells as
+/// `done` are zero already. Answers its rank.
+pub(crate) fn write_step(
+    out: &mut [i64],
+    done: usize,
+    k: usize,
+    s: &[i64],
+    d: u32,
+    weights: &[i64],
+) -> i64
     requires vertex { k < length s.now }
     requires cells { length out.old ≡ length s.now }
+    requires done { take done out.old ≡ zeros done }
     requires weights { length weights.now + (k + 1) ≡ length s.now }
     requires benefit_sizes { rank_of s.now ≤ℤ pos (2 ^ 50) }
     requires weight_sizes { rank_of weights.now ≤ℤ pos (2 ^ 50) }
@@ -67,7 +67,7 @@ pub(crate) fn write_step(out: &mut [i64], k: usize, s: &[i64], d: u32, weights: 
     ensures rank { result ≡ rank_of (sums_of (drop (k + 1) s.now) (pulls_of d weights.now)) }
 {
     let (decided, later) = out.split_at_mut(k + 1);
-    write_zeros(decided);
+    write_zeros(decided, done);
     if d == 0 {
         write_pulled::<0>(later, tail(s, k + 1), weights)
     } else {
@@ -75,10 +75,12 @@ pub(crate) fn write_step(out: &mut [i64], k: usize, s: &[i64], d: u32, weights: 
     }
 }
 
-/// Writes the step of vertex `k`. Answers its gain and its rank, by the rank of the benefits from `k` on and that of the
-/// weights: what the vertex settles with the later ones is half of what their benefits and the weights lose in size.
+/// Writes the step of vertex `k`, where so many first cells as `done` are zero already. Answers its gain and its rank, by
+/// the rank of the benefits from `k` on and that of the weights: what the vertex settles with the later ones is half of
+/// what their benefits and the weights lose in size.
 pub(crate) fn extend_row(
     out: &mut [i64],
+    done: usize,
     k: usize,
     s: &[i64],
     rank: i64,
@@ -91,6 +93,7 @@ pub(crate) fn extend_row(
     requires weights { length weights.now + (k + 1) ≡ length s.now }
     requires benefit_sizes { rank_of s.now ≤ℤ pos (2 ^ 50) }
     requires weight_sizes { rank_of weights.now ≤ℤ pos (2 ^ 50) }
+    requires done { take done out.old ≡ zeros done }
     requires rank { rank ≡ rank_of (drop k s.now) }
     requires weights_rank { weights_rank ≡ rank_of weights.now }
     ensures row { out.new ≡ zeros (k + 1) ++ sums_of (drop (k + 1) s.now) (pulls_of d weights.now) }
@@ -98,7 +101,7 @@ pub(crate) fn extend_row(
     ensures rank { result.rank ≡ rank_of (sums_of (drop (k + 1) s.now) (pulls_of d weights.now)) }
 {
     let benefit = s[k];
-    let next = write_step(out, k, s, d, weights);
+    let next = write_step(out, done, k, s, d, weights);
     let settled = (rank - size(benefit) + weights_rank - next) / 2;
     Extended {
         gain: gain_alone(benefit, d) + settled,

@@ -1,9 +1,9 @@
 ghost use Rattle.std.specs.Prelude.{◌≡◌, ◌≤◌, ◌+◌, ◌<◌, length, pos, slice_index_or};
 
 use crate::instance::MaxCut;
-use crate::layers::{extend_row, gain_by_side, row_of_pairs, tail, write_step, write_zeros};
+use crate::layers::{extend_row, gain_by_side, row_of_pairs, tail, write_step};
 use crate::limits::is_within_limits;
-use benefit_rows::{gap, gap_within, merge_into, rank};
+use benefit_rows::{gap, gap_within, merge_into, rank, write_zeros};
 use dp_model::{DpModel, Extended};
 
 impl MaxCut {
@@ -77,7 +77,7 @@ impl DpModel for MaxCut {
     }
 
     fn root(&self, out: &mut [i64]) {
-        write_zeros(out);
+        write_zeros(out, 0);
     }
 
     fn root_value(&self) -> i64 {
@@ -89,15 +89,15 @@ impl DpModel for MaxCut {
     }
 
     fn step(&self, k: usize, s: &[i64], d: u32, out: &mut [i64]) {
-        let _ = write_step(out, k, s, d, self.row(k));
+        let _ = write_step(out, 0, k, s, d, self.row(k));
     }
 
     fn gain(&self, k: usize, s: &[i64], d: u32) -> i64 {
         gain_by_side(s[k], tail(s, k + 1), d, self.row(k))
     }
 
-    fn merge_into(&self, _k: usize, acc: &mut [i64], s: &[i64]) {
-        merge_into(acc, s);
+    fn merge_into(&self, k: usize, acc: &mut [i64], s: &[i64]) {
+        merge_into(&mut acc[k..], self.later(k, s));
     }
 
     fn gap(&self, k: usize, a: &[i64], s: &[i64]) -> Option<i64> {
@@ -108,8 +108,8 @@ impl DpModel for MaxCut {
         Some(rank(self.later(k, s)) + self.size_from(k))
     }
 
-    fn rank(&self, _k: usize, s: &[i64]) -> i64 {
-        rank(s)
+    fn rank(&self, k: usize, s: &[i64]) -> i64 {
+        rank(self.later(k, s))
     }
 
     fn covers_within(
@@ -124,8 +124,22 @@ impl DpModel for MaxCut {
         gap_within(self.later(k, a), rank_a, self.later(k, s), rank_s, most)
     }
 
-    fn extend(&self, k: usize, s: &[i64], rank: i64, d: u32, out: &mut [i64]) -> Extended {
-        extend_row(out, k, s, rank, d, self.row(k), self.size_of_row(k))
+    fn extend(
+        &self,
+        k: usize,
+        s: &[i64],
+        rank: i64,
+        d: u32,
+        zeros: usize,
+        out: &mut [i64],
+    ) -> Option<Extended> {
+        let row = self.row(k);
+        let size = self.size_of_row(k);
+        Some(extend_row(out, zeros, k, s, rank, d, row, size))
+    }
+
+    fn rough_by_rank(&self, k: usize, _s: &[i64], rank: i64) -> Option<i64> {
+        Some(rank + self.size_from(k))
     }
 
     fn first_live(&self, k: usize) -> usize {

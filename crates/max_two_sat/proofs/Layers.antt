@@ -1,5 +1,5 @@
 -- What a layer of a problem in memory has, for a state of it.
-use Rattle.std.proofs.Common.{◌≡◌, ℕ, zero, suc, Bool, true, false, eq-eqb, take, ◌+◌, ◌^◌, ◌<◌, ◌≤◌, ℤ, pos, ◌+ℤ◌, ◌≤ℤ◌, List, length, drop, get_or, refl, arith, ap, sym, ◌∙◌}
+use Rattle.std.proofs.Common.{◌≡◌, ℕ, zero, suc, Bool, true, false, eq-eqb, take, replicate, ◌+◌, ◌^◌, ◌<◌, ◌≤◌, ℤ, pos, ◌+ℤ◌, ◌≤ℤ◌, List, length, drop, get_or, refl, arith, ap, sym, ◌∙◌}
 use Rattle.std.specs.Prelude.{IsTrue, ◌==◌}
 use Rattle.std.proofs.lemmas.Int.{ints}
 use Rattle.benefit_rows.specs.Benefits.{rank_of}
@@ -17,6 +17,7 @@ use Rattle.max_two_sat.specs.Rows.{length-rows_of, length-row_at, drop-rows, wor
 use Rattle.max_two_sat.specs.SizeLaws.{lesser_units-positive, lesser_units-most, rank-most, later-positive, rank_of-state}
 use Rattle.max_two_sat.specs.StateLaws.{state-is}
 use Rattle.max_two_sat.specs.Table.{later_totals, later_totals-at, length-later_totals}
+use Rattle.max_two_sat.proofs.Shifting.{zeros-before}
 use Rattle.max_two_sat.specs.Totals.{units_total-positive, positive-rows_of, positive-row_at, rows_total-rows_of, rows_total-drop, pairs_total-positive, rank_of-zero}
 
 -- a state of the layer, by the instance itself
@@ -87,9 +88,24 @@ same-cells i k s out kept test layer cells =
     let words : length out ≡ words_of (length i.units) = rw instance_of-numbers_of at cells in
     words ∙ sym has.cells
 
+pub words-over : (n : ℕ) → n ≤ words_of n
+words-over zero = omega arith
+words-over (suc n) = omega arith
+
 -- the layers before that of a state have no benefit
 pub empty-front : (i : Instance) (k : ℕ) (s : List ℤ) → IsStateOf (program_of i) k s → rank_of (take k s) ≡ pos 0
 empty-front i k s state = rank_of-zero (take k s) (state-is i k s state.test).before
+
+-- and are zero
+pub none-before : (i : Instance) (k : ℕ) (s : List ℤ) → IsStateOf (program_of i) k s → take k s ≡ replicate k (pos 0)
+none-before i k s state =
+    let test = state-is i k s state.test in
+    let layer = state.layer in
+    zeros-before k s (omega (arith, test.cells, words-over (length i.units))) test.before
+
+-- each decision may be taken
+pub always-allowed : (i : Instance) (k : ℕ) (s : List ℤ) (d : ℕ) → k < (program_of (instance_of (numbers_of i))).vars → d < 2 → IsAllowed (program_of (instance_of (numbers_of i))) k s d
+always-allowed i k s d layer choice = record { layer = layer; choice = choice; test = refl }
 
 -- all weights of units are within the total
 pub units-most : (i : Instance) → IsKept i → units_total i.units ≤ℤ pos (2 ^ 48)
@@ -132,10 +148,6 @@ rough-adds i k s laters rank later kept state summed rank_is later_is =
     let there : later ≡ rows_total (drop k (rows_of (length i.units) i.pairs)) = later_is ∙ later-read i laters k later summed state.layer in
     let low = rank_of-positive (drop k s) in
     parts-add _ rank later (omega (arith, ints)) (omega (arith, ints)) (omega (arith, ints, has.later_low)) (omega (arith, ints, has.rough))
-
-pub words-over : (n : ℕ) → n ≤ words_of n
-words-over zero = omega arith
-words-over (suc n) = omega arith
 
 -- the test of a state, part by part
 

@@ -9,7 +9,7 @@ use Rattle.std.specs.List.{take-map}
 use Rattle.max_two_sat.specs.Fitting.{FitsState}
 use Rattle.max_two_sat.specs.Table.{entries_before, row_at-is}
 use Rattle.benefit_rows.specs.Benefits.{size_of, gain_of, rank_of, sums_of}
-use Rattle.benefit_rows.specs.BenefitLaws.{size_of-positive, rank_of-positive, rank_of-append, rank_of-sums_of, gain_of-positive, gain_of-most}
+use Rattle.benefit_rows.specs.BenefitLaws.{size_of-positive, rank_of-positive, rank_of-append, rank_of-zeros, rank_of-sums_of, gain_of-positive, gain_of-most}
 use Rattle.benefit_rows.proofs.Steps.{rank_of-drop_more}
 use Rattle.max_two_sat.specs.declared.weights.PairWeights.{PairWeights}
 use Rattle.max_two_sat.specs.Instance.{rows_of, row_at, pair_count, pair_total, pairs_total, no_pair}
@@ -231,8 +231,8 @@ pub row_gain-cut : (row : List PairWeights) (s : List ℤ) (k d : ℕ) → k < l
 row_gain-cut row s k d h = ap (λ us. row_gain row us d) (drop_more s k (pos 0) h)
 
 -- the rank of the state behind a decision
-pub rank-step : (k : ℕ) (s later : List ℤ) → rank_of (take k s) ≡ pos 0 → rank_of (take k s ++ pos 0 ∷ later) ≡ rank_of later
-rank-step k s later none = omega (arith, ints, clamps, rank_of-append (take k s) (pos 0 ∷ later))
+pub rank-stepped : (k : ℕ) (later : List ℤ) → rank_of (replicate (k + 1) (pos 0) ++ later) ≡ rank_of later
+rank-stepped k later = omega (arith, ints, rank_of-append (replicate (k + 1) (pos 0)) later, rank_of-zeros (k + 1))
 
 -- what is decided has no benefit
 pub zeros-before : (k : ℕ) (s : List ℤ) → k ≤ length s → IsTrue (all_zero (take k s)) → take k s ≡ replicate k (pos 0)

@@ -1,10 +1,9 @@
 -- What a step and the root write.
-use Rattle.std.proofs.Common.{◌≡◌, ℕ, ◌+◌, ◌-◌, ◌^◌, ◌<◌, ◌≤◌, ℤ, pos, ◌-ℤ◌, ◌≤ℤ◌, List, [], ◌∷◌, ◌++◌, length, take, drop, set, get_or, refl, arith, ap, sym, ◌∙◌, append_assoc, to_z, of_z, w64, add-one, map}
+use Rattle.std.proofs.Common.{◌≡◌, ℕ, ◌+◌, ◌-◌, ◌^◌, ◌<◌, ◌≤◌, ℤ, pos, ◌-ℤ◌, ◌≤ℤ◌, List, [], ◌∷◌, ◌++◌, length, take, drop, replicate, set, get_or, refl, arith, ap, sym, ◌∙◌, append_assoc, to_z, of_z, w64, add-one, map}
 use Rattle.std.specs.Prelude.{IsTrue, false, ◌==◌}
 use Rattle.std.proofs.Math.Seq.{take-suc-set}
 use Rattle.std.proofs.lemmas.Int.{ints}
-use Rattle.std.proofs.lemmas.List.{drop_more, drop_all, take_all, take_at, append-nil, length-drop, length-take-le, length-append, length-set}
-use borrow.Rule.Slice.PartMut.{put_mid, post_of}
+use Rattle.std.proofs.lemmas.List.{drop_more, drop_all, take_all, append-nil, length-drop, replicate-append-replicate}
 use Rattle.benefit_rows.specs.Benefits.{rank_of}
 use Rattle.benefit_rows.specs.BenefitLaws.{size_of-positive}
 use Rattle.max_two_sat.specs.declared.weights.PairWeights.{PairWeights}
@@ -38,23 +37,13 @@ later-fits row k s fits = record {
   rank = omega (arith, ints, rank_of-tail k s (omega (arith, fits.entries)), fits.rank);
 }
 
--- the front, a zero and the later benefits make the next state
-pub step-written : (s old front later : List ℤ) (k : ℕ) → k < length s → length old ≡ length s → front ≡ take k s → length later ≡ length s - (k + 1) →
-    put_mid (k + 1) (length (set (front ++ drop k old) k (pos 0)) - (k + 1)) (set (front ++ drop k old) k (pos 0)) later ≡ take k s ++ pos 0 ∷ later
-step-written s old front later k h e is count =
-    let written : List ℤ = set (front ++ drop k old) k (pos 0) in
-    let short : length front ≡ k = ap length is ∙ length-take-le k s (omega arith) in
-    let cells : length written ≡ length s = omega (arith, length-set {A = ℤ} (front ++ drop k old) k (pos 0), length-append front (drop k old), length-drop k old) in
-    let inside : k < length (front ++ drop k old) = omega (arith, length-append front (drop k old), length-drop k old) in
-    let begins : take (k + 1) written ≡ front ++ pos 0 ∷ [] = rw add-one (take-suc-set (front ++ drop k old) k (pos 0) inside ∙ ap (λ xs. xs ++ pos 0 ∷ []) (take_at front (drop k old) k short)) in
-    let ends : post_of (k + 1) (length written - (k + 1)) written ≡ [] = drop_all (length written - (k + 1)) (drop (k + 1) written) (omega (arith, length-drop (k + 1) written)) in
-    rw (begins, ends, append-nil, append_assoc, is) refl
-
 -- the state behind a decision, by its shifts
-pub step-shifts : (row : List PairWeights) (s : List ℤ) (k d : ℕ) → k < length s → take k s ++ pos 0 ∷ sums_of (drop (k + 1) s) (shifts_of d row) ≡ take k s ++ row_step row (drop k s) d
-step-shifts row s k d h =
+pub step-shifts : (row : List PairWeights) (s : List ℤ) (k d : ℕ) → k < length s → take k s ≡ replicate k (pos 0)
+    → replicate (k + 1) (pos 0) ++ sums_of (drop (k + 1) s) (shifts_of d row) ≡ take k s ++ row_step row (drop k s) d
+step-shifts row s k d h none =
     let cut : drop k s ≡ get_or s k (pos 0) ∷ drop (k + 1) s = drop_more s k (pos 0) h in
-    rw cut (ap (λ us. take k s ++ pos 0 ∷ us) (sym (grown-shifts row (drop (k + 1) s) d)))
+    let front : replicate (k + 1) (pos 0) ≡ replicate k (pos 0) ++ pos 0 ∷ [] = sym (replicate-append-replicate k 1 (pos 0)) in
+    rw (cut, none, front, append_assoc) (ap (λ us. replicate k (pos 0) ++ pos 0 ∷ us) (sym (grown-shifts row (drop (k + 1) s) d)))
 
 -- the root
 

@@ -51,15 +51,15 @@ impl DpModel for MaxTwoSat {
     }
 
     fn step(&self, k: usize, s: &[i64], d: u32, out: &mut [i64]) {
-        let _ = write_step(self.shifts(k, d), k, s, out);
+        let _ = write_step(self.shifts(k, d), k, s, 0, out);
     }
 
     fn gain(&self, k: usize, s: &[i64], d: u32) -> i64 {
         step_gain(self.row(k), k, s, d)
     }
 
-    fn merge_into(&self, _k: usize, acc: &mut [i64], s: &[i64]) {
-        merge_into(acc, s)
+    fn merge_into(&self, k: usize, acc: &mut [i64], s: &[i64]) {
+        merge_into(&mut acc[k..], &s[k..])
     }
 
     fn gap(&self, k: usize, a: &[i64], s: &[i64]) -> Option<i64> {
@@ -70,8 +70,8 @@ impl DpModel for MaxTwoSat {
         Some(rank(&s[k..]) + self.later[k])
     }
 
-    fn rank(&self, _k: usize, s: &[i64]) -> i64 {
-        rank(s)
+    fn rank(&self, k: usize, s: &[i64]) -> i64 {
+        rank(&s[k..])
     }
 
     fn covers_within(
@@ -86,8 +86,22 @@ impl DpModel for MaxTwoSat {
         gap_within(&a[k..], rank_a, &s[k..], rank_s, most)
     }
 
-    fn extend(&self, k: usize, s: &[i64], rank: i64, d: u32, out: &mut [i64]) -> Extended {
-        extend_row(self.shifts(k, d), self.stakes(k, d), k, s, rank, d, out)
+    fn extend(
+        &self,
+        k: usize,
+        s: &[i64],
+        rank: i64,
+        d: u32,
+        zeros: usize,
+        out: &mut [i64],
+    ) -> Option<Extended> {
+        let shifts = self.shifts(k, d);
+        let stakes = self.stakes(k, d);
+        Some(extend_row(shifts, stakes, k, s, rank, d, zeros, out))
+    }
+
+    fn rough_by_rank(&self, k: usize, _s: &[i64], rank: i64) -> Option<i64> {
+        Some(rank + self.later[k])
     }
 
     fn first_live(&self, k: usize) -> usize {

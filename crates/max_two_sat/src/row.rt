@@ -1,4 +1,4 @@
-ghost use Rattle.std.specs.Prelude.{◌≡◌, suc, ◌+◌, ◌^◌, pos, ◌+ℤ◌, ◌-ℤ◌, ◌≤ℤ◌, ◌++◌, ◌∷◌, length, slice_index_or, take, drop, IsTrue};
+ghost use Rattle.std.specs.Prelude.{◌≡◌, suc, ◌+◌, ◌^◌, pos, ◌+ℤ◌, ◌-ℤ◌, ◌≤ℤ◌, ◌++◌, ◌∷◌, length, replicate, slice_index_or, take, drop, IsTrue};
 ghost use Rattle.std.specs.Int.{int_min};
 ghost use Rattle.benefit_rows.specs.Benefits.{above_zero, below_zero, gain_of, rank_of, size_of, sums_of};
 ghost use Rattle.max_two_sat.specs.Shifts.{half_lost};
@@ -8,7 +8,7 @@ ghost use Rattle.max_two_sat.specs.Kept.{PairIsPositive, UnitIsPositive, units_a
 ghost use Rattle.max_two_sat.specs.Program.{all_zero, cell_part, grown, is_within, lesser_units, open_false, open_true, root_of, row_gain, row_step, settled, shared_gain, words_of};
 
 use crate::weights::{PairWeights, UnitWeights};
-use benefit_rows::{above_zero, below_zero, size, write_sums};
+use benefit_rows::{above_zero, below_zero, size, write_sums, write_zeros};
 use dp_model::Extended;
 
 /// Writes the root state: the benefit of each variable by its clauses with one literal.
@@ -49,22 +49,25 @@ pub(crate) fn lesser_sum(units: &[UnitWeights]) -> i64
     total
 }
 
-/// Writes the state behind a decision, by how far this shifts the later benefits. Answers its rank.
-pub(crate) fn write_step(shifts: &[i64], k: usize, s: &[i64], out: &mut [i64]) -> i64
+/// Writes the state behind a decision, by how far this shifts the later benefits. So many first cells as `done` are zero
+/// already. Answers its rank.
+pub(crate) fn write_step(shifts: &[i64], k: usize, s: &[i64], done: usize, out: &mut [i64]) -> i64
     requires cells { length out.old ≡ length s.now }
+    requires done { take done out.old ≡ replicate done (pos 0) }
     requires entries { length shifts.now + suc k ≡ length s.now }
     requires sizes { rank_of shifts.now ≤ℤ pos (2 ^ 48) }
     requires benefits { rank_of (drop k s.now) ≤ℤ pos (2 ^ 48) }
-    ensures row { out.new ≡ take k s.now ++ pos 0 ∷ sums_of (drop (k + 1) s.now) shifts.now }
+    ensures row { out.new ≡ replicate (k + 1) (pos 0) ++ sums_of (drop (k + 1) s.now) shifts.now }
     ensures rank { result ≡ rank_of (sums_of (drop (k + 1) s.now) shifts.now) }
 {
-    out[..k].copy_from_slice(&s[..k]);
-    out[k] = 0;
-    write_sums(&mut out[k + 1..], &s[k + 1..], shifts)
+    let (decided, later) = out.split_at_mut(k + 1);
+    write_zeros(decided, done);
+    write_sums(later, &s[k + 1..], shifts)
 }
 
-/// Writes the state behind a decision. Answers its gain and its rank, by the rank of the state and the stakes of the
-/// decision: with the later variables it gains half of the stakes and of what their benefits lose in size.
+/// Writes the state behind a decision, where so many first cells as `done` are zero already. Answers its gain and its
+/// rank, by the rank of the state and the stakes of the decision: with the later variables it gains half of the stakes
+/// and of what their benefits lose in size.
 pub(crate) fn extend_row(
     shifts: &[i64],
     stakes: i64,
@@ -72,21 +75,23 @@ pub(crate) fn extend_row(
     s: &[i64],
     rank: i64,
     d: u32,
+    done: usize,
     out: &mut [i64],
 ) -> Extended
     requires cells { length out.old ≡ length s.now }
+    requires done { take done out.old ≡ replicate done (pos 0) }
     requires entries { length shifts.now + suc k ≡ length s.now }
     requires sizes { rank_of shifts.now ≤ℤ pos (2 ^ 48) }
     requires benefits { rank_of (drop k s.now) ≤ℤ pos (2 ^ 48) }
     requires rank { rank ≡ rank_of (drop k s.now) }
     requires stakes_low { pos 0 ≤ℤ stakes }
     requires stakes_high { stakes ≤ℤ pos (2 ^ 49) }
-    ensures row { out.new ≡ take k s.now ++ pos 0 ∷ sums_of (drop (k + 1) s.now) shifts.now }
+    ensures row { out.new ≡ replicate (k + 1) (pos 0) ++ sums_of (drop (k + 1) s.now) shifts.now }
     ensures gain { result.gain ≡ gain_of (slice_index_or s.now k (pos 0)) d +ℤ half_lost stakes (drop (k + 1) s.now) shifts.now }
     ensures rank { result.rank ≡ rank_of (sums_of (drop (k + 1) s.now) shifts.now) }
 {
     let benefit = s[k];
-    let next = write_step(shifts, k, s, out);
+    let next = write_step(shifts, k, s, done, out);
     let shared = (rank - size(benefit) + stakes - next) / 2;
     Extended {
         gain: side_gain(benefit, d) + shared,

@@ -1,7 +1,7 @@
 -- Sums, counts, least amounts and tests over the numbers below a limit.
-use Rattle.std.proofs.Common.{◌≡◌, ◌≢◌, ℕ, zero, suc, ◌+◌, ◌*◌, ◌<◌, ◌≤◌, Bool, true, false, cond, ◌&&◌, None, refl, sym, ap, ap₂, ◌∙◌, arith, inl, inr}
+use Rattle.std.proofs.Common.{◌≡◌, ◌≢◌, ℕ, zero, suc, ◌+◌, ◌*◌, ◌<◌, ◌≤◌, Bool, true, false, cond, not, ◌&&◌, nat_eq, None, eq-eqb, refl, sym, ap, ap₂, ◌∙◌, arith, inl, inr}
 use Rattle.std.proofs.Common.{add-one, add-zero, add-suc, add_assoc}
-use Rattle.std.proofs.lemmas.Bool.{cases_eq, cases_lt, and_parts}
+use Rattle.std.proofs.lemmas.Bool.{cases_eq, cases_lt, cases_Bool, and_parts, ne_eqb}
 use Rattle.node_sets.specs.Sums.{all_below, sum_below, count_below, lesser, least_amount}
 
 -- ---- tests
@@ -62,6 +62,30 @@ sum_below-le (suc n) p f most h =
 
 pub count_below-le : (n : ℕ) (p : ℕ → Bool) → count_below n p ≤ n
 count_below-le n p = omega (arith, sum_below-le n p (λ _. 1) 1 (λ v l. omega arith))
+
+and_true : (b : Bool) → (b && true) ≡ b
+and_true true = refl
+and_true false = refl
+
+-- a count without one number that passes, and without one that does not
+pub count_below-removed : (n d : ℕ) (p : ℕ → Bool) → d < n → p d ≡ true → count_below n p ≡ count_below n (λ v. p v && not (nat_eq v d)) + 1
+count_below-removed n d p l e =
+    sum_below-removed n d p (λ v. p v && not (nat_eq v d)) (λ _. 1) l e (ap₂ (λ a b. a && not b) e (eq-eqb d d refl)) (λ v s. ap (λ b. p v && not b) (ne_eqb v d s) ∙ and_true (p v))
+
+pub count_below-kept : (n d : ℕ) (p : ℕ → Bool) → p d ≡ false → count_below n (λ v. p v && not (nat_eq v d)) ≡ count_below n p
+count_below-kept n d p e =
+    sum_below-same n (λ v. p v && not (nat_eq v d)) p (λ _. 1) (λ v _. elim (cases_eq v d) [
+      | inl s ↦ ap (λ b. b && not (nat_eq v d)) (ap p s ∙ e) ∙ sym (ap p s ∙ e)
+      | inr s ↦ ap (λ b. p v && not b) (ne_eqb v d s) ∙ and_true (p v)
+    ])
+
+-- where none is counted, none passes
+pub count_below-none : (n : ℕ) (p : ℕ → Bool) → count_below n p ≡ 0 → (v : ℕ) → v < n → p v ≡ false
+count_below-none n p e v l =
+    elim (cases_Bool (p v)) [
+      | inl passes ↦ absurd (omega (arith, count_below-removed n v p l passes))
+      | inr fails ↦ fails
+    ]
 
 -- the sum up to a limit, and over what comes behind it
 pub sum_below-add : (n m : ℕ) (p : ℕ → Bool) (f : ℕ → ℕ) → sum_below (n + m) p f ≡ sum_below n p f + sum_below m (λ v. p (n + v)) (λ v. f (n + v))

@@ -1,11 +1,13 @@
 -- Layers that are built one after another.
-use Rattle.std.proofs.Common.{◌≡◌, ℕ, zero, suc, ◌+◌, ◌-◌, ◌<◌, ◌≤◌, Bool, true, false, cond, ℤ, List, length, Option, Some, None, IsTrue, refl, sym, ◌∙◌, ap, subst, arith}
+use Rattle.std.proofs.Common.{◌≡◌, ℕ, zero, suc, ◌+◌, ◌-◌, ◌<◌, ◌≤◌, Bool, true, false, cond, ℤ, List, [], ◌∷◌, length, Option, Some, None, IsTrue, refl, sym, ◌∙◌, ap, subst, arith}
 use Rattle.dp_model.specs.Dp.{Dp}
 use Rattle.dp_model.specs.Reached.{reached}
 use Rattle.dp_laws.specs.Diagrams.Nodes.{DdNode}
 use Rattle.dp_laws.specs.Restricted.Beam.{is_reduced}
-use Rattle.dp_laws.specs.Rules.Compiling.{expand, prune, is_wide, reduced, built, compiled, first_reduced_below, start_layer}
+use Rattle.dp_laws.specs.Rules.Compiling.{TwoLayers, expand, prune, is_wide, reduced, built, compiled, first_reduced_below, start_layer}
 use Rattle.dp_laws.proofs.Rules.Built.{built-narrow}
+use Rattle.layer_nodes.specs.Sifting.{expand_sifted}
+use Rattle.layer_nodes.proofs.Sifted.{prune-sifted}
 use Rattle.layer_build.specs.Layers.{SpaceView, last_depth, last_layer, expand_last, on_last_two, reduced_first}
 use Rattle.layer_build.specs.UnderWay.{IsUnderWay}
 use Rattle.relaxed_dd.specs.Building.{HasReduced, HasBuilt, HasCompiled, IsStarted, with_last, with_next, compiled_from}
@@ -106,32 +108,40 @@ builds-all dp t start s h =
       under_way = h.under_way;
     }
 
--- a layer that is expanded, struck and reduced is built
+-- rules that are the same expand in the same way
+expand-same : (f g : List DdNode → TwoLayers) → ((l : List DdNode) → f l ≡ g l) → (ls : List (List DdNode)) → expand_last f ls ≡ expand_last g ls
+expand-same f g same [] = refl
+expand-same f g same (l ∷ []) = ap (λ (two : TwoLayers). two.above ∷ two.next ∷ []) (same l)
+expand-same f g same (l ∷ m ∷ ls) = ap (λ r. l ∷ r) (expand-same f g same (m ∷ ls))
 
-abbrev after_expand : Dp → List ℤ → SpaceView → SpaceView
-after_expand dp ranks s = record s { layers = expand_last (expand dp (last_depth s)) s.layers; ranks = ranks }
+-- a layer that is expanded without its struck nodes, struck and reduced is built
+
+abbrev after_expand : Dp → Option ℤ → List ℤ → SpaceView → SpaceView
+after_expand dp t ranks s = record s { layers = expand_last (expand_sifted dp (last_depth s) t) s.layers; ranks = ranks }
 
 abbrev after_strike : Dp → Option ℤ → List ℤ → SpaceView → SpaceView
 after_strike dp t ranks s = record s { layers = on_last_two (prune dp (last_depth s) t) s.layers; ranks = ranks }
 
-one-built : (dp : Dp) (t : Option ℤ) (s new : SpaceView) (r1 r2 : List ℤ) → 0 < length s.layers → HasReduced dp (after_strike dp t r2 (after_expand dp r1 s)) new → HasBuilt dp t s new
+one-built : (dp : Dp) (t : Option ℤ) (s new : SpaceView) (r1 r2 : List ℤ) → 0 < length s.layers → HasReduced dp (after_strike dp t r2 (after_expand dp t r1 s)) new → HasBuilt dp t s new
 one-built dp t s new r1 r2 some h =
     let first = length s.prefix in
     let w = s.width in
     let k = last_depth s in
     let ls = s.layers in
-    let s1 = after_expand dp r1 s in
+    let s1 = after_expand dp t r1 s in
     let s2 = after_strike dp t r2 s1 in
-    let long1 = length-expand (expand dp k) ls some in
+    let long1 = length-expand (expand_sifted dp k t) ls some in
     let d1 : last_depth s1 ≡ k + 1 = omega arith in
     let long2 = length-two (prune dp (last_depth s1) t) s1.layers in
     let d2 : last_depth s2 ≡ k + 1 = omega arith in
-    let struck : (n : ℕ) → on_last_two (prune dp n t) (expand_last (expand dp k) ls) ≡ expand_last (λ l. prune dp n t (expand dp k l)) ls = λ n. two-expand (prune dp n t) (expand dp k) ls in
+    let struck : on_last_two (prune dp (k + 1) t) (expand_last (expand_sifted dp k t) ls) ≡ expand_last (λ l. prune dp (k + 1) t (expand dp k l)) ls =
+    two-expand (prune dp (k + 1) t) (expand_sifted dp k t) ls
+    ∙ expand-same (λ l. prune dp (k + 1) t (expand_sifted dp k t l)) (λ l. prune dp (k + 1) t (expand dp k l)) (λ l. prune-sifted dp (k + 1) t (expand dp k l)) ls in
     let layers : on_last_two (reduced dp first w (last_depth s2)) s2.layers ≡ expand_last (built dp first w t k) ls =
-    ap (λ n. on_last_two (reduced dp first w n) s2.layers) d2 ∙ (ap (λ n. on_last_two (reduced dp first w (k + 1)) (on_last_two (prune dp n t) (expand_last (expand dp k) ls))) d1
-    ∙ (ap (on_last_two (reduced dp first w (k + 1))) (struck (k + 1)) ∙ two-expand (reduced dp first w (k + 1)) (λ l. prune dp (k + 1) t (expand dp k l)) ls)) in
+    ap (λ n. on_last_two (reduced dp first w n) s2.layers) d2 ∙ (ap (λ n. on_last_two (reduced dp first w (k + 1)) (on_last_two (prune dp n t) (expand_last (expand_sifted dp k t) ls))) d1
+    ∙ (ap (on_last_two (reduced dp first w (k + 1))) struck ∙ two-expand (reduced dp first w (k + 1)) (λ l. prune dp (k + 1) t (expand dp k l)) ls)) in
     let last : last_layer s2.layers ≡ (prune dp (k + 1) t (expand dp k (last_layer ls))).next =
-    ap (λ n. last_layer (on_last_two (prune dp n t) (expand_last (expand dp k) ls))) d1 ∙ (ap last_layer (struck (k + 1)) ∙ last-expand (λ l. prune dp (k + 1) t (expand dp k l)) ls some) in
+    ap (λ n. last_layer (on_last_two (prune dp n t) (expand_last (expand_sifted dp k t) ls))) d1 ∙ (ap last_layer struck ∙ last-expand (λ l. prune dp (k + 1) t (expand dp k l)) ls some) in
     let least : with_last dp s2 ≡ with_next dp t s =
     ap (λ n. cond (is_wide dp first w n (last_layer s2.layers)) (reduced_first s.first_reduced n) s.first_reduced) d2
     ∙ ap (λ l. cond (is_wide dp first w (k + 1) l) (reduced_first s.first_reduced (k + 1)) s.first_reduced) last in
@@ -140,15 +150,15 @@ one-built dp t s new r1 r2 some h =
       under_way = h.under_way;
     }
 
-pub builds-one : (dp : Dp) (t : Option ℤ) (s s1 s2 new : SpaceView) → 0 < length s.layers → s1 ≡ after_expand dp s1.ranks s → s2 ≡ after_strike dp t s2.ranks s1 → HasReduced dp s2 new → HasBuilt dp t s new
+pub builds-one : (dp : Dp) (t : Option ℤ) (s s1 s2 new : SpaceView) → 0 < length s.layers → s1 ≡ after_expand dp t s1.ranks s → s2 ≡ after_strike dp t s2.ranks s1 → HasReduced dp s2 new → HasBuilt dp t s new
 builds-one dp t s s1 s2 new some e1 e2 h = one-built dp t s new s1.ranks s2.ranks some (subst (λ v. HasReduced dp v new) (e2 ∙ ap (after_strike dp t s2.ranks) e1) h)
 
 -- the struck layers are as many as the expanded ones
-pub some-struck : (dp : Dp) (t : Option ℤ) (s s1 s2 : SpaceView) → 0 < length s.layers → s1 ≡ after_expand dp s1.ranks s → s2 ≡ after_strike dp t s2.ranks s1 → 0 < length s2.layers
+pub some-struck : (dp : Dp) (t : Option ℤ) (s s1 s2 : SpaceView) → 0 < length s.layers → s1 ≡ after_expand dp t s1.ranks s → s2 ≡ after_strike dp t s2.ranks s1 → 0 < length s2.layers
 some-struck dp t s s1 s2 some e1 e2 =
     let a = ap (λ (v : SpaceView). length v.layers) e1 in
     let b = ap (λ (v : SpaceView). length v.layers) e2 in
-    let c = length-expand (expand dp (last_depth s)) s.layers some in
+    let c = length-expand (expand_sifted dp (last_depth s) t) s.layers some in
     let d = length-two (prune dp (last_depth s1) t) s1.layers in
     omega arith
 

@@ -1,4 +1,4 @@
-ghost use Rattle.std.specs.Prelude.{◌≡◌, ◌+◌, ◌-◌, ◌<◌, ◌≤◌, true, Some, None, IsSome, length, slice_get, option_map, option_and_then};
+ghost use Rattle.std.specs.Prelude.{◌≡◌, ◌+◌, ◌-◌, ◌<◌, ◌≤◌, true, [], ◌∷◌, ◌++◌, Some, None, IsSome, length, take, slice_get, option_map, option_and_then};
 ghost use Rattle.dp_laws.specs.Diagrams.Nodes.{node_at};
 
 use dp_laws::DdArc;
@@ -104,6 +104,25 @@ impl<'w> Diagram<'w> {
         ensures { option_and_then (λ n. slice_get n.arcs i) (node_at (layers_of self.now) depth node) ≡ Some result }
     {
         self.space.arc(depth, node, i)
+    }
+
+    /// The last of the kept decisions of an exact node below the first layer.
+    pub fn decision(&self, depth: usize, node: usize) -> u32
+        requires first { (layers_of self.now).first < depth }
+        requires exact { option_map (λ n. n.exact) (node_at (layers_of self.now) depth node) ≡ Some true }
+        ensures { option_map (λ n. n.path) (node_at (layers_of self.now) depth node) ≡ option_map (λ n. take (depth - 1) n.path ++ result ∷ []) (node_at (layers_of self.now) depth node) }
+    {
+        self.space.decision(depth, node)
+    }
+
+    /// The place of the node in the layer above that the kept decisions of an exact node lead through, where that is below the
+    /// first layer.
+    pub fn parent(&self, depth: usize, node: usize) -> usize
+        requires first { (layers_of self.now).first + 1 < depth }
+        requires exact { option_map (λ n. n.exact) (node_at (layers_of self.now) depth node) ≡ Some true }
+        ensures { option_map (λ n. n.path) (node_at (layers_of self.now) (depth - 1) result) ≡ option_map (λ n. take (depth - 1) n.path) (node_at (layers_of self.now) depth node) }
+    {
+        self.space.parent(depth, node)
     }
 
     /// Writes the kept decisions of an exact node, from the root.

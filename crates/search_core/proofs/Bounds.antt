@@ -1,10 +1,11 @@
 -- The greatest of a number and the bounds of a list, by the greatest of the bounds.
-use Rattle.std.proofs.Common.{◌≡◌, ℤ, List, [], ◌∷◌, map, Bool, true, false, cond, Option, Some, None, refl, sym, ◌∙◌, ap, arith}
+use Rattle.std.proofs.Common.{◌≡◌, ℤ, List, [], ◌∷◌, map, cond, Option, Some, None, refl, sym, ◌∙◌, ap, arith}
 use Rattle.std.proofs.lemmas.Int.{ints}
 use Rattle.std.specs.Prelude.{int_lt}
 use Rattle.dp_model.specs.Numbers.{greatest, greatest_from}
 use Rattle.shared_fringe.specs.Tickets.{Ticketed}
-use Rattle.board_laws.specs.Bound.{raised, raised_by}
+use Rattle.shared_fringe.specs.Bounds.{raised}
+use Rattle.board_laws.specs.Bound.{raised_by}
 
 abbrev bounds : List Ticketed → List ℤ
 bounds os = map (λ (o : Ticketed). o.subproblem.bound) os

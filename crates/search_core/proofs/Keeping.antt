@@ -1,36 +1,37 @@
 -- What the fields of a board keep under each step.
-use Rattle.std.proofs.Common.{◌≡◌, ◌≢◌, ℕ, zero, suc, ◌+◌, ◌<◌, ◌≤◌, ℤ, pos, ◌+ℤ◌, List, [], ◌∷◌, ◌++◌, length, map, set, filter, get_or, true, false, Option, Some, None, ◌⊎◌, inl, inr, refl, sym, ◌∙◌, ap, subst, IsTrue, length-set, arith}
+use Rattle.std.proofs.Common.{◌≡◌, ◌≢◌, ℕ, zero, suc, ◌+◌, ◌<◌, ◌≤◌, ℤ, ◌+ℤ◌, List, [], ◌∷◌, ◌++◌, length, map, set, get_or, true, Option, Some, None, inl, refl, sym, ◌∙◌, ap, subst, IsTrue, arith}
 use Rattle.std.proofs.lemmas.Int.{ints}
 use Rattle.std.proofs.lemmas.List.{length-map}
-use Rattle.std.proofs.lemmas.Option.{slice_get_read, slice_get_within}
+use Rattle.std.proofs.lemmas.Option.{slice_get_read}
 use Rattle.std.specs.List.{slice_get}
 use Rattle.std.specs.Prelude.{is_some, IsSome, ◌^◌}
 use Rattle.dp_model.specs.Solution.{Solution, IsSolutionWith}
 use Rattle.dp_model.specs.Dp.{Dp}
 use Rattle.dp_model.specs.Gaps.{IsStateOf}
 use Rattle.dp_model.specs.Laws.{IsLawful}
-use Rattle.dp_model.specs.Lists.{Each, OneOf}
+use Rattle.dp_model.specs.Lists.{Each}
 use Rattle.dp_model.specs.Numbers.{IsFar, is_above}
-use Rattle.dp_model.specs.Prefixes.{IsSolution, value_of, state_of}
+use Rattle.dp_model.specs.Prefixes.{value_of, state_of}
 use Rattle.dp_model.specs.Subproblem.{Subproblem, SubView, IsOwn, IsChild}
-use Rattle.dp_model.proofs.Members.{Each-then, Each-map}
+use Rattle.dp_model.proofs.Members.{Each-then}
 use Rattle.dp_model.proofs.Paths.{state_of-state}
 use Rattle.dp_model.proofs.Sizes.{value_of-size}
 use Rattle.shared_fringe.specs.Firsts.{first_taken}
 use Rattle.shared_fringe.specs.Fringe.{FringeView}
 use Rattle.shared_fringe.specs.Popping.{after_pop, taken_out}
 use Rattle.shared_fringe.specs.Tickets.{Ticketed, IsEarlier, without}
+use Rattle.dominance_table.specs.Dominator.{IsReached}
 use Rattle.dominance_table.specs.Entries.{TableEntry, TableView}
-use Rattle.board_laws.specs.Board.{AreSettings, BoardState, incumbent_value, value_held, reach_of, reach, full_slots, slot_of, slot_at, frontier}
-use Rattle.board_laws.specs.Entering.{entering, entry_of, put_all, replaced, staying}
-use Rattle.board_laws.specs.Fates.{fate_of, fates_by, fates_on, ticket_after, tickets_after}
+use Rattle.board_laws.specs.Board.{AreSettings, BoardState, incumbent_value, value_held, reach, full_slots, slot_of, slot_at, frontier}
+use Rattle.board_laws.specs.Entering.{entering, entry_of, put_all, replaced, without_all}
+use Rattle.board_laws.specs.Fates.{fate_of, fates_on, tickets_after}
 use Rattle.board_laws.specs.Finishing.{MayFinish}
 use Rattle.board_laws.specs.GoodBoard.{IncumbentHolds, IsBoard, IsGood, IsEntry}
 use Rattle.board_laws.specs.Improving.{after_offer}
-use Rattle.board_laws.specs.Laws.{Keeps}
+use Rattle.board_laws.specs.Laws.{KeepsBoard}
 use Rattle.board_laws.specs.Pushes.{AreThreaded, push_by, put_each}
-use Rattle.board_laws.specs.Steps.{improved, finished_by, finished_with, given_back_from, given_back, back_among, halted, empty_slots, first_incumbent, first_open, first_board}
-use Rattle.board_laws.specs.Taking.{IsFirst, take_gives, checked_out, after_answer, after_take}
+use Rattle.board_laws.specs.Steps.{improved, finished_by, given_back_from, given_back, back_among, empty_slots, first_incumbent, first_open, first_board}
+use Rattle.board_laws.specs.Taking.{take_gives, checked_out, after_answer, after_take}
 use Rattle.board_laws.specs.declared.fate.Fate.{Fate}
 use Rattle.board_laws.specs.declared.fate.Fate.TheVariants.{Below, Kept, Dominated, Replaced, Entered}
 use Rattle.board_laws.specs.declared.improved.Improved.TheVariants.{Yes}
@@ -39,23 +40,23 @@ use Rattle.board_laws.specs.declared.taken.Taken.TheVariants.{Sub}
 use Rattle.board_laws.proofs.Fates.{fates-many, fates-hold, kids-hold, FatesHold}
 use Rattle.board_laws.proofs.FinishingBoard.{finish-keeps}
 use Rattle.board_laws.proofs.First.{first-is-good, full-none}
-use Rattle.board_laws.proofs.Firsts.{first_taken-is}
+use Rattle.shared_fringe.proofs.Takings.{first_taken-is}
 use Rattle.board_laws.proofs.Frontier.{tickets-flip}
 use Rattle.board_laws.proofs.GivingBack.{give-back-keeps}
 use Rattle.board_laws.proofs.Improving.{improve-keeps}
-use Rattle.board_laws.proofs.Lists.{each-back, each-front, one-each, one-out}
+use Rattle.board_laws.proofs.Lists.{each-back, one-each, one-out}
 use Rattle.board_laws.proofs.Pushing.{pushes-are-fates, puts-are-entries}
 use Rattle.board_laws.proofs.Slots.{slot-full, filled, emptied}
 use Rattle.board_laws.proofs.Taking.{hands, take-keeps}
-use Rattle.board_laws.proofs.With.{IsWith, with-right, each-out, two-out, length-with}
+use Rattle.board_laws.proofs.With.{with-right, each-out, two-out, length-with}
 use Rattle.search_core.specs.Contents.{contents}
-use Rattle.search_core.specs.Kept.{best_of, HasRows, HasRoom, HasBuffers, IsKept}
-use Rattle.search_core.proofs.Rows.{PutsKeep, puts_keep, rows_fewer}
+use Rattle.search_core.specs.Kept.{best_of, HasRows, IsBoardInMemory}
+use Rattle.search_core.proofs.Rows.{puts_keep, rows_fewer}
 
 -- after a step that keeps a board, with room in the fringe and the table
-pub kept-by : (dp : Dp) (b later : BoardState) (fringe fringe2 : FringeView) (table table2 : TableView) (room room2 for_best for_best2 cells spare_cells : ℕ) → IsKept dp b fringe table room for_best cells spare_cells
-    → Keeps dp b later → later.settings ≡ b.settings → fringe2.words ≡ fringe.words → table2.words ≡ table.words → table2.limit ≡ table.limit
-    → room2 + length (full_slots later.slots) ≤ fringe2.spare → HasRows room2 table2 → for_best ≤ for_best2 → IsKept dp later fringe2 table2 room2 for_best2 cells spare_cells
+pub kept-by : (dp : Dp) (b later : BoardState) (fringe fringe2 : FringeView) (table table2 : TableView) (room room2 for_best for_best2 cells spare_cells : ℕ) → IsBoardInMemory dp b fringe table room for_best cells spare_cells
+    → KeepsBoard dp b later → later.settings ≡ b.settings → fringe2.words ≡ fringe.words → table2.words ≡ table.words → table2.limit ≡ table.limit
+    → room2 + length (full_slots later.slots) ≤ fringe2.spare → HasRows room2 table2 → for_best ≤ for_best2 → IsBoardInMemory dp later fringe2 table2 room2 for_best2 cells spare_cells
 kept-by dp b later fringe fringe2 table table2 room room2 for_best for_best2 cells spare_cells k keeps settings words table_words limit fits rows more = record {
   board = keeps.board k.board;
   good = keeps.good k.board k.good;
@@ -79,15 +80,15 @@ pub take-step : (b : BoardState) (who : ℕ) (o : Ticketed) (os : List Ticketed)
 take-step b who o os may first popped =
     ap (handed b who o) (popped ∙ ap (λ f. taken_out f b.open_ones) (sym first)) ∙ (ap (checked_out b who) first ∙ ap (after_answer b who) (sym may))
 
-pub take-kept : (dp : Dp) (b : BoardState) (who : ℕ) (o : Ticketed) (fringe fringe2 : FringeView) (table : TableView) (room for_best cells spare_cells : ℕ) → IsKept dp b fringe table room for_best cells spare_cells
+pub take-kept : (dp : Dp) (b : BoardState) (who : ℕ) (o : Ticketed) (fringe fringe2 : FringeView) (table : TableView) (room for_best cells spare_cells : ℕ) → IsBoardInMemory dp b fringe table room for_best cells spare_cells
     → take_gives b ≡ Sub → slice_get b.slots who ≡ Some None → Some o ≡ first_taken b.open_ones → fringe2.open_ones ≡ after_pop b.open_ones → fringe2.words ≡ fringe.words → fringe.spare + 1 ≤ fringe2.spare
-    → IsKept dp (handed b who o fringe2.open_ones) fringe2 table room for_best cells spare_cells
+    → IsBoardInMemory dp (handed b who o fringe2.open_ones) fringe2 table room for_best cells spare_cells
 take-kept dp b who o fringe fringe2 table room for_best cells spare_cells k may empty first popped words more =
     let step = take-step b who o fringe2.open_ones may first popped in
     let out = length-with o (full_slots b.slots) (full_slots (set b.slots who (Some o))) (filled b.slots who o empty) in
     let fits = k.has_room.open_room in
     kept-by dp b (handed b who o fringe2.open_ones) fringe fringe2 table table room room for_best for_best cells spare_cells k
-    (subst (Keeps dp b) (sym step) (take-keeps dp b who empty)) refl words refl refl (omega arith) k.has_room.table_room (omega arith)
+    (subst (KeepsBoard dp b) (sym step) (take-keeps dp b who empty)) refl words refl refl (omega arith) k.has_room.table_room (omega arith)
 
 -- the first open one is a prefix of its own, which fits a caller's subproblem
 pub record Copies (dp : Dp) (o : Ticketed) : Type 0 where
@@ -146,16 +147,16 @@ improve-step dp b x value os g is left =
     ap (λ l. record b { incumbent = Some (record { decisions = x; value = value }); open_ones = l }) left ∙ ap (λ v. improved b (record { decisions = x; value = v })) is
 
 -- the fields after a better solution
-pub improve-kept : (dp : Dp) (b : BoardState) (x : List ℕ) (value : ℤ) (os : List Ticketed) (fringe fringe2 : FringeView) (table : TableView) (room for_best for_best2 cells spare_cells : ℕ) → IsKept dp b fringe table room for_best cells spare_cells
+pub improve-kept : (dp : Dp) (b : BoardState) (x : List ℕ) (value : ℤ) (os : List Ticketed) (fringe fringe2 : FringeView) (table : TableView) (room for_best for_best2 cells spare_cells : ℕ) → IsBoardInMemory dp b fringe table room for_best cells spare_cells
     → IsSolutionWith dp x value → is_above (incumbent_value b) value ≡ true → os ≡ (improved b (record { decisions = x; value = value })).open_ones → fringe2.words ≡ fringe.words → fringe.spare ≤ fringe2.spare → for_best ≤ for_best2
-    → IsKept dp (record b { incumbent = Some (record { decisions = x; value = value }); open_ones = os }) fringe2 table room for_best2 cells spare_cells
+    → IsBoardInMemory dp (record b { incumbent = Some (record { decisions = x; value = value }); open_ones = os }) fringe2 table room for_best2 cells spare_cells
 improve-kept dp b x value os fringe fringe2 table room for_best for_best2 cells spare_cells k worth up left words spare more =
     let best : Solution = record { decisions = x; value = value } in
     let later = record b { incumbent = Some best; open_ones = os } in
     let fits = k.has_room.open_room in
     let step : improved b best ≡ later = ap (λ l. record b { incumbent = Some best; open_ones = l }) (sym left) in
     kept-by dp b later fringe fringe2 table table room room for_best for_best2 cells spare_cells k
-    (subst (Keeps dp b) step (improve-keeps dp b best worth up)) refl words refl refl (omega arith) k.has_room.table_room more
+    (subst (KeepsBoard dp b) step (improve-keeps dp b best worth up)) refl words refl refl (omega arith) k.has_room.table_room more
 
 -- Finish.
 
@@ -176,8 +177,9 @@ pub children-states : (dp : Dp) → IsLawful dp → (held : List SubView) → Ea
 children-states dp laws held own =
     Each-then (λ (h : SubView). IsOwn dp h.subproblem) (λ h. IsStateOf dp (length h.subproblem.decisions) h.subproblem.row) held (λ h x. own-state dp laws h.subproblem x) (contents-each (IsOwn dp) held own)
 
-pub entry-states : (dp : Dp) (b : BoardState) → IsBoard dp b → Each (λ e. IsStateOf dp e.depth e.row) b.entries
-entry-states dp b g = Each-then (IsEntry dp b.next_ticket) (λ e. IsStateOf dp e.depth e.row) b.entries (λ e h. h.state) g.entries
+pub entries-reached : (dp : Dp) (b : BoardState) → IsBoard dp b → Each (λ e. IsReached dp e.depth e.row e.rank) b.entries
+entries-reached dp b g =
+    Each-then (IsEntry dp b.next_ticket) (λ e. IsReached dp e.depth e.row e.rank) b.entries (λ e h. record { state = h.state; rank_is = h.rank }) g.entries
 
 pub children-own : (dp : Dp) (p : List ℕ) (cs : List Subproblem) → Each (IsChild dp p) cs → Each (IsOwn dp) cs
 children-own dp p cs h = Each-then (IsChild dp p) (IsOwn dp) cs (λ c x. x.own) h
@@ -213,7 +215,7 @@ pub finish-step : (dp : Dp) (b : BoardState) (who : ℕ) (threshold : Option ℤ
 finish-step dp b who threshold cs fs os table table2 next g m same limit pushed noted is =
     let all = fates_on dp b cs in
     let new = entering cs all in
-    let opened = staying (replaced all) b.open_ones ++ new in
+    let opened = without_all (replaced all) b.open_ones ++ new in
     let entries = put_all b.settings.table_limit b.entries (map (entry_of dp) new) in
     let open_is : os ≡ opened = pushed ∙ (ap (λ f. push_by cs f b.open_ones) m.fates
     ∙ pushes-are-fates dp (reach b) b.open_ones b.entries b.next_ticket cs g.ordered (open-given dp b g) m.children.differ) in
@@ -231,10 +233,10 @@ slot-less : (b : BoardState) (who : ℕ) (o : Ticketed) → slot_at b who ≡ So
 slot-less b who o full = length-with o (full_slots (set b.slots who None)) (full_slots b.slots) (emptied b.slots who o (slot-full (slice_get b.slots who) o full))
 
 pub finish-kept : (dp : Dp) → IsLawful dp → (b : BoardState) (who : ℕ) (threshold : Option ℤ) (cs : List Subproblem) (fs : List Fate) (fringe fringe2 : FringeView) (table table2 : TableView) (next room room2 for_best cells spare_cells : ℕ)
-    → IsKept dp b fringe table room for_best cells spare_cells → MayFinish dp b who threshold cs fs
+    → IsBoardInMemory dp b fringe table room for_best cells spare_cells → MayFinish dp b who threshold cs fs
     → table.entries ≡ b.entries → fringe2.open_ones ≡ push_by cs fs b.open_ones → table2 ≡ put_each table (map (entry_of dp) (entering cs fs)) → next ≡ tickets_after b.next_ticket fs
     → fringe2.words ≡ fringe.words → fringe.spare ≤ fringe2.spare + length cs → room2 + length cs ≤ room
-    → IsKept dp (done b who fringe2.open_ones table2.entries next) fringe2 table2 room2 for_best cells spare_cells
+    → IsBoardInMemory dp (done b who fringe2.open_ones table2.entries next) fringe2 table2 room2 for_best cells spare_cells
 finish-kept dp laws b who threshold cs fs fringe fringe2 table table2 next room room2 for_best cells spare_cells k m same pushed noted is words spare fewer =
     let step = finish-step dp b who threshold cs fs fringe2.open_ones table table2 next k.board m same k.has_room.limit pushed noted is in
     let less = slot-less b who m.parent m.full in
@@ -246,7 +248,7 @@ finish-kept dp laws b who threshold cs fs fringe fringe2 table table2 next room 
     let puts : table2 ≡ put_each table new = noted ∙ ap (λ f. put_each table (map (entry_of dp) (entering cs f))) m.fates in
     let kept = puts_keep table new most in
     kept-by dp b (done b who fringe2.open_ones table2.entries next) fringe fringe2 table table2 room room2 for_best for_best cells spare_cells k
-    (subst (Keeps dp b) (sym step) (finish-keeps dp laws b who threshold cs fs m)) refl words
+    (subst (KeepsBoard dp b) (sym step) (finish-keeps dp laws b who threshold cs fs m)) refl words
     (ap (λ (t : TableView). t.words) puts ∙ kept.words) (ap (λ (t : TableView). t.limit) puts ∙ kept.limit) (omega arith)
     (subst (HasRows room2) (sym puts) (kept.rows room2 (rows_fewer (room2 + length new) room table (omega arith) k.has_room.table_room))) (omega arith)
 
@@ -292,7 +294,7 @@ pub record GoesBack (dp : Dp) (b : BoardState) (o : Ticketed) (spare : ℕ) : Ty
   pub cells : length o.subproblem.row ≡ dp.words
   pub new : Each (λ x. x.ticket ≢ o.ticket) b.open_ones
 
-pub goes-back : (dp : Dp) → IsLawful dp → (b : BoardState) (who : ℕ) (o : Ticketed) (fringe : FringeView) (table : TableView) (room for_best cells spare_cells : ℕ) → IsKept dp b fringe table room for_best cells spare_cells
+pub goes-back : (dp : Dp) → IsLawful dp → (b : BoardState) (who : ℕ) (o : Ticketed) (fringe : FringeView) (table : TableView) (room for_best cells spare_cells : ℕ) → IsBoardInMemory dp b fringe table room for_best cells spare_cells
     → slice_get b.slots who ≡ Some (Some o) → GoesBack dp b o fringe.spare
 goes-back dp laws b who o fringe table room for_best cells spare_cells k at =
     let rest = full_slots (set b.slots who None) in
@@ -308,16 +310,16 @@ goes-back dp laws b who o fringe table room for_best cells spare_cells k at =
       new = Each-then (λ (x : Ticketed). o.ticket ≢ x.ticket) (λ x. x.ticket ≢ o.ticket) b.open_ones (λ x h. tickets-flip o x h) (each-back (λ (x : Ticketed). o.ticket ≢ x.ticket) rest b.open_ones differ);
     }
 
-pub back-kept : (dp : Dp) → IsLawful dp → (b : BoardState) (who : ℕ) (o : Ticketed) (fringe fringe2 : FringeView) (table : TableView) (room for_best cells spare_cells : ℕ) → IsKept dp b fringe table room for_best cells spare_cells
+pub back-kept : (dp : Dp) → IsLawful dp → (b : BoardState) (who : ℕ) (o : Ticketed) (fringe fringe2 : FringeView) (table : TableView) (room for_best cells spare_cells : ℕ) → IsBoardInMemory dp b fringe table room for_best cells spare_cells
     → slice_get b.slots who ≡ Some (Some o) → IsTrue (is_some b.cause) → fringe2.open_ones ≡ back_among (reach b) o b.open_ones → fringe2.words ≡ fringe.words → fringe.spare ≤ fringe2.spare + 1
-    → IsKept dp (back b who fringe2.open_ones) fringe2 table room for_best cells spare_cells
+    → IsBoardInMemory dp (back b who fringe2.open_ones) fringe2 table room for_best cells spare_cells
 back-kept dp laws b who o fringe fringe2 table room for_best cells spare_cells k at held put words spare =
     let step = back-step b who o fringe2.open_ones at put in
     let less = length-with o (full_slots (set b.slots who None)) (full_slots b.slots) (emptied b.slots who o at) in
     let fits = k.has_room.open_room in
-    let keeps : Keeps dp b (given_back b who) = (let h = give-back-keeps dp laws in record { board = h.board b who; good = h.good b who held }) in
+    let keeps : KeepsBoard dp b (given_back b who) = (let h = give-back-keeps dp laws in record { board = h.board b who; good = h.good b who held }) in
     kept-by dp b (back b who fringe2.open_ones) fringe fringe2 table table room room for_best for_best cells spare_cells k
-    (subst (Keeps dp b) (sym step) keeps) refl words refl refl (omega arith) k.has_room.table_room (omega arith)
+    (subst (KeepsBoard dp b) (sym step) keeps) refl words refl refl (omega arith) k.has_room.table_room (omega arith)
 
 -- Begin.
 
@@ -345,7 +347,7 @@ begin-step dp best os slots es settings next best_is open_is slots_is es_is next
 
 pub begin-kept : (dp : Dp) → IsLawful dp → (b : BoardState) (settings : Settings) (fringe : FringeView) (table : TableView) (for_best cells spare_cells : ℕ) → AreSettings settings → b ≡ first_board dp settings
     → fringe.words ≡ dp.words → table ≡ record { entries = []; words = dp.words; limit = settings.table_limit; spare = 0 } → dp.vars ≤ for_best → cells ≡ dp.words → spare_cells ≡ dp.words
-    → IsKept dp b fringe table 0 for_best cells spare_cells
+    → IsBoardInMemory dp b fringe table 0 for_best cells spare_cells
 begin-kept dp laws b settings fringe table for_best cells spare_cells are is words table_is best row spare =
     let first = first-is-good dp laws settings are in
     let none : length (full_slots b.slots) ≡ 0 = ap (λ (x : BoardState). length (full_slots x.slots)) is ∙ ap length (full-none settings.workers) in

@@ -5,4 +5,3 @@ mod Bounds
 mod Sums
 mod Roots
 mod Keeping
-mod Childless

@@ -4,7 +4,7 @@ use Rattle.std.proofs.lemmas.Int.{ints}
 use Rattle.dp_model.specs.Dp.{Dp}
 use Rattle.dp_model.specs.Laws.{IsLawful}
 use Rattle.dp_model.specs.Subproblem.{Subproblem}
-use Rattle.board_laws.specs.Steps.{root_bound, root_with, root_of}
+use Rattle.board_laws.specs.Steps.{root_bound, root_with, root_subproblem}
 use Rattle.board_laws.proofs.First.{root-state}
 use Rattle.search_core.proofs.Sums.{IsSum, far-sum}
 
@@ -21,5 +21,5 @@ cells-with dp laws None c is = absurd (cc)
 cells-with dp laws (Some bound) c is = ap length (let same : c.row ≡ dp.root = cc in same) ∙ laws.sizes.cells 0 dp.root (root-state dp laws)
 
 -- the root has as many cells as any state
-pub root-cells : (dp : Dp) → IsLawful dp → (c : Subproblem) → Some c ≡ root_of dp → length c.row ≡ dp.words
+pub root-cells : (dp : Dp) → IsLawful dp → (c : Subproblem) → Some c ≡ root_subproblem dp → length c.row ≡ dp.words
 root-cells dp laws c is = cells-with dp laws (root_bound dp) c is

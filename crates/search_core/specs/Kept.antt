@@ -16,7 +16,7 @@ abbrev pub HasRows : ℕ → TableView → Type 0
 HasRows n t = (n ≤ t.spare) ⊎ (t.limit ≤ length t.entries + t.spare)
 
 -- the fringe and the table are of the instance and the settings, and have room for so many children beside what is out
-pub record HasRoom (dp : Dp) (b : BoardState) (fringe : FringeView) (table : TableView) (room : ℕ) : Type 0 where
+pub record HasRoomForChildren (dp : Dp) (b : BoardState) (fringe : FringeView) (table : TableView) (room : ℕ) : Type 0 where
   pub fringe_words : fringe.words ≡ dp.words
   pub table_words : table.words ≡ dp.words
   pub limit : table.limit ≡ b.settings.table_limit
@@ -30,8 +30,8 @@ pub record HasBuffers (dp : Dp) (for_best cells spare_cells : ℕ) : Type 0 wher
   pub spare : spare_cells ≡ dp.words
 
 -- a good board with its room
-pub record IsKept (dp : Dp) (b : BoardState) (fringe : FringeView) (table : TableView) (room for_best cells spare_cells : ℕ) : Type 0 where
+pub record IsBoardInMemory (dp : Dp) (b : BoardState) (fringe : FringeView) (table : TableView) (room for_best cells spare_cells : ℕ) : Type 0 where
   pub board : IsBoard dp b
   pub good : IsGood dp b
-  pub has_room : HasRoom dp b fringe table room
+  pub has_room : HasRoomForChildren dp b fringe table room
   pub buffers : HasBuffers dp for_best cells spare_cells

@@ -1,6 +1,5 @@
 pub mod View
 pub mod Contents
 pub mod Kept
-pub mod MoveLaw
+pub mod Laws
 pub mod Moves
-pub mod Ones

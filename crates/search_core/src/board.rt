@@ -7,7 +7,7 @@ ghost use Rattle.dp_model.specs.Numbers.{AtMost};
 ghost use Rattle.dp_model.specs.Prefixes.{IsSolution, value_of};
 ghost use Rattle.dp_model.specs.Subproblem.{IsOwn};
 ghost use Rattle.board_laws.specs.Board.{AreSettings, incumbent_value, reach, full_slots, slot_at, is_explored};
-ghost use Rattle.board_laws.specs.Bound.{bound_of, IsGreatest};
+ghost use Rattle.board_laws.specs.Bound.{board_bound, IsGreatestBound};
 ghost use Rattle.board_laws.specs.Fates.{fates_on};
 ghost use Rattle.board_laws.specs.Finishing.{MayFinish};
 ghost use Rattle.board_laws.specs.GoodBoard.{IsBoard, IsGood};
@@ -56,7 +56,7 @@ pub struct Board<M: DpModel> {
 impl<M: DpModel> Model for Board<M> {
     ghost use Rattle.std.specs.Prelude.{vec_len, vec_capacity};
     ghost use Rattle.std.specs.Arc.{arc_value};
-    ghost use Rattle.search_core.specs.Kept.{best_of, IsKept};
+    ghost use Rattle.search_core.specs.Kept.{best_of, IsBoardInMemory};
     ghost use Rattle.search_core.specs.View.{BoardView};
 
     ghost Value = { BoardView };
@@ -77,7 +77,7 @@ impl<M: DpModel> Model for Board<M> {
       room = b.room;
     } };
 
-    ghost invariant = { λ b. IsKept (M.meaning (M.numbers (arc_value b.model)))
+    ghost invariant = { λ b. IsBoardInMemory (M.meaning (M.numbers (arc_value b.model)))
         (record {
           incumbent = best_of b.best.items b.best_value;
           open_ones = b.fringe.open_ones;
@@ -393,8 +393,8 @@ impl<M: DpModel> Board<M> {
     /// The greatest of the reach and the bounds of all that is open or out, which no feasible solution exceeds. `None` exactly
     /// where there is no incumbent and nothing is open or out.
     pub fn bound(&self) -> Option<i64>
-        ensures bound { result ≡ bound_of self.now.board }
-        ensures greatest { IsGreatest self.now.board result }
+        ensures bound { result ≡ board_bound self.now.board }
+        ensures greatest { IsGreatestBound self.now.board result }
         ensures holds { (x : List ℕ) → IsSolution (M.meaning self.now.numbers) x → AtMost (value_of (M.meaning self.now.numbers) x) result }
     {
         let most = raised_by_slots(self.reach(), self.slots.as_slice());

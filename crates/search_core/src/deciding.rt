@@ -4,6 +4,7 @@ ghost use Rattle.std.specs.Prelude.{◌≡◌, ℕ, ◌+◌, ◌^◌, ◌<◌, �
 ghost use Rattle.dp_model.specs.Gaps.{IsStateOf};
 ghost use Rattle.dp_model.specs.Lists.{Each};
 ghost use Rattle.dp_model.specs.Numbers.{is_above};
+ghost use Rattle.dominance_table.specs.Dominator.{IsReached};
 ghost use Rattle.board_laws.specs.Fates.{fate_of, fates_by, ticket_after};
 ghost use Rattle.search_core.specs.Contents.{contents};
 
@@ -33,7 +34,7 @@ fn decide<M: DpModel>(
 ) -> Fate
     requires cells { length sub.now.subproblem.row ≡ fringe.now.words }
     requires state { IsStateOf (M.meaning (M.numbers model.now)) (length sub.now.subproblem.decisions) sub.now.subproblem.row }
-    requires entries { Each (λ e. IsStateOf (M.meaning (M.numbers model.now)) e.depth e.row) table.now.entries }
+    requires entries { Each (λ e. IsReached (M.meaning (M.numbers model.now)) e.depth e.row e.rank) table.now.entries }
     ensures { result ≡ fate_of (M.meaning (M.numbers model.now)) reach fringe.now.open_ones table.now.entries ticket sub.now.subproblem }
 {
     if !is_above(reach, sub.bound) {
@@ -72,7 +73,7 @@ pub fn decide_all<M: DpModel>(
 )
     requires cells { Each (λ h. length h.subproblem.row ≡ fringe.now.words) subs.now }
     requires states { Each (λ h. IsStateOf (M.meaning (M.numbers model.now)) (length h.subproblem.decisions) h.subproblem.row) subs.now }
-    requires entries { Each (λ e. IsStateOf (M.meaning (M.numbers model.now)) e.depth e.row) table.now.entries }
+    requires entries { Each (λ e. IsReached (M.meaning (M.numbers model.now)) e.depth e.row e.rank) table.now.entries }
     requires empty { into.old.items ≡ [] }
     requires room { length subs.now ≤ vec_capacity into.old }
     requires tickets { next + length subs.now < 2 ^ 64 }

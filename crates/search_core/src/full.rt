@@ -2,7 +2,8 @@
 
 ghost use Rattle.std.specs.Prelude.{◌≡◌, length};
 ghost use Rattle.board_laws.specs.Board.{full_slots};
-ghost use Rattle.board_laws.specs.Bound.{raised, raised_by};
+ghost use Rattle.shared_fringe.specs.Bounds.{raised};
+ghost use Rattle.board_laws.specs.Bound.{raised_by};
 
 use crate::checked_out::CheckedOut;
 use shared_fringe::Fringe;

@@ -15,13 +15,9 @@ mod checked_out;
 mod deciding;
 mod entering;
 mod full;
-#[cfg(test)]
-mod ones;
 mod solving;
 mod starting;
 mod tag;
-#[cfg(test)]
-mod tests;
 mod turned;
 
 pub use board::Board;

@@ -1,7 +1,7 @@
 //! What a board begins with.
 
 ghost use Rattle.std.specs.Prelude.{◌≡◌, ◌≤◌, [], length, IfOk, option_map, vec_len, vec_capacity};
-ghost use Rattle.board_laws.specs.Steps.{empty_slots, root_bound, root_of, first_incumbent, first_open};
+ghost use Rattle.board_laws.specs.Steps.{empty_slots, root_bound, root_subproblem, first_incumbent, first_open};
 ghost use Rattle.search_core.specs.Kept.{best_of};
 
 use crate::checked_out::CheckedOut;
@@ -52,7 +52,7 @@ fn root_bound<M: DpModel>(model: &M, row: &[i64]) -> Option<i64>
 
 /// The root as a subproblem, or `None` where it is known to have no completion.
 fn root_sub<M: DpModel>(alloc: Global, model: &M) -> Result<Option<Sub>, OutOfMemory>
-    ensures root { IfOk result (λ root. option_map (λ s. s.subproblem) root ≡ root_of (M.meaning (M.numbers model.now))) }
+    ensures root { IfOk result (λ root. option_map (λ s. s.subproblem) root ≡ root_subproblem (M.meaning (M.numbers model.now))) }
 {
     let mut sub = Sub::blank(alloc, model.vars(), model.words())?;
     write_root(model, &mut sub.row);

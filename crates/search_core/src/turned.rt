@@ -9,7 +9,7 @@ use dp_model::DpModel;
 
 impl<M: DpModel> Turned for Board<M> {
     ghost use Rattle.board_laws.specs.Board.{incumbent_value};
-    ghost use Rattle.search_core.specs.MoveLaw.{keeps-move};
+    ghost use Rattle.search_core.specs.Laws.MoveLaw.{keeps-move};
     ghost use Rattle.search_core.specs.Moves.{out_at, IsMove};
     ghost use Rattle.search_core.specs.View.{tag_of};
 

@@ -3,6 +3,7 @@ pub mod Rows
 pub mod Bounds
 pub mod Takings
 pub mod Openeds
+pub mod Orders
 pub mod Views
 pub mod Fringes
 pub mod Bests

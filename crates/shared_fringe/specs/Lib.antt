@@ -8,6 +8,7 @@ pub mod Index
 pub mod Ranks
 pub mod Slots
 pub mod Stored
+pub mod Listing
 pub use Rattle.dp_model.specs.Folds
 pub use Rattle.dp_model.specs.Lists
 pub use Rattle.dp_model.specs.Numbers

@@ -1,8 +1,9 @@
-ghost use Rattle.std.specs.Prelude.{◌≡◌, ◌≢◌, ◌+◌, ◌*◌, ◌<◌, ◌≤◌, [], map, length, nat_eq, Some, option_map, IfSome, OnOk, OnErr, OnSome};
+ghost use Rattle.std.specs.Prelude.{◌≡◌, ◌≢◌, ◌+◌, ◌*◌, ◌<◌, ◌≤◌, [], map, length, nat_eq, Some, option_map, IfOk, IfSome, OnOk, OnErr, OnSome};
 ghost use Rattle.dp_model.specs.Lists.{Each};
 ghost use Rattle.dp_model.specs.Numbers.{greatest};
 ghost use Rattle.shared_fringe.specs.Firsts.{first_taken, IsFirst};
 ghost use Rattle.shared_fringe.specs.Fringe.{IsFringe, same_at};
+ghost use Rattle.shared_fringe.specs.Listing.{referred};
 ghost use Rattle.shared_fringe.specs.Popping.{after_pop};
 ghost use Rattle.shared_fringe.specs.Pushing.{push_gives, after_push};
 ghost use Rattle.shared_fringe.specs.Tickets.{above_value};
@@ -13,6 +14,7 @@ use crate::fate::FringeFate;
 use crate::growing::make_room;
 use crate::index::Index;
 use crate::listed::Listed;
+use crate::listing::list_by_ticket;
 use crate::pushing::{find_same, push_in};
 use crate::ranks::Ranks;
 use crate::same::Same;
@@ -129,6 +131,13 @@ impl Fringe {
         ensures { result ≡ greatest (map (λ o. o.subproblem.bound) self.now.open_ones) }
     {
         best_of(self.store.slots.as_slice())
+    }
+
+    /// The open ones with their tickets, in order of ticket. It fails only for want of memory.
+    pub fn by_ticket(&self) -> Result<Vec<(u64, &Sub)>, OutOfMemory>
+        ensures { IfOk result (λ list. map referred list.items ≡ self.now.open_ones) }
+    {
+        list_by_ticket(self.alloc, self.store.slots.as_slice(), self.len())
     }
 
     /// How many are open.

@@ -4,9 +4,10 @@
 //! list of its open ones in order of ticket, whatever holds them, and the number `spare`. Promised, each in the contract of its
 //! call: `push` drops the new one where an open one of its depth and state has no less value, and else puts it in that one's
 //! place (`Replaced`) or beside the others (`Entered`), by ticket; `pop_best` takes out the one with the greatest bound, then the
-//! greatest value, then the least ticket; `drop_up_to` drops exactly those whose bound is at most the value; `same` and
-//! `best_bound` read. No call but `reserve` takes memory: a push lowers `spare` by one at most, a pop that gives one raises it by
-//! one at least, and no other call lowers it. `reserve` fails only for want of memory, and then changes nothing.
+//! greatest value, then the least ticket; `drop_up_to` drops exactly those whose bound is at most the value; `same`,
+//! `best_bound` and `by_ticket` read. No call but `reserve` and `by_ticket` takes memory: a push lowers `spare` by one at most, a
+//! pop that gives one raises it by one at least, and no other call lowers it. `reserve` fails only for want of memory, and then
+//! changes nothing.
 //!
 //! The open ones stand in slots, and the row of each in a region at the place of its slot: a slot is free where the region's row
 //! is. A heap has the rank of each, and an index from folds of depth and state the slots that were entered under a fold, in a
@@ -22,6 +23,7 @@ mod fringe;
 mod growing;
 mod index;
 mod listed;
+mod listing;
 mod popping;
 mod pushing;
 mod rank;
@@ -31,8 +33,6 @@ mod reranking;
 mod same;
 mod slots;
 mod store;
-#[cfg(test)]
-mod tests;
 
 pub use fate::FringeFate;
 pub use fringe::Fringe;

@@ -1,7 +1,7 @@
 mod covers;
 mod meeting;
 
-use crate::run::run;
+use crate::run;
 use dd_io::{MemSink, MemSource};
 use std::alloc::{AllocError, Global};
 use std::process::Abort;
@@ -76,6 +76,12 @@ fn prints_what_it_must(rt: HostRuntime) -> Result<(), Fail> {
         ),
         (
             "solve knapsack --workers 4 --width 1",
+            THREE_ITEMS,
+            "proved\nvalue 120\nassignment 0 1 1\n",
+            0,
+        ),
+        (
+            "solve knapsack --workers 4 --width 1 --cutset frontier",
             THREE_ITEMS,
             "proved\nvalue 120\nassignment 0 1 1\n",
             0,

@@ -6,7 +6,7 @@ use Rattle.dd_text.specs.Text.{natural_of}
 use Rattle.problem_names.specs.declared.ModelName.{ModelName}
 use Rattle.problem_names.specs.declared.ModelName.TheVariants.{Knapsack, MaxCut, MaxTwoSat, TspWindows}
 use Rattle.dp_model.specs.declared.cut_kind.CutKind.{CutKind}
-use Rattle.dp_model.specs.declared.cut_kind.CutKind.TheVariants.{LastExactLayer}
+use Rattle.dp_model.specs.declared.cut_kind.CutKind.TheVariants.{LastExactLayer, Frontier}
 use Rattle.problem_names.specs.ModelNames.{model_named}
 use Rattle.solver_words.specs.Grammar.{Syntax, Argument, Text, has_flag, line_of, setting_of, words_of}
 use Rattle.solver_words.specs.declared.job.Job.{Job}
@@ -112,7 +112,7 @@ or_default n None = n
 or_default n (Some m) = m
 
 abbrev pub cut_named : Text → Result CutKind Refusal
-cut_named word = cond (bytes_eq word (codes "lel")) (Ok LastExactLayer) (Err cutset)
+cut_named word = cond (bytes_eq word (codes "lel")) (Ok LastExactLayer) (cond (bytes_eq word (codes "frontier")) (Ok Frontier) (Err cutset))
 
 abbrev pub cut_of : Option Text → Result CutKind Refusal
 cut_of None = Ok LastExactLayer

@@ -26,6 +26,10 @@ fn lines_and_what_they_ask_for(rt: HostRuntime) -> Result<(), Fail> {
             "Ok(Solve { model: MaxCut, settings: JobSettings { width: Some(64), workers: 2, budget: 9, cutset: LastExactLayer, stats: true }, journal: Some(\"a=b\"), cover_words: Some(50) })",
         ),
         (
+            "resume|j|--cutset=frontier",
+            "Ok(Resume { path: \"j\", settings: JobSettings { width: None, workers: 1, budget: 18446744073709551615, cutset: Frontier, stats: false } })",
+        ),
+        (
             "solve|max2sat|--cover",
             "Ok(Solve { model: MaxTwoSat, settings: DEFAULTS, journal: None, cover_words: Some(67108864) })",
         ),
@@ -59,8 +63,12 @@ fn lines_and_what_they_ask_for(rt: HostRuntime) -> Result<(), Fail> {
             "Err(Number { option: \"width\" })",
         ),
         (
-            "solve|knapsack|--cutset=frontier|--cover-words=x",
+            "solve|knapsack|--cutset=frontie|--cover-words=x",
             "Err(Cutset)",
+        ),
+        (
+            "solve|knapsack|--cutset=frontier|--cover-words=x",
+            "Err(Number { option: \"cover-words\" })",
         ),
         ("generate|tsptw|0|x", "Err(Number { option: \"n\" })"),
         ("generate|knapsack|0|+1", "Err(Number { option: \"seed\" })"),

@@ -78,10 +78,10 @@ pub(crate) fn read_placed(
 fn read_cut(word: &str) -> Result<CutKind, WordsError>
     ensures { IsAnswer (λ c. c) (cut_named word.now) result }
 {
-    if word == "lel" {
-        Ok(CutKind::LastExactLayer)
-    } else {
-        Err(WordsError::Cutset)
+    match word {
+        "lel" => Ok(CutKind::LastExactLayer),
+        "frontier" => Ok(CutKind::Frontier),
+        _ => Err(WordsError::Cutset),
     }
 }
 

@@ -1,5 +1,6 @@
 pub mod StateLemmas
 pub mod Assembled
+pub mod Behind
 pub mod WayLemmas
 pub mod Lost
 pub mod Readings

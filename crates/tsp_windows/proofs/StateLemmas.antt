@@ -141,9 +141,9 @@ pub return_no : (i : Instance) (t : TourState) (d : ℕ) → (((v : ℕ) → v <
 return_no i t d h =
     and_no (nat_eq d 0) _ (no_and (all_below i.nodes (λ v. not (t.must v))) _ (by_cases (all_below i.nodes (λ v. not (t.must v))) (λ a. h (λ v l. not-true (t.must v) (all_below-gives i.nodes (λ v. not (t.must v)) a v l)))))
 
-pub return_some : (i : Instance) (t : TourState) (d way : ℕ) → d ≡ 0 → ((v : ℕ) → t.must v ≡ false) → leg i t d ≡ Some way → nat_le (t.time + way) (closing i d) ≡ may_return i t d
+pub return_some : (i : Instance) (t : TourState) (d way : ℕ) → d ≡ 0 → ((v : ℕ) → v < i.nodes → t.must v ≡ false) → leg i t d ≡ Some way → nat_le (t.time + way) (closing i d) ≡ may_return i t d
 return_some i t d way n e l =
-    sym (ap₂ ◌&&◌ (eq-eqb d 0 n) (ap₂ ◌&&◌ (all_below-from i.nodes (λ v. not (t.must v)) (λ v _. ap not (e v))) (ap (λ o. (is_some o || nat_eq i.nodes 1) && nat_le (t.time + unwrap_or o 0) (closing i d)) l)))
+    sym (ap₂ ◌&&◌ (eq-eqb d 0 n) (ap₂ ◌&&◌ (all_below-from i.nodes (λ v. not (t.must v)) (λ v l. ap not (e v l))) (ap (λ o. (is_some o || nat_eq i.nodes 1) && nat_le (t.time + unwrap_or o 0) (closing i d)) l)))
 
 -- ---- parts as shown
 

@@ -1,6 +1,8 @@
-ghost use Rattle.std.specs.Prelude.{◌≡◌, ◌+◌, ◌*◌, ◌^◌, ◌<◌, ◌≤◌, ◌↔◌, ◌||◌, true, false, IsTrue, IsNone, IfSome, length};
+ghost use Rattle.std.specs.Prelude.{◌≡◌, ◌+◌, ◌*◌, ◌^◌, ◌<◌, ◌≤◌, ◌↔◌, ◌||◌, pos, nat_le, if◌then◌else◌, true, false, Some, None, IsTrue, IsNone, IfSome, is_some, length};
 ghost use Rattle.node_sets.specs.Sets as sets;
 ghost use Rattle.node_sets.specs.Sets.{AreWords, has};
+ghost use Rattle.node_sets.specs.Sums.{count_below};
+ghost use Rattle.tsp_windows.specs.Instance.{closing};
 ghost use Rattle.tsp_windows.specs.States as states;
 ghost use Rattle.tsp_windows.specs.States.{shown, row_for, is_state_row};
 ghost use Rattle.tsp_windows.specs.Apart.{IsApart};
@@ -125,42 +127,104 @@ impl TspWindows {
         self.arrival(s, to).max(self.windows[to].opening)
     }
 
-    /// Whether a node other than 0 that must or may be visited is reached in time.
-    fn may_visit(&self, s: &[i64], to: usize) -> bool
-        requires state { IsTrue (is_state_row self.now.nodes s.now) }
+    /// The arrival at a node, where it is not too late.
+    fn in_time(&self, to: usize, arrival: u64) -> Option<u64>
         requires inside { to < self.now.nodes }
-        ensures { result ≡ states.may_visit (instance_in self.now) (shown (sets.words_for self.now.nodes) s.now) to }
+        requires small { arrival < 2 ^ 62 }
+        ensures { result ≡ (if nat_le arrival (closing (instance_in self.now) to) then Some arrival else None) }
     {
-        let state = parts_of(self.nodes, s);
-        if to == 0 {
-            return false;
-        }
-        let listed = is_listed(state.must, state.may, to);
-        if !listed {
-            return false;
-        }
-        match self.leg(s, to) {
-            Some(way) => state.time + u64::from(way) <= self.windows[to].closing,
-            None => false,
+        if arrival <= self.windows[to].closing {
+            Some(arrival)
+        } else {
+            None
         }
     }
 
-    /// Whether node 0 is reached in time, and no other node must be visited.
-    fn may_return(&self, s: &[i64], to: usize) -> bool
+    /// When a node other than 0 that must or may be visited is reached, or none where it is no such node or is not reached
+    /// in time.
+    fn visited(&self, s: &[i64], to: usize) -> Option<u64>
         requires state { IsTrue (is_state_row self.now.nodes s.now) }
         requires inside { to < self.now.nodes }
-        ensures { result ≡ states.may_return (instance_in self.now) (shown (sets.words_for self.now.nodes) s.now) to }
+        ensures allowed { is_some result ≡ states.may_visit (instance_in self.now) (shown (sets.words_for self.now.nodes) s.now) to }
+        ensures arrival { IfSome result (λ at. at ≡ states.arrival (instance_in self.now) (shown (sets.words_for self.now.nodes) s.now) to) }
+        ensures small { IfSome result (λ at. at < 2 ^ 62) }
     {
+        if to == 0 {
+            return None;
+        }
         let state = parts_of(self.nodes, s);
+        let listed = is_listed(state.must, state.may, to);
+        if !listed {
+            return None;
+        }
+        let way = self.leg(s, to)?;
+        self.in_time(to, state.time + u64::from(way))
+    }
+
+    /// When node 0 is reached again, or none where it is another node, a node is left to be visited or it is not reached in
+    /// time. So many nodes as the rank must be visited.
+    fn returned(&self, s: &[i64], rank: i64, to: usize) -> Option<u64>
+        requires state { IsTrue (is_state_row self.now.nodes s.now) }
+        requires rank { rank ≡ pos (count_below self.now.nodes (shown (sets.words_for self.now.nodes) s.now).must) }
+        requires inside { to < self.now.nodes }
+        ensures allowed { is_some result ≡ states.may_return (instance_in self.now) (shown (sets.words_for self.now.nodes) s.now) to }
+        ensures arrival { IfSome result (λ at. at ≡ states.arrival (instance_in self.now) (shown (sets.words_for self.now.nodes) s.now) to) }
+        ensures small { IfSome result (λ at. at < 2 ^ 62) }
+    {
         if to != 0 {
-            return false;
+            return None;
         }
-        if !is_empty(state.must) {
-            return false;
+        if rank != 0 {
+            return None;
         }
+        let time = parts_of(self.nodes, s).time;
         match self.leg(s, to) {
-            Some(way) => state.time + u64::from(way) <= self.windows[to].closing,
-            None => self.nodes == 1 && state.time <= self.windows[to].closing,
+            Some(way) => self.in_time(to, time + u64::from(way)),
+            None => {
+                if self.nodes == 1 {
+                    self.in_time(to, time)
+                } else {
+                    None
+                }
+            }
+        }
+    }
+
+    /// When the node of a decision is reached, or none where the decision is not allowed.
+    fn reached(&self, k: usize, s: &[i64], rank: i64, to: usize) -> Option<u64>
+        requires layer { k < self.now.nodes }
+        requires state { IsTrue (is_state_row self.now.nodes s.now) }
+        requires rank { rank ≡ pos (count_below self.now.nodes (shown (sets.words_for self.now.nodes) s.now).must) }
+        requires inside { to < self.now.nodes }
+        ensures allowed { is_some result ≡ states.may_go (instance_in self.now) k (shown (sets.words_for self.now.nodes) s.now) to }
+        ensures arrival { IfSome result (λ at. at ≡ states.arrival (instance_in self.now) (shown (sets.words_for self.now.nodes) s.now) to) }
+        ensures small { IfSome result (λ at. at < 2 ^ 62) }
+    {
+        if k + 1 < self.nodes {
+            return self.visited(s, to);
+        }
+        self.returned(s, rank, to)
+    }
+
+    /// How many nodes must be visited.
+    fn left(&self, s: &[i64]) -> i64
+        requires { IsTrue (is_state_row self.now.nodes s.now) }
+        ensures { result ≡ pos (count_below self.now.nodes (shown (sets.words_for self.now.nodes) s.now).must) }
+    {
+        count(parts_of(self.nodes, s).must) as i64
+    }
+
+    /// How many nodes must be visited behind a visit, by how many before it.
+    fn left_behind(&self, s: &[i64], rank: i64, to: usize) -> i64
+        requires state { IsTrue (is_state_row self.now.nodes s.now) }
+        requires rank { rank ≡ pos (count_below self.now.nodes (shown (sets.words_for self.now.nodes) s.now).must) }
+        requires inside { to < self.now.nodes }
+        ensures { result ≡ pos (count_below self.now.nodes (states.moved (instance_in self.now) (shown (sets.words_for self.now.nodes) s.now) to).must) }
+    {
+        if contains(parts_of(self.nodes, s).must, to) {
+            rank - 1
+        } else {
+            rank
         }
     }
 
@@ -201,18 +265,17 @@ fn write_root(out: &mut [i64], model: &TspWindows)
     time[0] = model.windows[0].opening as i64;
 }
 
-/// Writes the state behind a visit. Answers when the node is left at the earliest.
-fn write_moved(out: &mut [i64], model: &TspWindows, s: &[i64], to: usize) -> u64
+/// Writes the state behind a visit, by when the node is left.
+fn write_moved(out: &mut [i64], model: &TspWindows, s: &[i64], to: usize, departure: u64)
     requires cells { length out.old ≡ 3 * sets.words_for model.now.nodes + 1 }
     requires state { IsTrue (is_state_row model.now.nodes s.now) }
     requires inside { to < model.now.nodes }
-    ensures row { out.new ≡ row_for (sets.words_for model.now.nodes) (states.moved (instance_in model.now) (shown (sets.words_for model.now.nodes) s.now) to) }
-    ensures departure { result ≡ states.departure (instance_in model.now) (shown (sets.words_for model.now.nodes) s.now) to }
-    ensures small { result < 2 ^ 62 }
+    requires departure { departure ≡ states.departure (instance_in model.now) (shown (sets.words_for model.now.nodes) s.now) to }
+    requires small { departure < 2 ^ 62 }
+    ensures { out.new ≡ row_for (sets.words_for model.now.nodes) (states.moved (instance_in model.now) (shown (sets.words_for model.now.nodes) s.now) to) }
 {
     let words = words_for(model.nodes);
     let state = parts_of(model.nodes, s);
-    let departure = model.departure(s, to);
     let (positions, rest) = out.split_at_mut(words);
     let (must, rest) = rest.split_at_mut(words);
     let (may, time) = rest.split_at_mut(words);
@@ -220,7 +283,6 @@ fn write_moved(out: &mut [i64], model: &TspWindows, s: &[i64], to: usize) -> u64
     write_without(must, state.must, to);
     write_without(may, state.may, to);
     time[0] = departure as i64;
-    departure
 }
 
 /// Makes a state what it has together with another one.
@@ -276,14 +338,12 @@ impl DpModel for TspWindows {
     }
 
     fn allowed(&self, k: usize, s: &[i64], d: u32) -> bool {
-        if k + 1 < self.nodes {
-            return self.may_visit(s, d as usize);
-        }
-        self.may_return(s, d as usize)
+        self.reached(k, s, self.left(s), d as usize).is_some()
     }
 
     fn step(&self, _k: usize, s: &[i64], d: u32, out: &mut [i64]) {
-        let _ = write_moved(out, self, s, d as usize);
+        let departure = self.departure(s, d as usize);
+        write_moved(out, self, s, d as usize, departure);
     }
 
     fn gain(&self, _k: usize, s: &[i64], d: u32) -> i64 {
@@ -313,14 +373,26 @@ impl DpModel for TspWindows {
     }
 
     fn rank(&self, _k: usize, s: &[i64]) -> i64 {
-        count(parts_of(self.nodes, s).must) as i64
+        self.left(s)
     }
 
-    fn extend(&self, k: usize, s: &[i64], _rank: i64, d: u32, out: &mut [i64]) -> Extended {
-        let departure = write_moved(out, self, s, d as usize);
+    #[inline(always)]
+    fn extend(
+        &self,
+        k: usize,
+        s: &[i64],
+        rank: i64,
+        d: u32,
+        _zeros: usize,
+        out: &mut [i64],
+    ) -> Option<Extended> {
+        let to = d as usize;
+        let arrival = self.reached(k, s, rank, to)?;
+        let departure = arrival.max(self.windows[to].opening);
+        write_moved(out, self, s, to, departure);
         let gain = parts_of(self.nodes, s).time as i64 - departure as i64;
-        let rank = self.rank(k + 1, out);
-        Extended { gain, rank }
+        let rank = self.left_behind(s, rank, to);
+        Some(Extended { gain, rank })
     }
 
     fn bucket(&self, _k: usize, s: &[i64]) -> u64 {

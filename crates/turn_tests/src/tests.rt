@@ -1,4 +1,5 @@
-use crate::{close, count_all, meet, open};
+use crate::{close, count_all, meet, meet_over_board, open, open_board};
+use knapsack::read;
 use std::test::Fail;
 
 #[test]
@@ -12,11 +13,25 @@ fn workers_count_to_the_limit(rt: HostRuntime) -> Result<(), Fail> {
 
 /// What a seat wrote and left, every later holder finds, and the closed turn gives.
 #[test]
-fn two_seats(rt: HostRuntime) -> Result<(), Fail> {
+fn two_seats_over_a_counter(rt: HostRuntime) -> Result<(), Fail> {
     let (turn, mut seats) = open(rt.alloc(), 200, 2)?;
     let found = meet(&rt, &turn, seats.as_mut_slice(), 110);
     assert!(rt; found == Some((Some(110), Some(Some(110)))));
     let counter = close(turn, seats);
     assert!(rt; counter.best() == Some(110));
+    Ok(())
+}
+
+/// The same over a board: what a seat offered and left, both seats find, and the closed turn gives.
+#[test]
+fn two_seats(rt: HostRuntime) -> Result<(), Fail> {
+    let Ok(model) = read(rt.alloc(), "3 10\n60 5\n50 4\n70 6\n".as_bytes()) else {
+        return Err(Fail::from("not an instance"));
+    };
+    let (turn, mut seats) = open_board(rt.alloc(), model)?;
+    let found = meet_over_board(&rt, &turn, seats.as_mut_slice(), &[1, 1, 0]);
+    assert!(rt; found == Some((Some(110), Some(Some(110)))));
+    let board = worker_gate::close(turn, seats);
+    assert!(rt; board.incumbent_value() == Some(110));
     Ok(())
 }

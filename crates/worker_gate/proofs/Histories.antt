@@ -16,7 +16,7 @@ use Rattle.shared_fringe.specs.Firsts.{first_taken}
 use Rattle.shared_fringe.specs.Tickets.{Ticketed}
 use Rattle.search_core.specs.Moves.{NeedsNoJournal, IsStepOf, IsMove}
 use Rattle.search_core.specs.View.{BoardView}
-use Rattle.search_rounds.specs.Later.{IsCauseAfter, IsLater}
+use Rattle.worker_gate.specs.Later.{IsCauseAfter, IsLater}
 
 -- a run after which only want of memory may be a new cause, and there are as many slots
 pub record HasRun (dp : Dp) (b later : BoardState) : Type 0 where

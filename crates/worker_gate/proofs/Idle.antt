@@ -10,7 +10,7 @@ use Rattle.shared_fringe.specs.Tickets.{Ticketed}
 use Rattle.board_laws.specs.Board.{BoardState, slot_of, full_slots}
 use Rattle.search_core.specs.Moves.{out_at}
 use Rattle.search_core.specs.View.{BoardView, Tag}
-use Rattle.search_rounds.specs.Later.{IsLater}
+use Rattle.worker_gate.specs.Later.{IsLater}
 use Rattle.worker_gate.specs.Ready.{IsReady}
 use Rattle.worker_gate.proofs.Histories.{HasRun}
 

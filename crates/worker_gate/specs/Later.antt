@@ -1,17 +1,30 @@
--- What a worker proves of its children before it holds to finish, against the value that its seat has seen.
-use Rattle.std.specs.Prelude.{◌≡◌, ℕ, ℤ, List, Option, Some}
+-- Rounds on a board.
+use Rattle.std.specs.Prelude.{◌≡◌, ◌^◌, ◌≤◌, false, List, Option, Some, None, IsTrue}
+use Rattle.dp_model.specs.Counts.{tree}
 use Rattle.dp_model.specs.Dp.{Dp}
-use Rattle.dp_model.specs.Numbers.{OptionAtMost}
-use Rattle.dp_model.specs.Subproblem.{Subproblem}
-use Rattle.dp_laws.specs.Children.{AreChildren, StandDeep}
-use Rattle.dp_laws.specs.Restricted.Beams.{wide}
+use Rattle.board_laws.specs.Board.{BoardState, is_explored}
+use Rattle.board_laws.specs.Runs.{Step, IsRun}
+use Rattle.board_laws.specs.Taking.{is_budget_up}
+use Rattle.board_laws.specs.declared.cause.Cause.{Cause}
+use Rattle.board_laws.specs.declared.cause.Cause.TheVariants.{Memory}
 
--- it may finish with these children of a diagram of this width and threshold, on each board whose incumbent is no less than what was
--- seen: the threshold is at most that, the children are those of what is out where all that is at most what was seen is left out, and
--- they stand where the diagram is last exact, or deeper
-pub record MayFinishLater (dp : Dp) (width : ℕ) (out : Option (List ℕ)) (seen threshold : Option ℤ) (cs : List Subproblem) : Type 0 where
-  pub decisions : List ℕ
-  pub out_is : out ≡ Some decisions
-  pub below : OptionAtMost threshold seen
-  pub children : AreChildren dp seen decisions cs
-  pub deep : StandDeep (wide dp decisions width threshold) cs
+-- a cause that was held is held still, and where none was held, none is or want of memory
+abbrev pub IsCauseAfter : Option Cause → Option Cause → Type 0
+IsCauseAfter (Some cause) later = later ≡ Some cause
+IsCauseAfter None None = Unit {0}
+IsCauseAfter None (Some cause) = cause ≡ Memory
+
+-- a board some rounds later, which are a run: the slots have what they had, and want of memory is the only new cause
+pub record IsLater (dp : Dp) (b later : BoardState) : Type 0 where
+  pub steps : List Step
+  pub run : IsRun dp b steps later
+  pub slots : later.slots ≡ b.slots
+  pub cause : IsCauseAfter b.cause later.cause
+
+-- no round can follow: where something is open or out and no cause is held, the budget is taken up
+abbrev pub HasEnded : BoardState → Type 0
+HasEnded b = is_explored b ≡ false → b.cause ≡ None → IsTrue (is_budget_up b)
+
+-- where the budget and the tickets suffice for every prefix and no cause is held, nothing is open or out
+abbrev pub IsComplete : Dp → BoardState → Type 0
+IsComplete dp b = tree dp ≤ b.settings.budget → tree dp ≤ 2 ^ 63 → b.cause ≡ None → IsTrue (is_explored b)

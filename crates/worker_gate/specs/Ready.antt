@@ -1,10 +1,10 @@
--- What is asked of a worker's seat and of the subproblem that it takes into.
-use Rattle.std.specs.Prelude.{◌≡◌, ℕ, ◌<◌, ◌≤◌, List, length, Option, Some, None}
+-- What is asked of a worker's seat, and what it has out.
+use Rattle.std.specs.Prelude.{◌≡◌, ℕ, ◌<◌, List, Option, Some, None}
 use Rattle.board_lock.specs.declared.turn.Seat.{Seat}
 use Rattle.board_lock.specs.declared.turn.Turn.{Turn}
 use Rattle.board_lock.specs.Seats.{first_of, out_of, IsSeatOf}
 use Rattle.dp_model.specs.Dp.{Dp}
-use Rattle.dp_model.specs.Subproblem.{Subproblem, SubView, IsOwn}
+use Rattle.dp_model.specs.Subproblem.{Subproblem, IsOwn}
 use Rattle.board_laws.specs.declared.taken.Taken.{Taken}
 use Rattle.board_laws.specs.declared.taken.Taken.TheVariants.{Sub, WaitForOthers, Finished, Halted}
 use Rattle.search_core.specs.View.{BoardView, Tag}
@@ -18,11 +18,6 @@ pub record IsWorker (turn : Turn BoardView Tag) (seat : Seat BoardView) : Type 0
 pub record IsReady (turn : Turn BoardView Tag) (seat : Seat BoardView) : Type 0 where
   pub worker : IsWorker turn seat
   pub nothing_out : out_of seat ≡ None
-
--- the subproblem has room for the decisions of all variables, and a row of the right size
-pub record CanHold (dp : Dp) (h : SubView) : Type 0 where
-  pub decisions : dp.vars ≤ h.room
-  pub cells : length h.subproblem.row ≡ dp.words
 
 -- this subproblem is out, which is a prefix with its own state and value
 pub record IsOut (dp : Dp) (out : Option (List ℕ)) (c : Subproblem) : Type 0 where

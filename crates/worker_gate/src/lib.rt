@@ -1,30 +1,26 @@
-//! Workers over one board behind a turn, each with a seat and a desk of its own.
+//! Branch and bound search by decision diagrams: rounds on a board that one owns, and workers behind a turn.
 //!
-//! It stands on `board_lock` and `search_core`, and on `search_rounds` for the diagrams of a round. Each function of the
-//! `holding` modules holds the turn once, makes one step of the board, and leaves; its contract says what the seat knows then.
-//! What a worker proves against the value that its seat has seen stays enough on any board that it can find later, so a Finish
-//! is never refused for a value or a slot that has changed. `work` is a worker's rounds, `fan_out` the workers side by side,
-//! and `explore_together` a whole search: workers behind the turn, then rounds on the closed board until the search ends, so
-//! that what it gives doesn't rest on how a worker ended.
+//! In a round, a subproblem is taken and its restricted diagram is compiled with the incumbent's value as threshold; the beam is
+//! offered as a solution. Where the width took nothing from that diagram, no completion is better than the threshold and the beam,
+//! so the subproblem is finished without children. Otherwise its relaxed diagram is compiled with the incumbent's value as it is
+//! then; the solution that it finds is offered, and its children are those of the kind that the desk was prepared for.
+//!
+//! The crate has two parts, and a `Desk` is what a round needs in either:
+//!
+//! - `rounds`, on a board that one owns, for worker 0: `explore` does rounds until the search ends.
+//! - `workers`, behind a turn, each with a seat and a desk of its own: `work` is a worker's rounds, `fan_out` the workers side by
+//!   side, and `explore_together` a whole search, which ends with `explore` on the closed board.
 #![tactic(auto)]
 
-mod fanning;
-mod gate;
-mod holding_finish;
-mod holding_give_back;
-mod holding_improve;
-mod holding_take;
-mod offering;
-mod opening;
-mod together;
-mod working;
+mod branched;
+mod desk;
+mod rounds;
+mod workers;
 
-pub use fanning::side_by_side;
-pub use gate::{Gate, NoGate, Step};
-pub use holding_finish::finish_one;
-pub use holding_give_back::give_up;
-pub use holding_improve::improve_one;
-pub use holding_take::{Asked, take_one};
-pub use opening::{close, open};
-pub use together::{explore_together, fan_out};
-pub use working::work;
+pub use branched::Branched;
+pub use desk::Desk;
+pub use rounds::explore;
+pub use workers::{
+    Asked, Gate, NoGate, Step, close, explore_together, fan_out, finish_one, give_up, improve_one,
+    open, side_by_side, take_one, work,
+};

@@ -1,5 +1,5 @@
 use super::prints;
-use crate::run::run;
+use crate::run;
 use dd_io::{MemSink, MemSource};
 use std::alloc::{AllocError, Global};
 use std::process::Abort;

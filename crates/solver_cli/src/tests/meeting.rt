@@ -1,4 +1,4 @@
-use crate::run::run;
+use crate::run;
 use crate::tests::{THREE_ITEMS, words_of};
 use dd_io::{MemSink, MemSource};
 use std::sync::atomic::{AtomicU32, AtomicU64, Ordering};

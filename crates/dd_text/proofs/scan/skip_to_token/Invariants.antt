@@ -4,7 +4,7 @@ use Rattle.dd_text.proofs.scan.skip_to_token.Given as goal
 
 abbrev pub invariant-loop-rest : goal.invariant-loop-rest
 invariant-loop-rest l = record {
-  found : skip l.comment l.inside l.fresh l.place l.rest ≡ skip l.comment false l.fn.from_fresh l.fn.from l.fn.bytes;
+  found : skip l.comment l.inside l.fresh l.place l.rest ≡ skip l.comment false l.fn.from_fresh l.fn.from.place l.fn.from.rest.now;
   countable : IsCountable l.place l.rest;
 }
 

@@ -10,21 +10,21 @@ use Rattle.dominance_table.proofs.dominating.covers.Goals as goal
 laws_of : (g : given.Over) (m : g.row.M.Denot) → IsLawful (g.M.DpModel.meaning (g.M.DpModel.numbers m))
 laws_of g m = (g.met.M.DpModel g.world.𝓛 g.world.𝓜 g.world.𝓡 ((λ s x. x), (λ x. x), (λ x. x), λ x. x)).lawful m
 
-pub returns-then-value-sought : goal.returns-then-value-sought
-returns-then-value-sought g c =
-    let above = to_z-of_z w64 c.args.value c.ranges.value in
+pub returns-then-entry-sought : goal.returns-then-entry-sought
+returns-then-entry-sought g c =
+    let above = to_z-of_z w64 c.args.entry.now.value (search rules) in
     let value : to_z w64 (of_z w64 c.args.sought.now.value) ≡ c.args.sought.now.value = search rules in
-    let test = c.if-value-sought.true in
-    let less : c.args.value <ℤ c.args.sought.now.value = grind (arith, ints) in
-    less_covers (g.M.DpModel.meaning (g.M.DpModel.numbers c.args.model.now)) c.args.sought.now.depth c.args.row.now c.args.sought.now.row.now c.args.value c.args.sought.now.value
-    (laws_of g c.args.model.now) c.requires.row c.requires.state less
+    let test = c.if-entry-sought.true in
+    let less : c.args.entry.now.value <ℤ c.args.sought.now.value = grind (arith, ints) in
+    less_covers (g.M.DpModel.meaning (g.M.DpModel.numbers c.args.model.now)) c.args.sought.now.depth c.args.row.now c.args.sought.now.row.now c.args.entry.now.value c.args.sought.now.value
+    (laws_of g c.args.model.now) c.requires.row.state c.requires.state less
 
 pub returns : goal.returns
 returns g c =
     let dp = g.M.DpModel.meaning (g.M.DpModel.numbers c.args.model.now) in
     let gap = dp.gap c.args.sought.now.depth c.args.row.now c.args.sought.now.row.now in
-    let above = to_z-of_z w64 c.args.value c.ranges.value in
+    let above = to_z-of_z w64 c.args.entry.now.value (search rules) in
     let value : to_z w64 (of_z w64 c.args.sought.now.value) ≡ c.args.sought.now.value = search rules in
     let most = to_z-of_z w64 c.saturating_sub-most.result (record { sfits = c.saturating_sub-most.type_inv }) ∙ (c.saturating_sub-most.ensures ∙ ap₂ (λ a b. saturate_signed w64 (a -ℤ b)) above value) in
     c.is_some.ensures ∙ (ap is_some (c.covers_within.ensures ∙ ap (λ m. within m gap) most)
-    ∙ within_covers dp c.args.sought.now.depth c.args.row.now c.args.sought.now.row.now c.args.value c.args.sought.now.value (laws_of g c.args.model.now) c.requires.row c.requires.state)
+    ∙ within_covers dp c.args.sought.now.depth c.args.row.now c.args.sought.now.row.now c.args.entry.now.value c.args.sought.now.value (laws_of g c.args.model.now) c.requires.row.state c.requires.state)

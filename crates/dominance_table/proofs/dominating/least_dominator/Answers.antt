@@ -1,6 +1,5 @@
 use Rattle.std.proofs.Common.{◌≡◌, ◌+◌, ◌<◌, ◌≤◌, length, take, Some, sym, ◌∙◌, ap, subst, arith}
-use Rattle.dp_model.specs.Gaps.{IsStateOf}
-use Rattle.dominance_table.specs.Dominator.{lesser, dominates, dominator}
+use Rattle.dominance_table.specs.Dominator.{lesser, dominates, dominator, IsReached}
 use Rattle.dominance_table.specs.Entries.{group_fold, entry_at, with_row, with_rows}
 use Rattle.dominance_table.proofs.Walks.{at_start, jumped, past_then, past_else, past_all, state_at, first_is_least}
 use Rattle.dominance_table.proofs.dominating.least_dominator.Goals as goal
@@ -22,7 +21,7 @@ pub dominates-requires-clause-row : goal.dominates-requires-clause-row
 dominates-requires-clause-row g c κs within deep =
     let a = c.args in
     let dp = g.M.DpModel.meaning (g.M.DpModel.numbers a.model.now) in
-    subst (λ r. IsStateOf dp a.sought.now.depth r) (sym c.row_at.ensures)
+    subst (λ r. IsReached dp a.sought.now.depth r (entry_at a.entries.now c.loop-at.at).rank) (sym c.row_at.ensures)
     (state_at dp a.sought.now.depth a.sought.now.row.now a.sought.now.value a.words a.entries.now a.cells.now c.loop-at.at c.loop-at-test.true c.requires.rows deep)
 
 pub returns-then-rising : goal.returns-then-rising

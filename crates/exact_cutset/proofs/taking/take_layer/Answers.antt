@@ -8,4 +8,4 @@ nodes-preserved g c =
     let dp = g.M.DpModel.meaning (g.M.DpModel.numbers c.args.model.now) in
     let d = layers_of c.args.diagram.now in
     let less : c.nodes.node < length (layer_in d c.args.depth) = (let t = c.nodes-test.true in let e = c.nodes-nodes.ensures in omega arith) in
-    takes-further dp d c.args.depth c.nodes.node c.args.out.now c.nodes.out c.offer.new.out less c.nodes.invariant c.offer.ensures
+    takes-further dp d c.args.depth c.nodes.node c.args.out.now c.nodes.out c.offer.new.out less c.nodes.invariant c.offer.ensures.kept

@@ -1,13 +1,11 @@
-use Rattle.std.proofs.Common.{◌≡◌, ℕ, List, map, length, sym, ap, ◌∙◌, subst, arith}
-use Rattle.std.proofs.lemmas.List.{length-map}
+use Rattle.std.proofs.Common.{List, map, sym, ap, ◌∙◌, subst}
 use Rattle.dp_model.specs.Lists.{Each}
 use Rattle.dp_model.proofs.Members.{Each-map, Each-then}
 use Rattle.dp_laws.specs.Diagrams.Nodes.{DdNode}
 use Rattle.dp_laws.specs.Rules.Compiling.{expand}
 use Rattle.layer_nodes.specs.Nodes.{NodeView, shown_layer, without_arcs}
 use Rattle.layer_nodes.specs.Steps.{IsParent}
-use Rattle.layer_build.proofs.Bare.{bare, bare-next, bare-above, shown-bare, bare-twice}
-use Rattle.layer_build.proofs.Shown.{as-below}
+use Rattle.layer_build.proofs.Bare.{bare-next, bare-above, shown-bare, bare-twice}
 use Rattle.layer_build.proofs.stack.expand_newest.Goals as goal
 
 pub expand-requires-clause-nodes : goal.expand-requires-clause-nodes

@@ -3,7 +3,7 @@ use Rattle.layer_candidates.specs.Table.{IsSearched}
 use Rattle.layer_candidates.proofs.table.find.Given as goal
 
 abbrev pub invariant-chain : goal.invariant-chain
-invariant-chain l = IsSearched l.rows l.words l.count l.fold l.folds (length l.heads) l.i
+invariant-chain l = IsSearched l.rows l.words l.live l.count l.fold l.folds (length l.heads) l.i
 
 abbrev pub decreases-chain : goal.decreases-chain
 decreases-chain l = l.i

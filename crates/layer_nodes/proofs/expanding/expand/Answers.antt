@@ -27,7 +27,7 @@ returns-clause-next g c = λ paths.
     let words : A.words ≡ N.words = ap (λ (l : LayerView). l.words) c.above.view_is ∙ (c.requires.above_words ∙ (sym c.requires.next_words ∙ sym (ap (λ (l : LayerView). l.words) c.next.view_is))) in
     let size : length e.new.rows ≡ N.rows.len = search rules in
     let rows = with_items_is N.rows e.new.rows size in
-    let h = expanded-by dp c.args.k A.words _ _ _ _ e.new.above e.new.arcs.items e.new.rows e.new.below.items e.ensures.expanded c.as_slice.ensures.value c.as_mut_slice.ensures.value in
+    let h = expanded-by (expand dp c.args.k) dp c.args.k A.words _ _ _ _ e.new.above e.new.arcs.items e.new.rows e.new.below.items e.ensures.expanded c.as_slice.ensures.value c.as_mut_slice.ensures.value in
     ap₂ (λ w r. shown_below paths (map (node_view w r N.arcs.items) e.new.below.items)) (sym words) rows
     ∙ (h.next_is A.arcs.items N.arcs.items paths ∙ ap (λ l. (expand dp c.args.k (shown_layer paths l)).next) view)
 
@@ -39,7 +39,7 @@ returns-clause-above g c = λ paths.
     let view = ap (λ (l : LayerView). l.nodes) c.above.view_is in
     let size : length e.new.above ≡ A.nodes.len = search rules in
     let nodes = with_items_is A.nodes e.new.above size in
-    let h = expanded-by dp c.args.k A.words _ _ _ _ e.new.above e.new.arcs.items e.new.rows e.new.below.items e.ensures.expanded c.as_slice.ensures.value c.as_mut_slice.ensures.value in
+    let h = expanded-by (expand dp c.args.k) dp c.args.k A.words _ _ _ _ e.new.above e.new.arcs.items e.new.rows e.new.below.items e.ensures.expanded c.as_slice.ensures.value c.as_mut_slice.ensures.value in
     ap (λ l. shown_layer paths (map (node_view A.words A.rows.items e.new.arcs.items) l)) nodes
     ∙ (h.above_is A.arcs.items paths ∙ ap (λ l. (expand dp c.args.k (shown_layer paths l)).above) view)
 
@@ -51,7 +51,7 @@ invariant_of-above g c =
     let e = c.expand_rows in
     let size : length e.new.above ≡ A.nodes.len = search rules in
     let nodes = with_items_is A.nodes e.new.above size in
-    let h = expanded-by dp c.args.k A.words _ _ _ _ e.new.above e.new.arcs.items e.new.rows e.new.below.items e.ensures.expanded c.as_slice.ensures.value c.as_mut_slice.ensures.value in
+    let h = expanded-by (expand dp c.args.k) dp c.args.k A.words _ _ _ _ e.new.above e.new.arcs.items e.new.rows e.new.below.items e.ensures.expanded c.as_slice.ensures.value c.as_mut_slice.ensures.value in
     let count : length A.nodes.items ≡ length c.args.above.now.nodes = sym (length-map A.nodes.items (node_view A.words A.rows.items A.arcs.items)) ∙ ap (λ (l : LayerView). length l.nodes) c.above.view_is in
     let room : N.room ≡ c.args.next.now.nodes_room = ap (λ (l : LayerView). l.nodes_room) c.next.view_is in
     let hold : length A.nodes.items * dp.choices c.args.k ≤ N.room = subst (λ n. n * dp.choices c.args.k ≤ N.room) (sym count) (subst (λ n. length c.args.above.now.nodes * dp.choices c.args.k ≤ n) (sym room) c.requires.nodes_room) in
@@ -77,7 +77,7 @@ invariant_of-next g c =
     let e = c.expand_rows in
     let size : length e.new.rows ≡ N.rows.len = search rules in
     let rows = with_items_is N.rows e.new.rows size in
-    let h = expanded-by dp c.args.k A.words _ _ _ _ e.new.above e.new.arcs.items e.new.rows e.new.below.items e.ensures.expanded c.as_slice.ensures.value c.as_mut_slice.ensures.value in
+    let h = expanded-by (expand dp c.args.k) dp c.args.k A.words _ _ _ _ e.new.above e.new.arcs.items e.new.rows e.new.below.items e.ensures.expanded c.as_slice.ensures.value c.as_mut_slice.ensures.value in
     let count : length A.nodes.items ≡ length c.args.above.now.nodes = sym (length-map A.nodes.items (node_view A.words A.rows.items A.arcs.items)) ∙ ap (λ (l : LayerView). length l.nodes) c.above.view_is in
     let room : N.room ≡ c.args.next.now.nodes_room = ap (λ (l : LayerView). l.nodes_room) c.next.view_is in
     let hold : length A.nodes.items * dp.choices c.args.k ≤ N.room = subst (λ n. n * dp.choices c.args.k ≤ N.room) (sym count) (subst (λ n. length c.args.above.now.nodes * dp.choices c.args.k ≤ n) (sym room) c.requires.nodes_room) in

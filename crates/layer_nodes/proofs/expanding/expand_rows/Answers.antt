@@ -1,5 +1,6 @@
 use Rattle.std.proofs.Common.{rules, ◌≡◌, length, refl, sym, subst, ◌∙◌}
 use Rattle.std.proofs.lemmas.List.{with_items_is}
+use Rattle.dp_laws.specs.Rules.Compiling.{expand}
 use Rattle.layer_nodes.specs.Expanding.{IsExpanded}
 use Rattle.layer_nodes.proofs.Expanded.{whole, arranged-by}
 use Rattle.layer_nodes.proofs.expanding.expand_rows.Goals as goal
@@ -15,6 +16,6 @@ returns-clause-expanded g c =
     c.arrange.new.arcs c.arrange.new.nodes.items c.arrange.ensures.arranged refl refl c.as_slice.ensures.value marks c.as_mut_slice-6.ensures.value in
     let size : length c.arrange.new.arcs ≡ e.new.arcs.len = search rules in
     let led = with_items_is e.new.arcs c.arrange.new.arcs size in
-    subst (λ l. IsExpanded dp a.k a.words a.cells.now a.above.now e.new.nodes l e.new.rows c.arrange.new.nodes.items) (sym led)
-    (whole dp a.k c.requires.layer a.cells.now a.words a.above.now e.new.rows e.new.ways.items e.new.folds e.new.heads e.new.next e.new.marks e.new.arcs.items c.arrange.new.arcs e.new.nodes c.arrange.new.nodes.items
-    e.ensures.joined e.ensures.list e.ensures.tried e.ensures.nodes e.ensures.few e.ensures.arcs_few arranged)
+    subst (λ l. IsExpanded (expand dp a.k) dp a.k a.words a.cells.now a.above.now e.new.nodes l e.new.rows c.arrange.new.nodes.items) (sym led)
+    (whole dp a.k c.requires.layer a.cells.now a.words a.above.now e.new.rows e.new.ways.items e.new.marks e.new.arcs.items c.arrange.new.arcs e.new.nodes c.arrange.new.nodes.items
+    e.ensures.distinct e.ensures.list e.ensures.tried e.ensures.nodes e.ensures.few e.ensures.arcs_few arranged)

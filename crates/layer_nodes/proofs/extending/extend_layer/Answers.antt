@@ -1,4 +1,5 @@
-use Rattle.std.proofs.Common.{rules, ◌≡◌, ◌+◌, ◌*◌, ◌≤◌, ◌++◌, length, take, vec_capacity, mul-le-mul_right, IsTrue, refl, sym, ap, subst, ◌∙◌, arith, length-append}
+use Rattle.std.proofs.Common.{rules, ◌≡◌, ℕ, ◌+◌, ◌*◌, ◌≤◌, ◌++◌, length, take, vec_capacity, mul-le-mul_right, IsTrue, refl, sym, ap, subst, ◌∙◌, arith, length-append}
+use Rattle.dp_model.specs.Decisions.{below}
 use Rattle.layer_candidates.specs.declared.member.Member.{Member}
 use Rattle.layer_candidates.specs.Ways.{IsNear, AreJoined}
 use Rattle.layer_candidates.specs.Extending.{HasRoom, HasExtended}
@@ -26,6 +27,13 @@ try_node-requires-clause-cells g c κs within =
     let m = next-member dp c.args.k c.args.cells.now c.args.words c.args.nodes.now c.nodes.nodes c.nodes.i c.nodes-test.true c.nodes.invariant.spans c.requires.members in
     ap length c.row-s.ensures ∙ (length-row c.args.cells.now c.args.words _ m.within ∙ c.requires.words)
 
+pub try_node-requires-clause-live : goal.try_node-requires-clause-live
+try_node-requires-clause-live g c κs within =
+    let dp = g.M.DpModel.meaning (g.M.DpModel.numbers c.args.model.now) in
+    let m = next-member dp c.args.k c.args.cells.now c.args.words c.args.nodes.now c.nodes.nodes c.nodes.i c.nodes-test.true c.nodes.invariant.spans c.requires.members in
+    let cells = ap length c.row-s.ensures ∙ (length-row c.args.cells.now c.args.words _ m.within ∙ c.requires.words) in
+    subst (λ (n : ℕ). c.first_live-live.result ≤ n) (sym cells) c.first_live-live.ensures.cells
+
 pub try_node-requires-clause-value : goal.try_node-requires-clause-value
 try_node-requires-clause-value g c κs within =
     let dp = g.M.DpModel.meaning (g.M.DpModel.numbers c.args.model.now) in
@@ -43,7 +51,7 @@ try_node-requires-clause-joined g c κs within =
     let dp = g.M.DpModel.meaning (g.M.DpModel.numbers c.args.model.now) in
     let m = next-member dp c.args.k c.args.cells.now c.args.words c.args.nodes.now c.nodes.nodes c.nodes.i c.nodes-test.true c.nodes.invariant.spans c.requires.members in
     let long : length c.row-s.result.now ≡ c.args.words = ap length c.row-s.ensures ∙ length-row c.args.cells.now c.args.words _ m.within in
-    subst (λ n. AreJoined dp (c.args.k + 1) c.nodes.rows n c.nodes.ways.items c.nodes.folds c.nodes.heads c.nodes.next) (sym long) c.nodes.invariant.extended.joined
+    subst (λ n. AreJoined dp (c.args.k + 1) c.nodes.rows n c.first_live-live.result c.nodes.ways.items c.nodes.folds c.nodes.heads c.nodes.next) (sym long) c.nodes.invariant.extended.joined
 
 pub try_node-requires-clause-room : goal.try_node-requires-clause-room
 try_node-requires-clause-room g c κs within =
@@ -81,7 +89,7 @@ span-requires-clause-order g c =
     let m = next-member dp a.k a.cells.now a.words a.nodes.now l.nodes l.i c.nodes-test.true l.invariant.spans c.requires.members in
     let long : length c.row-s.result.now ≡ a.words = ap length c.row-s.ensures ∙ length-row a.cells.now a.words _ m.within in
     let ts = trials_of dp a.k a.cells.now a.words (take l.i a.nodes.now) in
-    let us = trials_by dp a.k c.row-s.result.now (node_in l.nodes l.i).exact (dp.choices a.k) in
+    let us = trials_by dp a.k c.row-s.result.now (node_in l.nodes l.i).exact (below (dp.choices a.k)) in
     let was = subst (λ n. AreTried dp a.k l.rows n (length l.ways.items) ts l.marks l.arcs.items) (sym long) l.invariant.tried in
     let tried = e.ensures.tried ts was in
     let before = length-arcs dp a.k l.rows a.words (length l.ways.items) ts l.arcs.items l.invariant.tried.arcs_are in
@@ -110,7 +118,7 @@ nodes-preserved g c =
     let long : length c.row-s.result.now ≡ a.words = ap length c.row-s.ensures ∙ length-row a.cells.now a.words _ m.within in
     let node = node_in l.nodes l.i in
     let ts = trials_of dp a.k a.cells.now a.words (take l.i a.nodes.now) in
-    let us = trials_by dp a.k c.row-s.result.now node.exact (dp.choices a.k) in
+    let us = trials_by dp a.k c.row-s.result.now node.exact (below (dp.choices a.k)) in
     let was = subst (λ n. AreTried dp a.k l.rows n (length l.ways.items) ts l.marks l.arcs.items) (sym long) l.invariant.tried in
     let tried = e.ensures.tried ts was in
     let before = length-arcs dp a.k l.rows a.words (length l.ways.items) ts l.arcs.items l.invariant.tried.arcs_are in
@@ -118,15 +126,15 @@ nodes-preserved g c =
     let sum = length-append ts us in
     let first : c.len-first.result ≡ length l.arcs.items = search rules in
     let end : c.len.result ≡ length e.new.arcs.items = search rules in
-    let mine : length us ≡ length (trials_at dp a.k a.cells.now a.words node) = ap (λ r. length (trials_by dp a.k r node.exact (dp.choices a.k))) c.row-s.ensures in
+    let mine : length us ≡ length (trials_at dp a.k a.cells.now a.words node) = ap (λ r. length (trials_by dp a.k r node.exact (below (dp.choices a.k)))) c.row-s.ensures in
     let is = c.span.ensures (length us) (omega arith) in
     let more = e.ensures.arcs_few in
     let few = l.invariant.arcs_few in
-    let made = subst (λ (p : Member). HasExtended dp a.k p.step c.row-s.result.now p.value (dp.choices a.k) (length c.row-s.result.now) l.rows l.ways.items e.new.rows e.new.ways.items e.new.folds e.new.heads e.new.next) c.member_of-parent.ensures e.ensures.extended in
+    let made = subst (λ (p : Member). HasExtended dp a.k p.step c.row-s.result.now p.value (below (dp.choices a.k)) (length c.row-s.result.now) c.first_live-live.result l.rows l.ways.items e.new.rows e.new.ways.items e.new.folds e.new.heads e.new.next) c.member_of-parent.ensures e.ensures.extended in
     record {
-      extended = extended-next dp a.k a.cells.now a.words a.nodes.now l.nodes l.i c.nodes-test.true l.invariant.spans c.row-s.result.now l.rows e.new.rows l.ways.items e.new.ways.items l.folds l.heads l.next e.new.folds e.new.heads e.new.next
+      extended = extended-next dp a.k a.cells.now a.words a.nodes.now l.nodes l.i c.nodes-test.true l.invariant.spans c.first_live-live.result c.row-s.result.now l.rows e.new.rows l.ways.items e.new.ways.items l.folds l.heads l.next e.new.folds e.new.heads e.new.next
           l.invariant.extended c.row-s.ensures
-          (subst (λ n. HasExtended dp a.k l.i c.row-s.result.now node.value (dp.choices a.k) n l.rows l.ways.items e.new.rows e.new.ways.items e.new.folds e.new.heads e.new.next) long made);
+          (subst (λ n. HasExtended dp a.k l.i c.row-s.result.now node.value (below (dp.choices a.k)) n c.first_live-live.result l.rows l.ways.items e.new.rows e.new.ways.items e.new.folds e.new.heads e.new.next) long made);
       tried = tried-next dp a.k a.cells.now a.words a.nodes.now l.nodes l.i c.nodes-test.true l.invariant.spans c.row-s.result.now e.new.rows (length e.new.ways.items) e.new.marks e.new.arcs.items c.row-s.ensures
           (subst (λ n. AreTried dp a.k e.new.rows n (length e.new.ways.items) (ts ++ us) e.new.marks e.new.arcs.items) long tried);
       spans = spanned-next dp a.k a.cells.now a.words a.nodes.now l.nodes l.i c.nodes-test.true l.invariant.spans _ c.len-first.result (length us) c.span.new.node (first ∙ before) mine is refl;
@@ -142,4 +150,4 @@ returns-clause-list g c =
     let test = c.nodes-test.false in
     let end = l.auto.i-end in
     let size = length-members 0 a.nodes.now in
-    members-all dp a.k l.i a.cells.now a.words (members_from 0 a.nodes.now) l.rows l.ways.items l.folds l.heads l.next l.invariant.extended (omega arith)
+    members-all dp a.k l.i a.cells.now a.words c.first_live-live.result (members_from 0 a.nodes.now) l.rows l.ways.items l.folds l.heads l.next l.invariant.extended (omega arith)

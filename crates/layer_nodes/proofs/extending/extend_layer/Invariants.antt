@@ -5,7 +5,7 @@ use Rattle.layer_nodes.proofs.extending.extend_layer.Given as goal
 
 abbrev pub invariant-nodes : goal.invariant-nodes
 invariant-nodes g l = record {
-  extended : AreExtended (g.M.DpModel.meaning (g.M.DpModel.numbers l.model)) l.k l.i l.cells l.words (members_from 0 l.fn.nodes) l.rows l.ways.items l.folds l.heads l.next;
+  extended : AreExtended (g.M.DpModel.meaning (g.M.DpModel.numbers l.model)) l.k l.i l.cells l.words l.live (members_from 0 l.fn.nodes) l.rows l.ways.items l.folds l.heads l.next;
   tried : AreTried (g.M.DpModel.meaning (g.M.DpModel.numbers l.model)) l.k l.rows l.words (length l.ways.items) (trials_of (g.M.DpModel.meaning (g.M.DpModel.numbers l.model)) l.k l.cells l.words (take l.i l.fn.nodes)) l.marks l.arcs.items;
   spans : l.nodes ≡ all_spanned (g.M.DpModel.meaning (g.M.DpModel.numbers l.model)) l.k l.cells l.words 0 (take l.i l.fn.nodes) ++ drop l.i l.fn.nodes;
   capacity : vec_capacity l.ways ≡ vec_capacity l.fn.ways;

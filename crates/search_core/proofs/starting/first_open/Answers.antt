@@ -2,7 +2,7 @@ use Rattle.std.proofs.Common.{◌≡◌, Some, ◌∙◌, sym, ap}
 use Rattle.std.specs.Prelude.{option_map}
 use Rattle.dp_model.specs.Laws.{IsLawful}
 use Rattle.dp_model.specs.Subproblem.{SubView}
-use Rattle.board_laws.specs.Steps.{root_of}
+use Rattle.board_laws.specs.Steps.{root_subproblem}
 use Rattle.shared_fringe.specs.Fringe.{FringeView}
 use Rattle.search_core.proofs.Roots.{root-cells}
 use Rattle.search_core.proofs.starting.first_open.Given as given
@@ -14,6 +14,6 @@ laws_of g m = (g.met.M.DpModel g.world.𝓛 g.world.𝓜 g.world.𝓡 ((λ s x. 
 pub push-requires-clause-cells : goal.push-requires-clause-cells
 push-requires-clause-cells g c =
     let dp = g.M.DpModel.meaning (g.M.DpModel.numbers c.args.model.now) in
-    let root : Some c.in-Some.root.subproblem ≡ root_of dp = ap (option_map (λ (r : SubView). r.subproblem)) (sym c.in-Some.is) ∙ c.in_ok-root.ensures.root in
+    let root : Some c.in-Some.root.subproblem ≡ root_subproblem dp = ap (option_map (λ (r : SubView). r.subproblem)) (sym c.in-Some.is) ∙ c.in_ok-root.ensures.root in
     let words = ap (λ (f : FringeView). f.words) (c.in_ok-reserve.ensures.kept ∙ ap (λ (f : FringeView). record f { spare = c.reserve.new.self.spare }) c.new-fringe.ensures) in
     root-cells dp (laws_of g c.args.model.now) c.in-Some.root.subproblem root ∙ sym (words ∙ c.words.ensures)

@@ -1,18 +1,12 @@
-use Rattle.std.proofs.Common.{◌≡◌, ℕ, ◌+◌, ◌-◌, ◌*◌, ◌<◌, ◌≤◌, ℤ, List, [], ◌∷◌, map, length, set, slice_index_or, vec_len, refl, rules, sym, ap, ◌∙◌, subst, arith}
-use Rattle.dp_model.specs.Dp.{Dp}
+use Rattle.std.proofs.Common.{◌≡◌, ℕ, ◌*◌, ◌≤◌, map, length, vec_len, rules, sym, ap, ◌∙◌, subst, arith}
 use Rattle.dp_model.specs.Laws.{IsLawful}
-use Rattle.dp_model.specs.Lists.{Each}
-use Rattle.dp_laws.specs.Diagrams.Nodes.{DdNode}
 use Rattle.dp_laws.specs.Rules.Compiling.{expand}
-use Rattle.layer_nodes.specs.Nodes.{NodeView, LayerView, shown_layer, shown_below, without_arcs}
-use Rattle.layer_build.specs.Layers.{SpaceView, last_depth, last_layer, expand_last}
-use Rattle.layer_build.specs.Stacked.{no_layer, place_of, path_in, shown_down, HaveDepths}
+use Rattle.layer_nodes.specs.Nodes.{NodeView, LayerView}
+use Rattle.layer_build.specs.Layers.{SpaceView, last_depth, expand_last}
+use Rattle.layer_build.specs.Stacked.{place_of}
 use Rattle.layer_build.specs.UnderWay.{IsUnderWay}
-use Rattle.layer_build.proofs.Kept.{expanded-under-way}
-use Rattle.layer_build.proofs.Depths.{depths-expanded, expanded-above, expanded-next}
-use Rattle.layer_build.proofs.Shown.{length-shown, have-paths, ranks-of, length-down}
-use Rattle.layer_build.proofs.Going.{deep, count-seen, last-seen, last_paths, parents-seen, expanded-view, under, low-of, words-seen, fits-seen, narrow-seen, lent, place-within, words-of, expanded-space, expanded-seen, expanded-kept}
-use Rattle.layer_build.proofs.Stacks.{FitsAbove, rooms-set}
+use Rattle.layer_build.proofs.Expansions.{expands}
+use Rattle.layer_build.proofs.Going.{parents-seen, under, low-of, words-seen, fits-seen, narrow-seen, lent, place-within, words-of, expanded-space, expanded-seen, expanded-kept}
 use Rattle.layer_build.proofs.workspace.Workspace.expand_layer.Given as given
 use Rattle.layer_build.proofs.workspace.Workspace.expand_layer.Goals as goal
 
@@ -112,7 +106,7 @@ invariant_of-self g c =
     let u = under dp i c.args.self.now c.self.view_is c.requires.under_way in
     let low = low-of dp i h c.args.self.now c.self.view_is c.requires.under_way c.requires.below in
     let e = c.expand_newest.ensures in
-    expanded-space dp i h u low c.expand_newest.new.above c.expand_newest.new.newest c.place_of-at.result c.expand_newest.new.expansion _ _ c.place_of-at.ensures c.index_mut.ensures.value e.rest e.above e.next e.above_rooms e.next_rooms e.expansion
+    expanded-space dp (expand dp) (expands dp (laws_of g c.args.model.now)) i h u low c.expand_newest.new.above c.expand_newest.new.newest c.place_of-at.result c.expand_newest.new.expansion _ _ c.place_of-at.ensures c.index_mut.ensures.value e.rest e.above e.next e.above_rooms e.next_rooms e.expansion
 
 pub returns-clause-layers : goal.returns-clause-layers
 returns-clause-layers g c =
@@ -121,7 +115,7 @@ returns-clause-layers g c =
     let low = low-of dp i h c.args.self.now c.self.view_is c.requires.under_way c.requires.below in
     let e = c.expand_newest.ensures in
     let n = c.expand_newest.new.newest in
-    let seen = expanded-seen dp i h low c.expand_newest.new.above n c.place_of-at.result c.expand_newest.new.expansion c.place_of-at.ensures e.rest e.above e.next e.next_rooms in
+    let seen = expanded-seen (expand dp) i h low c.expand_newest.new.above n c.place_of-at.result c.expand_newest.new.expansion c.place_of-at.ensures e.rest e.above e.next e.next_rooms in
     seen ∙ ap (λ (s : SpaceView). record s { layers = expand_last (expand dp (last_depth s)) s.layers; ranks = map (λ (node : NodeView). node.rank) n.nodes }) c.self.view_is
 
 pub returns-clause-under_way : goal.returns-clause-under_way
@@ -132,5 +126,5 @@ returns-clause-under_way g c =
     let low = low-of dp i h c.args.self.now c.self.view_is c.requires.under_way c.requires.below in
     let e = c.expand_newest.ensures in
     let n = c.expand_newest.new.newest in
-    let seen = expanded-seen dp i h low c.expand_newest.new.above n c.place_of-at.result c.expand_newest.new.expansion c.place_of-at.ensures e.rest e.above e.next e.next_rooms in
-    subst (IsUnderWay dp) (sym seen) (expanded-kept dp (laws_of g c.args.model.now) i h u low n (narrow-seen i h c.args.self.now c.self.view_is c.requires.narrow) e.next e.ranked e.unmerged e.few)
+    let seen = expanded-seen (expand dp) i h low c.expand_newest.new.above n c.place_of-at.result c.expand_newest.new.expansion c.place_of-at.ensures e.rest e.above e.next e.next_rooms in
+    subst (IsUnderWay dp) (sym seen) (expanded-kept dp (expand dp) (expands dp (laws_of g c.args.model.now)) i h u low n (narrow-seen i h c.args.self.now c.self.view_is c.requires.narrow) e.next e.ranked e.unmerged e.few)

@@ -4,15 +4,27 @@ use Rattle.dp_model.specs.Lists.{Each}
 use Rattle.dp_laws.specs.Restricted.Extensions.{candidates, all_joined}
 use Rattle.layer_candidates.specs.declared.key.Key.{Key}
 use Rattle.layer_candidates.specs.declared.way.Way.{Way}
-use Rattle.layer_candidates.specs.KeyOrder.{keys_of}
 use Rattle.layer_candidates.specs.Layering.{IsEntered}
 use Rattle.layer_candidates.specs.Members.{members_as}
-use Rattle.layer_candidates.specs.Pruning.{IsKeyIn, HasPruned}
+use Rattle.layer_candidates.specs.Pruning.{unstruck_keys, IsKeyIn, HasPruned}
+use Rattle.layer_candidates.specs.Rows.{row_at, HasZeros}
 use Rattle.layer_candidates.specs.Steps.{path_at, step_of, entered, AreBackward, IsReachedWithin}
 use Rattle.layer_candidates.proofs.Descended.{length-entered, entered-within}
 use Rattle.layer_candidates.proofs.Layered.{key-in, whole, kept-places, next-list, next-backward, entered-each}
-use Rattle.layer_candidates.proofs.Sorted.{keys-are, length-keys}
+use Rattle.layer_candidates.proofs.Sorted.{unstruck-are, unstruck-length, unstruck-zeros}
 use Rattle.layer_candidates.proofs.candidates.Candidates.next_layer.Goals as goal
+
+pub sort-requires : goal.sort-requires
+sort-requires g c =
+    let dp = g.M.DpModel.meaning (g.M.DpModel.numbers c.args.model.now) in
+    let a = c.args in
+    let e = c.extend_layer in
+    let ways = e.new.ways.items in
+    let live = c.first_live.result in
+    record {
+      zeros = subst (Each (λ (key : Key). HasZeros live (row_at e.new.rows a.words key.place))) (sym (c.list_unstruck.ensures.keys ∙ ap (unstruck_keys dp (a.k + 1) a.threshold e.new.rows a.words) c.as_slice-2.ensures.value))
+          (unstruck-zeros dp (a.k + 1) a.threshold e.new.rows a.words ways live (λ i less. c.first_live.ensures.zeros (row_at e.new.rows a.words i) (e.ensures.distinct.good i less).state));
+    }
 
 pub prune-more-requires-clause-keys : goal.prune-more-requires-clause-keys
 prune-more-requires-clause-keys g c κs within =
@@ -20,13 +32,12 @@ prune-more-requires-clause-keys g c κs within =
     let a = c.args in
     let e = c.extend_layer in
     let ways = e.new.ways.items in
-    let keys = c.put_in_order.new.keys.items in
-    let ways_are : c.as_slice-2.result.now ≡ ways = c.as_slice-2.ensures.value in
+    let keys = c.sort.new.keys.items in
     let keys_are : c.as_slice-3.result.now ≡ keys = c.as_slice-3.ensures.value in
-    let moved : IsPermutation (keys_of ways) keys = subst (λ l. IsPermutation (keys_of l) keys) ways_are c.put_in_order.ensures.all in
+    let moved : IsPermutation (unstruck_keys dp (a.k + 1) a.threshold e.new.rows a.words ways) keys = subst (λ l. IsPermutation l keys) (c.list_unstruck.ensures.keys ∙ ap (unstruck_keys dp (a.k + 1) a.threshold e.new.rows a.words) c.as_slice-2.ensures.value) c.sort.ensures.all in
     subst (Each (IsKeyIn dp (a.k + 1) e.new.rows a.words)) (sym keys_are)
-    (key-in dp (a.k + 1) e.new.rows a.words ways e.ensures.joined.table.room e.ensures.joined.good keys
-    (keys-are dp (a.k + 1) e.new.rows a.words ways keys e.ensures.joined.apart e.ensures.joined.good moved c.put_in_order.ensures.sorted))
+    (key-in dp (a.k + 1) e.new.rows a.words ways e.ensures.distinct.room e.ensures.distinct.good keys
+    (unstruck-are dp (a.k + 1) a.threshold e.new.rows a.words ways keys moved))
 
 pub prune-more-requires-clause-kept_room : goal.prune-more-requires-clause-kept_room
 prune-more-requires-clause-kept_room g c κs within =
@@ -34,11 +45,11 @@ prune-more-requires-clause-kept_room g c κs within =
     let a = c.args in
     let e = c.extend_layer in
     let ways = e.new.ways.items in
-    let keys = c.put_in_order.new.keys.items in
-    let ways_are : c.as_slice-2.result.now ≡ ways = c.as_slice-2.ensures.value in
+    let keys = c.sort.new.keys.items in
     let keys_are : c.as_slice-3.result.now ≡ keys = c.as_slice-3.ensures.value in
-    let moved : IsPermutation (keys_of ways) keys = subst (λ l. IsPermutation (keys_of l) keys) ways_are c.put_in_order.ensures.all in
-    let size = ap length keys_are ∙ length-keys ways keys moved in
+    let moved : IsPermutation (unstruck_keys dp (a.k + 1) a.threshold e.new.rows a.words ways) keys = subst (λ l. IsPermutation l keys) (c.list_unstruck.ensures.keys ∙ ap (unstruck_keys dp (a.k + 1) a.threshold e.new.rows a.words) c.as_slice-2.ensures.value) c.sort.ensures.all in
+    let size = ap length keys_are in
+    let less = unstruck-length dp (a.k + 1) a.threshold e.new.rows a.words ways keys moved in
     let few : length ways ≤ length a.members.now.items * dp.choices a.k = subst (λ l. length ways ≤ length l * dp.choices a.k) c.as_slice.ensures.value e.ensures.few in
     let hold = c.requires.memory.kept in
     omega arith
@@ -49,15 +60,14 @@ descend-requires-clause-within g c =
     let a = c.args in
     let e = c.extend_layer in
     let ways = e.new.ways.items in
-    let keys = c.put_in_order.new.keys.items in
-    let ways_are : c.as_slice-2.result.now ≡ ways = c.as_slice-2.ensures.value in
+    let keys = c.sort.new.keys.items in
     let keys_are : c.as_slice-3.result.now ≡ keys = c.as_slice-3.ensures.value in
-    let moved : IsPermutation (keys_of ways) keys = subst (λ l. IsPermutation (keys_of l) keys) ways_are c.put_in_order.ensures.all in
+    let moved : IsPermutation (unstruck_keys dp (a.k + 1) a.threshold e.new.rows a.words ways) keys = subst (λ l. IsPermutation l keys) (c.list_unstruck.ensures.keys ∙ ap (unstruck_keys dp (a.k + 1) a.threshold e.new.rows a.words) c.as_slice-2.ensures.value) c.sort.ensures.all in
     let kept = c.prune-more.new.kept.items in
     let list = λ (paths : ℕ → List ℕ). e.ensures.list paths ∙ ap (λ l. all_joined [] (candidates dp a.k (members_as paths a.above.now a.words l))) c.as_slice.ensures.value in
-    let done : HasPruned dp (a.k + 1) a.threshold a.most e.new.rows a.words keys kept c.prune-more.result = subst (λ l. HasPruned dp (a.k + 1) a.threshold a.most e.new.rows a.words l kept c.prune-more.result) keys_are c.prune-more.ensures.pruned in
+    let done : HasPruned dp (a.k + 1) a.most e.new.rows a.words keys kept c.prune-more.result = subst (λ l. HasPruned dp (a.k + 1) a.most e.new.rows a.words l kept c.prune-more.result) keys_are c.prune-more.ensures.pruned in
     subst (λ l. Each (λ (key : Key). key.place < length l) c.as_slice-5.result.now) (sym c.as_slice-4.ensures.value)
-    (subst (Each (λ (key : Key). key.place < length ways)) (sym c.as_slice-5.ensures.value) (kept-places dp a.k a.threshold a.most a.above.now a.words a.members.now.items e.new.rows ways e.new.folds e.new.heads e.new.next keys kept a.steps.now.items c.prune-more.result e.ensures.joined list moved c.put_in_order.ensures.sorted done c.requires.reached))
+    (subst (Each (λ (key : Key). key.place < length ways)) (sym c.as_slice-5.ensures.value) (kept-places dp a.k a.threshold a.most a.above.now a.words a.members.now.items e.new.rows ways keys kept a.steps.now.items c.prune-more.result e.ensures.distinct list moved c.sort.ensures.sorted done c.requires.reached))
 
 pub returns-clause-list : goal.returns-clause-list
 returns-clause-list g c = λ prefix.
@@ -65,17 +75,16 @@ returns-clause-list g c = λ prefix.
     let a = c.args in
     let e = c.extend_layer in
     let ways = e.new.ways.items in
-    let keys = c.put_in_order.new.keys.items in
-    let ways_are : c.as_slice-2.result.now ≡ ways = c.as_slice-2.ensures.value in
+    let keys = c.sort.new.keys.items in
     let keys_are : c.as_slice-3.result.now ≡ keys = c.as_slice-3.ensures.value in
-    let moved : IsPermutation (keys_of ways) keys = subst (λ l. IsPermutation (keys_of l) keys) ways_are c.put_in_order.ensures.all in
+    let moved : IsPermutation (unstruck_keys dp (a.k + 1) a.threshold e.new.rows a.words ways) keys = subst (λ l. IsPermutation l keys) (c.list_unstruck.ensures.keys ∙ ap (unstruck_keys dp (a.k + 1) a.threshold e.new.rows a.words) c.as_slice-2.ensures.value) c.sort.ensures.all in
     let kept = c.prune-more.new.kept.items in
     let list = λ (paths : ℕ → List ℕ). e.ensures.list paths ∙ ap (λ l. all_joined [] (candidates dp a.k (members_as paths a.above.now a.words l))) c.as_slice.ensures.value in
-    let done : HasPruned dp (a.k + 1) a.threshold a.most e.new.rows a.words keys kept c.prune-more.result = subst (λ l. HasPruned dp (a.k + 1) a.threshold a.most e.new.rows a.words l kept c.prune-more.result) keys_are c.prune-more.ensures.pruned in
+    let done : HasPruned dp (a.k + 1) a.most e.new.rows a.words keys kept c.prune-more.result = subst (λ l. HasPruned dp (a.k + 1) a.most e.new.rows a.words l kept c.prune-more.result) keys_are c.prune-more.ensures.pruned in
     let kept_are : c.as_slice-5.result.now ≡ kept = c.as_slice-5.ensures.value in
     let members : c.descend.new.members.items ≡ entered (length a.steps.now.items) kept = c.descend.ensures.members ∙ ap (entered (length a.steps.now.items)) kept_are in
     let steps : c.descend.new.steps.items ≡ a.steps.now.items ++ map (step_of ways) kept = c.descend.ensures.steps ∙ ap₂ (λ (w : List Way) l. a.steps.now.items ++ map (step_of w) l) c.as_slice-4.ensures.value kept_are in
-    ap₂ (λ ss ms. members_as (path_at prefix ss) e.new.rows a.words ms) steps members ∙ next-list dp a.k a.threshold a.most a.above.now a.words a.members.now.items e.new.rows ways e.new.folds e.new.heads e.new.next keys kept a.steps.now.items c.prune-more.result e.ensures.joined list moved c.put_in_order.ensures.sorted done c.requires.reached prefix
+    ap₂ (λ ss ms. members_as (path_at prefix ss) e.new.rows a.words ms) steps members ∙ next-list dp a.k a.threshold a.most a.above.now a.words a.members.now.items e.new.rows ways keys kept a.steps.now.items c.prune-more.result e.ensures.distinct list moved c.sort.ensures.sorted done c.requires.reached prefix
 
 pub returns-clause-more : goal.returns-clause-more
 returns-clause-more g c = λ prefix.
@@ -83,14 +92,13 @@ returns-clause-more g c = λ prefix.
     let a = c.args in
     let e = c.extend_layer in
     let ways = e.new.ways.items in
-    let keys = c.put_in_order.new.keys.items in
-    let ways_are : c.as_slice-2.result.now ≡ ways = c.as_slice-2.ensures.value in
+    let keys = c.sort.new.keys.items in
     let keys_are : c.as_slice-3.result.now ≡ keys = c.as_slice-3.ensures.value in
-    let moved : IsPermutation (keys_of ways) keys = subst (λ l. IsPermutation (keys_of l) keys) ways_are c.put_in_order.ensures.all in
+    let moved : IsPermutation (unstruck_keys dp (a.k + 1) a.threshold e.new.rows a.words ways) keys = subst (λ l. IsPermutation l keys) (c.list_unstruck.ensures.keys ∙ ap (unstruck_keys dp (a.k + 1) a.threshold e.new.rows a.words) c.as_slice-2.ensures.value) c.sort.ensures.all in
     let kept = c.prune-more.new.kept.items in
     let list = λ (paths : ℕ → List ℕ). e.ensures.list paths ∙ ap (λ l. all_joined [] (candidates dp a.k (members_as paths a.above.now a.words l))) c.as_slice.ensures.value in
-    let done : HasPruned dp (a.k + 1) a.threshold a.most e.new.rows a.words keys kept c.prune-more.result = subst (λ l. HasPruned dp (a.k + 1) a.threshold a.most e.new.rows a.words l kept c.prune-more.result) keys_are c.prune-more.ensures.pruned in
-    done.more_stay (path_at prefix a.steps.now.items) ways ∙ ap (λ l. nat_lt a.most (length l)) (whole dp a.k a.threshold a.most a.above.now a.words a.members.now.items e.new.rows ways e.new.folds e.new.heads e.new.next keys kept a.steps.now.items c.prune-more.result e.ensures.joined list moved c.put_in_order.ensures.sorted done c.requires.reached prefix)
+    let done : HasPruned dp (a.k + 1) a.most e.new.rows a.words keys kept c.prune-more.result = subst (λ l. HasPruned dp (a.k + 1) a.most e.new.rows a.words l kept c.prune-more.result) keys_are c.prune-more.ensures.pruned in
+    done.more_stay (path_at prefix a.steps.now.items) ways ∙ ap (λ l. nat_lt a.most (length l)) (whole dp a.k a.threshold a.most a.above.now a.words a.members.now.items e.new.rows ways keys kept a.steps.now.items c.prune-more.result e.ensures.distinct list moved c.sort.ensures.sorted done c.requires.reached prefix)
 
 pub returns-clause-entered : goal.returns-clause-entered
 returns-clause-entered g c =
@@ -98,13 +106,12 @@ returns-clause-entered g c =
     let a = c.args in
     let e = c.extend_layer in
     let ways = e.new.ways.items in
-    let keys = c.put_in_order.new.keys.items in
-    let ways_are : c.as_slice-2.result.now ≡ ways = c.as_slice-2.ensures.value in
+    let keys = c.sort.new.keys.items in
     let keys_are : c.as_slice-3.result.now ≡ keys = c.as_slice-3.ensures.value in
-    let moved : IsPermutation (keys_of ways) keys = subst (λ l. IsPermutation (keys_of l) keys) ways_are c.put_in_order.ensures.all in
+    let moved : IsPermutation (unstruck_keys dp (a.k + 1) a.threshold e.new.rows a.words ways) keys = subst (λ l. IsPermutation l keys) (c.list_unstruck.ensures.keys ∙ ap (unstruck_keys dp (a.k + 1) a.threshold e.new.rows a.words) c.as_slice-2.ensures.value) c.sort.ensures.all in
     let kept = c.prune-more.new.kept.items in
     let list = λ (paths : ℕ → List ℕ). e.ensures.list paths ∙ ap (λ l. all_joined [] (candidates dp a.k (members_as paths a.above.now a.words l))) c.as_slice.ensures.value in
-    let done : HasPruned dp (a.k + 1) a.threshold a.most e.new.rows a.words keys kept c.prune-more.result = subst (λ l. HasPruned dp (a.k + 1) a.threshold a.most e.new.rows a.words l kept c.prune-more.result) keys_are c.prune-more.ensures.pruned in
+    let done : HasPruned dp (a.k + 1) a.most e.new.rows a.words keys kept c.prune-more.result = subst (λ l. HasPruned dp (a.k + 1) a.most e.new.rows a.words l kept c.prune-more.result) keys_are c.prune-more.ensures.pruned in
     let kept_are : c.as_slice-5.result.now ≡ kept = c.as_slice-5.ensures.value in
     let members : c.descend.new.members.items ≡ entered (length a.steps.now.items) kept = c.descend.ensures.members ∙ ap (entered (length a.steps.now.items)) kept_are in
     let steps : c.descend.new.steps.items ≡ a.steps.now.items ++ map (step_of ways) kept = c.descend.ensures.steps ∙ ap₂ (λ (w : List Way) l. a.steps.now.items ++ map (step_of w) l) c.as_slice-4.ensures.value kept_are in
@@ -116,13 +123,12 @@ returns-clause-reached g c =
     let a = c.args in
     let e = c.extend_layer in
     let ways = e.new.ways.items in
-    let keys = c.put_in_order.new.keys.items in
-    let ways_are : c.as_slice-2.result.now ≡ ways = c.as_slice-2.ensures.value in
+    let keys = c.sort.new.keys.items in
     let keys_are : c.as_slice-3.result.now ≡ keys = c.as_slice-3.ensures.value in
-    let moved : IsPermutation (keys_of ways) keys = subst (λ l. IsPermutation (keys_of l) keys) ways_are c.put_in_order.ensures.all in
+    let moved : IsPermutation (unstruck_keys dp (a.k + 1) a.threshold e.new.rows a.words ways) keys = subst (λ l. IsPermutation l keys) (c.list_unstruck.ensures.keys ∙ ap (unstruck_keys dp (a.k + 1) a.threshold e.new.rows a.words) c.as_slice-2.ensures.value) c.sort.ensures.all in
     let kept = c.prune-more.new.kept.items in
     let list = λ (paths : ℕ → List ℕ). e.ensures.list paths ∙ ap (λ l. all_joined [] (candidates dp a.k (members_as paths a.above.now a.words l))) c.as_slice.ensures.value in
-    let done : HasPruned dp (a.k + 1) a.threshold a.most e.new.rows a.words keys kept c.prune-more.result = subst (λ l. HasPruned dp (a.k + 1) a.threshold a.most e.new.rows a.words l kept c.prune-more.result) keys_are c.prune-more.ensures.pruned in
+    let done : HasPruned dp (a.k + 1) a.most e.new.rows a.words keys kept c.prune-more.result = subst (λ l. HasPruned dp (a.k + 1) a.most e.new.rows a.words l kept c.prune-more.result) keys_are c.prune-more.ensures.pruned in
     let kept_are : c.as_slice-5.result.now ≡ kept = c.as_slice-5.ensures.value in
     let members : c.descend.new.members.items ≡ entered (length a.steps.now.items) kept = c.descend.ensures.members ∙ ap (entered (length a.steps.now.items)) kept_are in
     let steps : c.descend.new.steps.items ≡ a.steps.now.items ++ map (step_of ways) kept = c.descend.ensures.steps ∙ ap₂ (λ (w : List Way) l. a.steps.now.items ++ map (step_of w) l) c.as_slice-4.ensures.value kept_are in
@@ -136,13 +142,12 @@ returns-clause-few g c =
     let a = c.args in
     let e = c.extend_layer in
     let ways = e.new.ways.items in
-    let keys = c.put_in_order.new.keys.items in
-    let ways_are : c.as_slice-2.result.now ≡ ways = c.as_slice-2.ensures.value in
+    let keys = c.sort.new.keys.items in
     let keys_are : c.as_slice-3.result.now ≡ keys = c.as_slice-3.ensures.value in
-    let moved : IsPermutation (keys_of ways) keys = subst (λ l. IsPermutation (keys_of l) keys) ways_are c.put_in_order.ensures.all in
+    let moved : IsPermutation (unstruck_keys dp (a.k + 1) a.threshold e.new.rows a.words ways) keys = subst (λ l. IsPermutation l keys) (c.list_unstruck.ensures.keys ∙ ap (unstruck_keys dp (a.k + 1) a.threshold e.new.rows a.words) c.as_slice-2.ensures.value) c.sort.ensures.all in
     let kept = c.prune-more.new.kept.items in
     let list = λ (paths : ℕ → List ℕ). e.ensures.list paths ∙ ap (λ l. all_joined [] (candidates dp a.k (members_as paths a.above.now a.words l))) c.as_slice.ensures.value in
-    let done : HasPruned dp (a.k + 1) a.threshold a.most e.new.rows a.words keys kept c.prune-more.result = subst (λ l. HasPruned dp (a.k + 1) a.threshold a.most e.new.rows a.words l kept c.prune-more.result) keys_are c.prune-more.ensures.pruned in
+    let done : HasPruned dp (a.k + 1) a.most e.new.rows a.words keys kept c.prune-more.result = subst (λ l. HasPruned dp (a.k + 1) a.most e.new.rows a.words l kept c.prune-more.result) keys_are c.prune-more.ensures.pruned in
     let kept_are : c.as_slice-5.result.now ≡ kept = c.as_slice-5.ensures.value in
     let members : c.descend.new.members.items ≡ entered (length a.steps.now.items) kept = c.descend.ensures.members ∙ ap (entered (length a.steps.now.items)) kept_are in
     let steps : c.descend.new.steps.items ≡ a.steps.now.items ++ map (step_of ways) kept = c.descend.ensures.steps ∙ ap₂ (λ (w : List Way) l. a.steps.now.items ++ map (step_of w) l) c.as_slice-4.ensures.value kept_are in
@@ -156,13 +161,12 @@ returns-clause-steps g c =
     let a = c.args in
     let e = c.extend_layer in
     let ways = e.new.ways.items in
-    let keys = c.put_in_order.new.keys.items in
-    let ways_are : c.as_slice-2.result.now ≡ ways = c.as_slice-2.ensures.value in
+    let keys = c.sort.new.keys.items in
     let keys_are : c.as_slice-3.result.now ≡ keys = c.as_slice-3.ensures.value in
-    let moved : IsPermutation (keys_of ways) keys = subst (λ l. IsPermutation (keys_of l) keys) ways_are c.put_in_order.ensures.all in
+    let moved : IsPermutation (unstruck_keys dp (a.k + 1) a.threshold e.new.rows a.words ways) keys = subst (λ l. IsPermutation l keys) (c.list_unstruck.ensures.keys ∙ ap (unstruck_keys dp (a.k + 1) a.threshold e.new.rows a.words) c.as_slice-2.ensures.value) c.sort.ensures.all in
     let kept = c.prune-more.new.kept.items in
     let list = λ (paths : ℕ → List ℕ). e.ensures.list paths ∙ ap (λ l. all_joined [] (candidates dp a.k (members_as paths a.above.now a.words l))) c.as_slice.ensures.value in
-    let done : HasPruned dp (a.k + 1) a.threshold a.most e.new.rows a.words keys kept c.prune-more.result = subst (λ l. HasPruned dp (a.k + 1) a.threshold a.most e.new.rows a.words l kept c.prune-more.result) keys_are c.prune-more.ensures.pruned in
+    let done : HasPruned dp (a.k + 1) a.most e.new.rows a.words keys kept c.prune-more.result = subst (λ l. HasPruned dp (a.k + 1) a.most e.new.rows a.words l kept c.prune-more.result) keys_are c.prune-more.ensures.pruned in
     let kept_are : c.as_slice-5.result.now ≡ kept = c.as_slice-5.ensures.value in
     let members : c.descend.new.members.items ≡ entered (length a.steps.now.items) kept = c.descend.ensures.members ∙ ap (entered (length a.steps.now.items)) kept_are in
     let steps : c.descend.new.steps.items ≡ a.steps.now.items ++ map (step_of ways) kept = c.descend.ensures.steps ∙ ap₂ (λ (w : List Way) l. a.steps.now.items ++ map (step_of w) l) c.as_slice-4.ensures.value kept_are in
@@ -177,14 +181,13 @@ returns-clause-backward g c =
     let a = c.args in
     let e = c.extend_layer in
     let ways = e.new.ways.items in
-    let keys = c.put_in_order.new.keys.items in
-    let ways_are : c.as_slice-2.result.now ≡ ways = c.as_slice-2.ensures.value in
+    let keys = c.sort.new.keys.items in
     let keys_are : c.as_slice-3.result.now ≡ keys = c.as_slice-3.ensures.value in
-    let moved : IsPermutation (keys_of ways) keys = subst (λ l. IsPermutation (keys_of l) keys) ways_are c.put_in_order.ensures.all in
+    let moved : IsPermutation (unstruck_keys dp (a.k + 1) a.threshold e.new.rows a.words ways) keys = subst (λ l. IsPermutation l keys) (c.list_unstruck.ensures.keys ∙ ap (unstruck_keys dp (a.k + 1) a.threshold e.new.rows a.words) c.as_slice-2.ensures.value) c.sort.ensures.all in
     let kept = c.prune-more.new.kept.items in
     let list = λ (paths : ℕ → List ℕ). e.ensures.list paths ∙ ap (λ l. all_joined [] (candidates dp a.k (members_as paths a.above.now a.words l))) c.as_slice.ensures.value in
-    let done : HasPruned dp (a.k + 1) a.threshold a.most e.new.rows a.words keys kept c.prune-more.result = subst (λ l. HasPruned dp (a.k + 1) a.threshold a.most e.new.rows a.words l kept c.prune-more.result) keys_are c.prune-more.ensures.pruned in
+    let done : HasPruned dp (a.k + 1) a.most e.new.rows a.words keys kept c.prune-more.result = subst (λ l. HasPruned dp (a.k + 1) a.most e.new.rows a.words l kept c.prune-more.result) keys_are c.prune-more.ensures.pruned in
     let kept_are : c.as_slice-5.result.now ≡ kept = c.as_slice-5.ensures.value in
     let members : c.descend.new.members.items ≡ entered (length a.steps.now.items) kept = c.descend.ensures.members ∙ ap (entered (length a.steps.now.items)) kept_are in
     let steps : c.descend.new.steps.items ≡ a.steps.now.items ++ map (step_of ways) kept = c.descend.ensures.steps ∙ ap₂ (λ (w : List Way) l. a.steps.now.items ++ map (step_of w) l) c.as_slice-4.ensures.value kept_are in
-    λ back. subst AreBackward (sym steps) (next-backward dp a.k a.threshold a.most a.above.now a.words a.members.now.items e.new.rows ways e.new.folds e.new.heads e.new.next keys kept a.steps.now.items c.prune-more.result e.ensures.joined list moved c.put_in_order.ensures.sorted done c.requires.reached back)
+    λ back. subst AreBackward (sym steps) (next-backward dp a.k a.threshold a.most a.above.now a.words a.members.now.items e.new.rows ways keys kept a.steps.now.items c.prune-more.result e.ensures.distinct list moved c.sort.ensures.sorted done c.requires.reached back)

@@ -1,4 +1,4 @@
-use Rattle.std.proofs.Common.{◌+◌, length, ap, sym, ◌∙◌}
+use Rattle.std.proofs.Common.{◌+◌, length, ap, sym, ◌∙◌, refl}
 use Rattle.max_cut.proofs.StateFacts.{step_facts}
 use Rattle.max_cut.proofs.model.MaxCutDpModel.step.Goals as goal
 
@@ -8,6 +8,7 @@ write_step-requires c =
     record {
       vertex = facts.vertex;
       cells = c.requires.cells ∙ sym facts.long;
+      done = refl;
       weights = ap (λ ws. length ws + (c.args.k + 1)) c.row.ensures ∙ facts.weights;
       benefit_sizes = facts.size;
       weight_sizes = rw c.row.ensures facts.row;

@@ -1,10 +1,18 @@
-use Rattle.std.proofs.Common.{arith}
-use Rattle.std.proofs.lemmas.Int.{ints}
+use Rattle.std.proofs.Common.{arith, w64, sym, ◌∙◌}
+use Rattle.std.proofs.lemmas.Int.{ints, to_z-of_z}
 use Rattle.max_two_sat.specs.Model.{instance_in}
+use Rattle.max_two_sat.specs.SizeLaws.{rank_of-state}
 use Rattle.max_two_sat.proofs.Layers.{layer-has, same-state}
+use Rattle.max_two_sat.proofs.Writing.{tail-is}
 use Rattle.max_two_sat.proofs.model.MaxTwoSatDpModel.rank.Goals as goal
 
 pub rank-requires : goal.rank-requires
 rank-requires c =
     let i = instance_in c.args.self.now in
-    omega (arith, ints, (layer-has i c.args._k c.args.s.now c.args.self.now.kept (same-state i c.args._k c.args.s.now c.requires)).whole_rank)
+    rw tail-is (omega (arith, ints, (layer-has i c.args.k c.args.s.now c.args.self.now.kept (same-state i c.args.k c.args.s.now c.requires)).rank))
+
+pub returns : goal.returns
+returns c =
+    let i = instance_in c.args.self.now in
+    to_z-of_z w64 c.rank.result (record { sfits = c.rank.type_inv })
+    ∙ ((rw (tail-is c.args.k c.args.s.now) at c.rank.ensures) ∙ sym (rank_of-state i c.args.k c.args.s.now (same-state i c.args.k c.args.s.now c.requires)))

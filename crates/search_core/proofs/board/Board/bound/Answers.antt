@@ -2,7 +2,7 @@ use Rattle.std.proofs.Common.{◌++◌, ap, sym, ◌∙◌, subst, List, ℕ}
 use Rattle.dp_model.specs.Numbers.{AtMost}
 use Rattle.dp_model.specs.Prefixes.{IsSolution, value_of}
 use Rattle.board_laws.specs.Board.{full_slots, reach}
-use Rattle.board_laws.specs.Bound.{raised_by, bound_of, IsGreatest}
+use Rattle.board_laws.specs.Bound.{raised_by, board_bound, IsGreatestBound}
 use Rattle.board_laws.proofs.Reading.{raised-append, bound-greatest, bound-holds}
 use Rattle.search_core.specs.View.{BoardView}
 use Rattle.search_core.proofs.board.Board.bound.Goals as goal
@@ -15,15 +15,15 @@ returns-clause-bound g c =
     ∙ (ap (λ m. raised_by m os) (c.raised_by_slots-most.ensures ∙ ap (λ slots. raised_by c.reach.result (full_slots slots)) c.as_slice.ensures.value)
     ∙ (raised-append c.reach.result full os
     ∙ (ap (λ m. raised_by m (full ++ os)) (c.reach.ensures ∙ ap (λ (v : BoardView). reach v.board) (sym c.self.view_is))
-    ∙ ap (λ (v : BoardView). bound_of v.board) c.self.view_is)))
+    ∙ ap (λ (v : BoardView). board_bound v.board) c.self.view_is)))
 
 pub returns-clause-greatest : goal.returns-clause-greatest
 returns-clause-greatest g c =
-    subst (λ m. IsGreatest c.args.self.now.board m) (sym (returns-clause-bound g c)) (bound-greatest c.args.self.now.board)
+    subst (λ m. IsGreatestBound c.args.self.now.board m) (sym (returns-clause-bound g c)) (bound-greatest c.args.self.now.board)
 
 pub returns-clause-holds : goal.returns-clause-holds
 returns-clause-holds g c =
     let is = returns-clause-bound g c in
     subst (λ m. (x : List ℕ) → IsSolution (g.M.DpModel.meaning c.args.self.now.numbers) x → AtMost (value_of (g.M.DpModel.meaning c.args.self.now.numbers) x) m) (sym is)
-    (subst (λ (v : BoardView). (x : List ℕ) → IsSolution (g.M.DpModel.meaning v.numbers) x → AtMost (value_of (g.M.DpModel.meaning v.numbers) x) (bound_of v.board)) c.self.view_is
+    (subst (λ (v : BoardView). (x : List ℕ) → IsSolution (g.M.DpModel.meaning v.numbers) x → AtMost (value_of (g.M.DpModel.meaning v.numbers) x) (board_bound v.board)) c.self.view_is
     (bound-holds _ _ c.self.invariant.good))

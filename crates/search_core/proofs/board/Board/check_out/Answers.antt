@@ -1,15 +1,16 @@
-use Rattle.std.proofs.Common.{◌≡◌, length, Some, None, sym, ◌∙◌, ap, subst, arith}
+use Rattle.std.proofs.Common.{◌≡◌, Some, None, sym, ◌∙◌, ap, subst, arith}
 use Rattle.std.proofs.lemmas.Option.{slice_get_within}
 use Rattle.std.specs.Arc.{arc_value}
 use Rattle.std.specs.List.{slice_get}
 use Rattle.std.specs.Prelude.{option_map}
 use Rattle.dp_model.specs.Laws.{IsLawful}
+use Rattle.shared_fringe.specs.Firsts.{IsFirst}
 use Rattle.shared_fringe.specs.Tickets.{Ticketed}
-use Rattle.board_laws.specs.Taking.{take_gives, IsFirst, HasFirst}
+use Rattle.board_laws.specs.Taking.{take_gives, HasFirst}
 use Rattle.board_laws.specs.declared.taken.Taken.TheVariants.{Sub}
-use Rattle.board_laws.proofs.Firsts.{first_taken-is}
+use Rattle.shared_fringe.proofs.Takings.{first_taken-is}
 use Rattle.search_core.specs.View.{BoardView}
-use Rattle.search_core.proofs.Keeping.{take-kept, take-copies, take-some, slot-set}
+use Rattle.search_core.proofs.Keeping.{take-kept, take-copies, slot-set}
 use Rattle.search_core.proofs.board.Board.check_out.Given as given
 use Rattle.search_core.proofs.board.Board.check_out.Goals as goal
 

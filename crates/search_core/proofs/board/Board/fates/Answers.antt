@@ -1,14 +1,14 @@
-use Rattle.std.proofs.Common.{◌≡◌, ◌≤◌, length, sym, ◌∙◌, ap, subst, arith}
+use Rattle.std.proofs.Common.{length, sym, subst}
 use Rattle.std.specs.Arc.{arc_value}
 use Rattle.dp_model.specs.Gaps.{IsStateOf}
 use Rattle.dp_model.specs.Laws.{IsLawful}
 use Rattle.dp_model.specs.Lists.{Each}
 use Rattle.dp_model.specs.Subproblem.{SubView, IsOwn}
+use Rattle.dominance_table.specs.Dominator.{IsReached}
 use Rattle.dominance_table.specs.Entries.{TableEntry}
-use Rattle.board_laws.specs.Board.{full_slots}
 use Rattle.search_core.specs.Contents.{contents}
 use Rattle.search_core.specs.View.{BoardView}
-use Rattle.search_core.proofs.Keeping.{children-cells, children-states, entry-states, full-fits}
+use Rattle.search_core.proofs.Keeping.{children-cells, children-states, entries-reached, full-fits}
 use Rattle.search_core.proofs.board.Board.fates.Given as given
 use Rattle.search_core.proofs.board.Board.fates.Goals as goal
 
@@ -28,4 +28,4 @@ decide_all-requires-clause-states g c κs _ =
 
 pub decide_all-requires-clause-entries : goal.decide_all-requires-clause-entries
 decide_all-requires-clause-entries g c κs _ =
-    subst (λ m. Each (λ (e : TableEntry). IsStateOf (g.M.DpModel.meaning (g.M.DpModel.numbers m)) e.depth e.row) c.self.inside.table.entries) (sym c.deref.ensures) (entry-states _ _ c.self.invariant.board)
+    subst (λ m. Each (λ (e : TableEntry). IsReached (g.M.DpModel.meaning (g.M.DpModel.numbers m)) e.depth e.row e.rank) c.self.inside.table.entries) (sym c.deref.ensures) (entries-reached _ _ c.self.invariant.board)

@@ -1,16 +1,14 @@
-use Rattle.std.proofs.Common.{◌≡◌, ℕ, ◌+◌, ◌<◌, ◌≤◌, ◌^◌, refl, length, sym, ◌∙◌, ap, subst, arith, rules, map}
+use Rattle.std.proofs.Common.{◌≡◌, ◌<◌, ◌≤◌, ◌^◌, refl, length, sym, ◌∙◌, ap, subst, arith, rules, map}
 use Rattle.std.specs.Arc.{arc_value}
 use Rattle.dp_model.specs.Gaps.{IsStateOf}
 use Rattle.dp_model.specs.Laws.{IsLawful}
 use Rattle.dp_model.specs.Lists.{Each}
-use Rattle.dp_model.specs.Subproblem.{SubView, IsOwn}
-use Rattle.dominance_table.specs.Entries.{TableView}
+use Rattle.dp_model.specs.Subproblem.{SubView}
 use Rattle.board_laws.specs.Entering.{entering, entry_of}
 use Rattle.board_laws.specs.Finishing.{MayFinish}
 use Rattle.board_laws.specs.Pushes.{put_each}
 use Rattle.board_laws.specs.Steps.{finished_by}
 use Rattle.search_core.specs.Contents.{contents}
-use Rattle.search_core.specs.Kept.{HasRows}
 use Rattle.search_core.specs.View.{BoardView}
 use Rattle.search_core.proofs.Keeping.{contents-many, children-cells, children-states, children-own, fates-threaded, fates-long, open-given, finish-step, finish-kept, finish-fits}
 use Rattle.search_core.proofs.board.Board.finish.Given as given

@@ -1,6 +1,5 @@
-use Rattle.std.proofs.Common.{◌≡◌, length, Some, sym, ◌∙◌, ap, subst, arith}
+use Rattle.std.proofs.Common.{sym, ◌∙◌, ap, subst}
 use Rattle.std.specs.Arc.{arc_value}
-use Rattle.std.specs.List.{slice_get}
 use Rattle.std.specs.Prelude.{IsSome}
 use Rattle.dp_model.specs.Laws.{IsLawful}
 use Rattle.board_laws.specs.Board.{reach, slot_at}

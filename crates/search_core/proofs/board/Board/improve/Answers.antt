@@ -1,9 +1,8 @@
-use Rattle.std.proofs.Common.{◌≡◌, ℤ, ◌+ℤ◌, Some, length, sym, ◌∙◌, ap, subst, FitsSigned, to_z, of_z, w64, arith, rules}
+use Rattle.std.proofs.Common.{◌+ℤ◌, sym, ◌∙◌, ap, subst, FitsSigned, to_z, of_z, w64, rules}
 use Rattle.std.proofs.lemmas.Int.{to_z-of_z}
 use Rattle.std.specs.Arc.{arc_value}
 use Rattle.dp_model.specs.Laws.{IsLawful}
 use Rattle.dp_model.specs.Numbers.{is_above}
-use Rattle.dp_model.specs.Prefixes.{value_of}
 use Rattle.dp_model.specs.Solution.{IsSolutionWith}
 use Rattle.shared_fringe.specs.Tickets.{above_value}
 use Rattle.board_laws.specs.Improving.{after_offer}

@@ -1,4 +1,4 @@
-use Rattle.std.proofs.Common.{◌≡◌, Option, Some, ℤ, ◌+ℤ◌, sym, ◌∙◌, ap, subst, FitsSigned, w64, rules}
+use Rattle.std.proofs.Common.{Some, sym, ◌∙◌, ap, FitsSigned, w64, rules}
 use Rattle.std.specs.Arc.{arc_value}
 use Rattle.dp_model.specs.Laws.{IsLawful}
 use Rattle.board_laws.specs.Board.{reach_of, reach}

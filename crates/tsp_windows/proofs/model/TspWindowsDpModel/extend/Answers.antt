@@ -1,30 +1,30 @@
-use Rattle.std.proofs.Common.{◌≡◌, ℕ, ◌+◌, ◌<◌, ◌≤◌, ℤ, List, IsTrue, sym, subst, arith}
+use Rattle.std.proofs.Common.{rules, ◌≡◌, ◌<◌, pos, ◌-ℤ◌, max, arith, sym, subst, ap, ap₂, ◌∙◌, to_z, of_z, w64}
+use Rattle.std.specs.Prelude.{IsTrue}
+use Rattle.std.proofs.lemmas.List.{get_or_read}
+use Rattle.node_sets.specs.Sums.{count_below}
 use Rattle.node_sets.specs.Sets.{words_for}
-use Rattle.dp_model.specs.Dp.{Dp}
-use Rattle.dp_model.specs.Gaps.{IsStateOf}
-use Rattle.tsp_windows.specs.Instance.{Instance, numbers_of}
-use Rattle.tsp_windows.specs.Instances.{lawful_numbers}
-use Rattle.tsp_windows.specs.Program.{program}
+use Rattle.tsp_windows.specs.Instance.{Instance, Window, no_window}
 use Rattle.tsp_windows.specs.Shown.{instance_in}
-use Rattle.tsp_windows.specs.States.{shown, row_for, moved}
+use Rattle.tsp_windows.specs.States.{TourState, departure, shown, row_for, moved, is_state_row}
+use Rattle.tsp_windows.specs.ProgramLaws.{state_row-gives}
+use Rattle.tsp_windows.specs.Rows.{shown-row_for, words_enough}
+use Rattle.tsp_windows.specs.Tours.{moved-bounded}
+use Rattle.tsp_windows.proofs.Behind.{gain_is, read_count}
 use Rattle.tsp_windows.proofs.model.TspWindowsDpModel.extend.Goals as goal
 
-here : {k n : ℕ} → k < n → k ≤ n
-here h = omega arith
-
-next : {k n : ℕ} → k < n → k + 1 ≤ n
-next h = omega arith
-
-pub rank-rank-requires : goal.rank-rank-requires
-rank-rank-requires c =
+pub returns-clause-extended : goal.returns-clause-extended
+returns-clause-extended c =
     let m = c.args.self.now in
-    let dp : Dp = program (numbers_of (instance_in m)) in
-    let laws = lawful_numbers (instance_in m) m.small m.spelled in
-    let state : IsStateOf dp c.args.k c.args.s.now = record { layer = here c.requires.allowed.layer; test = c.requires.state } in
-    let after = laws.states.step c.args.k c.args.s.now c.args.d state c.requires.allowed in
-    let row : c.write_moved-departure.new.out ≡ dp.step c.args.k c.args.s.now c.args.d =
-    subst (λ (i : Instance). c.write_moved-departure.new.out ≡ row_for (words_for i.nodes) (moved i (shown (words_for i.nodes) c.args.s.now) c.args.d)) (sym m.spelled) c.write_moved-departure.ensures.row in
-    record {
-      layer = next c.requires.allowed.layer;
-      test = subst (λ (r : List ℤ). IsTrue (dp.is_state (c.args.k + 1) r)) (sym row) after;
-    }
+    let i = instance_in m in
+    let state : TourState = shown (words_for m.nodes) c.args.s.now in
+    let behind : TourState = moved i state c.args.d in
+    let inside : c.args.d < m.nodes = subst (λ (j : Instance). c.args.d < j.nodes) m.spelled c.requires.decision in
+    let leaves : c.max-departure.result ≡ departure i state c.args.d =
+    c.max-departure.ensures ∙ ap₂ max c.in_ok-arrival.ensures.arrival (ap (λ (w : Window). w.opening) (get_or_read m.windows.items c.args.d _ (omega (arith, m.each_window, inside)) c.index.ensures no_window)) in
+    let bounded = moved-bounded i state c.args.d inside (state_row-gives m.nodes c.args.s.now (subst (λ (j : Instance). IsTrue (is_state_row j.nodes c.args.s.now)) m.spelled c.requires.state)).bounded in
+    let shows : shown (words_for m.nodes) (row_for (words_for m.nodes) behind) ≡ behind = shown-row_for (words_for m.nodes) m.nodes behind (words_enough m.nodes) bounded in (
+      subst (λ (j : Instance). to_z w64 (of_z w64 (to_z w64 c.parts_of.result.time -ℤ to_z w64 c.max-departure.result)) ≡ pos (shown (words_for j.nodes) c.args.s.now).time -ℤ pos (departure j (shown (words_for j.nodes) c.args.s.now) c.args.d)) (sym m.spelled)
+          (gain_is state.time (departure i state c.args.d) c.parts_of.ensures.time c.parts_of.ensures.early leaves (search rules)),
+      subst (λ (j : Instance). to_z w64 (of_z w64 c.left_behind-rank.result) ≡ pos (count_below j.nodes (shown (words_for j.nodes) (row_for (words_for j.nodes) (moved j (shown (words_for j.nodes) c.args.s.now) c.args.d))).must)) (sym m.spelled)
+          (read_count c.left_behind-rank.result m.nodes behind.must c.left_behind-rank.ensures m.few ∙ ap (λ (t : TourState). pos (count_below m.nodes t.must)) (sym shows)),
+    )

@@ -1,0 +1,105 @@
+//! A table at its limit, and which states of the knapsack an entry dominates.
+
+ghost use Rattle.std.specs.Prelude.{◌≡◌, ◌<◌, ℕ, [], length, true};
+ghost use Rattle.dp_model.specs.Gaps.{IsStateOf};
+ghost use Rattle.dominance_table.specs.Dominator.{AreStates};
+
+use dominance_table::{Put, Table};
+use dp_model::{DpModel, OutOfMemory};
+use knapsack::Knapsack;
+use std::alloc::Global;
+use std::process::Abort;
+use std::test::Fail;
+
+/// A depth, a room that is left there, and the value that it is reached with.
+type Reached = (usize, i64, i64);
+
+/// Three items in a room of 10.
+fn three_items(rt: &impl Abort, alloc: Global) -> Knapsack {
+    let model = knapsack::read(alloc, b"3 10\n60 5\n50 4\n70 6\n");
+    assert!(rt; model.is_ok(), "the three items");
+    model.expect(rt, "the three items")
+}
+
+/// Whether the row is a state of the depth.
+fn is_state<M: DpModel>(model: &M, depth: usize, row: &[i64]) -> bool
+    ensures { result ≡ true → IsStateOf (M.meaning (M.numbers model.now)) depth row.now }
+{
+    depth <= model.vars() && row.len() == model.words() && model.is_state(depth, row)
+}
+
+/// Puts the state into an empty table under ticket 1, with its rank or without.
+fn put_first<M: DpModel>(
+    model: &M,
+    table: &mut Table,
+    depth: usize,
+    row: &[i64],
+    value: i64,
+    ranked: bool,
+)
+    requires empty { table.old.entries ≡ [] }
+    requires limit { table.old.limit ≡ 1 }
+    requires room { 0 < table.old.spare }
+    requires cells { length row.now ≡ table.old.words }
+    requires state { IsStateOf (M.meaning (M.numbers model.now)) depth row.now }
+    ensures { (k : ℕ) → AreStates (M.meaning (M.numbers model.now)) k table.new.entries }
+{
+    if ranked {
+        table.put_state(model, depth, row, value, 1);
+        return;
+    }
+    table.put(depth, model.bucket(depth, row), row, value, 1);
+}
+
+/// The dominator of the second state where the table has the first one alone, under ticket 1, with its rank or without.
+fn dominator_beside<M: DpModel>(
+    rt: &impl Abort,
+    alloc: Global,
+    model: &M,
+    entry: Reached,
+    ranked: bool,
+    sought: Reached,
+) -> Result<Option<u64>, OutOfMemory> {
+    let (depth, left, value) = entry;
+    let row = [left];
+    assert!(rt; is_state(model, depth, &row), "{entry:?}");
+    let mut table = Table::new(alloc, 1, 1);
+    table.reserve(1)?;
+    put_first(model, &mut table, depth, &row, value, ranked);
+    let (depth, left, value) = sought;
+    let row = [left];
+    assert!(rt; is_state(model, depth, &row), "{sought:?}");
+    Ok(table.dominator(model, depth, &row, value))
+}
+
+#[test]
+fn states_with_no_more_room_and_no_more_value_are_dominated(rt: HostRuntime) -> Result<(), Fail> {
+    let model = three_items(&rt, rt.alloc());
+    let cases: &[(Reached, Option<u64>)] = &[
+        ((1, 4, 60), Some(1)),
+        ((1, 5, 60), Some(1)),
+        ((1, 5, 61), None),
+        ((1, 6, 60), None),
+        ((2, 4, 60), None),
+    ];
+    for (sought, want) in cases.iter().copied() {
+        for ranked in [false, true] {
+            let by = dominator_beside(&rt, rt.alloc(), &model, (1, 5, 60), ranked, sought)?;
+            assert_eq!(rt; by, want, "at {sought:?} {ranked}");
+        }
+    }
+    Ok(())
+}
+
+#[test]
+fn puts_up_to_the_limit(rt: HostRuntime) -> Result<(), Fail> {
+    let mut table = Table::new(rt.alloc(), 1, 1);
+    assert_eq!(rt; table.spare(), 0);
+    table.reserve(1)?;
+    assert!(rt; table.spare() > 0 && table.words() == 1);
+    assert_eq!(rt; table.put(1, 0, &[5], 60, 1), Put::Yes);
+    assert!(rt; table.len() == table.limit() as usize && table.words() == 1);
+    assert_eq!(rt; table.put(1, 0, &[10], 0, 2), Put::AtLimit);
+    assert_eq!(rt; table.len(), 1);
+    Ok(())
+}

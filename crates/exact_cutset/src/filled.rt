@@ -1,0 +1,91 @@
+ghost use Rattle.std.specs.Prelude.{◌≡◌, ◌<◌, ◌≤◌, Some, length, option_map, slice_get, IfOk};
+ghost use Rattle.dp_laws.specs.Diagrams.Cutsets.{children_at, children_of, found_in};
+ghost use Rattle.relaxed_dd.specs.Shown.{layers_of, width_of, IsDiagramOf};
+ghost use Rattle.exact_cutset.specs.Prepared.{IsPreparedFor};
+ghost use Rattle.exact_cutset.specs.Seen.{ShowsSolution, subproblems};
+
+use crate::listed::Listed;
+use crate::taking::take;
+use dp_model::{CutKind, DpModel, Found, OutOfMemory, Sub};
+use relaxed_dd::Diagram;
+use std::alloc::Global;
+use std::marker::Model;
+
+/// The children of a diagram, in order, and the solution that it finds. Its memory is made once and used again.
+#[derive(Debug, Drop)]
+pub struct Children {
+    pub(crate) list: Listed,
+    // of the nodes of a layer, and of the one above it, whether a child may still stand below
+    pub(crate) above: Vec<bool>,
+    pub(crate) here: Vec<bool>,
+}
+
+impl Model for Children {
+    ghost use Rattle.std.specs.Prelude.{◌≤◌, vec_capacity};
+    ghost use Rattle.exact_cutset.specs.Seen.{ChildrenView};
+
+    ghost Value = { ChildrenView };
+
+    ghost view = { λ c. c.list };
+
+    ghost invariant = { λ c. (c.list.wide ≤ vec_capacity c.above) × (c.list.wide ≤ vec_capacity c.here) };
+}
+
+impl Children {
+    /// Fills the list with the children of a diagram and with the solution that it finds.
+    pub(crate) fn fill<M: DpModel>(&mut self, model: &M, diagram: &Diagram, kind: CutKind)
+        requires diagram { IsDiagramOf (M.meaning (M.numbers model.now)) diagram.now }
+        requires prepared { IsPreparedFor (M.meaning (M.numbers model.now)) (width_of diagram.now) kind self.old }
+        ensures { self.new ≡ record self.old {
+          places = children_at (M.meaning (M.numbers model.now)) (layers_of diagram.now) kind;
+          subs = children_of (M.meaning (M.numbers model.now)) (layers_of diagram.now) kind;
+          found = found_in (M.meaning (M.numbers model.now)) (layers_of diagram.now);
+        } }
+    {
+        take(
+            model,
+            diagram,
+            kind,
+            &mut self.above,
+            &mut self.here,
+            &mut self.list,
+        );
+    }
+
+    /// How many children there are.
+    pub fn len(&self) -> usize
+        ensures { result ≡ length self.now.places }
+    {
+        self.list.len()
+    }
+
+    /// The depth and the place of a child's node in the diagram.
+    pub fn node(&self, i: usize) -> (usize, usize)
+        requires { i < length self.now.places }
+        ensures { option_map (λ c. (c.depth, c.place)) (slice_get self.now.places i) ≡ Some result }
+    {
+        self.list.node(i)
+    }
+
+    /// A bound on the completions of a child.
+    pub fn bound(&self, i: usize) -> i64
+        requires { i < length self.now.places }
+        ensures { option_map (λ c. c.bound) (slice_get self.now.places i) ≡ Some result }
+    {
+        self.list.bound(i)
+    }
+
+    /// The solution that the diagram finds, or none where its last layer has no exact node.
+    pub fn found(&self) -> Option<Found<'_>>
+        ensures { ShowsSolution self.now.found result }
+    {
+        self.list.found()
+    }
+
+    /// The children as subproblems of their own, in order.
+    pub fn subs(&self, alloc: Global) -> Result<Vec<Sub>, OutOfMemory>
+        ensures { IfOk result (λ subs. subproblems subs.items ≡ self.now.subs) }
+    {
+        self.list.subs(alloc)
+    }
+}

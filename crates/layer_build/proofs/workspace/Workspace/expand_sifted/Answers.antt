@@ -1,0 +1,130 @@
+use Rattle.std.proofs.Common.{◌≡◌, ℕ, ◌*◌, ◌≤◌, map, length, vec_len, rules, sym, ap, ◌∙◌, subst, arith}
+use Rattle.dp_model.specs.Laws.{IsLawful}
+use Rattle.layer_nodes.specs.Sifting.{expand_sifted}
+use Rattle.layer_nodes.specs.Nodes.{NodeView, LayerView}
+use Rattle.layer_build.specs.Layers.{SpaceView, last_depth, expand_last}
+use Rattle.layer_build.specs.Stacked.{place_of}
+use Rattle.layer_build.specs.UnderWay.{IsUnderWay}
+use Rattle.layer_build.proofs.Expansions.{expands-sifted}
+use Rattle.layer_build.proofs.Going.{parents-seen, under, low-of, words-seen, fits-seen, narrow-seen, lent, place-within, words-of, expanded-space, expanded-seen, expanded-kept}
+use Rattle.layer_build.proofs.workspace.Workspace.expand_sifted.Given as given
+use Rattle.layer_build.proofs.workspace.Workspace.expand_sifted.Goals as goal
+
+laws_of : (g : given.Over) (m : g.row.M.Denot) → IsLawful (g.M.DpModel.meaning (g.M.DpModel.numbers m))
+laws_of g m = (g.met.M.DpModel g.world.𝓛 g.world.𝓜 g.world.𝓡 ((λ s x. x), (λ x. x), (λ x. x), λ x. x)).lawful m
+
+pub index_mut-requires : goal.index_mut-requires
+index_mut-requires g c =
+    let dp = g.M.DpModel.meaning (g.M.DpModel.numbers c.args.model.now) in
+    let i = c.self.inside in let h = c.self.invariant in
+    let within = place-within i h (low-of dp i h c.args.self.now c.self.view_is c.requires.under_way c.requires.below) in
+    let e = c.place_of-at.ensures in
+    let long : vec_len i.stack.layers ≡ length i.stack.layers.items = search rules in
+    omega arith
+
+pub expand_newest_sifted-requires-clause-layer : goal.expand_newest_sifted-requires-clause-layer
+expand_newest_sifted-requires-clause-layer g c κs within =
+    let dp = g.M.DpModel.meaning (g.M.DpModel.numbers c.args.model.now) in
+    let i = c.self.inside in let h = c.self.invariant in
+    let u = under dp i c.args.self.now c.self.view_is c.requires.under_way in
+    let low = low-of dp i h c.args.self.now c.self.view_is c.requires.under_way c.requires.below in
+    let vars = u.prepared.vars in omega arith
+
+pub expand_newest_sifted-requires-clause-above_words : goal.expand_newest_sifted-requires-clause-above_words
+expand_newest_sifted-requires-clause-above_words g c κs within =
+    let dp = g.M.DpModel.meaning (g.M.DpModel.numbers c.args.model.now) in
+    let i = c.self.inside in let h = c.self.invariant in
+    let u = under dp i c.args.self.now c.self.view_is c.requires.under_way in
+    let low = low-of dp i h c.args.self.now c.self.view_is c.requires.under_way c.requires.below in
+    let place = place-within i h low in
+    let x = lent i.stack.layers.items c.place_of-at.result (place_of i.stack.vars i.stack.first i.stack.last) c.index_mut.result.now _ c.index_mut.ensures.value c.place_of-at.ensures place in
+    ap (λ (l : LayerView). l.words) x ∙ (words-of dp i h (place_of i.stack.vars i.stack.first i.stack.last) place ∙ words-seen dp i c.args.self.now c.self.view_is c.requires.under_way)
+
+pub expand_newest_sifted-requires-clause-next_words : goal.expand_newest_sifted-requires-clause-next_words
+expand_newest_sifted-requires-clause-next_words g c κs within =
+    let dp = g.M.DpModel.meaning (g.M.DpModel.numbers c.args.model.now) in
+    let i = c.self.inside in let h = c.self.invariant in
+    let u = under dp i c.args.self.now c.self.view_is c.requires.under_way in
+    let low = low-of dp i h c.args.self.now c.self.view_is c.requires.under_way c.requires.below in
+    h.stack.newest_words ∙ words-seen dp i c.args.self.now c.self.view_is c.requires.under_way
+
+pub expand_newest_sifted-requires-clause-nodes : goal.expand_newest_sifted-requires-clause-nodes
+expand_newest_sifted-requires-clause-nodes g c κs within =
+    let dp = g.M.DpModel.meaning (g.M.DpModel.numbers c.args.model.now) in
+    let i = c.self.inside in let h = c.self.invariant in
+    let u = under dp i c.args.self.now c.self.view_is c.requires.under_way in
+    let low = low-of dp i h c.args.self.now c.self.view_is c.requires.under_way c.requires.below in
+    parents-seen dp i h u low
+
+pub expand_newest_sifted-requires-clause-copy_room : goal.expand_newest_sifted-requires-clause-copy_room
+expand_newest_sifted-requires-clause-copy_room g c κs within =
+    let dp = g.M.DpModel.meaning (g.M.DpModel.numbers c.args.model.now) in
+    let i = c.self.inside in let h = c.self.invariant in
+    let u = under dp i c.args.self.now c.self.view_is c.requires.under_way in
+    let low = low-of dp i h c.args.self.now c.self.view_is c.requires.under_way c.requires.below in
+    let place = place-within i h low in
+    let x = lent i.stack.layers.items c.place_of-at.result (place_of i.stack.vars i.stack.first i.stack.last) c.index_mut.result.now _ c.index_mut.ensures.value c.place_of-at.ensures place in
+    let fits = fits-seen dp i h u low (narrow-seen i h c.args.self.now c.self.view_is c.requires.narrow) in
+    subst (λ (l : LayerView). length i.stack.newest.nodes ≤ l.nodes_room) (sym x) fits.nodes
+
+pub expand_newest_sifted-requires-clause-arcs_room : goal.expand_newest_sifted-requires-clause-arcs_room
+expand_newest_sifted-requires-clause-arcs_room g c κs within =
+    let dp = g.M.DpModel.meaning (g.M.DpModel.numbers c.args.model.now) in
+    let i = c.self.inside in let h = c.self.invariant in
+    let u = under dp i c.args.self.now c.self.view_is c.requires.under_way in
+    let low = low-of dp i h c.args.self.now c.self.view_is c.requires.under_way c.requires.below in
+    let place = place-within i h low in
+    let x = lent i.stack.layers.items c.place_of-at.result (place_of i.stack.vars i.stack.first i.stack.last) c.index_mut.result.now _ c.index_mut.ensures.value c.place_of-at.ensures place in
+    let fits = fits-seen dp i h u low (narrow-seen i h c.args.self.now c.self.view_is c.requires.narrow) in
+    subst (λ (l : LayerView). length i.stack.newest.nodes * dp.choices i.stack.last ≤ l.arcs_room) (sym x) fits.arcs
+
+pub expand_newest_sifted-requires-clause-nodes_room : goal.expand_newest_sifted-requires-clause-nodes_room
+expand_newest_sifted-requires-clause-nodes_room g c κs within =
+    let dp = g.M.DpModel.meaning (g.M.DpModel.numbers c.args.model.now) in
+    let i = c.self.inside in let h = c.self.invariant in
+    let u = under dp i c.args.self.now c.self.view_is c.requires.under_way in
+    let low = low-of dp i h c.args.self.now c.self.view_is c.requires.under_way c.requires.below in
+    let fits = fits-seen dp i h u low (narrow-seen i h c.args.self.now c.self.view_is c.requires.narrow) in
+    fits.candidates
+
+pub expand_newest_sifted-requires-clause-room : goal.expand_newest_sifted-requires-clause-room
+expand_newest_sifted-requires-clause-room g c κs within =
+    let dp = g.M.DpModel.meaning (g.M.DpModel.numbers c.args.model.now) in
+    let i = c.self.inside in let h = c.self.invariant in
+    let u = under dp i c.args.self.now c.self.view_is c.requires.under_way in
+    let low = low-of dp i h c.args.self.now c.self.view_is c.requires.under_way c.requires.below in
+    let fits = fits-seen dp i h u low (narrow-seen i h c.args.self.now c.self.view_is c.requires.narrow) in
+    subst (λ (n : ℕ). length i.stack.newest.nodes * dp.choices i.stack.last ≤ n) (sym h.expands) fits.candidates
+
+pub overflow_add-self : goal.overflow_add-self
+overflow_add-self g c = (let low = c.self.invariant.stack.last in let small = c.self.invariant.stack.small in omega arith)
+
+pub invariant_of-self : goal.invariant_of-self
+invariant_of-self g c =
+    let dp = g.M.DpModel.meaning (g.M.DpModel.numbers c.args.model.now) in
+    let i = c.self.inside in let h = c.self.invariant in
+    let u = under dp i c.args.self.now c.self.view_is c.requires.under_way in
+    let low = low-of dp i h c.args.self.now c.self.view_is c.requires.under_way c.requires.below in
+    let e = c.expand_newest_sifted.ensures in
+    expanded-space dp (λ k layer. expand_sifted dp k c.args.threshold layer) (expands-sifted dp c.args.threshold (laws_of g c.args.model.now)) i h u low c.expand_newest_sifted.new.above c.expand_newest_sifted.new.newest c.place_of-at.result c.expand_newest_sifted.new.expansion _ _ c.place_of-at.ensures c.index_mut.ensures.value e.rest e.above e.next e.above_rooms e.next_rooms e.expansion
+
+pub returns-clause-layers : goal.returns-clause-layers
+returns-clause-layers g c =
+    let dp = g.M.DpModel.meaning (g.M.DpModel.numbers c.args.model.now) in
+    let i = c.self.inside in let h = c.self.invariant in
+    let low = low-of dp i h c.args.self.now c.self.view_is c.requires.under_way c.requires.below in
+    let e = c.expand_newest_sifted.ensures in
+    let n = c.expand_newest_sifted.new.newest in
+    let seen = expanded-seen (λ k layer. expand_sifted dp k c.args.threshold layer) i h low c.expand_newest_sifted.new.above n c.place_of-at.result c.expand_newest_sifted.new.expansion c.place_of-at.ensures e.rest e.above e.next e.next_rooms in
+    seen ∙ ap (λ (s : SpaceView). record s { layers = expand_last (expand_sifted dp (last_depth s) c.args.threshold) s.layers; ranks = map (λ (node : NodeView). node.rank) n.nodes }) c.self.view_is
+
+pub returns-clause-under_way : goal.returns-clause-under_way
+returns-clause-under_way g c =
+    let dp = g.M.DpModel.meaning (g.M.DpModel.numbers c.args.model.now) in
+    let i = c.self.inside in let h = c.self.invariant in
+    let u = under dp i c.args.self.now c.self.view_is c.requires.under_way in
+    let low = low-of dp i h c.args.self.now c.self.view_is c.requires.under_way c.requires.below in
+    let e = c.expand_newest_sifted.ensures in
+    let n = c.expand_newest_sifted.new.newest in
+    let seen = expanded-seen (λ k layer. expand_sifted dp k c.args.threshold layer) i h low c.expand_newest_sifted.new.above n c.place_of-at.result c.expand_newest_sifted.new.expansion c.place_of-at.ensures e.rest e.above e.next e.next_rooms in
+    subst (IsUnderWay dp) (sym seen) (expanded-kept dp (λ k layer. expand_sifted dp k c.args.threshold layer) (expands-sifted dp c.args.threshold (laws_of g c.args.model.now)) i h u low n (narrow-seen i h c.args.self.now c.self.view_is c.requires.narrow) e.next e.ranked e.unmerged e.few)

@@ -1,5 +1,0 @@
-pub mod Branched
-pub mod Later
-pub mod Offered
-pub mod Prepared
-pub mod UnderWay

@@ -1,0 +1,108 @@
+ghost use Rattle.std.specs.Prelude.{◌≡◌, ◌≤◌, IfOk, vec_len};
+ghost use Rattle.std.specs.List.{All};
+ghost use Rattle.worker_gate.specs.Prepared.{IsPrepared};
+ghost use Rattle.solver_cli.specs.Job.Answers.{Solves, HasCrew};
+ghost use Rattle.solver_cli.specs.Job.Desks.{AreAllDesks};
+ghost use Rattle.solver_cli.specs.Job.Widths.{IsAskedWidth, IsSearchWidth};
+
+use crate::job::concluding::conclude;
+use crate::job::text_job::Search;
+use dp_model::{CutKind, DpModel, OutOfMemory};
+use layer_build::{PrepareError, greatest_width};
+use problems::Problem;
+use search_core::{Board, Settings};
+use solver_report::Answer;
+use std::alloc::Global;
+use std::sync::{Arc, Wait};
+use std::thread::Threads;
+use worker_gate::{Desk, Gate, explore_together};
+
+/// How many entries the dominance table holds at most.
+const TABLE_LIMIT: u32 = 4096;
+
+/// The width where none is given, unless the greatest one is less.
+const DEFAULT_WIDTH: u32 = 100;
+
+/// Searches the instance by the workers that are asked for. The width is refused where it is 0 or above the greatest one of the instance.
+pub fn solve<P: Problem, G: Gate + Sync, R: Threads + Wait + Sync>(
+    rt: &R,
+    alloc: Global,
+    model: P,
+    search: Search,
+    gate: &G,
+) -> Answer
+    requires { HasCrew search }
+    ensures { Solves (P.meaning (P.numbers model)) (P.theory.own_value (P.numbers model)) search result }
+{
+    let width = width_for(&model, search.width);
+    match desks_for(alloc, &model, width, search.workers, search.cutset) {
+        Ok(desks) => match search_on(rt, alloc, model, desks, width, search, gate) {
+            Ok(answer) => answer,
+            Err(_) => Answer::OutOfMemory,
+        },
+        Err(PrepareError::Width) => Answer::Width,
+        Err(PrepareError::OutOfMemory) => Answer::OutOfMemory,
+    }
+}
+
+/// The width of a search for which this one or none is given.
+fn width_for<M: DpModel>(model: &M, given: Option<u32>) -> u32
+    ensures { IsAskedWidth (M.meaning (M.numbers model.now)) given result }
+{
+    match given {
+        Some(width) => width,
+        None => greatest_width(model).min(DEFAULT_WIDTH),
+    }
+}
+
+/// A desk for each worker.
+fn desks_for<M: DpModel>(
+    alloc: Global,
+    model: &M,
+    width: u32,
+    workers: u32,
+    cutset: CutKind,
+) -> Result<Vec<Desk>, PrepareError>
+    requires { 1 ≤ workers }
+    ensures { AreAllDesks (M.meaning (M.numbers model.now)) width workers result }
+{
+    let first = Desk::prepare(alloc, model, width, cutset)?;
+    let Ok(mut desks) = Vec::with_capacity(alloc, workers as usize) else {
+        return Err(PrepareError::OutOfMemory);
+    };
+    desks.push_reserved(first);
+    for _made in 1..workers {
+        desks.push_reserved(Desk::prepare(alloc, model, width, cutset)?);
+    }
+    Ok(desks)
+}
+
+/// The search on desks for the width, which fails only for want of memory before it begins or for its answer.
+fn search_on<P: Problem, G: Gate + Sync, R: Threads + Wait + Sync>(
+    rt: &R,
+    alloc: Global,
+    model: P,
+    mut desks: Vec<Desk>,
+    width: u32,
+    search: Search,
+    gate: &G,
+) -> Result<Answer, OutOfMemory>
+    requires crew { HasCrew search }
+    requires desks { vec_len desks ≡ search.workers }
+    requires prepared { All (IsPrepared (P.meaning (P.numbers model)) width) desks.items }
+    requires width { IsSearchWidth (P.meaning (P.numbers model)) search.width width }
+    ensures { IfOk result (Solves (P.meaning (P.numbers model)) (P.theory.own_value (P.numbers model)) search) }
+{
+    let model = Arc::new(alloc, model)?;
+    let shared = Arc::try_clone(&model)?;
+    let settings = Settings {
+        workers: search.workers,
+        budget: search.budget,
+        table_limit: TABLE_LIMIT,
+        width,
+        within: 0,
+    };
+    let board = Board::begin(alloc, shared, settings)?;
+    let board = explore_together(rt, alloc, board, &mut desks, &*model, gate)?;
+    conclude(alloc, &board, &*model, search)
+}

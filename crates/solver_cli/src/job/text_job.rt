@@ -1,0 +1,26 @@
+use dp_model::CutKind;
+use problem_names::ModelName;
+
+/// How an instance is searched.
+#[derive(Clone, Copy, Debug, PartialEq, Eq)]
+pub struct Search {
+    /// The width of the diagrams, where one is given: at least 1 and at most the greatest one of the instance.
+    pub width: Option<u32>,
+    /// How many workers search side by side, from 1 to 16.
+    pub workers: u32,
+    /// The greatest number of subproblems.
+    pub budget: u64,
+    /// Of which kind the children are that a relaxed diagram leaves.
+    pub cutset: CutKind,
+    /// Whether the counts of the search are told.
+    pub stats: bool,
+}
+
+/// What is done with an instance that a text spells.
+#[derive(Clone, Copy, Debug, PartialEq, Eq)]
+pub enum TextJob {
+    /// Search for a best solution.
+    Solve { model: ModelName, search: Search },
+    /// Digest the canonical text.
+    Digest { model: ModelName },
+}

@@ -1,5 +1,0 @@
-pub mod Answers
-pub mod Checks
-pub mod Desks
-pub mod Over
-pub mod Widths

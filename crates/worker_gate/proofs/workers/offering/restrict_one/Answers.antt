@@ -1,0 +1,24 @@
+use Rattle.std.proofs.Common.{refl, sym, ◌∙◌, subst}
+use Rattle.board_lock.specs.Seats.{first_of, seen_of}
+use Rattle.dp_model.specs.Laws.{IsLawful}
+use Rattle.dp_model.specs.Numbers.{OptionAtMost}
+use Rattle.board_laws.specs.GoodBoard.{IncumbentHolds}
+use Rattle.worker_gate.specs.Offered.{solution_of}
+use Rattle.worker_gate.proofs.Branches.{beam-held, whole-branched-for}
+use Rattle.worker_gate.proofs.FinishLater.{at-most-of}
+use Rattle.worker_gate.proofs.workers.offering.restrict_one.Given as given
+use Rattle.worker_gate.proofs.workers.offering.restrict_one.Goals as goal
+
+laws_of : (g : given.Over) (m : g.row.M.Denot) → IsLawful (g.M.DpModel.meaning (g.M.DpModel.numbers m))
+laws_of g m = (g.met.M.DpModel g.world.𝓛 g.world.𝓜 g.world.𝓡 ((λ s x. x), (λ x. x), (λ x. x), λ x. x)).lawful m
+
+pub offer_one-seen-requires-clause-held : goal.offer_one-seen-requires-clause-held
+offer_one-seen-requires-clause-held g c κs within =
+    subst (λ ns. IncumbentHolds (g.M.DpModel.meaning ns) (solution_of c.compile-compiled.result.found)) (sym c.requires.numbers)
+    (beam-held _ _ _ _ _ c.requires.own.prefix _ refl c.compile-compiled.ensures.beam)
+
+pub returns-clause-whole : goal.returns-clause-whole
+returns-clause-whole g c = λ whole.
+    let seen = seen_of c.offer_one-seen.new.seat in
+    whole-branched-for _ (laws_of g c.args.model.now) (first_of c.args.turn.now).board.settings.width seen _ _ _ _ c.requires.own.prefix (sym whole ∙ c.compile-compiled.ensures.reduced)
+    c.compile-compiled.ensures.beam (subst (λ v. OptionAtMost v seen) c.requires.seen (at-most-of (seen_of c.args.seat.now) seen c.offer_one-seen.ensures.no_less)) c.offer_one-seen.ensures.found

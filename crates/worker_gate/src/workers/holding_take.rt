@@ -1,0 +1,49 @@
+//! The holding in which a worker asks for a subproblem.
+
+ghost use Rattle.std.specs.Prelude.{◌≡◌};
+ghost use Rattle.board_lock.specs.Order.{NoLess};
+ghost use Rattle.board_lock.specs.Seats.{first_of, seen_of, out_of};
+ghost use Rattle.worker_gate.specs.Prepared.{CanHold};
+ghost use Rattle.worker_gate.specs.Ready.{IsWorker, IsReady, TakenOut};
+
+use board_lock::{Seat, Turn};
+use dp_model::{DpModel, Sub};
+use search_core::{Board, Taken};
+use std::sync::Wait;
+
+/// What a worker got that asked for a subproblem, and the incumbent's value as it was then.
+#[derive(Clone, Copy, Debug)]
+pub struct Asked {
+    pub taken: Taken,
+    pub seen: Option<i64>,
+}
+
+/// Holds, takes and leaves. What was taken is copied to `into`, and is a prefix of its own with its state and value. The seat has
+/// nothing out, `into` has room for a subproblem, and the turn's instance is the model's.
+pub fn take_one<M: DpModel, R: Wait>(
+    rt: &R,
+    turn: &Turn<Board<M>>,
+    seat: &mut Seat<Board<M>>,
+    into: &mut Sub,
+    model: &M,
+) -> Asked
+    requires numbers { (first_of turn.now).numbers ≡ M.numbers model.now }
+    requires ready { IsReady turn.now seat.old }
+    requires room { CanHold (M.meaning (M.numbers model.now)) into.old }
+    ensures worker { IsWorker turn.now seat.new }
+    ensures number { seat.new.number ≡ seat.old.number }
+    ensures seen { seen_of seat.new ≡ result.seen }
+    ensures no_less { NoLess (seen_of seat.old) (seen_of seat.new) }
+    ensures out { TakenOut (M.meaning (M.numbers model.now)) result.taken (out_of seat.new) into.new.subproblem }
+    ensures room { CanHold (M.meaning (M.numbers model.now)) into.new }
+{
+    let who = seat.number();
+    let mut guard = turn.hold(rt, seat);
+    // What every board keeps of its slots.
+    let _ = guard.value().incumbent_value();
+    let taken = guard.value().take(who, into);
+    // What every board keeps of what is out.
+    let seen = guard.value().incumbent_value();
+    guard.leave();
+    Asked { taken, seen }
+}

@@ -1,0 +1,209 @@
+//! What one worker does.
+
+ghost use Rattle.std.specs.Prelude.{◌≡◌, ◌≤◌, true, false, None, length, IfOk, IsSome, OnOk, OnErr, vec_capacity};
+ghost use Rattle.board_lock.specs.Order.{NoLess};
+ghost use Rattle.board_lock.specs.Seats.{first_of, seen_of, out_of};
+ghost use Rattle.search_core.specs.Contents.{contents};
+ghost use Rattle.worker_gate.specs.Prepared.{IsPrepared};
+ghost use Rattle.worker_gate.specs.FinishLater.{MayFinishLater};
+ghost use Rattle.worker_gate.specs.Ready.{IsWorker, IsReady, IsOut};
+
+use super::gate::{Gate, Step};
+use super::holding_finish::finish_one;
+use super::holding_give_back::give_up;
+use super::holding_take::take_one;
+use super::offering::{relax_one, restrict_one};
+use crate::branched::Branched;
+use crate::desk::Desk;
+use board_lock::{Seat, Turn};
+use dp_model::{DpModel, OutOfMemory};
+use search_core::{Board, Taken};
+use std::alloc::Global;
+use std::sync::Wait;
+
+/// Does rounds until nothing is open or out, a cause is held or the budget is taken up, and passes the gate after each step. Each step
+/// of the board is one holding of the turn, and diagrams are compiled outside the turn.
+///
+/// The seat is one of the turn's with nothing out, its number is below the workers of the settings, the turn's instance is the model's,
+/// and the desk was prepared for the model and the width of the settings. It may wait for other workers.
+pub fn work<M: DpModel, G: Gate + Sync, R: Wait>(
+    rt: &R,
+    alloc: Global,
+    turn: &Turn<Board<M>>,
+    seat: &mut Seat<Board<M>>,
+    desk: &mut Desk,
+    model: &M,
+    gate: &G,
+)
+    requires numbers { (first_of turn.now).numbers ≡ M.numbers model.now }
+    requires ready { IsReady turn.now seat.old }
+    requires prepared { IsPrepared (M.meaning (M.numbers model.now)) (first_of turn.now).board.settings.width desk.old }
+    ensures ready { IsReady turn.now seat.new }
+    ensures number { seat.new.number ≡ seat.old.number }
+    ensures prepared { IsPrepared (M.meaning (M.numbers model.now)) (first_of turn.now).board.settings.width desk.new }
+{
+    for _ in rt.forever() {
+        if !round(rt, alloc, turn, seat, desk, model, gate) {
+            return;
+        }
+    }
+    unreachable!()
+}
+
+/// A round. Says whether another one may follow.
+fn round<M: DpModel, G: Gate + Sync, R: Wait>(
+    rt: &R,
+    alloc: Global,
+    turn: &Turn<Board<M>>,
+    seat: &mut Seat<Board<M>>,
+    desk: &mut Desk,
+    model: &M,
+    gate: &G,
+) -> bool
+    requires numbers { (first_of turn.now).numbers ≡ M.numbers model.now }
+    requires ready { IsReady turn.now seat.old }
+    requires prepared { IsPrepared (M.meaning (M.numbers model.now)) (first_of turn.now).board.settings.width desk.old }
+    ensures ready { IsReady turn.now seat.new }
+    ensures number { seat.new.number ≡ seat.old.number }
+    ensures prepared { IsPrepared (M.meaning (M.numbers model.now)) (first_of turn.now).board.settings.width desk.new }
+{
+    let who = seat.number();
+    let asked = take_one(rt, turn, seat, &mut desk.taken, model);
+    match asked.taken {
+        Taken::Sub => {
+            gate.pass(who, Step::Taken);
+            go_on(rt, alloc, turn, seat, desk, model, gate, asked.seen)
+        }
+        Taken::WaitForOthers => {
+            gate.pass(who, Step::Waiting);
+            turn.wait_turn(rt, seat);
+            true
+        }
+        Taken::Finished | Taken::Halted(_) => false,
+    }
+}
+
+/// The rest of a round, once a subproblem was taken. Says whether it was finished; for want of memory it is given back.
+fn go_on<M: DpModel, G: Gate + Sync, R: Wait>(
+    rt: &R,
+    alloc: Global,
+    turn: &Turn<Board<M>>,
+    seat: &mut Seat<Board<M>>,
+    desk: &mut Desk,
+    model: &M,
+    gate: &G,
+    seen: Option<i64>,
+) -> bool
+    requires numbers { (first_of turn.now).numbers ≡ M.numbers model.now }
+    requires worker { IsWorker turn.now seat.old }
+    requires seen { seen_of seat.old ≡ seen }
+    requires out { IsOut (M.meaning (M.numbers model.now)) (out_of seat.old) desk.old.taken.subproblem }
+    requires prepared { IsPrepared (M.meaning (M.numbers model.now)) (first_of turn.now).board.settings.width desk.old }
+    ensures ready { IsReady turn.now seat.new }
+    ensures number { seat.new.number ≡ seat.old.number }
+    ensures prepared { IsPrepared (M.meaning (M.numbers model.now)) (first_of turn.now).board.settings.width desk.new }
+{
+    let who = seat.number();
+    if expand(rt, alloc, turn, seat, desk, model, gate, seen).is_err() {
+        give_up(rt, turn, seat);
+        gate.pass(who, Step::GaveBack);
+        return false;
+    }
+    gate.pass(who, Step::Finished);
+    true
+}
+
+/// Finishes what was taken with its children. For want of memory it stays out.
+fn expand<M: DpModel, G: Gate + Sync, R: Wait>(
+    rt: &R,
+    alloc: Global,
+    turn: &Turn<Board<M>>,
+    seat: &mut Seat<Board<M>>,
+    desk: &mut Desk,
+    model: &M,
+    gate: &G,
+    seen: Option<i64>,
+) -> Result<(), OutOfMemory>
+    requires numbers { (first_of turn.now).numbers ≡ M.numbers model.now }
+    requires worker { IsWorker turn.now seat.old }
+    requires seen { seen_of seat.old ≡ seen }
+    requires out { IsOut (M.meaning (M.numbers model.now)) (out_of seat.old) desk.old.taken.subproblem }
+    requires prepared { IsPrepared (M.meaning (M.numbers model.now)) (first_of turn.now).board.settings.width desk.old }
+    ensures worker { IsWorker turn.now seat.new }
+    ensures number { seat.new.number ≡ seat.old.number }
+    ensures ok { OnOk result (out_of seat.new ≡ None) }
+    ensures err { OnErr result (IsSome (out_of seat.new)) }
+    ensures prepared { IsPrepared (M.meaning (M.numbers model.now)) (first_of turn.now).board.settings.width desk.new }
+{
+    let mut branched = branch(rt, alloc, turn, seat, desk, model, gate, seen)?;
+    let finished = finish_one(
+        rt,
+        turn,
+        seat,
+        branched.threshold,
+        &mut branched.children,
+        &mut desk.fates,
+    );
+    desk.fates.clear();
+    finished
+}
+
+/// Branches on what was taken, outside the turn: the solutions that its diagrams find are offered, and its children are made, with room
+/// for their fates.
+fn branch<M: DpModel, G: Gate + Sync, R: Wait>(
+    rt: &R,
+    alloc: Global,
+    turn: &Turn<Board<M>>,
+    seat: &mut Seat<Board<M>>,
+    desk: &mut Desk,
+    model: &M,
+    gate: &G,
+    seen: Option<i64>,
+) -> Result<Branched, OutOfMemory>
+    requires numbers { (first_of turn.now).numbers ≡ M.numbers model.now }
+    requires worker { IsWorker turn.now seat.old }
+    requires seen { seen_of seat.old ≡ seen }
+    requires out { IsOut (M.meaning (M.numbers model.now)) (out_of seat.old) desk.old.taken.subproblem }
+    requires prepared { IsPrepared (M.meaning (M.numbers model.now)) (first_of turn.now).board.settings.width desk.old }
+    ensures worker { IsWorker turn.now seat.new }
+    ensures number { seat.new.number ≡ seat.old.number }
+    ensures out { out_of seat.new ≡ out_of seat.old }
+    ensures branched { IfOk result (λ b. MayFinishLater (M.meaning (M.numbers model.now)) (first_of turn.now).board.settings.width (out_of seat.new) (seen_of seat.new) b.threshold (contents b.children.items)) }
+    ensures fates { IfOk result (λ b. length b.children.items ≤ vec_capacity desk.new.fates) }
+    ensures prepared { IsPrepared (M.meaning (M.numbers model.now)) (first_of turn.now).board.settings.width desk.new }
+{
+    let restricted = restrict_one(
+        rt,
+        turn,
+        seat,
+        gate,
+        &mut desk.space,
+        &desk.taken,
+        model,
+        seen,
+    );
+    if !restricted.reduced {
+        return Ok(Branched {
+            threshold: seen,
+            children: Vec::new(alloc),
+        });
+    }
+    relax_one(
+        rt,
+        turn,
+        seat,
+        gate,
+        &mut desk.space,
+        &mut desk.cutset,
+        &desk.taken,
+        desk.kind,
+        model,
+        restricted.seen,
+    );
+    let children = desk.cutset.subs(alloc)?;
+    desk.fates.reserve(children.len())?;
+    Ok(Branched {
+        threshold: restricted.seen,
+        children,
+    })
+}
