@@ -135,6 +135,32 @@ pub(crate) fn skip_comments<'a>(comment: Comment, fresh: bool, from: Spot<'a>) -
     }
 }
 
+/// The token behind a single blank that ends a token; `None` where anything else stands here.
+#[inline]
+pub(crate) fn behind_one_blank<'a>(
+    comment: Comment,
+    from: Place,
+    bytes: &'a [u8],
+) -> Option<Spot<'a>>
+    requires { IsCountable from bytes.now }
+    ensures rest { IfSome result (λ s. (skip comment false false from bytes.now).rest ≡ s.rest.now) }
+    ensures place { IfSome result (λ s. (skip comment false false from bytes.now).place ≡ s.place) }
+    ensures comment { IfSome result (λ s. (skip comment false false from bytes.now).comment ≡ comment) }
+    ensures countable { IfSome result (λ s. IsCountable s.place s.rest.now) }
+    ensures line { IfSome result (λ s. is_blank_line bytes.now ≡ not (s.place.line == from.line)) }
+{
+    match bytes {
+        [blank, rest @ ..] if is_blank_byte(*blank) => match rest {
+            [first, ..] if !is_passed_over(comment, false, *blank == b'\n', *first) => Some(Spot {
+                rest,
+                place: place_behind(*blank, from),
+            }),
+            _ => None,
+        },
+        _ => None,
+    }
+}
+
 /// How many bytes stand before the first blank.
 pub(crate) fn token_len(bytes: &[u8]) -> usize
     ensures { result ≡ prefix_len is_solid bytes.now }

@@ -1,11 +1,13 @@
-ghost use Rattle.std.specs.Prelude.{◌≡◌, ◌+◌, ◌-◌, ◌^◌, ◌<◌, ◌≤◌, length, ◌≤ℤ◌, pos, OnOk, OnErr, IfOk, MatchResult, Ok, Err, nat_eq};
+ghost use Rattle.std.specs.Prelude.{◌≡◌, ◌+◌, ◌-◌, ◌^◌, ◌<◌, ◌≤◌, length, ◌≤ℤ◌, pos, OnOk, OnErr, IfOk, IfSome, MatchResult, false, Ok, Err, nat_eq};
 ghost use Rattle.std.specs.Cmp.Lexicographic.{pointwise};
 ghost use Rattle.dd_text.specs.Scanned.{behind_token, IsNext};
 ghost use Rattle.dd_text.specs.Text.{text_start, at_token, IsCountable, token, place_of, ends_line, is_at_end, number_at, word_at, after_token, finish_at};
 
 use crate::comment::Comment;
 use crate::place::Place;
-use crate::scan::{Spot, begin_apart, leading_number, skip_blanks, skip_comments, token_len};
+use crate::scan::{
+    Spot, begin_apart, behind_one_blank, leading_number, skip_blanks, skip_comments, token_len,
+};
 use crate::text_error::TextError;
 use std::marker::Model;
 use std::snapshot::Snapshot;
@@ -46,7 +48,6 @@ impl<'a> Model for Tokens<'a> {
 }
 
 /// Tokens that stand at this place.
-#[inline]
 #[tactic(auto, unfolding(crate::specs::Text::at_token))]
 fn tokens_from<'a>(comment: Comment, here: Here<'a>) -> Tokens<'a>
     requires { IsCountable here.place here.rest.now }
@@ -60,6 +61,23 @@ fn tokens_from<'a>(comment: Comment, here: Here<'a>) -> Tokens<'a>
         ends_line: blanks.rest.is_empty() || is_later,
         comment,
     }
+}
+
+/// Tokens that stand right behind a token, where the next one is behind a single blank.
+#[inline]
+#[tactic(auto, unfolding(crate::specs::Text::at_token))]
+fn tokens_near<'a>(comment: Comment, here: Here<'a>) -> Option<Tokens<'a>>
+    requires countable { IsCountable here.place here.rest.now }
+    requires on_line { here.fresh ≡ false }
+    ensures { IfSome result (λ t. t ≡ record { rest = here.entry.rest.now; place = here.entry.place; fresh = here.entry.fresh; comment = comment }) }
+{
+    let next = behind_one_blank(comment, here.place, here.rest)?;
+    Some(Tokens {
+        here: Snapshot::of(&here),
+        next,
+        ends_line: next.place.line != here.place.line,
+        comment,
+    })
 }
 
 impl<'a> Tokens<'a> {
@@ -145,7 +163,10 @@ impl<'a> Tokens<'a> {
             },
             fresh: false,
         };
-        *self = tokens_from(self.comment, here);
+        *self = match tokens_near(self.comment, here) {
+            Some(near) => near,
+            None => tokens_from(self.comment, here),
+        };
     }
 
     /// Reads the next token as a number from `least` to `greatest`: an optional minus and one or more
