@@ -1,4 +1,4 @@
-ghost use Rattle.std.specs.Prelude.{◌≡◌, ℕ, Bool, ◌+◌, ◌-◌, ◌*◌, ◌^◌, ◌<◌, ◌≤◌, ◌==◌, ◌||◌, not, min, length, false, IfOk, IfSome, option_map, SomeIff, pos, neg_ℤ, FitsSigned, true, nat_eq};
+ghost use Rattle.std.specs.Prelude.{◌≡◌, ℕ, Bool, ◌+◌, ◌-◌, ◌*◌, ◌^◌, ◌<◌, ◌≤◌, ◌==◌, ◌||◌, not, min, length, false, IfOk, IfSome, option_map, is_some, [], ◌∷◌, SomeIff, pos, neg_ℤ, FitsSigned, true, nat_eq};
 ghost use Rattle.std.specs.Cmp.Lexicographic.{pointwise};
 ghost use Rattle.std.specs.Result.{result_map_both};
 ghost use Rattle.std.specs.List.{prefix_len};
@@ -238,6 +238,39 @@ fn begins_no_token(bytes: &[u8]) -> bool
     match bytes {
         [first, ..] => is_blank_byte(*first),
         [] => true,
+    }
+}
+
+/// What stands behind the first token, where it is this byte alone.
+#[inline]
+#[tactic(auto, using(crate::proofs::Scanning::byte_steps))]
+fn behind_byte(bytes: &[u8], wanted: u8) -> Option<&[u8]>
+    ensures found { is_some result ≡ pointwise nat_eq (first_token bytes.now) (wanted ∷ []) }
+    ensures behind { IfSome result (λ b. b.now ≡ behind_token bytes.now) }
+{
+    match bytes {
+        [first, behind @ ..]
+            if *first == wanted && !is_blank_byte(wanted) && begins_no_token(behind) => {
+            Some(behind)
+        }
+        _ => None,
+    }
+}
+
+/// What stands behind the first token, where it is this word.
+#[inline]
+pub(crate) fn behind_word<'a>(bytes: &'a [u8], word: &[u8]) -> Option<&'a [u8]>
+    ensures found { is_some result ≡ pointwise nat_eq (first_token bytes.now) word.now }
+    ensures behind { IfSome result (λ b. b.now ≡ behind_token bytes.now) }
+{
+    if let [only] = word {
+        return behind_byte(bytes, *only);
+    }
+    let len = token_len(bytes);
+    if &bytes[..len] == word {
+        Some(&bytes[len..])
+    } else {
+        None
     }
 }
 

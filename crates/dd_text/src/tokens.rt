@@ -1,4 +1,4 @@
-ghost use Rattle.std.specs.Prelude.{◌≡◌, ◌+◌, ◌-◌, ◌^◌, ◌<◌, ◌≤◌, length, ◌≤ℤ◌, pos, OnOk, OnErr, IfOk, IfSome, MatchResult, false, Ok, Err, nat_eq};
+ghost use Rattle.std.specs.Prelude.{◌≡◌, ◌+◌, ◌-◌, ◌^◌, ◌<◌, ◌≤◌, length, ◌≤ℤ◌, pos, OnOk, OnErr, IfOk, IfSome, MatchResult, false, true, Ok, Err, nat_eq};
 ghost use Rattle.std.specs.Cmp.Lexicographic.{pointwise};
 ghost use Rattle.dd_text.specs.Scanned.{behind_token, IsNext};
 ghost use Rattle.dd_text.specs.Text.{text_start, at_token, IsCountable, token, place_of, ends_line, is_at_end, number_at, word_at, after_token, finish_at};
@@ -6,7 +6,8 @@ ghost use Rattle.dd_text.specs.Text.{text_start, at_token, IsCountable, token, p
 use crate::comment::Comment;
 use crate::place::Place;
 use crate::scan::{
-    Spot, begin_apart, behind_one_blank, leading_number, skip_blanks, skip_comments, token_len,
+    Spot, begin_apart, behind_one_blank, behind_word, leading_number, skip_blanks, skip_comments,
+    token_len,
 };
 use crate::text_error::TextError;
 use std::marker::Model;
@@ -222,6 +223,23 @@ impl<'a> Tokens<'a> {
         }
         self.pass(&rest[len..]);
         Ok(word)
+    }
+
+    /// Passes over the next token where it is this word, and tells whether it is. Another token stays.
+    #[inline]
+    #[tactic(auto, unfolding(crate::specs::Text::token))]
+    pub fn pass_if(&mut self, word: &[u8]) -> bool
+        ensures word { result ≡ pointwise nat_eq (token self.old) word.now }
+        ensures passed { result ≡ true → self.new ≡ after_token self.old }
+        ensures other { result ≡ false → self.new ≡ self.old }
+    {
+        match behind_word(self.spot().rest, word) {
+            None => false,
+            Some(behind) => {
+                self.pass(behind);
+                true
+            }
+        }
     }
 
     /// Tests that no token is left.
