@@ -212,6 +212,7 @@ struct Digits<'a> {
 }
 
 /// The digits at the head of the bytes, of which there may be none.
+#[inline]
 #[tactic(auto, using(crate::proofs::Scanning::digit_steps))]
 fn leading_digits(bytes: &[u8]) -> Digits<'_>
     ensures size { result.size ≡ min (value_after 0 (head_digits bytes.now)) (2 ^ 64 - 1) }
@@ -265,6 +266,9 @@ pub(crate) fn behind_word<'a>(bytes: &'a [u8], word: &[u8]) -> Option<&'a [u8]>
 {
     if let [only] = word {
         return behind_byte(bytes, *only);
+    }
+    if begin_apart(bytes, word) {
+        return None;
     }
     let len = token_len(bytes);
     if &bytes[..len] == word {

@@ -176,6 +176,7 @@ impl<'a> Tokens<'a> {
     /// `EndOfText` where no token is left, `NotAscii` where its first byte is not ASCII, `NotNumber`
     /// where it is otherwise no number, `OutOfRange` where the number is outside the range, each at
     /// the token's first byte. After an error the token is still the next.
+    #[inline]
     #[tactic(auto, unfolding(crate::specs::Text::token, crate::specs::Text::place_of, crate::specs::Text::number_at), using(crate::proofs::Ranges::number_at_range))]
     pub fn next_number(&mut self, least: i64, greatest: i64) -> Result<i64, TextError>
         ensures value { result ≡ number_at least greatest self.old }
@@ -190,6 +191,7 @@ impl<'a> Tokens<'a> {
     }
 
     /// Reads the next token as a natural number from `least` to `greatest`, with the faults of `next_number`.
+    #[inline]
     pub fn next_natural(&mut self, least: u64, greatest: u64) -> Result<u64, TextError>
         requires least { least < 2 ^ 63 }
         requires greatest { greatest < 2 ^ 63 }
