@@ -7,9 +7,8 @@ ghost use Rattle.bound_cover.specs.Exploring.{layer_of};
 
 mod building;
 
-pub use building::CoverBuilder;
-
 use crate::cover::CoverArc;
+pub use building::CoverBuilder;
 use dp_model::OutOfMemory;
 use std::alloc::Global;
 use std::marker::Model;
