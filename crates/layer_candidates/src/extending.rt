@@ -142,10 +142,13 @@ fn extend_member<M: DpModel>(
     ensures extended { HasExtended (M.meaning (M.numbers model.now)) k parent.step s.now parent.value (below ((M.meaning (M.numbers model.now)).choices k)) (length s.now) live rows.old ways.old.items rows.new ways.new.items folds.new heads.new next.new }
     ensures capacity { vec_capacity ways.new ≡ vec_capacity ways.old }
 {
-    'decisions: for decision in 0..model.choices(k) {
+    let choices = model.choices(k);
+    let mut decision = model.next_choice(k, s, 0);
+    'decisions: while decision < choices {
         extend_by(
             model, k, parent, s, decision, live, rows, ways, folds, heads, next,
         );
+        decision = model.next_choice(k, s, decision + 1);
     }
 }
 

@@ -107,10 +107,13 @@ fn try_node<M: DpModel>(
     ensures arcs_few { length arcs.new.items ≤ length arcs.old.items + (M.meaning (M.numbers model.now)).choices k }
     ensures arcs_capacity { vec_capacity arcs.new ≡ vec_capacity arcs.old }
 {
-    'decisions: for decision in 0..model.choices(k) {
+    let choices = model.choices(k);
+    let mut decision = model.next_choice(k, s, 0);
+    'decisions: while decision < choices {
         try_by(
             model, k, parent, exact, s, decision, live, rows, ways, folds, heads, next, marks, arcs,
         );
+        decision = model.next_choice(k, s, decision + 1);
     }
 }
 
