@@ -9,9 +9,10 @@ use Rattle.std.proofs.lemmas.Nat.{le-div, mul-le, div_below}
 use Rattle.knapsack.specs.declared.item.Item.{Item}
 use Rattle.knapsack.specs.declared.placed.Placed.{Placed}
 use Rattle.knapsack.specs.Instance.{is_small_item}
-use Rattle.knapsack.specs.Limits.{IsSmallItem, is_small_item-is}
+use Rattle.knapsack.specs.Limits.{IsSmallItem}
+use Rattle.knapsack.specs.Laws.Limits.{is_small_item-is}
 use Rattle.knapsack.specs.Order.{fitting, fill}
-use Rattle.knapsack.specs.Greedy.{part-le-copy}
+use Rattle.knapsack.specs.Laws.Greedy.{part-le-copy}
 use Rattle.knapsack.specs.Placed.{kept_from, HasSmallItems}
 
 -- an item of which not all copies fit weighs something

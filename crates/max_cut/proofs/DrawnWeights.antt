@@ -29,12 +29,3 @@ one_more seed k x y weights more weight d is behind small pushed = record {
   count = ap length pushed ∙ (let c = d.count in omega (arith, length-append weights (weight ∷ [])));
   small = subst (All IsWeight) (sym pushed) (All-push IsWeight weights weight d.small small);
 }
-
-pub is_graph : (n seed x : ℕ) (weights : List ℤ) → n ≤ 1024 → AreDrawn seed (pairs_of n) x weights → IsGraph (record { vertices = n; weights = weights })
-is_graph n seed x weights few d = record { few = few; whole = d.count; small = d.small }
-
--- the instance of all of them
-pub all_drawn : {E : Type 0} (r : Result MaxCut E) (n seed x : ℕ) (weights : List ℤ) → AreDrawn seed (pairs_of n) x weights
-    → IfOk r (λ m. instance_in m ≡ record { vertices = n; weights = weights }) → IfOk r (λ m. instance_in m ≡ generated n seed)
-all_drawn (Err e) n seed x weights d is = tt
-all_drawn (Ok m) n seed x weights d is = is ∙ ap (λ ws. record { vertices = n; weights = ws }) (sym (ap (λ p. p.0) d.drawn))

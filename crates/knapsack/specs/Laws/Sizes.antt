@@ -13,11 +13,12 @@ use Rattle.dp_model.specs.NumberLaws.{small_gap, small_natural}
 use Rattle.dp_model.specs.Laws.{SizesHold}
 use Rattle.knapsack.specs.declared.item.Item.{Item}
 use Rattle.knapsack.specs.Instance.{Instance, is_small, is_small_item}
-use Rattle.knapsack.specs.Limits.{IsSmallItem, is_small_item-is, is_small-is}
+use Rattle.knapsack.specs.Limits.{IsSmallItem}
+use Rattle.knapsack.specs.Laws.Limits.{is_small_item-is, is_small-is}
 use Rattle.knapsack.specs.Order.{in_order, fill}
-use Rattle.knapsack.specs.Greedy.{worth, worth-in_order, fill-le-worth}
+use Rattle.knapsack.specs.Laws.Greedy.{worth, worth-in_order, fill-le-worth}
 use Rattle.knapsack.specs.Program.{left, item_at, rough_from, program_of}
-use Rattle.knapsack.specs.States.{is_left-is, gap-is}
+use Rattle.knapsack.specs.Laws.States.{is_left-is, gap-is}
 
 -- copies of an item are worth at most 10^12
 worth_small : (d p : ℕ) → d ≤ 1000 → p ≤ 1000000000 → d * p ≤ 1000000000000

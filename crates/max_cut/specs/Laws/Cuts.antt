@@ -10,11 +10,11 @@ use Rattle.benefit_rows.specs.Benefits.{gain_of, gains_of}
 use Rattle.dp_model.specs.Prefixes.{IsPath, IsSolution, value_of}
 use Rattle.dp_model.specs.Solution.{SolutionGives}
 use Rattle.max_cut.specs.Graph.{Graph, IsGraph, row_of, weights_from, negatives_of}
-use Rattle.max_cut.specs.GraphLaws.{length-row_of, weights_from-none, weights_from-next, weights_from-split}
+use Rattle.max_cut.specs.Laws.Graph.{length-row_of, weights_from-none, weights_from-next, weights_from-split}
 use Rattle.max_cut.specs.Program.{zeros, pull_of, pulls_of, words_of, stepped, program_of}
-use Rattle.max_cut.specs.PullLaws.{gains_of-zeros}
-use Rattle.max_cut.specs.StateLaws.{is_within-zeros}
-use Rattle.max_cut.specs.ProgramLaws.{pair_gains, gain-split}
+use Rattle.max_cut.specs.Laws.Pulls.{gains_of-zeros}
+use Rattle.max_cut.specs.Laws.States.{is_within-zeros}
+use Rattle.max_cut.specs.Laws.Program.{pair_gains, gain-split}
 use Rattle.max_cut.specs.Cuts.{across_from, weight_across, begins_on_S, is_cut, cut_value}
 
 -- whether each side is S or T

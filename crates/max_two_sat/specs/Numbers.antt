@@ -37,24 +37,3 @@ pairs_in _ = []
 unfoldable pub instance_of : List ℤ → Instance
 instance_of (n ∷ t ∷ xs) = record { tautologies = t; units = units_in (unsigned_abs n) xs; pairs = pairs_in (behind_units (unsigned_abs n) xs) }
 instance_of _ = record { tautologies = pos 0; units = []; pairs = [] }
-
-units_in-numbers : (us : List UnitWeights) (more : List ℤ) → units_in (length us) (unit_numbers us more) ≡ us
-units_in-numbers [] more = refl
-units_in-numbers (u ∷ us) more = ap (λ vs. u ∷ vs) (units_in-numbers us more)
-
-behind_units-numbers : (us : List UnitWeights) (more : List ℤ) → behind_units (length us) (unit_numbers us more) ≡ more
-behind_units-numbers [] more = refl
-behind_units-numbers (u ∷ us) more = behind_units-numbers us more
-
-pairs_in-numbers : (ps : List PairWeights) → pairs_in (pair_numbers ps) ≡ ps
-pairs_in-numbers [] = refl
-pairs_in-numbers (p ∷ ps) = ap (λ qs. p ∷ qs) (pairs_in-numbers ps)
-
--- the numbers of an instance spell it
-pub instance_of-numbers_of : (i : Instance) → instance_of (numbers_of i) ≡ i
-unfolding instance_of numbers_of
-instance_of-numbers_of i =
-    ap (λ us. record { tautologies = i.tautologies; units = us; pairs = pairs_in (behind_units (length i.units) (unit_numbers i.units (pair_numbers i.pairs))) }) (units_in-numbers i.units (pair_numbers i.pairs)) ∙
-    ap (λ ps. record { tautologies = i.tautologies; units = i.units; pairs = ps }) (ap pairs_in (behind_units-numbers i.units (pair_numbers i.pairs)) ∙ pairs_in-numbers i.pairs)
-
-pub ruleset reads_numbers = (instance_of-numbers_of)

@@ -11,9 +11,10 @@ use Rattle.dp_model.specs.NumberLaws.{int_le-is, int_le-from}
 use Rattle.max_two_sat.specs.declared.weights.UnitWeights.{UnitWeights}
 use Rattle.max_two_sat.specs.declared.weights.PairWeights.{PairWeights}
 use Rattle.max_two_sat.specs.Instance.{Instance, rows_of, row_at, pair_count, unit_total, pair_total, units_total, pairs_total, rows_total, total_by}
-use Rattle.max_two_sat.specs.Kept.{IsKept, units_are_positive, pairs_are_positive, pair_is_positive, unit_is_positive, size-is, unit-positive, pair-positive}
-use Rattle.max_two_sat.specs.Program.{is_within, raised, first_limits, limits_at, are_within, all_zero, words_of}
-use Rattle.max_two_sat.specs.Rows.{length-rows_of, length-row_at, drop-rows, words_of-some}
+use Rattle.max_two_sat.specs.Limits.{IsWithinLimits, units_are_positive, pairs_are_positive, pair_is_positive, unit_is_positive}
+use Rattle.max_two_sat.specs.Laws.Limits.{size-is, unit-positive, pair-positive}
+use Rattle.max_two_sat.specs.Program.{is_within, raised_limits, first_limits, limits_at, are_within, all_zero, words_of}
+use Rattle.max_two_sat.specs.Laws.Rows.{length-rows_of, length-row_at, drop-rows, words_of-some}
 
 -- entries that pass a test
 
@@ -107,26 +108,26 @@ rows_total-drop rows k h =
 
 -- limits
 
-pub length-raised : (ps : List PairWeights) (ls : List ℤ) → length ps ≡ length ls → length (raised ps ls) ≡ length ls
-length-raised [] [] e = refl
-length-raised [] (l ∷ ls) e = absurd (omega arith)
-length-raised (p ∷ ps) [] e = absurd (omega arith)
-length-raised (p ∷ ps) (l ∷ ls) e = omega (arith, length-raised ps ls (omega arith))
+pub length-raised_limits : (ps : List PairWeights) (ls : List ℤ) → length ps ≡ length ls → length (raised_limits ps ls) ≡ length ls
+length-raised_limits [] [] e = refl
+length-raised_limits [] (l ∷ ls) e = absurd (omega arith)
+length-raised_limits (p ∷ ps) [] e = absurd (omega arith)
+length-raised_limits (p ∷ ps) (l ∷ ls) e = omega (arith, length-raised_limits ps ls (omega arith))
 
-pub sum_of-raised : (ps : List PairWeights) (ls : List ℤ) → length ps ≡ length ls → sum_of (raised ps ls) ≡ sum_of ls +ℤ pairs_total ps
-sum_of-raised [] [] e = refl
-sum_of-raised [] (l ∷ ls) e = absurd (omega arith)
-sum_of-raised (p ∷ ps) [] e = absurd (omega arith)
-sum_of-raised (p ∷ ps) (l ∷ ls) e = omega (arith, ints, sum_of-raised ps ls (omega arith))
+pub sum_of-raised_limits : (ps : List PairWeights) (ls : List ℤ) → length ps ≡ length ls → sum_of (raised_limits ps ls) ≡ sum_of ls +ℤ pairs_total ps
+sum_of-raised_limits [] [] e = refl
+sum_of-raised_limits [] (l ∷ ls) e = absurd (omega arith)
+sum_of-raised_limits (p ∷ ps) [] e = absurd (omega arith)
+sum_of-raised_limits (p ∷ ps) (l ∷ ls) e = omega (arith, ints, sum_of-raised_limits ps ls (omega arith))
 
-pub none_negative-raised : (ps : List PairWeights) (ls : List ℤ) → IsTrue (pairs_are_positive ps) → IsTrue (none_negative ls) → IsTrue (none_negative (raised ps ls))
-none_negative-raised [] ls h g = refl
-none_negative-raised (p ∷ ps) [] h g = refl
-none_negative-raised (p ∷ ps) (l ∷ ls) h g =
+pub none_negative-raised_limits : (ps : List PairWeights) (ls : List ℤ) → IsTrue (pairs_are_positive ps) → IsTrue (none_negative ls) → IsTrue (none_negative (raised_limits ps ls))
+none_negative-raised_limits [] ls h g = refl
+none_negative-raised_limits (p ∷ ps) [] h g = refl
+none_negative-raised_limits (p ∷ ps) (l ∷ ls) h g =
     let here = pair-positive p (and_parts _ _ h).0 in
     let low = int_le-is (pos 0) l (and_parts _ _ g).0 in
     and_from (int_le (pos 0) (l +ℤ pair_total p)) _ (int_le-from (pos 0) (l +ℤ pair_total p) (omega (arith, ints)))
-    (none_negative-raised ps ls (and_parts (pair_is_positive p) _ h).1 (and_parts (int_le (pos 0) l) _ g).1)
+    (none_negative-raised_limits ps ls (and_parts (pair_is_positive p) _ h).1 (and_parts (int_le (pos 0) l) _ g).1)
 
 -- the limits behind the first
 
@@ -170,7 +171,7 @@ pub record LimitsAt (i : Instance) (k : ℕ) : Type 0 where
   pub positive : IsTrue (none_negative (limits_at i.units i.pairs k))
   pub total : (sum_of (limits_at i.units i.pairs k) +ℤ rows_total (drop k (rows_of (length i.units) i.pairs))) ≤ℤ (units_total i.units +ℤ pairs_total i.pairs)
 
-pub limits : (i : Instance) (k : ℕ) → IsKept i → k ≤ length i.units → LimitsAt i k
+pub limits : (i : Instance) (k : ℕ) → IsWithinLimits i → k ≤ length i.units → LimitsAt i k
 limits i zero kept h = record {
   count = omega (arith, length-first_limits i.units);
   positive = none_negative-first i.units kept.units;
@@ -188,9 +189,9 @@ limits i (suc k) kept h =
     let positive_row : IsTrue (pairs_are_positive row) = positive-row_at rows k (positive-rows_of (length i.units) i.pairs kept.pairs) in
     let rest : rows_total (drop k rows) ≡ pairs_total row +ℤ rows_total (drop (suc k) rows) = rw (drop-rows rows k (omega (arith, length-rows_of (length i.units) i.pairs))) refl in
     record {
-      count = omega (arith, length-raised row tail same, before.count);
-      positive = none_negative-raised row tail positive_row (none_negative-drop_one (limits_at i.units i.pairs k) before.positive);
-      total = omega (arith, ints, sum_of-raised row tail same, sum_of-drop_one (limits_at i.units i.pairs k) before.positive, before.total);
+      count = omega (arith, length-raised_limits row tail same, before.count);
+      positive = none_negative-raised_limits row tail positive_row (none_negative-drop_one (limits_at i.units i.pairs k) before.positive);
+      total = omega (arith, ints, sum_of-raised_limits row tail same, sum_of-drop_one (limits_at i.units i.pairs k) before.positive, before.total);
     }
 
 -- a row within its limits

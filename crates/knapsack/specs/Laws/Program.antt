@@ -10,11 +10,11 @@ use Rattle.knapsack.specs.Instance.{Instance, instance_of, numbers_of, item_numb
 use Rattle.knapsack.specs.Order.{in_order, fill}
 use Rattle.knapsack.specs.OwnWords.{has_copies, total_weight, total_profit, packed_value}
 use Rattle.dp_model.specs.Solution.{IsSolutionWith, SolutionGives}
-use Rattle.knapsack.specs.Greedy.{packing-le-fill}
+use Rattle.knapsack.specs.Laws.Greedy.{packing-le-fill}
 use Rattle.knapsack.specs.Program.{left, program_of}
-use Rattle.knapsack.specs.States.{is_left-is, is_left-from, gap-is, gap-from}
-use Rattle.knapsack.specs.Packings.{path_packs, copies_all, packing_paths, path_wider, gain_same}
-use Rattle.knapsack.specs.Sizes.{sizes_hold}
+use Rattle.knapsack.specs.Laws.States.{is_left-is, is_left-from, gap-is, gap-from}
+use Rattle.knapsack.specs.Laws.Packings.{path_packs, copies_all, packing_paths, path_wider, gain_same}
+use Rattle.knapsack.specs.Laws.Sizes.{sizes_hold}
 
 -- the numbers of items spell them
 pub items_of-item_numbers : (xs : List Item) → items_of (item_numbers xs) ≡ xs

@@ -15,12 +15,13 @@ use Rattle.dp_model.specs.Numbers.{IsSmall}
 use Rattle.max_two_sat.specs.declared.weights.UnitWeights.{UnitWeights}
 use Rattle.max_two_sat.specs.declared.weights.PairWeights.{PairWeights}
 use Rattle.max_two_sat.specs.Instance.{Instance, rows_of, row_at, pair_total, units_total, pairs_total, rows_total}
-use Rattle.max_two_sat.specs.GapLaws.{gaps_are_sound, rough_bounds}
-use Rattle.max_two_sat.specs.Kept.{IsKept, units_are_positive, unit_is_positive, unit-positive, pairs_are_positive, pair_is_positive, PairIsPositive, pair-positive}
+use Rattle.max_two_sat.specs.Laws.Gaps.{gaps_are_sound, rough_bounds}
+use Rattle.max_two_sat.specs.Limits.{IsWithinLimits, units_are_positive, unit_is_positive, pairs_are_positive, pair_is_positive, PairIsPositive}
+use Rattle.max_two_sat.specs.Laws.Limits.{unit-positive, pair-positive}
 use Rattle.max_two_sat.specs.Program.{cell_part, shared_gain, row_gain, lesser_units, words_of, limits_at, program_of}
-use Rattle.max_two_sat.specs.Rows.{length-rows_of, drop-rows, words_of-some}
-use Rattle.max_two_sat.specs.StateLaws.{state-is, steps_are_states}
-use Rattle.max_two_sat.specs.Totals.{pairs_total-positive, positive-rows_of, positive-row_at, rows_total-positive, LimitsAt, limits, rank_of-within, rank_of-zero, all-drop}
+use Rattle.max_two_sat.specs.Laws.Rows.{length-rows_of, drop-rows, words_of-some}
+use Rattle.max_two_sat.specs.Laws.States.{state-is, steps_are_states}
+use Rattle.max_two_sat.specs.Laws.Totals.{pairs_total-positive, positive-rows_of, positive-row_at, rows_total-positive, LimitsAt, limits, rank_of-within, rank_of-zero, all-drop}
 
 -- the root value
 
@@ -36,7 +37,7 @@ lesser_units-most (u ∷ us) h =
     let here = unit-positive u (and_parts _ _ h).0 in
     omega (arith, ints, clamps, lesser_units-most us (and_parts (unit_is_positive u) _ h).1)
 
-root_value-small : (i : Instance) → IsKept i → IsSmall (i.tautologies +ℤ lesser_units i.units)
+root_value-small : (i : Instance) → IsWithinLimits i → IsSmall (i.tautologies +ℤ lesser_units i.units)
 root_value-small i kept =
     small_positive _ (omega (arith, ints, kept.tautologies, lesser_units-positive i.units kept.units))
     (omega (arith, ints, kept.total, lesser_units-most i.units kept.units, pairs_total-positive i.pairs kept.pairs))
@@ -44,13 +45,13 @@ root_value-small i kept =
 -- states
 
 -- the sizes of a state's benefits and the pairs from the layer on sum to at most 2^48
-pub rank-most : (i : Instance) (k : ℕ) (s : List ℤ) → IsKept i → IsStateOf (program_of i) k s →
+pub rank-most : (i : Instance) (k : ℕ) (s : List ℤ) → IsWithinLimits i → IsStateOf (program_of i) k s →
     (rank_of (drop k s) +ℤ rows_total (drop k (rows_of (length i.units) i.pairs))) ≤ℤ pos (2 ^ 48)
 rank-most i k s kept state =
     let there : LimitsAt i k = limits i k kept state.layer in
     omega (arith, ints, kept.total, kept.tautologies, there.total, rank_of-within (drop k s) (limits_at i.units i.pairs k) there.positive (state-is i k s state.test).after)
 
-pub later-positive : (i : Instance) (k : ℕ) → IsKept i → pos 0 ≤ℤ rows_total (drop k (rows_of (length i.units) i.pairs))
+pub later-positive : (i : Instance) (k : ℕ) → IsWithinLimits i → pos 0 ≤ℤ rows_total (drop k (rows_of (length i.units) i.pairs))
 later-positive i k kept =
     let rows : List (List PairWeights) = rows_of (length i.units) i.pairs in
     rows_total-positive (drop k rows) (all-drop pairs_are_positive k rows (positive-rows_of (length i.units) i.pairs kept.pairs))
@@ -64,7 +65,7 @@ rank_of-cut (suc k) (t ∷ ts) = omega (arith, ints, rank_of-cut k ts)
 pub rank_of-state : (i : Instance) (k : ℕ) (s : List ℤ) → IsStateOf (program_of i) k s → rank_of s ≡ rank_of (drop k s)
 rank_of-state i k s state = omega (arith, ints, rank_of-cut k s, rank_of-zero (take k s) (state-is i k s state.test).before)
 
-state-small : (i : Instance) (k : ℕ) (s : List ℤ) → IsKept i → IsStateOf (program_of i) k s → Each IsSmall s
+state-small : (i : Instance) (k : ℕ) (s : List ℤ) → IsWithinLimits i → IsStateOf (program_of i) k s → Each IsSmall s
 state-small i k s kept state =
     let most : rank_of s ≤ℤ pos (2 ^ 48) = omega (arith, ints, rank-most i k s kept state, later-positive i k kept, rank_of-state i k s state) in
     each_small s (λ j below. let bounds = size_of-bounds (get_or s j (pos 0)) in
@@ -93,7 +94,7 @@ shared_gain-most (p ∷ ps) [] d h = omega (arith, ints, pairs_total-positive (p
 shared_gain-most (p ∷ ps) (t ∷ ts) d h =
     omega (arith, ints, cell-most p t d (and_parts _ _ h).0, shared_gain-most ps ts d (and_parts (pair_is_positive p) _ h).1)
 
-gain-small : (i : Instance) (k : ℕ) (s : List ℤ) (d : ℕ) → IsKept i → IsStateOf (program_of i) k s → k < length i.units → IsSmall ((program_of i).gain k s d)
+gain-small : (i : Instance) (k : ℕ) (s : List ℤ) (d : ℕ) → IsWithinLimits i → IsStateOf (program_of i) k s → k < length i.units → IsSmall ((program_of i).gain k s d)
 gain-small i k s d kept state layer =
     let rows : List (List PairWeights) = rows_of (length i.units) i.pairs in
     let row : List PairWeights = row_at rows k in
@@ -111,13 +112,13 @@ gain-small i k s d kept state layer =
 
 -- gaps and rough bounds
 
-gap-small : (i : Instance) (k : ℕ) (a s : List ℤ) (g : ℤ) → IsKept i → IsStateOf (program_of i) k s → Some (gap_of (drop k a) (drop k s)) ≡ Some g → (pos 0 ≤ℤ g) × IsSmall g
+gap-small : (i : Instance) (k : ℕ) (a s : List ℤ) (g : ℤ) → IsWithinLimits i → IsStateOf (program_of i) k s → Some (gap_of (drop k a) (drop k s)) ≡ Some g → (pos 0 ≤ℤ g) × IsSmall g
 gap-small i k a s g kept state e =
     let is : gap_of (drop k a) (drop k s) ≡ g = cc in
     small_gap g (omega (arith, ints, is, gap_of-positive (drop k a) (drop k s)))
     (omega (arith, ints, is, gap_of-most (drop k a) (drop k s), rank-most i k s kept state, later-positive i k kept))
 
-rough-small : (i : Instance) (k : ℕ) (s : List ℤ) (r : ℤ) → IsKept i → IsStateOf (program_of i) k s →
+rough-small : (i : Instance) (k : ℕ) (s : List ℤ) (r : ℤ) → IsWithinLimits i → IsStateOf (program_of i) k s →
     Some (rank_of (drop k s) +ℤ rows_total (drop k (rows_of (length i.units) i.pairs))) ≡ Some r → IsSmall r
 rough-small i k s r kept state e =
     let is : rank_of (drop k s) +ℤ rows_total (drop k (rows_of (length i.units) i.pairs)) ≡ r = cc in
@@ -131,7 +132,7 @@ words-most : (n : ℕ) → n ≤ 1024 → words_of n ≤ 1024
 words-most zero h = lit≤ tt
 words-most (suc n) h = h
 
-pub sizes_hold : (i : Instance) → IsKept i → SizesHold (program_of i)
+pub sizes_hold : (i : Instance) → IsWithinLimits i → SizesHold (program_of i)
 sizes_hold i kept = record {
   vars = kept.variables;
   some_words = words-some (length i.units);
@@ -147,7 +148,7 @@ sizes_hold i kept = record {
 }
 
 -- the six laws
-pub lawful_program : (i : Instance) → IsKept i → IsLawful (program_of i)
+pub lawful_program : (i : Instance) → IsWithinLimits i → IsLawful (program_of i)
 lawful_program i kept = record {
   states = steps_are_states i kept;
   gaps = gaps_are_sound i kept;

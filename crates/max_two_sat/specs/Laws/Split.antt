@@ -10,7 +10,7 @@ use Rattle.max_two_sat.specs.declared.weights.PairWeights.{PairWeights}
 use Rattle.max_two_sat.specs.Instance.{Instance, rows_of, row_at, pair_count}
 use Rattle.max_two_sat.specs.OwnWords.{pair_value, row_value, rows_value}
 use Rattle.max_two_sat.specs.Program.{cell_part, open_true, open_false, grown, shared_gain, row_gain, row_step, words_of, program_of}
-use Rattle.max_two_sat.specs.Rows.{length-rows_of, length-row_at, drop-rows, words_of-some, length-step, drop-step}
+use Rattle.max_two_sat.specs.Laws.Rows.{length-rows_of, length-row_at, drop-rows, words_of-some, length-step, drop-step}
 
 -- one pair: its clauses give what is settled and the lesser of what is open, and the rest is the second variable's benefit
 pub cell_split : (p : PairWeights) (t : ℤ) (d y : ℕ) →

@@ -12,13 +12,14 @@ use Rattle.dp_model.specs.Prefixes.{IsPath, IsContinuation, gain_of as gain_alon
 use Rattle.max_two_sat.specs.declared.weights.UnitWeights.{UnitWeights}
 use Rattle.max_two_sat.specs.declared.weights.PairWeights.{PairWeights}
 use Rattle.max_two_sat.specs.Instance.{Instance, rows_of, pair_total, pairs_total, rows_total}
-use Rattle.max_two_sat.specs.Kept.{IsKept, pairs_are_positive, pair_is_positive, pair-positive}
+use Rattle.max_two_sat.specs.Limits.{IsWithinLimits, pairs_are_positive, pair_is_positive}
+use Rattle.max_two_sat.specs.Laws.Limits.{pair-positive}
 use Rattle.max_two_sat.specs.OwnWords.{pair_value, row_value, rows_value}
 use Rattle.max_two_sat.specs.Program.{first_limits, limits_at, are_within, program_of}
-use Rattle.max_two_sat.specs.Rows.{length-rows_of, words_of-some}
-use Rattle.max_two_sat.specs.Split.{gain_split}
-use Rattle.max_two_sat.specs.StateLaws.{state-is}
-use Rattle.max_two_sat.specs.Totals.{rows_are_positive, positive-rows_of, pairs_total-positive, rows_total-positive, limits, sum_of, rank_of-within, all-drop}
+use Rattle.max_two_sat.specs.Laws.Rows.{length-rows_of, words_of-some}
+use Rattle.max_two_sat.specs.Laws.Split.{gain_split}
+use Rattle.max_two_sat.specs.Laws.States.{state-is}
+use Rattle.max_two_sat.specs.Laws.Totals.{rows_are_positive, positive-rows_of, pairs_total-positive, rows_total-positive, limits, sum_of, rank_of-within, all-drop}
 
 -- the same decisions are allowed from each state
 path-any : (i : Instance) (k : ℕ) (s a : List ℤ) (c : List ℕ) → IsPath (program_of i) k s c → IsPath (program_of i) k a c
@@ -27,7 +28,7 @@ path-any i k s a (d ∷ ds) h =
     (record { layer = h.0.layer; choice = h.0.choice; test = h.0.test }, path-any i (k + 1) ((program_of i).step k s d) ((program_of i).step k a d) ds h.1)
 
 -- the gain of a continuation of a state
-state_split : (i : Instance) (k : ℕ) (s : List ℤ) (c : List ℕ) → IsKept i → IsStateOf (program_of i) k s → IsContinuation (program_of i) k s c →
+state_split : (i : Instance) (k : ℕ) (s : List ℤ) (c : List ℕ) → IsWithinLimits i → IsStateOf (program_of i) k s → IsContinuation (program_of i) k s c →
     gain_along (program_of i) k s c ≡ gains_of (drop k s) c +ℤ rows_value (drop k (rows_of (length i.units) i.pairs)) c
 state_split i k s c kept state along = gain_split i k s c kept.whole (state-is i k s state.test).cells along.whole
 
@@ -38,7 +39,7 @@ same-cells : (i : Instance) (k : ℕ) (a s : List ℤ) → IsStateOf (program_of
 same-cells i k a s one other =
     omega (arith, length-drop k a, length-drop k s, (state-is i k a one.test).cells, (state-is i k s other.test).cells)
 
-gap-sound : (i : Instance) (k : ℕ) (a s : List ℤ) (g : ℤ) → IsKept i → IsStateOf (program_of i) k a → IsStateOf (program_of i) k s →
+gap-sound : (i : Instance) (k : ℕ) (a s : List ℤ) (g : ℤ) → IsWithinLimits i → IsStateOf (program_of i) k a → IsStateOf (program_of i) k s →
     gap_of (drop k a) (drop k s) ≡ g → IsSoundGap (program_of i) k a s g
 gap-sound i k a s g kept one other e c along =
     let same : IsContinuation (program_of i) k a c = record { path = path-any i k s a c along.path; whole = along.whole } in
@@ -54,7 +55,7 @@ gap-sound i k a s g kept one other e c along =
       );
     }
 
-pub gaps_are_sound : (i : Instance) → IsKept i → GapsAreSound (program_of i)
+pub gaps_are_sound : (i : Instance) → IsWithinLimits i → GapsAreSound (program_of i)
 gaps_are_sound i kept = record {
   sound = λ k a s g one other e. gap-sound i k a s g kept one other (some-is _ _ e);
   own = λ k s state. ap (λ g. Some g) (gap_of-self (drop k s));
@@ -62,7 +63,7 @@ gaps_are_sound i kept = record {
   merge_old = λ k a s u one other third has. record { gap = gap_of (drop k ((program_of i).merged k a s)) (drop k u); is = refl };
 }
 
-pub is_chained : (i : Instance) → IsKept i → IsChained (program_of i)
+pub is_chained : (i : Instance) → IsWithinLimits i → IsChained (program_of i)
 is_chained i kept k a b c g h one two three e f = record {
   gap = gap_of (drop k a) (drop k c);
   is = refl;
@@ -89,7 +90,7 @@ rows_value-most (row ∷ rows) [] h = rows_total-positive (row ∷ rows) h
 rows_value-most (row ∷ rows) (x ∷ xs) h =
     omega (arith, ints, row_value-most row x xs (and_parts _ _ h).0, rows_value-most rows xs (and_parts (pairs_are_positive row) _ h).1)
 
-rough-bounds : (i : Instance) (k : ℕ) (s : List ℤ) (c : List ℕ) → IsKept i → IsStateOf (program_of i) k s → IsContinuation (program_of i) k s c →
+rough-bounds : (i : Instance) (k : ℕ) (s : List ℤ) (c : List ℕ) → IsWithinLimits i → IsStateOf (program_of i) k s → IsContinuation (program_of i) k s c →
     gain_along (program_of i) k s c ≤ℤ (rank_of (drop k s) +ℤ rows_total (drop k (rows_of (length i.units) i.pairs)))
 rough-bounds i k s c kept state along =
     let rows : List (List PairWeights) = rows_of (length i.units) i.pairs in
@@ -117,12 +118,12 @@ first-last : (us : List UnitWeights) → length us ≡ 0 → sum_of (first_limit
 first-last [] h = refl
 first-last (u ∷ us) h = absurd (omega arith)
 
-limits-last : (i : Instance) (k : ℕ) → IsKept i → k ≡ length i.units → sum_of (limits_at i.units i.pairs k) ≡ pos 0
+limits-last : (i : Instance) (k : ℕ) → IsWithinLimits i → k ≡ length i.units → sum_of (limits_at i.units i.pairs k) ≡ pos 0
 limits-last i zero kept e = first-last i.units (sym e)
 limits-last i (suc k) kept e =
     sum_of-none (limits_at i.units i.pairs (suc k)) (omega (arith, (limits i (suc k) kept (omega arith)).count, words_of-some (length i.units) k (omega arith)))
 
-rough-last : (i : Instance) (s : List ℤ) → IsKept i → IsStateOf (program_of i) (length i.units) s →
+rough-last : (i : Instance) (s : List ℤ) → IsWithinLimits i → IsStateOf (program_of i) (length i.units) s →
     rank_of (drop (length i.units) s) +ℤ rows_total (drop (length i.units) (rows_of (length i.units) i.pairs)) ≡ pos 0
 rough-last i s kept state =
     let n : ℕ = length i.units in
@@ -138,7 +139,7 @@ rough-last i s kept state =
       rank_of-within (drop n s) (limits_at i.units i.pairs n) (limits i n kept (omega arith)).positive after,
     )
 
-pub rough_bounds : (i : Instance) → IsKept i → RoughBounds (program_of i)
+pub rough_bounds : (i : Instance) → IsWithinLimits i → RoughBounds (program_of i)
 rough_bounds i kept = record {
   bounds = λ k s c state along. rough-bounds i k s c kept state along;
   last = λ s state. ap (λ r. Some r) (rough-last i s kept state);

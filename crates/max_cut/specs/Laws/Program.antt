@@ -14,11 +14,11 @@ use Rattle.dp_model.specs.Numbers.{IsSmall}
 use Rattle.dp_model.specs.NumberLaws.{each_small, small_between, small_gap, small_positive}
 use Rattle.dp_model.specs.Prefixes.{IsPath, gain_of as path_gain}
 use Rattle.max_cut.specs.Graph.{Graph, IsGraph, row_of, weights_from, negatives_of}
-use Rattle.max_cut.specs.GraphLaws.{negatives_of-bounds, length-row_of, rank_of-split, rank_of-most, weights_from-none}
+use Rattle.max_cut.specs.Laws.Graph.{negatives_of-bounds, length-row_of, rank_of-split, rank_of-most, weights_from-none}
 use Rattle.max_cut.specs.Program.{zeros, pulls_of, settled_of, is_within, words_of, limits_of, stepped, program_of}
 use Rattle.benefit_rows.specs.Benefits.{sums_of}
-use Rattle.max_cut.specs.PullLaws.{settled_of-gains, settled_of-positive, settled_of-most, rank_of-pulls, length-pulls}
-use Rattle.max_cut.specs.StateLaws.{is_within-zeros, is_within-merged, is_within-rank, drop-stepped, stepped-state, length-state, rank_of-state, words_of-some}
+use Rattle.max_cut.specs.Laws.Pulls.{settled_of-gains, settled_of-positive, settled_of-most, rank_of-pulls, length-pulls}
+use Rattle.max_cut.specs.Laws.States.{is_within-zeros, is_within-merged, is_within-rank, drop-stepped, stepped-state, length-state, rank_of-state, words_of-some}
 
 -- the pairs' part: what each side gains from the weights to the later vertices
 abbrev pub pair_gains : Graph → ℕ → List ℕ → ℤ

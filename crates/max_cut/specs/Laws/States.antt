@@ -9,8 +9,8 @@ use Rattle.benefit_rows.specs.Benefits.{size_of, rank_of, benefit_merged, merged
 use Rattle.benefit_rows.specs.BenefitLaws.{rank_of-positive, rank_of-append, rank_of-drop, rank_of-zeros, size_of-add, benefit_merged-left}
 use Rattle.dp_model.specs.NumberLaws.{int_le-is, int_le-from}
 use Rattle.max_cut.specs.Graph.{Graph, IsGraph, row_of, weights_from}
-use Rattle.max_cut.specs.GraphLaws.{length-row_of, rank_of-split}
-use Rattle.max_cut.specs.PullLaws.{size_of-pull}
+use Rattle.max_cut.specs.Laws.Graph.{length-row_of, rank_of-split}
+use Rattle.max_cut.specs.Laws.Pulls.{size_of-pull}
 use Rattle.max_cut.specs.Program.{zeros, pulls_of, grown_by, is_within, words_of, limits_of, stepped}
 use Rattle.benefit_rows.specs.Benefits.{sums_of}
 

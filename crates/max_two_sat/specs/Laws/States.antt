@@ -10,10 +10,11 @@ use Rattle.dp_model.specs.Laws.{StepsAreStates}
 use Rattle.max_two_sat.specs.declared.weights.UnitWeights.{UnitWeights}
 use Rattle.max_two_sat.specs.declared.weights.PairWeights.{PairWeights}
 use Rattle.max_two_sat.specs.Instance.{Instance, rows_of, row_at, unit_total, pair_total}
-use Rattle.max_two_sat.specs.Kept.{IsKept, units_are_positive, unit_is_positive, pairs_are_positive, pair_is_positive, size-is, is-size, unit-positive, pair-positive}
-use Rattle.max_two_sat.specs.Program.{is_within, open_true, open_false, grown, row_step, words_of, root_of, raised, first_limits, limits_at, all_zero, are_within, is_state_of, program_of}
-use Rattle.max_two_sat.specs.Rows.{length-row_at, words_of-some, length-step, drop-step}
-use Rattle.max_two_sat.specs.Totals.{positive-rows_of, positive-row_at}
+use Rattle.max_two_sat.specs.Limits.{IsWithinLimits, units_are_positive, unit_is_positive, pairs_are_positive, pair_is_positive}
+use Rattle.max_two_sat.specs.Laws.Limits.{size-is, is-size, unit-positive, pair-positive}
+use Rattle.max_two_sat.specs.Program.{is_within, open_true, open_false, grown, row_step, words_of, root_of, raised_limits, first_limits, limits_at, all_zero, are_within, is_state_of, program_of}
+use Rattle.max_two_sat.specs.Laws.Rows.{length-row_at, words_of-some, length-step, drop-step}
+use Rattle.max_two_sat.specs.Laws.Totals.{positive-rows_of, positive-row_at}
 
 -- what the test of a state says
 pub record IsSatState (i : Instance) (k : ℕ) (s : List ℤ) : Type 0 where
@@ -56,7 +57,7 @@ within-root : (us : List UnitWeights) → IsTrue (units_are_positive us) → IsT
 within-root [] h = refl
 within-root (u ∷ us) h = within-units (u ∷ us) h
 
-root-state : (i : Instance) → IsKept i → IsTrue (is_state_of i 0 (root_of i.units))
+root-state : (i : Instance) → IsWithinLimits i → IsTrue (is_state_of i 0 (root_of i.units))
 root-state i kept = is-state i 0 (root_of i.units) (record {
   cells = length-root_of i.units;
   before = refl;
@@ -69,7 +70,7 @@ grown-within : (p : PairWeights) (t l : ℤ) (d : ℕ) → IsTrue (pair_is_posit
 grown-within p t l zero h g = let here = pair-positive p h in omega (arith, ints, clamps)
 grown-within p t l (suc d) h g = let here = pair-positive p h in omega (arith, ints, clamps)
 
-within-grown : (ps : List PairWeights) (ts ls : List ℤ) (d : ℕ) → IsTrue (pairs_are_positive ps) → IsTrue (are_within ts ls) → IsTrue (are_within (grown ps ts d) (raised ps ls))
+within-grown : (ps : List PairWeights) (ts ls : List ℤ) (d : ℕ) → IsTrue (pairs_are_positive ps) → IsTrue (are_within ts ls) → IsTrue (are_within (grown ps ts d) (raised_limits ps ls))
 within-grown [] ts ls d h g = refl
 within-grown (p ∷ ps) [] ls d h g = refl
 within-grown (p ∷ ps) (t ∷ ts) [] d h g = absurd (grind arith)
@@ -89,7 +90,7 @@ zero-step (suc k) [] more h g = absurd (omega arith)
 zero-step (suc k) (t ∷ ts) more h g =
     and_from (is_within t (pos 0)) _ (and_parts _ _ g).0 (zero-step k ts more (omega arith) (and_parts (is_within t (pos 0)) _ g).1)
 
-step-state : (i : Instance) (k : ℕ) (s : List ℤ) (d : ℕ) → IsKept i → k < length i.units → IsTrue (is_state_of i k s) →
+step-state : (i : Instance) (k : ℕ) (s : List ℤ) (d : ℕ) → IsWithinLimits i → k < length i.units → IsTrue (is_state_of i k s) →
     IsTrue (is_state_of i (k + 1) (take k s ++ row_step (row_at (rows_of (length i.units) i.pairs) k) (drop k s) d))
 step-state i k s d kept layer test =
     let state : IsSatState i k s = state-is i k s test in
@@ -142,7 +143,7 @@ merged-state i k a s p q =
       after = within-merged k a s (limits_at i.units i.pairs k) one.after;
     })
 
-pub steps_are_states : (i : Instance) → IsKept i → StepsAreStates (program_of i)
+pub steps_are_states : (i : Instance) → IsWithinLimits i → StepsAreStates (program_of i)
 steps_are_states i kept = record {
   root = root-state i kept;
   step = λ k s d state allowed. step-state i k s d kept allowed.layer state.test;

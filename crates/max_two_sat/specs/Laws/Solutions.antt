@@ -10,11 +10,11 @@ use Rattle.dp_model.specs.Prefixes.{IsPath, value_of}
 use Rattle.dp_model.specs.Solution.{SolutionGives}
 use Rattle.max_two_sat.specs.declared.weights.UnitWeights.{UnitWeights}
 use Rattle.max_two_sat.specs.Instance.{Instance}
-use Rattle.max_two_sat.specs.Kept.{IsKept}
+use Rattle.max_two_sat.specs.Limits.{IsWithinLimits}
 use Rattle.max_two_sat.specs.OwnWords.{unit_value, units_value, weight_of, all_truth_values, own_value}
 use Rattle.max_two_sat.specs.Program.{lesser_units, root_of, program_of}
-use Rattle.max_two_sat.specs.Split.{gain_split}
-use Rattle.max_two_sat.specs.StateLaws.{state-is, steps_are_states}
+use Rattle.max_two_sat.specs.Laws.Split.{gain_split}
+use Rattle.max_two_sat.specs.Laws.States.{state-is, steps_are_states}
 
 -- paths are lists of truth values
 
@@ -52,13 +52,13 @@ root-split [] (x ∷ xs) h = absurd (omega arith)
 root-split (u ∷ us) xs h = units-split (u ∷ us) xs h
 
 -- the value of a solution is the weight of the satisfied clauses
-pub value_of-solution : (i : Instance) (xs : List ℕ) → IsKept i → length xs ≡ length i.units → value_of (program_of i) xs ≡ weight_of i xs
+pub value_of-solution : (i : Instance) (xs : List ℕ) → IsWithinLimits i → length xs ≡ length i.units → value_of (program_of i) xs ≡ weight_of i xs
 value_of-solution i xs kept whole =
     let cells = (state-is i 0 (root_of i.units) (steps_are_states i kept).root).cells in
     omega (arith, ints, gain_split i 0 (root_of i.units) xs kept.whole cells (omega arith), root-split i.units xs whole)
 
 -- a list of decisions is a feasible solution exactly where it has a value in the problem's own words, and the values are equal
-pub own_value-agrees : (i : Instance) (xs : List ℕ) → IsKept i → SolutionGives (program_of i) xs (own_value i xs)
+pub own_value-agrees : (i : Instance) (xs : List ℕ) → IsWithinLimits i → SolutionGives (program_of i) xs (own_value i xs)
 own_value-agrees i xs kept = cases ((length xs == length i.units) && all_truth_values xs) refl
   where
     cases : (b : Bool) → ((length xs == length i.units) && all_truth_values xs) ≡ b → SolutionGives (program_of i) xs (if b then Some (weight_of i xs) else None)
