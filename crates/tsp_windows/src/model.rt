@@ -1,4 +1,4 @@
-ghost use Rattle.std.specs.Prelude.{◌≡◌, ◌+◌, ◌*◌, ◌^◌, ◌<◌, ◌≤◌, ◌↔◌, ◌||◌, pos, nat_le, if◌then◌else◌, true, false, Some, None, IsTrue, IsNone, IfSome, is_some, length};
+ghost use Rattle.std.specs.Prelude.{◌≡◌, ℕ, ◌+◌, ◌*◌, ◌^◌, ◌<◌, ◌≤◌, ◌↔◌, ◌||◌, pos, nat_le, if◌then◌else◌, true, false, Some, None, IsTrue, IsNone, IfSome, is_some, length};
 ghost use Rattle.node_sets.specs.Sets as sets;
 ghost use Rattle.node_sets.specs.Sets.{AreWords, has};
 ghost use Rattle.node_sets.specs.Sums.{count_below};
@@ -14,7 +14,7 @@ use crate::ways::{least_leg, ways_within};
 use dp_model::{DpModel, Extended};
 use node_sets::{
     clear, contains, count, is_disjoint, is_empty, is_set, is_subset, is_union_subset, join, least,
-    union_with, words_for, write_one, write_others, write_without,
+    next_of_either, union_with, words_for, write_one, write_others, write_without,
 };
 
 /// Whether each way on from the one state is one from the other, and no later.
@@ -206,6 +206,39 @@ impl TspWindows {
         self.returned(s, rank, to)
     }
 
+    /// The first node from one on that must or may be visited, or the number of nodes where there is none.
+    #[inline]
+    fn next_open(&self, s: &[i64], from: usize) -> usize
+        requires state { IsTrue (is_state_row self.now.nodes s.now) }
+        requires from { from ≤ self.now.nodes }
+        ensures on { from ≤ result }
+        ensures within { result ≤ self.now.nodes }
+        ensures skipped { (v : ℕ) → from ≤ v → v < result → states.is_open (shown (sets.words_for self.now.nodes) s.now) v ≡ false }
+    {
+        let state = parts_of(self.nodes, s);
+        match next_of_either(state.must, state.may, from) {
+            Some(node) => node,
+            None => self.nodes,
+        }
+    }
+
+    /// The first node from one on to which a decision may lead, as far as the layer and the sets tell: no decision before it is
+    /// allowed. Only node 0 ends the tour.
+    #[inline]
+    fn next_node(&self, k: usize, s: &[i64], from: usize) -> usize
+        requires layer { k < self.now.nodes }
+        requires state { IsTrue (is_state_row self.now.nodes s.now) }
+        requires from { from ≤ self.now.nodes }
+        ensures on { from ≤ result }
+        ensures within { result ≤ self.now.nodes }
+        ensures skipped { (v : ℕ) → from ≤ v → v < result → states.may_go (instance_in self.now) k (shown (sets.words_for self.now.nodes) s.now) v ≡ false }
+    {
+        if self.nodes == k + 1 {
+            return if from == 0 { 0 } else { self.nodes };
+        }
+        self.next_open(s, from)
+    }
+
     /// How many nodes must be visited.
     fn left(&self, s: &[i64]) -> i64
         requires { IsTrue (is_state_row self.now.nodes s.now) }
@@ -393,6 +426,11 @@ impl DpModel for TspWindows {
         let gain = parts_of(self.nodes, s).time as i64 - departure as i64;
         let rank = self.left_behind(s, rank, to);
         Some(Extended { gain, rank })
+    }
+
+    #[inline(always)]
+    fn next_choice(&self, k: usize, s: &[i64], from: u32) -> u32 {
+        self.next_node(k, s, from as usize) as u32
     }
 
     fn bucket(&self, _k: usize, s: &[i64]) -> u64 {
