@@ -1,15 +1,13 @@
 -- Items that are drawn one after another.
-use Rattle.std.proofs.Common.{◌≡◌, ◌∙◌, ℕ, ◌+◌, ◌*◌, ◌/◌, ◌≤◌, ◌&&◌, true, List, [], ◌∷◌, ◌++◌, length, sym, ap, ap₂, arith, length-append, Result, Ok, Err, IfOk}
+use Rattle.std.proofs.Common.{◌≡◌, ◌∙◌, ℕ, ◌+◌, ◌*◌, ◌≤◌, ◌&&◌, true, List, [], ◌∷◌, ◌++◌, length, sym, ap, ap₂, arith, length-append}
 use Rattle.std.specs.List.{list_all}
 use Rattle.std.proofs.lemmas.List.Folds.{list_all-append}
 use Rattle.std.proofs.lemmas.List.Sums.{sum_by-append}
 use Rattle.draws.specs.Draws.{steps}
 use Rattle.draws.proofs.Steps.{steps_more, steps_none}
 use Rattle.knapsack.specs.declared.item.Item.{Item}
-use Rattle.knapsack.specs.declared.instance.Knapsack.{Knapsack}
-use Rattle.knapsack.specs.Shown.{instance_in}
 use Rattle.knapsack.specs.Instance.{is_small_item}
-use Rattle.knapsack.specs.Generating.{behind_item, generated, item_drawn, whole_weight, with_item}
+use Rattle.knapsack.specs.Generating.{behind_item, item_drawn, whole_weight, with_item}
 
 -- so many items are drawn from the seed, and these draws are left
 pub record AreDrawn (seed k x : ℕ) (items : List Item) (weight : ℕ) : Type 0 where

@@ -1,9 +1,8 @@
 -- What it means that an instance is within the limits.
-use Rattle.std.proofs.Common.{◌≡◌, ◌≤◌, ◌^◌, true, List, length}
+use Rattle.std.proofs.Common.{◌≡◌, ◌≤◌, true, List, length}
 use Rattle.std.specs.List.{list_all}
-use Rattle.std.proofs.lemmas.Bool.{and_parts, leb-true}
 use Rattle.knapsack.specs.declared.item.Item.{Item}
-use Rattle.knapsack.specs.Instance.{Instance, is_small, is_small_item}
+use Rattle.knapsack.specs.Instance.{is_small_item}
 
 -- an item within the limits
 pub record IsSmallItem (x : Item) : Type 0 where

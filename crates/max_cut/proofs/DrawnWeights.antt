@@ -1,13 +1,11 @@
 -- Weights that are drawn one after another.
-use Rattle.std.proofs.Common.{◌≡◌, ◌∙◌, ℕ, ◌+◌, ◌≤◌, ℤ, List, [], ◌∷◌, ◌++◌, length, sym, ap, subst, arith, length-append, Result, Ok, Err, IfOk}
+use Rattle.std.proofs.Common.{◌≡◌, ◌∙◌, ℕ, ◌+◌, ℤ, List, [], ◌∷◌, ◌++◌, length, sym, ap, subst, arith, length-append}
 use Rattle.std.specs.List.{All}
 use Rattle.std.proofs.lemmas.List.Elements.{All-nil, All-push}
 use Rattle.draws.specs.Draws.{steps}
 use Rattle.draws.proofs.Steps.{steps_more, steps_none}
-use Rattle.max_cut.specs.declared.instance.MaxCut.{MaxCut}
-use Rattle.max_cut.specs.Graph.{IsGraph, IsWeight, pairs_of}
-use Rattle.max_cut.specs.Generating.{behind_weight, generated, weight_drawn, with_weight}
-use Rattle.max_cut.specs.Shown.{instance_in}
+use Rattle.max_cut.specs.Graph.{IsWeight}
+use Rattle.max_cut.specs.Generating.{behind_weight, weight_drawn, with_weight}
 
 -- so many weights are drawn from the seed, and these draws are left
 pub record AreDrawn (seed k x : ℕ) (weights : List ℤ) : Type 0 where

@@ -1,5 +1,5 @@
 -- What it means that an instance is within the limits.
-use Rattle.std.proofs.Common.{◌≡◌, ◌≤◌, ◌^◌, true, List, length}
+use Rattle.std.proofs.Common.{◌≡◌, ◌≤◌, ◌^◌, true, length}
 use Rattle.std.specs.List.{list_all}
 use Rattle.std.proofs.lemmas.Bool.{and_parts, leb-true}
 use Rattle.knapsack.specs.declared.item.Item.{Item}
