@@ -58,7 +58,7 @@ impl Fringe {
             words,
             spare: 0,
             slots: Vec::new(alloc),
-            keys: Region::empty(alloc, words),
+            keys: Region::empty(alloc, 1),
             ranks: Ranks::new(alloc),
             index: Index::new(alloc),
         };

@@ -40,7 +40,7 @@ fn more_slots(alloc: Global, store: &mut Store, count: usize) -> Result<(), Allo
         .saturating_add(1)
         .saturating_mul(2);
     store.slots.reserve(more)?;
-    let index = index_for(alloc, store.slots.as_slice(), room)?;
+    let index = index_for(alloc, store.slots.as_slice(), &store.keys, room)?;
     store.keys.grow(more)?;
     push_empty(&mut store.slots, more);
     store.index = index;

@@ -30,7 +30,7 @@ pub fn find_same(store: &Store, depth: usize, row: &[i64]) -> Option<(u32, Same)
     ensures { MatchOption result (HasNone store.now.slots.items depth row.now) (λ r. HasSame store.now.slots.items depth row.now r.0 r.1.ticket r.1.value) }
 {
     let slots = store.slots.as_slice();
-    let slot = slot_of_same(slots, &store.keys, &store.index, depth, row)?;
+    let slot = slot_of_same(slots, &store.index, depth, row)?;
     let Some(one) = in_slot(slots, slot) else {
         unreachable!();
     };

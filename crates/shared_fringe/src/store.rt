@@ -15,8 +15,9 @@ use crate::reindexing::{fold_of_one, ready_index};
 use crate::reranking::{rank_of, rerank};
 use row_region::{Region, RowId};
 
-/// The open ones in slots, a region with the row of each at the place of its slot, a heap with the rank of each, and an index
-/// with the fold of each. Ranks and index may also name some that are gone.
+/// The open ones in slots, a region with the key of each at the place of its slot, a heap with the rank of each, and an index
+/// with the fold of each. A key is a row of one cell: the fold of depth and state. Ranks and index may also name some that are
+/// gone.
 #[derive(Debug, Drop)]
 pub struct Store {
     pub words: usize,
@@ -42,15 +43,17 @@ pub fn put_in(store: &mut Store, one: Listed)
     ensures spare { store.new.spare + 1 ≡ store.old.spare }
 {
     let _rows = store.keys.rows();
+    let _free = store.keys.spare();
+    ready_index(store.slots.as_slice(), &store.keys, &mut store.index);
     let Some(key) = store.keys.take() else {
         unreachable!();
     };
+    let fold = fold_of_one(&one);
     store
         .keys
         .row_mut(key)
-        .copy_from_slice(one.sub.row.as_slice());
-    ready_index(store.slots.as_slice(), &mut store.index);
-    store.index.enter(fold_of_one(&one), key.place);
+        .copy_from_slice(&[fold.cast_signed()]);
+    store.index.enter(fold, key.place);
     store.ranks.push(rank_of(&one, key.place));
     store.slots[key.place as usize] = Some(one);
     store.spare -= 1;
