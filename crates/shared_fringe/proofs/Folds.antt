@@ -1,5 +1,5 @@
 -- A fold fits 64 bits.
-use Rattle.std.proofs.Common.{◌≡◌, ℕ, ◌+◌, ◌*◌, ◌/◌, ◌%◌, ◌^◌, ◌<◌, ◌≤◌, ℤ, List, [], ◌∷◌, refl, arith}
+use Rattle.std.proofs.Common.{ℕ, ◌*◌, ◌/◌, ◌%◌, ◌^◌, ◌<◌, ℤ, List, [], ◌∷◌, arith}
 use Rattle.std.specs.Int.{w64, rotate_left}
 use Rattle.dp_model.specs.Folds.{fold_of, folded, spread}
 use lib.Bits.{or_lt}

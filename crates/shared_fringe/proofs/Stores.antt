@@ -8,7 +8,6 @@ use Rattle.shared_fringe.specs.Tickets.{Ticketed}
 use Rattle.shared_fringe.specs.Fringe.{is_same}
 use Rattle.shared_fringe.proofs.Rows.{different-turned}
 use Rattle.shared_fringe.specs.declared.rank.Rank.{Rank}
-use Rattle.dp_model.specs.Folds.{fold_of}
 use Rattle.shared_fringe.specs.Index.{IndexView, HasEntered}
 use Rattle.shared_fringe.specs.Ranks.{RanksView}
 use Rattle.shared_fringe.specs.Slots.{IsOpen, IsSet, AreEntered, IsEntered, in_slot, rank_of, is_same_in, key_of, own_fold}

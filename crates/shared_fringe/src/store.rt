@@ -4,14 +4,14 @@ ghost use Rattle.std.specs.Prelude.{◌≡◌, ◌≢◌, ℕ, ◌+◌, ◌<◌,
 ghost use Rattle.shared_fringe.specs.Firsts.{first_taken};
 ghost use Rattle.shared_fringe.specs.Popping.{after_pop};
 ghost use Rattle.shared_fringe.specs.Tickets.{Ticketed, by_ticket, without};
-ghost use Rattle.shared_fringe.specs.Slots.{in_slot, is_same_in, key_of, opened, IsSet};
+ghost use Rattle.shared_fringe.specs.Slots.{in_slot, is_same_in, key_of, opened, own_fold, IsSet};
 ghost use Rattle.shared_fringe.specs.Stored.{IsStored, HasFewRanks};
 
 use crate::index::Index;
 use crate::listed::Listed;
 use crate::popping::first_slot;
 use crate::ranks::Ranks;
-use crate::reindexing::{fold_of_one, ready_index};
+use crate::reindexing::ready_index;
 use crate::reranking::{rank_of, rerank};
 use row_region::{Region, RowId};
 
@@ -28,14 +28,15 @@ pub struct Store {
     pub index: Index,
 }
 
-/// One more. It takes no memory.
-pub fn put_in(store: &mut Store, one: Listed)
+/// One more, with its fold. It takes no memory.
+pub fn put_in(store: &mut Store, one: Listed, fold: u64)
     requires stored { IsStored store.old.words store.old.spare store.old.slots.items store.old.keys store.old.ranks store.old.index }
     requires few { HasFewRanks store.old.slots.items store.old.ranks }
     requires room { 0 < store.old.spare }
     requires fresh { (t : ℕ) (p : Ticketed) → in_slot store.old.slots.items t ≡ Some p → p.ticket ≢ one.ticket }
     requires alone { (t : ℕ) → is_same_in (length one.subproblem.decisions) one.subproblem.row (in_slot store.old.slots.items t) ≡ false }
     requires cells { length one.subproblem.row ≡ store.old.words }
+    requires fold { fold ≡ own_fold one }
     ensures stored { IsStored store.new.words store.new.spare store.new.slots.items store.new.keys store.new.ranks store.new.index }
     ensures few { HasFewRanks store.new.slots.items store.new.ranks }
     ensures listed { opened store.new.slots.items ≡ by_ticket one (opened store.old.slots.items) }
@@ -48,7 +49,6 @@ pub fn put_in(store: &mut Store, one: Listed)
     let Some(key) = store.keys.take() else {
         unreachable!();
     };
-    let fold = fold_of_one(&one);
     store
         .keys
         .row_mut(key)

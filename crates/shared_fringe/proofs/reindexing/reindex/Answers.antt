@@ -1,4 +1,4 @@
-use Rattle.std.proofs.Common.{◌≡◌, ℕ, length, Some, arith, inl, inr, sym, subst}
+use Rattle.std.proofs.Common.{◌≡◌, ℕ, Some, arith, inl, inr, sym, subst}
 use Rattle.std.proofs.lemmas.Bool.{cases_eq}
 use Rattle.shared_fringe.specs.Slots.{IsEntered, in_slot, own_fold}
 use Rattle.shared_fringe.proofs.reindexing.reindex.Goals as goal

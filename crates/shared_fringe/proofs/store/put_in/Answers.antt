@@ -26,11 +26,11 @@ returns-clause-stored c =
     let s = c.args.store.now in
     let has : HasTaken s.keys c.in-Some.key.place c.take.new.self = c.in-Some.ensures.taken in
     let h = c.requires.stored in
-    stored_more s.words s.spare (s.spare - 1) s.slots.items s.keys c.take.new.self _ s.ranks c.push.new.self s.index c.ready_index.new.index c.enter.new.self c.in-Some.key.place c.fold_of_one-fold.result c.args.one
+    stored_more s.words s.spare (s.spare - 1) s.slots.items s.keys c.take.new.self _ s.ranks c.push.new.self s.index c.ready_index.new.index c.enter.new.self c.in-Some.key.place c.args.fold c.args.one
     h (let a = c.requires.room in omega arith)
     has (keyed_more s.slots.items s.keys c.take.new.self c.in-Some.key.place c.args.one c.copy_from_slice.new.self h.keyed has h.width (search rules)) (search rules) (search rules)
     (search rules) c.ready_index.ensures.room
-    c.enter.ensures.entered c.fold_of_one-fold.ensures c.enter.ensures.room
+    c.enter.ensures.entered c.requires.fold c.enter.ensures.room
     (search rules) c.push.ensures.len c.push.ensures.room
     c.requires.fresh c.requires.alone c.requires.cells
 
