@@ -8,10 +8,10 @@ use Rattle.layer_nodes.specs.Leading.{IsNodeIn}
 use Rattle.layer_nodes.specs.Nodes.{LayerView, shown_layer, shown_below}
 use Rattle.layer_nodes.specs.Steps.{IsNodeOf, AreAmong}
 use Rattle.layer_nodes.specs.Stored.{node_view, IsStored}
-use Rattle.layer_nodes.specs.Striking.{Shows}
+use Rattle.layer_nodes.specs.Striking.{asking, threshold_of, Shows}
 use Rattle.layer_nodes.proofs.Shown.{seen, seen-shows, below-seen, nodes-in}
 use Rattle.layer_nodes.proofs.Stored.{has-rows, among-each, among-map, among-take, length-take-most}
-use Rattle.layer_nodes.proofs.striking.strike.Goals as goal
+use Rattle.layer_nodes.proofs.striking.take_out.Goals as goal
 
 pub prune-stay-requires-clause-nodes : goal.prune-stay-requires-clause-nodes
 prune-stay-requires-clause-nodes g c κs within =
@@ -47,7 +47,7 @@ invariant_of-next g c =
 
 pub returns-clause-next : goal.returns-clause-next
 returns-clause-next g c = λ paths.
-    let dp = g.M.DpModel.meaning (g.M.DpModel.numbers c.args.model.now) in
+    let dp = asking c.args.strikes (g.M.DpModel.meaning (g.M.DpModel.numbers c.args.model.now)) in
     let a = c.args in
     let s = c.next.inside in
     let h = c.prune-stay.ensures.pruned in
@@ -60,11 +60,11 @@ returns-clause-next g c = λ paths.
     ap (λ n. shown_below paths (map (node_view s.words s.rows.items s.arcs.items) n)) kept
     ∙ (below-seen paths s.words s.rows.items s.arcs.items (take stay now)
     ∙ (h.nodes show shows
-    ∙ ap (pruned_nodes dp a.k a.threshold [] 0) (ap (map show) c.as_mut_slice.ensures.value ∙ (sym (below-seen paths s.words s.rows.items s.arcs.items s.nodes.items) ∙ ap (λ (l : LayerView). shown_below paths l.nodes) c.next.view_is))))
+    ∙ ap (pruned_nodes dp a.k (threshold_of a.strikes) [] 0) (ap (map show) c.as_mut_slice.ensures.value ∙ (sym (below-seen paths s.words s.rows.items s.arcs.items s.nodes.items) ∙ ap (λ (l : LayerView). shown_below paths l.nodes) c.next.view_is))))
 
 pub returns-clause-above : goal.returns-clause-above
 returns-clause-above g c = λ paths below.
-    let dp = g.M.DpModel.meaning (g.M.DpModel.numbers c.args.model.now) in
+    let dp = asking c.args.strikes (g.M.DpModel.meaning (g.M.DpModel.numbers c.args.model.now)) in
     let a = c.args in
     let s = c.next.inside in
     let h = c.prune-stay.ensures.pruned in
@@ -72,7 +72,7 @@ returns-clause-above g c = λ paths below.
     let shows = subst (λ r. Shows r s.words show) (sym c.as_slice.ensures.value) (seen-shows below s.words s.rows.items s.arcs.items) in
     c.redirect_layer.ensures.nodes paths
     ∙ ap (λ x. with_redirected x (shown_layer paths a.above.now.nodes)) (c.as_slice-2.ensures.value ∙ (h.targets show shows
-    ∙ ap (prune_redirects dp a.k a.threshold [] 0) (ap (map show) c.as_mut_slice.ensures.value ∙ (sym (below-seen below s.words s.rows.items s.arcs.items s.nodes.items) ∙ ap (λ (l : LayerView). shown_below below l.nodes) c.next.view_is))))
+    ∙ ap (prune_redirects dp a.k (threshold_of a.strikes) [] 0) (ap (map show) c.as_mut_slice.ensures.value ∙ (sym (below-seen below s.words s.rows.items s.arcs.items s.nodes.items) ∙ ap (λ (l : LayerView). shown_below below l.nodes) c.next.view_is))))
 
 pub returns-clause-stay : goal.returns-clause-stay
 returns-clause-stay g c =
