@@ -56,17 +56,13 @@ fn rank_of<M: DpModel>(model: &M, depth: usize, row: &[i64], told: Option<i64>) 
     }
 }
 
-/// Whether the gap of the entry's row to the new state lifts that state's value to at most the entry's. A gap is no less than
-/// zero, so the values alone often tell.
+/// Whether the gap of the entry's row to the new state lifts that state's value to at most the entry's.
 fn covers<M: DpModel>(model: &M, entry: &Entry, row: &[i64], sought: &Sought) -> bool
     requires state { IsStateOf (M.meaning (M.numbers model.now)) sought.now.depth sought.now.row.now }
     requires rank { sought.now.rank ≡ (M.meaning (M.numbers model.now)).rank sought.now.depth sought.now.row.now }
     requires row { IsReached (M.meaning (M.numbers model.now)) sought.now.depth row.now entry.now.rank }
     ensures { result ≡ covers_at ((M.meaning (M.numbers model.now)).gap sought.now.depth row.now sought.now.row.now) entry.now.value sought.now.value }
 {
-    if entry.value < sought.value {
-        return false;
-    }
     let most = entry.value.saturating_sub(sought.value);
     let rank = rank_of(model, sought.depth, row, entry.rank);
     model
@@ -74,7 +70,8 @@ fn covers<M: DpModel>(model: &M, entry: &Entry, row: &[i64], sought: &Sought) ->
         .is_some()
 }
 
-/// Whether the entry, which has this row, is one of the depth and bucket that dominates.
+/// Whether the entry, which has this row, is one of the depth and bucket that dominates. A gap is no less than zero, so the values
+/// alone often tell, and they are compared first.
 fn dominates<M: DpModel>(model: &M, entry: &Entry, row: &[i64], sought: &Sought) -> bool
     requires state { IsStateOf (M.meaning (M.numbers model.now)) sought.now.depth sought.now.row.now }
     requires bucket { sought.now.bucket ≡ (M.meaning (M.numbers model.now)).bucket sought.now.depth sought.now.row.now }
@@ -82,6 +79,9 @@ fn dominates<M: DpModel>(model: &M, entry: &Entry, row: &[i64], sought: &Sought)
     requires row { entry.now.depth ≡ sought.now.depth → IsReached (M.meaning (M.numbers model.now)) sought.now.depth row.now entry.now.rank }
     ensures { result ≡ dominates (M.meaning (M.numbers model.now)) sought.now.depth sought.now.row.now sought.now.value (with_row entry.now row.now) }
 {
+    if entry.value < sought.value {
+        return false;
+    }
     if entry.depth != sought.depth || entry.bucket != sought.bucket {
         return false;
     }
