@@ -16,6 +16,6 @@ returns g c =
     let gap = dp.gap c.args.sought.now.depth c.args.row.now c.args.sought.now.row.now in
     let above = to_z-of_z w64 c.args.entry.now.value (search rules) in
     let value : to_z w64 (of_z w64 c.args.sought.now.value) ≡ c.args.sought.now.value = search rules in
-    let most = to_z-of_z w64 c.saturating_sub-most.result (record { sfits = c.saturating_sub-most.type_inv }) ∙ (c.saturating_sub-most.ensures ∙ ap₂ (λ a b. saturate_signed w64 (a -ℤ b)) above value) in
+    let most = to_z-of_z w64 c.excess-most.result (record { sfits = c.excess-most.type_inv }) ∙ (c.excess-most.ensures ∙ ap₂ (λ a b. saturate_signed w64 (a -ℤ b)) above value) in
     c.is_some.ensures ∙ (ap is_some (c.covers_within.ensures ∙ ap (λ m. within m gap) most)
     ∙ within_covers dp c.args.sought.now.depth c.args.row.now c.args.sought.now.row.now c.args.entry.now.value c.args.sought.now.value (laws_of g c.args.model.now) c.requires.row.state c.requires.state)

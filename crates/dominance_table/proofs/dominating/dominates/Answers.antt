@@ -16,3 +16,10 @@ returns-then-entry-sought g c =
     let less : c.args.entry.now.value <ℤ c.args.sought.now.value = grind (arith, ints) in
     less_dominates (g.M.DpModel.meaning (g.M.DpModel.numbers c.args.model.now)) c.args.sought.now.depth c.args.sought.now.row.now c.args.sought.now.value c.args.entry.now c.args.row.now
     (laws_of g c.args.model.now) c.requires.row c.requires.state less
+
+pub covers-requires-clause-worth : goal.covers-requires-clause-worth
+covers-requires-clause-worth g c =
+    let above = to_z-of_z w64 c.args.entry.now.value (search rules) in
+    let value : to_z w64 (of_z w64 c.args.sought.now.value) ≡ c.args.sought.now.value = search rules in
+    let test = c.if-entry-sought.false in
+    grind (arith, ints)
