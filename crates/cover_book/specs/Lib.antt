@@ -1,0 +1,5 @@
+pub mod Diagrams
+pub mod Nodes
+pub mod Adding
+pub mod Waits
+pub mod Steps
