@@ -1,4 +1,4 @@
-ghost use Rattle.std.specs.Prelude.{◌≡◌, ℕ, ◌+◌, ◌*◌, ◌^◌, ◌<◌, ◌≤◌, ◌↔◌, ◌||◌, pos, nat_le, if◌then◌else◌, true, false, Some, None, IsTrue, IsNone, IfSome, is_some, length};
+ghost use Rattle.std.specs.Prelude.{◌≡◌, ℕ, ◌+◌, ◌*◌, ◌^◌, ◌<◌, ◌≤◌, ◌≤ℤ◌, ◌↔◌, ◌||◌, pos, nat_le, if◌then◌else◌, true, false, Some, None, IsTrue, IsNone, IfSome, is_some, length};
 ghost use Rattle.node_sets.specs.Sets as sets;
 ghost use Rattle.node_sets.specs.Sets.{AreWords, has};
 ghost use Rattle.node_sets.specs.Sums.{count_below};
@@ -89,6 +89,14 @@ fn is_state_of(nodes: usize, s: &[i64]) -> bool
         return false;
     }
     time >= 0 && time <= 1_000_000_000_000
+}
+
+/// The number that a rank stands for.
+fn counted(rank: i64) -> usize
+    requires { pos 0 ≤ℤ rank }
+    ensures { (count : ℕ) → rank ≡ pos count → result ≡ count }
+{
+    rank as usize
 }
 
 impl TspWindows {
@@ -261,17 +269,20 @@ impl TspWindows {
         }
     }
 
-    /// The sum of the least ways to the nodes that must be visited and home, or none where the state is lost.
-    fn way_left(&self, k: usize, s: &[i64]) -> Option<u64>
+    /// The sum of the least ways to the nodes that must be visited and home, or none where the state is lost. So many nodes as
+    /// the rank must be visited.
+    fn way_left(&self, k: usize, s: &[i64], rank: i64) -> Option<u64>
         requires layer { k < self.now.nodes }
         requires state { IsTrue (is_state_row self.now.nodes s.now) }
+        requires rank { rank ≡ pos (count_below self.now.nodes (shown (sets.words_for self.now.nodes) s.now).must) }
         ensures lost { IsNone result → states.is_lost (instance_in self.now) k (shown (sets.words_for self.now.nodes) s.now) ≡ true }
         ensures left { IfSome result (λ way. (states.is_lost (instance_in self.now) k (shown (sets.words_for self.now.nodes) s.now) ≡ false)
             × (way ≡ states.way_left (instance_in self.now) (shown (sets.words_for self.now.nodes) s.now))) }
         ensures small { IfSome result (λ way. way < 2 ^ 62) }
     {
         let state = parts_of(self.nodes, s);
-        if count(state.must) + k + 1 > self.nodes {
+        let wanted = counted(rank);
+        if wanted + k + 1 > self.nodes {
             return None;
         }
         let home = u64::from(self.nearest[0]);
@@ -396,10 +407,14 @@ impl DpModel for TspWindows {
     }
 
     fn rough(&self, k: usize, s: &[i64]) -> Option<i64> {
+        self.rough_by_rank(k, s, self.left(s))
+    }
+
+    fn rough_by_rank(&self, k: usize, s: &[i64], rank: i64) -> Option<i64> {
         if k >= self.nodes {
             return Some(0);
         }
-        match self.way_left(k, s) {
+        match self.way_left(k, s, rank) {
             Some(way) => Some(-(way as i64)),
             None => None,
         }
