@@ -11,12 +11,8 @@ use Rattle.dp_model.specs.Subproblem.{Subproblem}
 use Rattle.dp_model.proofs.Members.{Each-then}
 use Rattle.dp_model.proofs.Paths.{state_of-state, continued, value_of-split}
 use Rattle.dp_laws.specs.Children.{SoundChildrenFollow, found_value}
-use Rattle.dp_laws.specs.Floors.{ReachesBelow, IsFloor, FloorsMatch}
+use Rattle.dp_laws.specs.Floors.{ReachesBelow, IsFloor, FloorsMatch, Carries}
 use Rattle.dp_laws.proofs.Matching.{completions-matched}
-
--- what the first list reaches at a depth or below, the second one does too, unless it is at most the reach
-abbrev pub Carries : Dp → Option ℤ → List (List ℕ) → List (List ℕ) → Type 0
-Carries dp reach P Q = (k : ℕ) (v : ℤ) → OneOf (ReachesBelow dp k v) P → AtMost v reach ⊎ OneOf (ReachesBelow dp k v) Q
 
 pub one-then : {X : Type 0} (P Q : X → Type 0) → ((x : X) → P x → Q x) → (xs : List X) → OneOf P xs → OneOf Q xs
 one-then P Q f [] h = absurd h

@@ -23,3 +23,7 @@ abbrev pub FloorsMatch : Dp → Type 0
 FloorsMatch dp = (reach : Option ℤ) (P : List (List ℕ)) (a : List ℤ) (v g : ℤ) (q : List ℕ) → IsPrefix dp q → IsStateOf dp (length q) a
     → IsFloor dp reach P (length q) a v → dp.gap (length q) a (state_of dp q) ≡ Some g → (value_of dp q +ℤ g) ≤ℤ v
     → (x : List ℕ) → IsCompletion dp q x → AtMost (value_of dp x) reach ⊎ OneOf (ReachesBelow dp (length q) (value_of dp x)) P
+
+-- what the first list reaches at a depth or below, the second one does too, unless it is at most the reach
+abbrev pub Carries : Dp → Option ℤ → List (List ℕ) → List (List ℕ) → Type 0
+Carries dp reach P Q = (k : ℕ) (v : ℤ) → OneOf (ReachesBelow dp k v) P → AtMost v reach ⊎ OneOf (ReachesBelow dp k v) Q
