@@ -19,7 +19,6 @@ mod node;
 mod numbering;
 mod redirecting;
 mod rows;
-mod sorting;
 mod striking;
 
 pub use expanding::{Expansion, expand, expand_sifted};

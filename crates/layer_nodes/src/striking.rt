@@ -184,14 +184,7 @@ pub fn strike<M: DpModel>(
     ensures next_rooms { KeepsRoom next.old next.new }
     ensures redirects { redirects.new ≡ redirects.old }
 {
-    take_out(
-        model,
-        k,
-        Strikes::AtMost(threshold),
-        above,
-        next,
-        redirects,
-    );
+    take_out(model, k, Strikes::AtMost(threshold), above, next, redirects);
 }
 
 /// Takes out the nodes of the next layer, at depth `k`, that one of the first 16 exact ones that stay dominates; the arcs of the

@@ -1,4 +1,4 @@
--- What becomes of a workspace when the diagram that lies in it is let go.
+-- What becomes of a workspace when the diagram or the beam that lies in it is let go.
 use Rattle.std.specs.Prelude.{◌≡◌, ⊤}
 use Rattle.std.specs.Borrow.{follows_so, MutBor, Fml}
 use mathlib.Core.Option.{none}
