@@ -164,7 +164,7 @@ root-long d place rows new n = ap (λ (l : List (List CoverRow)). length l) n �
 -- ---- a step of an exploration
 
 module _ (dp : Dp) (claim : Option ℤ) (q : Waiting) (d : DdLayers) (rows start new : List (List CoverRow)) (long : length rows ≡ dp.vars + 1) (first : d.first ≡ length q.prefix) (short : length q.prefix < dp.vars) (cut : IsCutWithin d d.first_reduced)
-  (s : start ≡ with_root_arcs d q.place rows) (h : AreAdded dp claim d (last_needed claim d d.first_reduced + 1) start new) where
+    (s : start ≡ with_root_arcs d q.place rows) (h : AreAdded dp claim d (last_needed claim d d.first_reduced + 1) start new) where
   abbrev root : List CoverRow
   root = with_arcs_at q.place (map (moved (length (layer_of rows (d.first + 1)))) (arcs_in (node_at d d.first 0))) (layer_of rows d.first)
 

@@ -54,4 +54,3 @@ pub record IsPutIn (dp : Dp) (claim : Option ℤ) (row : Waiting) (d : DdLayers)
 abbrev pub IsPutAt : Dp → Option ℤ → Option WaitingRow → DdLayers → List (List CoverRow) → List Waiting → List (List CoverRow) → List Waiting → Type 0
 IsPutAt dp claim None d rows waiting new new_waiting = ⊥
 IsPutAt dp claim (Some row) d rows waiting new new_waiting = IsPutIn dp claim (waiting_row row) d rows waiting new new_waiting
-

@@ -85,7 +85,15 @@ pub(crate) fn add_layers<M: DpModel, D: ShownDiagram>(
     let first = diagram.first_depth();
     'layers: for depth in first + 1..end {
         let before = rows_at(rows.as_slice(), depth + 1)?;
-        add_nodes(alloc, model, claim, diagram, depth, before, &mut rows[depth])?;
+        add_nodes(
+            alloc,
+            model,
+            claim,
+            diagram,
+            depth,
+            before,
+            &mut rows[depth],
+        )?;
     }
     Ok(())
 }

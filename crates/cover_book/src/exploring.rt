@@ -5,9 +5,9 @@ ghost use Rattle.bound_cover.specs.Exploring.{start_cover, start_waiting};
 ghost use Rattle.cover_book.specs.Waits.{waiting_of, AreOwn};
 ghost use Rattle.cover_book.specs.Steps.{waits_after, CutIsOwn, IsDiagramAt, IsPutAt};
 
-use crate::diagrams::ShownDiagram;
 use crate::adding::{add_layers, last_needed, rows_at, set_root_arcs};
 use crate::claims::rest_of;
+use crate::diagrams::ShownDiagram;
 use crate::drafting::{DraftLayer, DraftRow};
 use crate::waiting::{WaitingRow, add_waiting, number_at};
 use dp_model::{DpModel, OutOfMemory, Sub};
@@ -35,7 +35,7 @@ fn add_cut<M: DpModel, D: ShownDiagram>(
 }
 
 /// Puts a diagram into the cover, for the row that waits at a place.
-fn put_in<M: DpModel, D: ShownDiagram>(
+pub(crate) fn put_in<M: DpModel, D: ShownDiagram>(
     alloc: Global,
     model: &M,
     claim: Option<i64>,

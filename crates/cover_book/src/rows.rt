@@ -5,8 +5,8 @@ ghost use Rattle.dp_laws.specs.Diagrams.Nodes.{node_at};
 ghost use Rattle.bound_cover.specs.Exploring.{moved, claim_of, is_deep, is_last_exact, leads_above, has_arcs, row_for};
 ghost use Rattle.cover_book.specs.Nodes.{row_with};
 
-use crate::diagrams::ShownDiagram;
 use crate::claims::{greater_of, leads_above, rest_of};
+use crate::diagrams::ShownDiagram;
 use crate::drafting::DraftRow;
 use bound_cover::CoverArc;
 use dp_laws::DdArc;
@@ -59,7 +59,13 @@ pub(crate) fn arcs_of<D: ShownDiagram>(
 }
 
 /// What the row of a node claims: what its value leaves of the claim, and below the last exact layer the suffix where that is greater.
-fn claim_of<D: ShownDiagram>(claim: Option<i64>, deep: bool, diagram: &D, depth: usize, node: usize) -> Option<i128>
+fn claim_of<D: ShownDiagram>(
+    claim: Option<i64>,
+    deep: bool,
+    diagram: &D,
+    depth: usize,
+    node: usize,
+) -> Option<i128>
     requires first { (D.layers diagram.now).first ≤ depth }
     requires place { IsSome (node_at (D.layers diagram.now) depth node) }
     ensures { option_map (claim_of claim deep) (node_at (D.layers diagram.now) depth node) ≡ Some result }
@@ -118,7 +124,12 @@ fn is_last_exact(reduced: Option<usize>, depth: usize) -> bool
 }
 
 /// Whether the suffix of a node leads above the claim.
-pub(crate) fn leads_at<D: ShownDiagram>(claim: Option<i64>, diagram: &D, depth: usize, node: usize) -> bool
+pub(crate) fn leads_at<D: ShownDiagram>(
+    claim: Option<i64>,
+    diagram: &D,
+    depth: usize,
+    node: usize,
+) -> bool
     requires first { (D.layers diagram.now).first ≤ depth }
     requires place { IsSome (node_at (D.layers diagram.now) depth node) }
     ensures { option_map (leads_above claim) (node_at (D.layers diagram.now) depth node) ≡ Some result }

@@ -66,6 +66,14 @@ pub(crate) fn number_at(waiting: &[WaitingRow], next: usize) -> usize
     waiting[next].place
 }
 
+/// The prefix of the row that waits at a place.
+pub(crate) fn prefix_at(waiting: &[WaitingRow], next: usize) -> &Sub
+    requires { next < length waiting.now }
+    ensures { option_map (λ w. w.sub.subproblem) (slice_get waiting.now next) ≡ Some result.now.subproblem }
+{
+    &waiting[next].sub
+}
+
 /// Puts the rows of those nodes of a layer behind the others that lead above the claim. The layer's first row has the number
 /// `start`.
 pub(crate) fn add_waiting<M: DpModel, D: ShownDiagram>(
