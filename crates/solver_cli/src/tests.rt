@@ -13,7 +13,8 @@ use worker_gate::NoGate;
 const THREE_ITEMS: &str = "3 10\n60 5\n50 4\n70 6\n";
 
 /// Ten items, on which the two kinds of children lead to searches of different length.
-const TEN_ITEMS: &str = "10 229\n39 9\n16 2 3\n11 20\n87 50 3\n85 11 3\n44 40\n38 17 3\n79 46\n68 5\n46 33 3\n";
+const TEN_ITEMS: &str =
+    "10 229\n39 9\n16 2 3\n11 20\n87 50 3\n85 11 3\n44 40\n38 17 3\n79 46\n68 5\n46 33 3\n";
 
 /// The clauses that are drawn on two variables from seed 0.
 const DRAWN_CLAUSES: &str = "p wcnf 2 4\n10 1 -1 0\n10 2 0\n2 1 2 0\n7 -1 -2 0\n";
