@@ -46,15 +46,6 @@ fn lesser(least: Option<u64>, ticket: u64) -> Option<u64>
     }
 }
 
-/// The rank that the model tells. It is a call of its own, so that a search among ranks that were told has none of its steps.
-#[inline(never)]
-fn asked_rank<M: DpModel>(model: &M, depth: usize, row: &[i64]) -> i64
-    requires { IsStateOf (M.meaning (M.numbers model.now)) depth row.now }
-    ensures { result ≡ (M.meaning (M.numbers model.now)).rank depth row.now }
-{
-    model.rank(depth, row)
-}
-
 /// The rank of the state, which is asked of the model where it was not told.
 fn rank_of<M: DpModel>(model: &M, depth: usize, row: &[i64], told: Option<i64>) -> i64
     requires { IsReached (M.meaning (M.numbers model.now)) depth row.now told }
@@ -62,7 +53,7 @@ fn rank_of<M: DpModel>(model: &M, depth: usize, row: &[i64], told: Option<i64>) 
 {
     match told {
         Some(rank) => rank,
-        None => asked_rank(model, depth, row),
+        None => model.rank(depth, row),
     }
 }
 
