@@ -20,7 +20,7 @@ use Rattle.board_laws.specs.Steps.{first_board}
 use Rattle.board_laws.specs.declared.settings.Settings.{Settings}
 use Rattle.board_laws.proofs.First.{full-none}
 use Rattle.board_laws.proofs.Running.{run-follows}
-use Rattle.worker_gate.specs.Later.{IsCauseAfter, IsLater, HasEnded, IsComplete}
+use Rattle.worker_gate.specs.Later.{IsCauseAfter, IsLater, NoRoundFollows, IsComplete}
 use Rattle.board_laws.specs.Bound.{board_bound}
 use Rattle.board_laws.specs.GoodBoard.{IncumbentHolds, IsBoard}
 use Rattle.solver_report.specs.declared.answer.Stop.{Stop}
@@ -130,7 +130,7 @@ over_exact dp search b over = ap (λ (s : Settings). s.within) (over_settings dp
 
 -- some rounds after the first board
 pub is_over : (dp : Dp) (search : Search) (settings : Settings) (first b : BoardState) → first ≡ first_board dp settings → IsSearchWidth dp search.width settings.width → settings.workers ≡ search.workers → settings.budget ≡ search.budget → settings.within ≡ pos 0
-    → IsLater dp first b → HasEnded b → IsComplete dp b → IsOver dp search b
+    → IsLater dp first b → NoRoundFollows b → IsComplete dp b → IsOver dp search b
 is_over dp search settings first b is wide crew within exact later ended complete = record {
   settings = settings;
   crew = crew;
