@@ -75,10 +75,6 @@ open_left os out idle left none =
     let zero_out : length out ≡ 0 = ap length idle in
     grind arith
 
-raised-some : (most : Option ℤ) (z : ℤ) → raised most z ≡ None → ⊥
-raised-some None z e = absurd (cc)
-raised-some (Some y) z e = absurd (cc)
-
 raised_by-some : (most : Option ℤ) (y : ℤ) (os : List Ticketed) → most ≡ Some y → raised_by most os ≡ None → ⊥
 raised_by-some most y [] e h = absurd (cc)
 raised_by-some None y (o ∷ os) e h = absurd (cc)
