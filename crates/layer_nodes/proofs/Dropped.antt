@@ -4,7 +4,7 @@ use Rattle.dp_model.specs.Dp.{Dp}
 use Rattle.dp_model.specs.Lists.{Each}
 use Rattle.dp_laws.specs.Diagrams.Nodes.{DdNode}
 use Rattle.dp_laws.specs.Rules.Compiling.{TwoLayers, prune}
-use Rattle.dp_laws.specs.Rules.Pruning.{Leader, redirect_within, first_redirect, at_leader, is_struck, leaders_past, pruned_nodes, prune_redirects}
+use Rattle.dp_laws.specs.Rules.Pruning.{Leader, at_leader, is_struck, leaders_past, pruned_nodes, prune_redirects}
 use Rattle.dp_laws.specs.Rules.Redirects.{Redirect, with_redirected}
 use Rattle.layer_nodes.specs.Sifting.{sifted_nodes, sifted}
 use Rattle.layer_nodes.specs.Striking.{unstruck, drop_dominated}

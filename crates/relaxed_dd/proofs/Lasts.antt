@@ -11,12 +11,6 @@ length-expand rule [] some = absurd (omega arith)
 length-expand rule (l ∷ []) some = refl
 length-expand rule (l ∷ n ∷ rest) some = let ih = length-expand rule (n ∷ rest) (omega arith) in omega arith
 
-pub length-two : (rule : TwoLayers → TwoLayers) (ls : List (List DdNode)) → length (on_last_two rule ls) ≡ length ls
-length-two rule [] = refl
-length-two rule (l ∷ []) = refl
-length-two rule (l ∷ n ∷ []) = refl
-length-two rule (l ∷ n ∷ m ∷ rest) = ap suc (length-two rule (n ∷ m ∷ rest))
-
 -- an expanded list has two layers at least
 last-over : (rule : List DdNode → TwoLayers) (l n : List DdNode) (rest : List (List DdNode)) → last_layer (l ∷ expand_last rule (n ∷ rest)) ≡ last_layer (expand_last rule (n ∷ rest))
 last-over rule l n [] = refl
