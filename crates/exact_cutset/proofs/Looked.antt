@@ -8,7 +8,7 @@ use Rattle.dp_laws.proofs.Diagrams.Places.{same-Some}
 use Rattle.relaxed_dd.specs.Shown.{layer_in, last_of}
 use Rattle.exact_cutset.specs.Seen.{ChildrenView}
 use Rattle.exact_cutset.specs.Ready.{IsReady, IsReadyAt}
-use Rattle.exact_cutset.specs.Walking.{IsWalkable, AreMarks, IsWalked, IsWalkedTo, HasLeaving, HasFrontier, IsFreeNode}
+use Rattle.exact_cutset.specs.Walking.{IsWalkable, AreMarks, HasLooked, IsWalkedTo, HasLeaving, HasFrontier, IsFreeNode}
 use Rattle.exact_cutset.proofs.Searched.{there}
 use Rattle.exact_cutset.proofs.Taken.{node-here}
 use Rattle.exact_cutset.proofs.Lefts.{from-start, left-end, from-last}
@@ -42,7 +42,7 @@ ready-here dp d wide room depth i above w low high less h =
 
 -- Layers.
 
-pub layer-starts : (dp : Dp) (d : DdLayers) (wide room depth : ℕ) (cs : List ChildAt) (above : List Bool) → IsWalkable dp d wide room → d.first < depth → depth < last_of d → IsWalkedTo dp d wide depth cs above → IsWalked dp d wide depth cs cs []
+pub layer-starts : (dp : Dp) (d : DdLayers) (wide room depth : ℕ) (cs : List ChildAt) (above : List Bool) → IsWalkable dp d wide room → d.first < depth → depth < last_of d → IsWalkedTo dp d wide depth cs above → HasLooked dp d wide depth cs cs []
 layer-starts dp d wide room depth cs above w low high h = record {
   whole = ap (λ l. cs ++ outermost (path_at d) cs l) (sym (from-start dp d depth (omega arith) high)) ∙ h.whole;
   ahead = λ j x more at exact. refl;
@@ -51,7 +51,7 @@ layer-starts dp d wide room depth cs above w low high h = record {
   few = (let f = h.few in omega arith);
 }
 
-pub layer-ends : (dp : Dp) (d : DdLayers) (wide room depth : ℕ) (before cs : List ChildAt) (marks : List Bool) → IsWalkable dp d wide room → d.first < depth → depth < last_of d → length marks ≡ length (layer_in d depth) → IsWalked dp d wide depth before cs marks → IsWalkedTo dp d wide (depth + 1) cs marks
+pub layer-ends : (dp : Dp) (d : DdLayers) (wide room depth : ℕ) (before cs : List ChildAt) (marks : List Bool) → IsWalkable dp d wide room → d.first < depth → depth < last_of d → length marks ≡ length (layer_in d depth) → HasLooked dp d wide depth before cs marks → IsWalkedTo dp d wide (depth + 1) cs marks
 layer-ends dp d wide room depth before cs marks w low high all h =
     let back : depth + 1 - 1 ≡ depth = omega arith in
     let few = w.few depth low high in

@@ -11,7 +11,7 @@ ghost use Rattle.layer_nodes.specs.Sifting.{expand_sifted};
 ghost use Rattle.layer_nodes.specs.Striking.{drop_dominated};
 ghost use Rattle.layer_candidates.specs.Beaming.{IsFirst};
 ghost use Rattle.layer_build.specs.Layers.{IsWidth, IsPreparedFor, last_depth, last_layer, expand_last, on_last_two, reduced_first};
-ghost use Rattle.layer_build.specs.Space.{IsPrepared};
+ghost use Rattle.layer_build.specs.Space.{IsSpacePrepared};
 ghost use Rattle.layer_build.specs.UnderWay.{IsUnderWay};
 
 use crate::preparing::{choices_of, prepare_stack, room_for};
@@ -80,7 +80,7 @@ impl Workspace {
         model: &M,
         width: u32,
     ) -> Result<Workspace, PrepareError>
-        ensures { IsPrepared (M.meaning (M.numbers model.now)) width result }
+        ensures { IsSpacePrepared (M.meaning (M.numbers model.now)) width result }
     {
         if width == 0 || width > greatest_width(model) {
             return Err(PrepareError::Width);

@@ -16,7 +16,7 @@ use Rattle.layer_candidates.specs.declared.member.Member.{Member}
 use Rattle.layer_candidates.specs.Rows.{row_at, with_row, HasZeros}
 use Rattle.layer_candidates.specs.Ways.{way_at, reached_by, reached_at, all_reached, IsNear, IsNearly, IsWay, AllHaveZeros, AreWays, AreJoined}
 use Rattle.layer_candidates.specs.Members.{member_as, members_as, IsMemberOf}
-use Rattle.layer_candidates.specs.Extending.{HasRoom, AreSame, parent_as, all_allowed, HasExtended, AreExtended}
+use Rattle.layer_candidates.specs.Extending.{HasWayRoom, AreSame, parent_as, all_allowed, HasExtended, AreExtended}
 use Rattle.layer_candidates.proofs.Blocks.{before-with, here-with, table-with}
 use Rattle.layer_candidates.proofs.Joined.{last_or, table_same, all_joined_both}
 
@@ -96,8 +96,8 @@ way-reaches dp k paths row s d step way value a b c e = cc
 
 -- Decisions.
 
-pub room-less : (words m n : ℕ) (rows rows2 : List ℤ) (cap cap2 : ℕ) (folds folds2 next next2 : List ℕ) → HasRoom words n rows cap folds next → m ≤ n
-    → length rows2 ≡ length rows → cap2 ≡ cap → length folds2 ≡ length folds → length next2 ≡ length next → HasRoom words m rows2 cap2 folds2 next2
+pub room-less : (words m n : ℕ) (rows rows2 : List ℤ) (cap cap2 : ℕ) (folds folds2 next next2 : List ℕ) → HasWayRoom words n rows cap folds next → m ≤ n
+    → length rows2 ≡ length rows → cap2 ≡ cap → length folds2 ≡ length folds → length next2 ≡ length next → HasWayRoom words m rows2 cap2 folds2 next2
 room-less words m n rows rows2 cap cap2 folds folds2 next next2 h few a b c d =
     let less = mul-le-mul_right words few in
     let one = h.rows_hold in let two = h.ways_hold in let three = h.folds_hold in let four = h.next_hold in let five = h.small in

@@ -61,7 +61,7 @@ has_rank r None = false
 has_rank r (Some o) = nat_eq o.ticket r.ticket && (int_eq o.subproblem.value r.value && int_eq o.subproblem.bound r.bound)
 
 -- the slot has one, and no other is taken before it
-pub record IsBest (slots : List (Option Ticketed)) (s : ℕ) : Type 0 where
+pub record IsFirstSlot (slots : List (Option Ticketed)) (s : ℕ) : Type 0 where
   pub one : Ticketed
   pub there : in_slot slots s ≡ Some one
   pub first : (t : ℕ) (o : Ticketed) → in_slot slots t ≡ Some o → is_taken_before o one ≡ false

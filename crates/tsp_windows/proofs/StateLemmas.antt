@@ -12,7 +12,7 @@ use Rattle.tsp_windows.specs.States.{TourState, positions_of, must_of, may_of, t
 use Rattle.tsp_windows.specs.Instance.{Instance, closing}
 use Rattle.tsp_windows.specs.Apart.{IsApart}
 use Rattle.tsp_windows.specs.Tours.{all_below-not, sound-gives, sound-from}
-use Rattle.tsp_windows.specs.Walks.{Covers, covers-gives, covers-from}
+use Rattle.tsp_windows.specs.Walks.{CoversTour, covers-gives, covers-from}
 
 pub fits_time : (t : ℕ) → t ≤ 1000000000000 → FitsSigned w64 (pos t)
 fits_time t l = record { sfits = omega arith }
@@ -58,7 +58,7 @@ pub all_cover : (n w : ℕ) (a s pa ma ya ps ms ys : List ℤ) (ta ts : ℕ) (p 
     → r ≡ covers n (shown w a) (shown w s)
 unfolding shown
 all_cover n w a s pa ma ya ps ms ys ta ts p m r epa ema eya eps ems eys eta ets must_set may_set early pt ph mt mh to from =
-    same_from_decides {P = Covers n (shown w a) (shown w s)} r (covers n (shown w a) (shown w s)) (
+    same_from_decides {P = CoversTour n (shown w a) (shown w s)} r (covers n (shown w a) (shown w s)) (
       (λ e. record {
         positions = λ v l h. ap (λ x. has x v) (sym epa) ∙ ph pt v (ap (λ x. has x v) eps ∙ h);
         must = λ v l h. ap (λ x. has x v) (sym ems) ∙ mh mt v (ap (λ x. has x v) ema ∙ h);

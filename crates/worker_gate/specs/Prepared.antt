@@ -12,7 +12,7 @@ use Rattle.worker_gate.specs.declared.desk.Desk.{Desk}
 
 -- the list has room for the children of the kind of diagrams of the width
 abbrev pub HoldsChildren : Dp → ℕ → CutKind → ChildrenView → Type 0
-HoldsChildren dp w kind c = cutsets.IsPreparedFor dp w kind c
+HoldsChildren dp w kind c = cutsets.IsListPreparedFor dp w kind c
 
 -- the subproblem has room for the decisions of all variables, and a row of the right size
 pub record CanHold (dp : Dp) (h : SubView) : Type 0 where
