@@ -19,7 +19,7 @@ use Rattle.bound_cover.specs.declared.cover.Why.TheVariants.{Row, Arc, Target, T
 use Rattle.bound_cover.specs.Covers.{CoverRow}
 use Rattle.bound_cover.specs.Tests.{is_at_most, is_state_row, arc_for, tested, gap_fault, row_arc_fault, arc_fault, listed_fault, decision_fault, decisions_fault, inner_fault, last_fault}
 use Rattle.bound_cover.specs.Exploring.{rest_of, greater_of, is_deep, claim_of, moved, row_for}
-use Rattle.bound_cover.proofs.DraftRows.{Passes}
+use Rattle.bound_cover.specs.DraftRows.{Passes}
 use Rattle.bound_cover.proofs.Faults.{first-both, unless-holds, cond-holds}
 use Rattle.bound_cover.proofs.Keeping.{append-behind}
 use Rattle.bound_cover.proofs.Rising.{Rises, rises-below, rises-filter, arc-for, with_listed-from}

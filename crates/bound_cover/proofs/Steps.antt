@@ -13,7 +13,7 @@ use Rattle.bound_cover.specs.Covers.{CoverRow}
 use Rattle.bound_cover.specs.Tests.{is_at_most, is_state_row}
 use Rattle.bound_cover.specs.Verdicts.{covers_root, has_root, root_test}
 use Rattle.bound_cover.specs.Exploring.{HoldsAll, needed_layers, layer_of, rest_of, greater_of, is_deep, is_last_exact, claim_of, leads_above, moved, row_for, Waiting, with_arcs_at, arcs_of_first, explored, waiting_in, waiting_after}
-use Rattle.bound_cover.proofs.DraftRows.{Passes, IsWaiting, IsDraft}
+use Rattle.bound_cover.specs.DraftRows.{Passes, IsWaiting, IsDraft}
 use Rattle.bound_cover.proofs.Keeping.{Keeps, keeps-same, keeps-behind, keeps-arcs, append-behind, map-at}
 use Rattle.bound_cover.proofs.Claims.{at-most-self, greater-left, greater-right, suffix-within}
 use Rattle.bound_cover.proofs.NodeRows.{IsEnough, row_with, passes-node}

@@ -9,7 +9,8 @@ use Rattle.dp_model.specs.Subproblem.{Subproblem, IsOwn}
 use Rattle.dp_model.proofs.Solutions.{best-is_best}
 use Rattle.dp_laws.specs.Diagrams.Nodes.{DdLayers}
 use Rattle.bound_cover.specs.Covers.{CoverRow}
-use Rattle.bound_cover.specs.Exploring.{HoldsAll, layer_of, Waiting, waiting_in, waiting_after, explored, IsDraft, start_cover, start_waiting}
+use Rattle.bound_cover.specs.Exploring.{HoldsAll, layer_of, Waiting, waiting_in, waiting_after, explored, start_cover, start_waiting}
+use Rattle.bound_cover.specs.DraftRows.{IsDraft}
 use Rattle.bound_cover.specs.Clamping.{clamped_layers, AreWritable, IsReachable}
 use Rattle.bound_cover.specs.Verdicts.{checked_rows}
 use Rattle.bound_cover.proofs.Drafts.{stays-draft, whole-draft, start-is-draft, best-holds}

@@ -3,7 +3,8 @@ use Rattle.std.specs.Prelude.{◌≡◌, ℕ, ◌+◌, ◌≤◌, ℤ, List, len
 use Rattle.dp_model.specs.Dp.{Dp}
 use Rattle.dp_model.specs.Subproblem.{Subproblem}
 use Rattle.bound_cover.specs.Covers.{CoverRow}
-use Rattle.bound_cover.specs.Exploring.{HoldsAll, IsDraft}
+use Rattle.bound_cover.specs.Exploring.{HoldsAll}
+use Rattle.bound_cover.specs.DraftRows.{IsDraft}
 use Rattle.cover_book.specs.declared.waiting.WaitingRow.{WaitingRow}
 use Rattle.cover_book.specs.declared.exploration.Exploration.{Exploration}
 use Rattle.cover_book.specs.Waits.{waiting_of, AreOwn}
