@@ -135,7 +135,15 @@ pub(crate) fn skip_comments<'a>(comment: Comment, fresh: bool, from: Spot<'a>) -
     }
 }
 
-/// The token behind a single blank that ends a token; `None` where anything else stands here.
+/// Whether a byte is surely no blank.
+#[inline]
+fn is_above_blanks(b: u8) -> bool
+    ensures { result ≡ true → is_blank b ≡ false }
+{
+    b > b' '
+}
+
+/// The token behind a single blank that ends a token; `None` where anything else stands here, or a token of control bytes.
 #[inline]
 pub(crate) fn behind_one_blank<'a>(
     comment: Comment,
@@ -150,10 +158,23 @@ pub(crate) fn behind_one_blank<'a>(
     ensures line { IfSome result (λ s. is_blank_line bytes.now ≡ not (s.place.line == from.line)) }
 {
     match bytes {
-        [blank, rest @ ..] if is_blank_byte(*blank) => match rest {
-            [first, ..] if !is_passed_over(comment, false, *blank == b'\n', *first) => Some(Spot {
+        [b' ', rest @ ..] => match rest {
+            [first, ..] if is_above_blanks(*first) => Some(Spot {
                 rest,
-                place: place_behind(*blank, from),
+                place: Place {
+                    line: from.line,
+                    column: from.column + 1,
+                },
+            }),
+            _ => None,
+        },
+        [b'\n', rest @ ..] => match rest {
+            [first, ..] if !is_passed_over(comment, false, true, *first) => Some(Spot {
+                rest,
+                place: Place {
+                    line: from.line + 1,
+                    column: 1,
+                },
             }),
             _ => None,
         },
@@ -188,6 +209,15 @@ pub(crate) fn begin_apart(bytes: &[u8], word: &[u8]) -> bool
     }
 }
 
+/// The number behind one more digit, or 2^64 - 1 where it is greater, for numbers of any size.
+#[cold]
+#[inline(never)]
+fn saturated_behind(total: u64, digit: u64) -> u64
+    ensures { result ≡ min (10 * total + digit) (2 ^ 64 - 1) }
+{
+    total.saturating_mul(10).saturating_add(digit)
+}
+
 /// The number behind one more digit, or 2^64 - 1 where it is greater.
 #[inline]
 fn capped_behind(total: u64, digit: u8) -> u64
@@ -199,7 +229,7 @@ fn capped_behind(total: u64, digit: u8) -> u64
     if total < SURELY_SHORT {
         total * 10 + digit
     } else {
-        total.saturating_mul(10).saturating_add(digit)
+        saturated_behind(total, digit)
     }
 }
 

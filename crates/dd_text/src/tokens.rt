@@ -202,7 +202,7 @@ impl<'a> Tokens<'a> {
     }
 
     /// Reads the next token as a natural number from `least` to `greatest`, with the faults of `next_number`.
-    #[inline]
+    #[inline(always)]
     pub fn next_natural(&mut self, least: u64, greatest: u64) -> Result<u64, TextError>
         requires least { least < 2 ^ 63 }
         requires greatest { greatest < 2 ^ 63 }
@@ -239,7 +239,7 @@ impl<'a> Tokens<'a> {
     }
 
     /// Passes over the next token where it is this word, and tells whether it is. Another token stays.
-    #[inline]
+    #[inline(always)]
     #[tactic(auto, unfolding(crate::specs::Text::token))]
     pub fn pass_if(&mut self, word: &[u8]) -> bool
         ensures word { result ≡ pointwise nat_eq (token self.old) word.now }
