@@ -200,7 +200,7 @@ pub(crate) fn token_len(bytes: &[u8]) -> usize
 
 /// Whether bytes begin otherwise than a word, which is not empty.
 #[inline]
-pub(crate) fn begin_apart(bytes: &[u8], word: &[u8]) -> bool
+fn begin_apart(bytes: &[u8], word: &[u8]) -> bool
     ensures { result ≡ true → pointwise nat_eq (first_token bytes.now) word.now ≡ false }
 {
     match (bytes, word) {
@@ -368,8 +368,23 @@ fn number_within<'a>(
     }
 }
 
+/// Reads the first token as digits behind a minus, of a number from `least` to `greatest`.
+#[cold]
+#[inline(never)]
+fn negative_within<'a>(
+    digits: &'a [u8],
+    place: &Place,
+    least: i64,
+    greatest: i64,
+) -> Result<Number<'a>, TextError>
+    ensures value { result_map_both (λ n. n.value) (λ e. e) result ≡ within least greatest place.now (option_map (signed_of true) (natural_of (first_token digits.now))) }
+    ensures behind { IfOk result (λ n. n.behind.now ≡ behind_token digits.now) }
+{
+    number_within(true, digits, place, least, greatest)
+}
+
 /// Reads the first token as a number from `least` to `greatest`.
-#[inline]
+#[inline(always)]
 #[tactic(auto, using(crate::proofs::Scanning::number_steps))]
 pub(crate) fn leading_number<'a>(
     bytes: &'a [u8],
@@ -381,7 +396,7 @@ pub(crate) fn leading_number<'a>(
     ensures behind { IfOk result (λ n. n.behind.now ≡ behind_token bytes.now) }
 {
     match bytes {
-        [b'-', digits @ ..] => number_within(true, digits, place, least, greatest),
+        [b'-', digits @ ..] => negative_within(digits, place, least, greatest),
         [first, ..] if is_blank_byte(*first) => Err(TextError::EndOfText(*place)),
         [first, ..] if *first >= 128 => Err(TextError::NotAscii(*place)),
         [_, ..] => number_within(false, bytes, place, least, greatest),

@@ -6,8 +6,7 @@ ghost use Rattle.dd_text.specs.Text.{text_start, at_token, IsCountable, token, p
 use crate::comment::Comment;
 use crate::place::Place;
 use crate::scan::{
-    Spot, begin_apart, behind_one_blank, behind_word, leading_number, skip_blanks, skip_comments,
-    token_len,
+    Spot, behind_one_blank, behind_word, leading_number, skip_blanks, skip_comments, token_len,
 };
 use crate::text_error::TextError;
 use std::marker::Model;
@@ -126,10 +125,7 @@ impl<'a> Tokens<'a> {
     pub fn next_is(&self, word: &[u8]) -> bool
         ensures { result ≡ pointwise nat_eq (token self.now) word.now }
     {
-        if begin_apart(self.spot().rest, word) {
-            return false;
-        }
-        self.peek_word() == word
+        behind_word(self.spot().rest, word).is_some()
     }
 
     /// Goes on at this place, whatever stands there.
@@ -154,12 +150,9 @@ impl<'a> Tokens<'a> {
             self.go_on(here);
             return;
         };
-        *self = Tokens {
-            here: Snapshot::of(&here),
-            next,
-            ends_line: next.place.line != here.place.line,
-            comment: self.comment,
-        };
+        self.here = Snapshot::of(&here);
+        self.ends_line = next.place.line != here.place.line;
+        self.next = next;
     }
 
     #[inline]
