@@ -109,6 +109,7 @@ fn read_arc(tokens: &mut Tokens<'_>, rows: &mut CoverBuilder) -> Result<(), Cove
 }
 
 /// Reads the arcs up to the line's end, at most so many.
+#[inline(never)]
 #[tactic(auto, using(crate::proofs::Chains::until_steps))]
 fn read_arc_list(
     tokens: &mut Tokens<'_>,
@@ -151,6 +152,7 @@ fn read_arcs(
 }
 
 /// Reads a row into the last layer.
+#[inline(never)]
 #[tactic(auto, unfolding(crate::specs::RowLines::row_into), using(crate::proofs::LastLayers::last_grows, crate::proofs::LastLayers::length_with_row, crate::proofs::Chains::part_fails, crate::proofs::Chains::passed_fails))]
 pub(crate) fn read_row(
     tokens: &mut Tokens<'_>,

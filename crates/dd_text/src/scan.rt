@@ -135,7 +135,15 @@ pub(crate) fn skip_comments<'a>(comment: Comment, fresh: bool, from: Spot<'a>) -
     }
 }
 
-/// The token behind a single blank that ends a token; `None` where anything else stands here.
+/// Whether a byte is surely no blank.
+#[inline]
+fn is_above_blanks(b: u8) -> bool
+    ensures { result ≡ true → is_blank b ≡ false }
+{
+    b > b' '
+}
+
+/// The token behind a single blank that ends a token; `None` where anything else stands here, or a token of control bytes.
 #[inline]
 pub(crate) fn behind_one_blank<'a>(
     comment: Comment,
@@ -150,10 +158,23 @@ pub(crate) fn behind_one_blank<'a>(
     ensures line { IfSome result (λ s. is_blank_line bytes.now ≡ not (s.place.line == from.line)) }
 {
     match bytes {
-        [blank, rest @ ..] if is_blank_byte(*blank) => match rest {
-            [first, ..] if !is_passed_over(comment, false, *blank == b'\n', *first) => Some(Spot {
+        [b' ', rest @ ..] => match rest {
+            [first, ..] if is_above_blanks(*first) => Some(Spot {
                 rest,
-                place: place_behind(*blank, from),
+                place: Place {
+                    line: from.line,
+                    column: from.column + 1,
+                },
+            }),
+            _ => None,
+        },
+        [b'\n', rest @ ..] => match rest {
+            [first, ..] if !is_passed_over(comment, false, true, *first) => Some(Spot {
+                rest,
+                place: Place {
+                    line: from.line + 1,
+                    column: 1,
+                },
             }),
             _ => None,
         },
@@ -179,13 +200,22 @@ pub(crate) fn token_len(bytes: &[u8]) -> usize
 
 /// Whether bytes begin otherwise than a word, which is not empty.
 #[inline]
-pub(crate) fn begin_apart(bytes: &[u8], word: &[u8]) -> bool
+fn begin_apart(bytes: &[u8], word: &[u8]) -> bool
     ensures { result ≡ true → pointwise nat_eq (first_token bytes.now) word.now ≡ false }
 {
     match (bytes, word) {
         ([first, ..], [wanted, ..]) => *first != *wanted,
         _ => false,
     }
+}
+
+/// The number behind one more digit, or 2^64 - 1 where it is greater, for numbers of any size.
+#[cold]
+#[inline(never)]
+fn saturated_behind(total: u64, digit: u64) -> u64
+    ensures { result ≡ min (10 * total + digit) (2 ^ 64 - 1) }
+{
+    total.saturating_mul(10).saturating_add(digit)
 }
 
 /// The number behind one more digit, or 2^64 - 1 where it is greater.
@@ -199,7 +229,7 @@ fn capped_behind(total: u64, digit: u8) -> u64
     if total < SURELY_SHORT {
         total * 10 + digit
     } else {
-        total.saturating_mul(10).saturating_add(digit)
+        saturated_behind(total, digit)
     }
 }
 
@@ -338,8 +368,23 @@ fn number_within<'a>(
     }
 }
 
+/// Reads the first token as digits behind a minus, of a number from `least` to `greatest`.
+#[cold]
+#[inline(never)]
+fn negative_within<'a>(
+    digits: &'a [u8],
+    place: &Place,
+    least: i64,
+    greatest: i64,
+) -> Result<Number<'a>, TextError>
+    ensures value { result_map_both (λ n. n.value) (λ e. e) result ≡ within least greatest place.now (option_map (signed_of true) (natural_of (first_token digits.now))) }
+    ensures behind { IfOk result (λ n. n.behind.now ≡ behind_token digits.now) }
+{
+    number_within(true, digits, place, least, greatest)
+}
+
 /// Reads the first token as a number from `least` to `greatest`.
-#[inline]
+#[inline(always)]
 #[tactic(auto, using(crate::proofs::Scanning::number_steps))]
 pub(crate) fn leading_number<'a>(
     bytes: &'a [u8],
@@ -351,7 +396,7 @@ pub(crate) fn leading_number<'a>(
     ensures behind { IfOk result (λ n. n.behind.now ≡ behind_token bytes.now) }
 {
     match bytes {
-        [b'-', digits @ ..] => number_within(true, digits, place, least, greatest),
+        [b'-', digits @ ..] => negative_within(digits, place, least, greatest),
         [first, ..] if is_blank_byte(*first) => Err(TextError::EndOfText(*place)),
         [first, ..] if *first >= 128 => Err(TextError::NotAscii(*place)),
         [_, ..] => number_within(false, bytes, place, least, greatest),

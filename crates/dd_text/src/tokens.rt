@@ -1,4 +1,4 @@
-ghost use Rattle.std.specs.Prelude.{◌≡◌, ◌+◌, ◌-◌, ◌^◌, ◌<◌, ◌≤◌, length, ◌≤ℤ◌, pos, OnOk, OnErr, IfOk, IfSome, MatchResult, false, true, Ok, Err, nat_eq};
+ghost use Rattle.std.specs.Prelude.{◌≡◌, ◌+◌, ◌-◌, ◌^◌, ◌<◌, ◌≤◌, length, ◌≤ℤ◌, pos, OnOk, OnErr, IfOk, MatchResult, false, true, Ok, Err, nat_eq};
 ghost use Rattle.std.specs.Cmp.Lexicographic.{pointwise};
 ghost use Rattle.dd_text.specs.Scanned.{behind_token, IsNext};
 ghost use Rattle.dd_text.specs.Text.{text_start, at_token, IsCountable, token, place_of, ends_line, is_at_end, number_at, word_at, after_token, finish_at};
@@ -6,8 +6,7 @@ ghost use Rattle.dd_text.specs.Text.{text_start, at_token, IsCountable, token, p
 use crate::comment::Comment;
 use crate::place::Place;
 use crate::scan::{
-    Spot, begin_apart, behind_one_blank, behind_word, leading_number, skip_blanks, skip_comments,
-    token_len,
+    Spot, behind_one_blank, behind_word, leading_number, skip_blanks, skip_comments, token_len,
 };
 use crate::text_error::TextError;
 use std::marker::Model;
@@ -49,6 +48,7 @@ impl<'a> Model for Tokens<'a> {
 }
 
 /// Tokens that stand at this place.
+#[inline]
 #[tactic(auto, unfolding(crate::specs::Text::at_token))]
 fn tokens_from<'a>(comment: Comment, here: Here<'a>) -> Tokens<'a>
     requires { IsCountable here.place here.rest.now }
@@ -62,23 +62,6 @@ fn tokens_from<'a>(comment: Comment, here: Here<'a>) -> Tokens<'a>
         ends_line: blanks.rest.is_empty() || is_later,
         comment,
     }
-}
-
-/// Tokens that stand right behind a token, where the next one is behind a single blank.
-#[inline]
-#[tactic(auto, unfolding(crate::specs::Text::at_token))]
-fn tokens_near<'a>(comment: Comment, here: Here<'a>) -> Option<Tokens<'a>>
-    requires countable { IsCountable here.place here.rest.now }
-    requires on_line { here.fresh ≡ false }
-    ensures { IfSome result (λ t. t ≡ record { rest = here.entry.rest.now; place = here.entry.place; fresh = here.entry.fresh; comment = comment }) }
-{
-    let next = behind_one_blank(comment, here.place, here.rest)?;
-    Some(Tokens {
-        here: Snapshot::of(&here),
-        next,
-        ends_line: next.place.line != here.place.line,
-        comment,
-    })
 }
 
 impl<'a> Tokens<'a> {
@@ -142,10 +125,34 @@ impl<'a> Tokens<'a> {
     pub fn next_is(&self, word: &[u8]) -> bool
         ensures { result ≡ pointwise nat_eq (token self.now) word.now }
     {
-        if begin_apart(self.spot().rest, word) {
-            return false;
-        }
-        self.peek_word() == word
+        behind_word(self.spot().rest, word).is_some()
+    }
+
+    /// Goes on at this place, whatever stands there.
+    #[cold]
+    #[inline(never)]
+    fn go_on(&mut self, here: Here<'a>)
+        requires { IsCountable here.place here.rest.now }
+        ensures { self.new ≡ record { rest = here.entry.rest.now; place = here.entry.place; fresh = here.entry.fresh; comment = self.old.comment } }
+    {
+        *self = tokens_from(self.comment, here);
+    }
+
+    /// Goes on right behind a token, of which the next one is most often behind a single blank.
+    #[inline]
+    #[tactic(auto, unfolding(crate::specs::Text::at_token))]
+    fn go_on_behind(&mut self, here: Here<'a>)
+        requires countable { IsCountable here.place here.rest.now }
+        requires on_line { here.fresh ≡ false }
+        ensures { self.new ≡ record { rest = here.entry.rest.now; place = here.entry.place; fresh = here.entry.fresh; comment = self.old.comment } }
+    {
+        let Some(next) = behind_one_blank(self.comment, here.place, here.rest) else {
+            self.go_on(here);
+            return;
+        };
+        self.here = Snapshot::of(&here);
+        self.ends_line = next.place.line != here.place.line;
+        self.next = next;
     }
 
     #[inline]
@@ -164,10 +171,7 @@ impl<'a> Tokens<'a> {
             },
             fresh: false,
         };
-        *self = match tokens_near(self.comment, here) {
-            Some(near) => near,
-            None => tokens_from(self.comment, here),
-        };
+        self.go_on_behind(here);
     }
 
     /// Reads the next token as a number from `least` to `greatest`: an optional minus and one or more
@@ -176,7 +180,7 @@ impl<'a> Tokens<'a> {
     /// `EndOfText` where no token is left, `NotAscii` where its first byte is not ASCII, `NotNumber`
     /// where it is otherwise no number, `OutOfRange` where the number is outside the range, each at
     /// the token's first byte. After an error the token is still the next.
-    #[inline]
+    #[inline(always)]
     #[tactic(auto, unfolding(crate::specs::Text::token, crate::specs::Text::place_of, crate::specs::Text::number_at), using(crate::proofs::Ranges::number_at_range))]
     pub fn next_number(&mut self, least: i64, greatest: i64) -> Result<i64, TextError>
         ensures value { result ≡ number_at least greatest self.old }
@@ -191,7 +195,7 @@ impl<'a> Tokens<'a> {
     }
 
     /// Reads the next token as a natural number from `least` to `greatest`, with the faults of `next_number`.
-    #[inline]
+    #[inline(always)]
     pub fn next_natural(&mut self, least: u64, greatest: u64) -> Result<u64, TextError>
         requires least { least < 2 ^ 63 }
         requires greatest { greatest < 2 ^ 63 }
@@ -228,7 +232,7 @@ impl<'a> Tokens<'a> {
     }
 
     /// Passes over the next token where it is this word, and tells whether it is. Another token stays.
-    #[inline]
+    #[inline(always)]
     #[tactic(auto, unfolding(crate::specs::Text::token))]
     pub fn pass_if(&mut self, word: &[u8]) -> bool
         ensures word { result ≡ pointwise nat_eq (token self.old) word.now }
