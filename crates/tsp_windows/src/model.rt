@@ -14,7 +14,7 @@ use crate::ways::{least_leg, ways_within};
 use dp_model::{DpModel, Extended};
 use node_sets::{
     clear, contains, count, is_disjoint, is_empty, is_set, is_subset, is_union_subset, join, least,
-    next_of_either, union_with, words_for, write_one, write_others, write_without,
+    next_of_either, union_with, words_for, write_one, write_others, write_split,
 };
 
 /// Whether each way on from the one state is one from the other, and no later.
@@ -310,6 +310,7 @@ fn write_root(out: &mut [i64], model: &TspWindows)
 }
 
 /// Writes the state behind a visit, by when the node is left.
+#[inline]
 fn write_moved(out: &mut [i64], model: &TspWindows, s: &[i64], to: usize, departure: u64)
     requires cells { length out.old ≡ 3 * sets.words_for model.now.nodes + 1 }
     requires state { IsTrue (is_state_row model.now.nodes s.now) }
@@ -323,9 +324,7 @@ fn write_moved(out: &mut [i64], model: &TspWindows, s: &[i64], to: usize, depart
     let (positions, rest) = out.split_at_mut(words);
     let (must, rest) = rest.split_at_mut(words);
     let (may, time) = rest.split_at_mut(words);
-    write_one(positions, to);
-    write_without(must, state.must, to);
-    write_without(may, state.may, to);
+    write_split(positions, must, may, state.must, state.may, to);
     time[0] = departure as i64;
 }
 
@@ -437,9 +436,9 @@ impl DpModel for TspWindows {
         let to = d as usize;
         let arrival = self.reached(k, s, rank, to)?;
         let departure = arrival.max(self.windows[to].opening);
-        write_moved(out, self, s, to, departure);
         let gain = parts_of(self.nodes, s).time as i64 - departure as i64;
         let rank = self.left_behind(s, rank, to);
+        write_moved(out, self, s, to, departure);
         Some(Extended { gain, rank })
     }
 
