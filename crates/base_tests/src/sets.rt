@@ -52,6 +52,11 @@ fn rows_are_written_whole(rt: HostRuntime) -> Result<(), Fail> {
     assert_eq!(rt; row, [0, 2]);
     write_without(&mut row, &[6, 1], 1);
     assert_eq!(rt; row, [4, 1]);
+    let (mut must, mut may) = ([7i64, 7], [7i64, 7]);
+    write_split(&mut row, &mut must, &mut may, &[6, 3], &[1, 8], 33);
+    assert_eq!(rt; row, [0, 2]);
+    assert_eq!(rt; must, [6, 1]);
+    assert_eq!(rt; may, [1, 8]);
     Ok(())
 }
 

@@ -51,9 +51,6 @@ gap_between-by_sizes a s = omega (arith, ints, clamps)
 pub benefit_merged-left : (a s : ℤ) → size_of (benefit_merged a s) ≤ℤ size_of a
 benefit_merged-left a s = grind (arith, ints, clamps)
 
-pub benefit_merged-right : (a s : ℤ) → size_of (benefit_merged a s) ≤ℤ size_of s
-benefit_merged-right a s = grind (arith, ints, clamps)
-
 -- Rows of them.
 
 pub rank_of-positive : (ss : List ℤ) → pos 0 ≤ℤ rank_of ss
@@ -72,11 +69,6 @@ pub rank_of-drop : (k : ℕ) (ss : List ℤ) → rank_of (drop k ss) ≤ℤ rank
 rank_of-drop zero ss = omega (arith, ints)
 rank_of-drop (suc k) [] = omega (arith, ints)
 rank_of-drop (suc k) (s ∷ ss) = omega (arith, ints, size_of-positive s, rank_of-drop k ss)
-
-pub gains_of-positive : (ss : List ℤ) (ds : List ℕ) → pos 0 ≤ℤ gains_of ss ds
-gains_of-positive [] ds = omega (arith, ints)
-gains_of-positive (s ∷ ss) [] = omega (arith, ints)
-gains_of-positive (s ∷ ss) (d ∷ ds) = omega (arith, ints, gain_of-positive s d, gains_of-positive ss ds)
 
 pub gains_of-most : (ss : List ℤ) (ds : List ℕ) → gains_of ss ds ≤ℤ rank_of ss
 gains_of-most [] ds = omega (arith, ints)

@@ -15,7 +15,7 @@ use Rattle.board_laws.specs.Entering.{entering, replaced, is_among, without_all}
 use Rattle.board_laws.specs.declared.fate.Fate.{Fate}
 use Rattle.board_laws.specs.declared.fate.Fate.TheVariants.{Below, Kept, Dominated, Replaced, Entered}
 
-or-parts : (x y : Bool) → (x || y) ≡ false → (x ≡ false) × (y ≡ false)
+pub or-parts : (x y : Bool) → (x || y) ≡ false → (x ≡ false) × (y ≡ false)
 or-parts true y h = absurd (cc)
 or-parts false y h = (refl, h)
 

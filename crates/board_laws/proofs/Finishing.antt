@@ -20,7 +20,7 @@ use Rattle.dominance_table.specs.Entries.{TableEntry}
 use Rattle.board_laws.proofs.Carrying.{Deep, CarriesBy, carries-from, own-floor, option-self}
 use Rattle.board_laws.proofs.Fates.{KeepsOut, FatesHold, IsLeftOut, kids-one, kids-each, Beats, stays-or-beaten}
 use Rattle.board_laws.proofs.Frontier.{not-above}
-use Rattle.board_laws.proofs.Lists.{one-map, one-left, one-right, one-cases, one-each, one-out, each-back, one-has, each-both}
+use Rattle.board_laws.proofs.Lists.{one-map, one-left, one-right, one-each, one-out, each-back, each-both}
 use Rattle.board_laws.proofs.With.{IsWith, with-right, one-out_of}
 use Rattle.board_laws.specs.Board.{prefixes}
 use Rattle.board_laws.specs.Entering.{entering, replaced, is_among, without_all, entry_of, put_all}
@@ -28,6 +28,7 @@ use Rattle.dp_laws.specs.Floors.{ReachesBelow, IsFloor}
 use Rattle.dp_laws.proofs.Reaches.{at-most-then, deep-less, floor-carried, floors-match, one-then, same-state-matches}
 use Rattle.board_laws.specs.GoodBoard.{IsEntry, HasFloor}
 use Rattle.board_laws.specs.declared.fate.Fate.{Fate}
+use Rattle.dp_laws.proofs.Restricted.Covering.{one-cases, one-member}
 
 -- what reaches a value goes on to what beats it
 pub beats-deep : (dp : Dp) → IsLawful dp → (k : ℕ) (v : ℤ) (o q : Ticketed) → IsOwn dp o.subproblem → IsOwn dp q.subproblem → Beats o q → Deep dp k v o → Deep dp k v q
@@ -65,7 +66,7 @@ open-carries : (dp : Dp) → IsLawful dp → (reach : Option ℤ) (os : List Tic
     → EachTwo IsEarlier os → Each (λ o. IsOwn dp o.subproblem) os → Each (IsOwn dp) cs
     → (k : ℕ) (v : ℤ) → OneOf (Deep dp k v) os → OneOf (Deep dp k v) (without_all (replaced fs) os ++ entering cs fs)
 open-carries dp laws reach os es ticket cs fs long h rise own kids k v one =
-    let r = one-has (Deep dp k v) os one in
+    let r = one-member (Deep dp k v) os one in
     let o = r.0 in
     let stay = without_all (replaced fs) os in
     let new = entering cs fs in

@@ -23,7 +23,7 @@ use Rattle.board_laws.proofs.Differing.{kids-above, kids-differ}
 use Rattle.board_laws.proofs.Fates.{fates-hold, fates-many, kids-each, kids-two, kids-hold}
 use Rattle.board_laws.proofs.Finishing.{IsFinish, after, finish-carries, finish-floors, each-put}
 use Rattle.board_laws.proofs.Frontier.{tickets-flip, apart-flip, apart-child}
-use Rattle.board_laws.proofs.Lists.{each-both, each-back, two-then, two-append, each-less, two-less, sum-less}
+use Rattle.board_laws.proofs.Lists.{each-both, each-back, each-less, two-less, sum-less}
 use Rattle.board_laws.proofs.Slots.{emptied, slot-full}
 use Rattle.board_laws.proofs.With.{with-right, each-out, two-out, sum-with, length-with}
 use Rattle.board_laws.specs.Board.{full_slots, prefixes, BoardState, frontier, reach}
@@ -36,6 +36,8 @@ use Rattle.board_laws.specs.GoodBoard.{pot_of, share_of, IsEntry, IsBoard, IsGoo
 use Rattle.board_laws.specs.Laws.{FinishKeeps}
 use Rattle.board_laws.specs.Steps.{finished_by}
 use Rattle.board_laws.specs.declared.fate.Fate.{Fate}
+use Rattle.dp_laws.proofs.Restricted.Permutations.{two-append}
+use Rattle.dp_laws.proofs.Diagrams.Apart.{two-then}
 
 earlier-differ : (a o : Ticketed) → IsEarlier a o → a.ticket ≢ o.ticket
 earlier-differ a o h = let less : a.ticket < o.ticket = h in omega arith

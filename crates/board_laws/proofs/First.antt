@@ -18,13 +18,13 @@ use Rattle.dp_laws.specs.Pairs.{EachTwo}
 use Rattle.dp_laws.proofs.Counting.{pots-positive}
 use Rattle.shared_fringe.specs.Fringe.{AreDifferent}
 use Rattle.shared_fringe.specs.Tickets.{Ticketed, IsEarlier}
-use Rattle.board_laws.proofs.Lists.{two-then}
 use Rattle.board_laws.specs.Board.{AreSettings, BoardState, reach_of, value_held, full_slots, prefixes}
 use Rattle.dp_laws.specs.Children.{AreApart}
 use Rattle.board_laws.specs.GoodBoard.{IncumbentHolds, IsBoard, IsGood, pot_of, share_of}
 use Rattle.board_laws.specs.Laws.{IsFirstGood}
 use Rattle.board_laws.specs.Steps.{root_with, root_subproblem, root_opened, empty_slots, first_incumbent, first_open}
 use Rattle.board_laws.specs.declared.settings.Settings.{Settings}
+use Rattle.dp_laws.proofs.Diagrams.Apart.{two-then}
 
 pub full-none : (n : ℕ) → full_slots (empty_slots n) ≡ []
 full-none zero = refl

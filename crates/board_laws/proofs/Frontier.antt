@@ -1,5 +1,5 @@
 -- The parts of a good board over lists of what is out or open.
-use Rattle.std.proofs.Common.{◌≡◌, ◌≢◌, ℕ, ℤ, ◌≤ℤ◌, List, [], ◌∷◌, Bool, true, false, ◌&&◌, nat_eq, Option, Some, None, ◌⊎◌, inl, inr, refl, sym, ◌∙◌, arith}
+use Rattle.std.proofs.Common.{◌≡◌, ◌≢◌, ℕ, ℤ, List, [], ◌∷◌, Bool, true, false, ◌&&◌, nat_eq, Option, Some, None, ◌⊎◌, inl, inr, refl, sym, ◌∙◌, arith}
 use Rattle.std.proofs.lemmas.Int.{ints}
 use Rattle.std.proofs.lemmas.Bool.Decides.{nat_tests}
 use Rattle.std.specs.List.{sum_by}
@@ -13,7 +13,7 @@ use Rattle.dp_model.specs.Subproblem.{Subproblem}
 use Rattle.std.proofs.lemmas.Bool.{and_parts}
 use Rattle.dp_laws.specs.Pairs.{EachTwo}
 use Rattle.shared_fringe.specs.Tickets.{Ticketed}
-use Rattle.board_laws.proofs.Lists.{one-map, one-mapped}
+use Rattle.board_laws.proofs.Lists.{one-map}
 use Rattle.board_laws.proofs.With.{IsWith, each-out, each-in, one-out_of, one-in, two-out, two-in, sum-with}
 use Rattle.board_laws.specs.Board.{prefixes}
 use Rattle.dp_laws.specs.Children.{AreApart}
@@ -25,11 +25,6 @@ use Rattle.dp_laws.proofs.Reaches.{at-most-then}
 pub not-above : (inc : Option ℤ) (z : ℤ) → is_above inc z ≡ false → AtMost z inc
 not-above None z h = absurd (cc)
 not-above (Some b) z h = grind (arith, ints)
-
--- what is at most the lesser one is at most the greater
-pub at-most-above : (a z : ℤ) (inc : Option ℤ) → is_above inc z ≡ true → AtMost a inc → a ≤ℤ z
-at-most-above a z None h le = absurd le
-at-most-above a z (Some b) h le = grind (arith, ints)
 
 -- Moving one member from one place to another.
 
@@ -64,10 +59,6 @@ CoversBy dp inc os = (x : List ℕ) → IsSolution dp x → AtMost (value_of dp 
 pub covers-by : (dp : Dp) (inc : Option ℤ) (os : List Ticketed) → Covers dp inc (prefixes os) → CoversBy dp inc os
 covers-by dp inc os h x s =
     elim (h x s) as (λ _. AtMost (value_of dp x) inc ⊎ OneOf (MatchedBy dp x) os) [ inl a ↦ inl a | inr b ↦ inr (one-map (λ (o : Ticketed). o.subproblem.decisions) (IsMatched dp x) os b) ]
-
-pub covers-from : (dp : Dp) (inc : Option ℤ) (os : List Ticketed) → CoversBy dp inc os → Covers dp inc (prefixes os)
-covers-from dp inc os h x s =
-    elim (h x s) as (λ _. AtMost (value_of dp x) inc ⊎ OneOf (IsMatched dp x) (prefixes os)) [ inl a ↦ inl a | inr b ↦ inr (one-mapped (λ (o : Ticketed). o.subproblem.decisions) (IsMatched dp x) os b) ]
 
 -- the bound of an open or checked-out one is held
 abbrev pub HeldBy : Dp → Option ℤ → Ticketed → Type 0

@@ -14,13 +14,14 @@ use Rattle.shared_fringe.specs.Tickets.{Ticketed, IsEarlier}
 use Rattle.board_laws.proofs.Carrying.{reach-rises, Deep, CarriesBy, carries-from}
 use Rattle.board_laws.proofs.Finishing.{reaches-low}
 use Rattle.board_laws.proofs.Frontier.{not-above}
-use Rattle.board_laws.proofs.Lists.{each-less, two-less, sum-less, one-left, one-right, one-cases, one-filter, one-each, one-out, each-back, each-passes}
+use Rattle.board_laws.proofs.Lists.{each-less, two-less, sum-less, one-left, one-right, one-filter, one-each, one-out, each-back, each-passes}
 use Rattle.board_laws.specs.Board.{reach, reach_of, incumbent_value, full_slots, prefixes, BoardState, frontier}
 use Rattle.dp_laws.specs.Children.{AreApart}
 use Rattle.dp_laws.proofs.Reaches.{at-most-raised, covers-carried, floor-carried}
 use Rattle.board_laws.specs.GoodBoard.{IncumbentHolds, pot_of, share_of, HasFloor, IsBoard, IsGood}
 use Rattle.board_laws.specs.Laws.{ImproveKeeps}
 use Rattle.board_laws.specs.Steps.{improved}
+use Rattle.dp_laws.proofs.Restricted.Covering.{one-cases}
 
 held-raised : (dp : Dp) (reach more : Option ℤ) → OptionAtMost reach more → (o : Ticketed) → IsHeld dp reach o.subproblem.decisions o.subproblem.bound → IsHeld dp more o.subproblem.decisions o.subproblem.bound
 held-raised dp reach more le o h x c =

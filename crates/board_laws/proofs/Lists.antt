@@ -3,9 +3,10 @@ use Rattle.std.proofs.Common.{◌≡◌, ℕ, ◌≤◌, List, [], ◌∷◌, �
 use Rattle.std.specs.List.{sum_by}
 use Rattle.std.proofs.lemmas.List.Sums.{sum_by-cons, sum_by-append}
 use Rattle.dp_model.specs.Lists.{Each, OneOf}
-use Rattle.dp_model.proofs.Members.{Each-append, Each-map, Each-then, Has}
+use Rattle.dp_model.proofs.Members.{Each-append, Each-map, Each-then}
 use Rattle.dp_laws.specs.Pairs.{EachTwo}
 use Rattle.dp_laws.proofs.Lists.{two-filter, each-filter}
+use Rattle.dp_laws.proofs.Restricted.Permutations.{two-append}
 
 pub each-front : {X : Type 0} (P : X → Type 0) (xs ys : List X) → Each P (xs ++ ys) → Each P xs
 each-front P [] ys h = tt
@@ -31,11 +32,6 @@ one-left P (x ∷ xs) ys (inr h) = inr (one-left P xs ys h)
 pub one-right : {X : Type 0} (P : X → Type 0) (xs ys : List X) → OneOf P ys → OneOf P (xs ++ ys)
 one-right P [] ys h = h
 one-right P (x ∷ xs) ys h = inr (one-right P xs ys h)
-
-pub one-cases : {X : Type 0} (P : X → Type 0) (xs ys : List X) → OneOf P (xs ++ ys) → OneOf P xs ⊎ OneOf P ys
-one-cases P [] ys h = inr h
-one-cases P (x ∷ xs) ys (inl h) = inl (inl h)
-one-cases P (x ∷ xs) ys (inr h) = elim (one-cases P xs ys h) as (λ _. OneOf P (x ∷ xs) ⊎ OneOf P ys) [ inl a ↦ inl (inr a) | inr b ↦ inr b ]
 
 -- one of a list that a filter keeps or leaves out
 pub one-filter : {X : Type 0} (P : X → Type 0) (p : X → Bool) (xs : List X) → OneOf P xs → OneOf P (filter p xs) ⊎ OneOf (λ x. P x × (p x ≡ false)) xs
@@ -72,17 +68,9 @@ one-out P A f [] h = absurd h
 one-out P A f (x ∷ xs) (inl h) = f x h
 one-out P A f (x ∷ xs) (inr h) = one-out P A f xs h
 
-pub two-then : {X : Type 0} (R S : X → X → Type 0) → ((x y : X) → R x y → S x y) → (xs : List X) → EachTwo R xs → EachTwo S xs
-two-then R S f [] h = tt
-two-then R S f (x ∷ xs) h = (Each-then (R x) (S x) xs (f x) h.0, two-then R S f xs h.1)
-
 pub two-map : {X Y : Type 0} (f : X → Y) (R : Y → Y → Type 0) (xs : List X) → EachTwo (λ x y. R (f x) (f y)) xs → EachTwo R (map f xs)
 two-map f R [] h = tt
 two-map f R (x ∷ xs) h = (Each-map f (R (f x)) xs h.0, two-map f R xs h.1)
-
-pub two-append : {X : Type 0} (R : X → X → Type 0) (xs ys : List X) → EachTwo R xs → EachTwo R ys → Each (λ x. Each (R x) ys) xs → EachTwo R (xs ++ ys)
-two-append R [] ys h k all = k
-two-append R (x ∷ xs) ys h k all = (Each-append (R x) xs ys h.0 all.0, two-append R xs ys h.1 k all.1)
 
 pub two-front : {X : Type 0} (R : X → X → Type 0) (xs ys : List X) → EachTwo R (xs ++ ys) → EachTwo R xs
 two-front R [] ys h = tt
@@ -115,12 +103,6 @@ two-less R p xs ys h =
 pub sum-less : {X : Type 0} (f : X → ℕ) (p : X → Bool) (xs ys : List X) → sum_by f (xs ++ filter p ys) ≤ sum_by f (xs ++ ys)
 sum-less f p xs ys =
     let left = sum_by-append f xs (filter p ys) in let right = sum_by-append f xs ys in let less = sum-filter f p ys in omega arith
-
--- one of the list that has it
-pub one-has : {X : Type 0} (P : X → Type 0) (xs : List X) → OneOf P xs → (x : X) × Has x xs × P x
-one-has P [] h = absurd h
-one-has P (x ∷ xs) (inl h) = (x, inl refl, h)
-one-has P (x ∷ xs) (inr h) = let r = one-has P xs h in (r.0, inr r.1, r.2)
 
 -- two facts of each
 pub each-both : {X : Type 0} (P Q : X → Type 0) (xs : List X) → Each P xs → Each Q xs → Each (λ x. P x × Q x) xs

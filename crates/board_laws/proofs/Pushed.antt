@@ -19,10 +19,12 @@ use Rattle.shared_fringe.proofs.Tickets.{tickets-by_ticket, two-by_ticket}
 use Rattle.board_laws.proofs.Carrying.{Deep}
 use Rattle.board_laws.proofs.Fates.{Beats, found-one, same-ticket, int-more, int-less}
 use Rattle.board_laws.proofs.Finishing.{beats-deep}
-use Rattle.board_laws.proofs.Lists.{one-has, sum-less, one-left, one-right, one-cases, one-filter, each-front, each-back, two-append, two-front, two-back, two-across}
+use Rattle.board_laws.proofs.Lists.{sum-less, one-left, one-right, one-filter, each-front, each-back, two-front, two-back, two-across}
 use Rattle.board_laws.proofs.Slots.{with-by_ticket}
 use Rattle.board_laws.proofs.With.{with-left, each-in, two-in, one-in, sum-with}
 use Rattle.board_laws.specs.Board.{reach}
+use Rattle.dp_laws.proofs.Restricted.Covering.{one-cases, one-member}
+use Rattle.dp_laws.proofs.Restricted.Permutations.{two-append}
 
 -- what a push of the slot's subproblem makes of the open ones
 pub record IsPushed (dp : Dp) (reach : Option ℤ) (next : ℕ) (o : Ticketed) (rest os new : List Ticketed) : Type 1 where
@@ -97,7 +99,7 @@ in-goes dp reach o rest os left goes k v h =
 gone : (dp : Dp) → IsLawful dp → (k : ℕ) (v : ℤ) (o other : Ticketed) (os : List Ticketed) → OneOf (λ x. Deep dp k v x × (not (nat_eq x.ticket other.ticket) ≡ false)) os
     → IsOwn dp o.subproblem → IsOwn dp other.subproblem → EachTwo IsEarlier os → Has other os → Beats other o → Deep dp k v o
 gone dp laws k v o other os one own own_other rise in_list b =
-    let r = one-has (λ (x : Ticketed). Deep dp k v x × (not (nat_eq x.ticket other.ticket) ≡ false)) os one in
+    let r = one-member (λ (x : Ticketed). Deep dp k v x × (not (nat_eq x.ticket other.ticket) ≡ false)) os one in
     let out = r.2.1 in
     let same : r.0.ticket ≡ other.ticket = grind (arith, nat_tests) in
     let is = same-ticket os r.0 other rise r.1 in_list same in

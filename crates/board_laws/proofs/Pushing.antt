@@ -9,7 +9,6 @@ use Rattle.dp_model.proofs.Members.{Each-then, Each-append, each-has, each-of-al
 use Rattle.dp_laws.specs.Pairs.{EachTwo}
 use Rattle.dp_laws.proofs.Lists.{each-filter, two-filter}
 use Rattle.board_laws.proofs.Fates.{FatesHold, fates-hold, fates-many, found-one, same-ticket}
-use Rattle.board_laws.proofs.Lists.{two-append}
 use Rattle.dp_laws.specs.Children.{DifferInPlace}
 use Rattle.board_laws.specs.Entering.{entering, replaced, is_among, without_all, put_all}
 use Rattle.board_laws.specs.Fates.{fate_of, fates_by, ticket_after}
@@ -21,6 +20,7 @@ use Rattle.shared_fringe.specs.Pushing.{pushed_beside, after_push}
 use Rattle.shared_fringe.specs.Tickets.{Ticketed, IsEarlier, by_ticket, without}
 use Rattle.dominance_table.specs.Entries.{TableEntry, after_put, is_full}
 use Rattle.shared_fringe.proofs.Rows.{same-depth, same-row, different-turned}
+use Rattle.dp_laws.proofs.Restricted.Permutations.{two-append}
 
 -- what a push needs of a fate
 record PutsOut (os : List Ticketed) (ticket : ℕ) (c : Subproblem) (own old : ℕ) : Type 0 where

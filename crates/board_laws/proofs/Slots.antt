@@ -1,6 +1,6 @@
 -- Slots that are filled and emptied, and the open list by place and by ticket.
 use Rattle.std.proofs.Common.{◌≡◌, ℕ, zero, suc, ◌≤◌, List, [], ◌∷◌, length, set, true, false, cond, nat_lt, Option, Some, None, sym, ap, subst, arith}
-use Rattle.std.specs.List.{slice_get, remove}
+use Rattle.std.specs.List.{slice_get}
 use Rattle.shared_fringe.specs.Tickets.{Ticketed, by_ticket}
 use Rattle.board_laws.proofs.With.{IsWith, with-here, with-there}
 use Rattle.board_laws.specs.Board.{full_slots, slot_of}
@@ -30,13 +30,6 @@ pub full-few : (slots : List (Option Ticketed)) → length (full_slots slots) �
 full-few [] = omega arith
 full-few (None ∷ slots) = let rest = full-few slots in omega arith
 full-few (Some x ∷ slots) = let rest = full-few slots in omega arith
-
--- the list is what stands at a place and the rest
-pub removed : (os : List Ticketed) (i : ℕ) (o : Ticketed) → slice_get os i ≡ Some o → IsWith o (remove os i) os
-removed [] i o h = absurd (cc)
-removed (x ∷ os) zero o h =
-    let same : x ≡ o = cc in subst (λ y. IsWith o os (y ∷ os)) (sym same) (with-here o os)
-removed (x ∷ os) (suc i) o h = with-there o x (remove os i) os (removed os i o h)
 
 pub with-by_ticket : (o : Ticketed) (os : List Ticketed) → IsWith o os (by_ticket o os)
 with-by_ticket o [] = with-here o []

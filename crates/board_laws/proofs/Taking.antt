@@ -1,5 +1,5 @@
 -- Take keeps a board, and a good one.
-use Rattle.std.proofs.Common.{◌||◌, ◌∷◌, [], ◌<◌, ◌≤◌, nat_lt, ◌≡◌, ◌≢◌, ℕ, ◌^◌, ◌-◌, ℤ, nat_eq, Bool, true, false, cond, not, List, ◌++◌, length, set, Option, Some, None, inl, inr, refl, sym, ◌∙◌, subst, IsTrue, length-set, arith, ap}
+use Rattle.std.proofs.Common.{◌∷◌, [], ◌<◌, ◌≤◌, nat_lt, ◌≡◌, ◌≢◌, ℕ, ◌^◌, ◌-◌, ℤ, nat_eq, Bool, true, false, cond, not, List, ◌++◌, length, set, Option, Some, None, inl, inr, refl, sym, ◌∙◌, subst, IsTrue, length-set, arith, ap}
 use Rattle.std.proofs.lemmas.Bool.Decides.{nat_tests}
 use Rattle.std.specs.List.{slice_get}
 use Rattle.dp_model.specs.Cover.{IsHeld}
@@ -30,6 +30,7 @@ use Rattle.board_laws.specs.declared.cause.Cause.TheVariants.{Budget}
 use Rattle.board_laws.specs.declared.taken.Taken.{Taken}
 use Rattle.board_laws.specs.declared.taken.Taken.TheVariants.{Sub, WaitForOthers, Finished, Halted}
 use Rattle.shared_fringe.specs.Firsts.{first_taken}
+use Rattle.board_laws.proofs.Differing.{or-parts}
 
 -- Moving one member between slots and open ones.
 
@@ -103,10 +104,6 @@ take-good dp b who o at from h =
     }
 
 -- Take, by its answer.
-
-or-parts : (x y : Bool) → (x || y) ≡ false → (x ≡ false) × (y ≡ false)
-or-parts true y h = absurd (cc)
-or-parts false y h = (refl, h)
 
 -- where Take hands a subproblem out, something is open and the budget is not taken up
 pub record Hands (b : BoardState) : Type 0 where

@@ -48,7 +48,7 @@ take-front zero xs ys h = refl
 take-front (suc n) [] ys h = absurd (omega arith)
 take-front (suc n) (x ∷ xs) ys h = ap (λ l. x ∷ l) (take-front n xs ys (omega arith))
 
-range-front : {X : Type 0} (xs ys : List X) (from to : ℕ) → from ≤ to → to ≤ length xs → slice_range (xs ++ ys) from to ≡ slice_range xs from to
+pub range-front : {X : Type 0} (xs ys : List X) (from to : ℕ) → from ≤ to → to ≤ length xs → slice_range (xs ++ ys) from to ≡ slice_range xs from to
 range-front xs ys from to up low =
     ap (take (to - from)) (drop-append-le from xs ys (omega arith)) ∙ take-front (to - from) (drop from xs) ys (let long = length-drop from xs in omega arith)
 
@@ -61,7 +61,7 @@ with-row-behind : (layer : List CoverRow) (layers : List (List CoverRow)) (row :
 with-row-behind layer [] row h = absurd (omega arith)
 with-row-behind layer (next ∷ layers) row h = refl
 
-layers-row : (starts : List ℕ) (rows : List CoverRow) (row : CoverRow) → RiseTo starts (length rows) → layers_of starts (rows ++ row ∷ []) ≡ with_row (layers_of starts rows) row
+pub layers-row : (starts : List ℕ) (rows : List CoverRow) (row : CoverRow) → RiseTo starts (length rows) → layers_of starts (rows ++ row ∷ []) ≡ with_row (layers_of starts rows) row
 layers-row [] rows row h = refl
 layers-row (start ∷ []) rows row h = ap (λ l. l ∷ []) (drop-append-le start rows (row ∷ []) h)
 layers-row (start ∷ next ∷ starts) rows row h =
@@ -84,7 +84,7 @@ rows-same words new_words arcs new_arcs (head ∷ heads) h =
 abbrev pub head_behind : Option ℤ → Bool → ℕ → ℕ → ℕ → ℕ → Head
 head_behind bound has_arcs words words_to arcs arcs_to = record { bound = bound; words_from = words; words_to = words_to; has_arcs = has_arcs; arcs_from = arcs; arcs_to = arcs_to }
 
-map-behind : {X Y : Type 0} (f : X → Y) (xs : List X) (x : X) → map f (xs ++ x ∷ []) ≡ map f xs ++ f x ∷ []
+pub map-behind : {X Y : Type 0} (f : X → Y) (xs : List X) (x : X) → map f (xs ++ x ∷ []) ≡ map f xs ++ f x ∷ []
 map-behind f [] x = refl
 map-behind f (y ∷ xs) x = ap (λ l. f y ∷ l) (map-behind f xs x)
 

@@ -20,7 +20,8 @@ use Rattle.bound_cover.specs.declared.cover.Why.TheVariants.{Root, Layers}
 use Rattle.bound_cover.specs.Covers.{CoverRow}
 use Rattle.bound_cover.specs.Tests.{is_at_most, unless, is_state_row, row_fault}
 use Rattle.bound_cover.specs.Verdicts.{first_layer, rows_fault, layers_fault, covers_root, has_root, cover_fault, checked_rows}
-use Rattle.bound_cover.specs.Exploring.{HoldsAll, layer_of, rest_of, greater_of, is_deep, is_last_exact, claim_of, leads_above, moved, has_arcs, row_for, Waiting, with_arcs_at, arcs_of_first, needed_layers, explored, waiting_in, waiting_after, start_cover, start_waiting, Passes, IsAt, IsWaiting, IsDraft, Explores}
+use Rattle.bound_cover.specs.Exploring.{HoldsAll, layer_of, rest_of, greater_of, is_deep, is_last_exact, claim_of, leads_above, moved, has_arcs, row_for, Waiting, with_arcs_at, arcs_of_first, needed_layers, explored, waiting_in, waiting_after, start_cover, start_waiting, Explores}
+use Rattle.bound_cover.specs.DraftRows.{Passes, IsAt, IsWaiting, IsDraft}
 use Rattle.bound_cover.proofs.Faults.{first-both, unless-holds, cond-holds}
 use Rattle.bound_cover.proofs.Keeping.{passes-kept, arcs-cases, append-cases, map-cases}
 use Rattle.bound_cover.proofs.Claims.{at-most-self, greater-left, rest-positive}

@@ -7,7 +7,8 @@ use Rattle.dp_laws.specs.Diagrams.Seen.{IsDiagram}
 use Rattle.dp_laws.specs.Rules.Compiling.{relaxed}
 use Rattle.dp_laws.proofs.Rules.Diagrams.{compiled-is-diagram}
 use Rattle.bound_cover.specs.Covers.{CoverRow}
-use Rattle.bound_cover.specs.Exploring.{HoldsAll, Waiting, explored, waiting_after, start_cover, start_waiting, IsDraft, IsExplored}
+use Rattle.bound_cover.specs.Exploring.{HoldsAll, Waiting, explored, waiting_after, start_cover, start_waiting, IsExplored}
+use Rattle.bound_cover.specs.DraftRows.{IsDraft}
 use Rattle.bound_cover.proofs.Drafts.{start-is-draft, stays-draft}
 use Rattle.bound_cover.proofs.Measure.{left_below, falls}
 

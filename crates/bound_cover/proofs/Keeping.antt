@@ -7,7 +7,8 @@ use Rattle.bound_cover.specs.declared.cover.CoverArc.{CoverArc}
 use Rattle.bound_cover.specs.declared.cover.Why.TheVariants.{Row, Target}
 use Rattle.bound_cover.specs.Covers.{CoverRow}
 use Rattle.bound_cover.specs.Tests.{is_state_row, arc_for, tested, gap_fault, row_arc_fault, arc_fault, listed_fault, decision_fault, decisions_fault, inner_fault, last_fault}
-use Rattle.bound_cover.specs.Exploring.{with_arcs_at, Passes}
+use Rattle.bound_cover.specs.Exploring.{with_arcs_at}
+use Rattle.bound_cover.specs.DraftRows.{Passes}
 use Rattle.bound_cover.proofs.Faults.{first-none, first-both, cond-none, cond-holds}
 
 -- a row with these words and this bound stands at the place

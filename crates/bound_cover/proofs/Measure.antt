@@ -1,5 +1,5 @@
 -- An exploration ends: with each diagram fewer prefixes are left below those that wait.
-use Rattle.std.proofs.Common.{◌≡◌, ℕ, ◌+◌, ◌-◌, ◌<◌, ℤ, true, false, not, cond, ◌&&◌, List, [], ◌∷◌, ◌++◌, length, map, take, drop, Option, Some, None, inl, inr, IsTrue, refl, sym, ◌∙◌, ap, subst, arith, take-append-drop}
+use Rattle.std.proofs.Common.{◌≡◌, ℕ, ◌+◌, ◌-◌, ◌<◌, ℤ, true, false, not, cond, ◌&&◌, List, [], ◌∷◌, ◌++◌, length, map, Option, Some, None, inl, inr, IsTrue, refl, sym, ◌∙◌, ap, subst, arith}
 use Rattle.std.specs.List.{sum_by}
 use Rattle.std.proofs.lemmas.List.Sums.{sum_by-append, sum_by-cons}
 use Rattle.std.proofs.lemmas.Bool.{and_parts}
@@ -10,26 +10,22 @@ use Rattle.dp_model.specs.Lists.{Each}
 use Rattle.dp_model.specs.Prefixes.{state_of}
 use Rattle.dp_model.specs.Rows.{row_same}
 use Rattle.dp_model.proofs.Members.{Has}
-use Rattle.dp_model.proofs.RowLemmas.{begins-append, row_same-self, row_same-is}
+use Rattle.dp_model.proofs.RowLemmas.{row_same-self}
 use Rattle.dp_laws.specs.Antichains.{IsExtension, NeitherBegins}
 use Rattle.dp_laws.specs.Pairs.{EachTwo}
 use Rattle.dp_laws.proofs.Counting.{pots-below, pots-positive, sum-map}
 use Rattle.dp_laws.specs.Diagrams.Nodes.{DdNode, DdLayers}
 use Rattle.dp_laws.specs.Diagrams.Seen.{IsReachedBy, repeats, are_distinct, IsDiagram, exact_layers}
-use Rattle.dp_laws.proofs.Diagrams.Apart.{not-true, neither, same-length, rows-differ, AreReached}
+use Rattle.dp_laws.proofs.Diagrams.Apart.{not-true, neither, same-length, rows-differ, AreReached, row_same-turned}
 use Rattle.dp_laws.proofs.Diagrams.LastExact.{all-exact}
 use Rattle.dp_laws.proofs.Diagrams.Starts.{reducible}
 use Rattle.bound_cover.specs.Covers.{CoverRow}
 use Rattle.bound_cover.specs.Exploring.{layer_of, leads_above, Waiting, waiting_in, waiting_after}
 use Rattle.bound_cover.proofs.Placing.{layer-is-at, keeps-layer, reached-at}
+use Rattle.dp_laws.proofs.Diagrams.ChildFacts.{begins-by}
 
 abbrev pub prefixes : List Waiting → List (List ℕ)
 prefixes ws = map (λ (q : Waiting). q.prefix) ws
-
-begins-by : (p x : List ℕ) → take (length p) x ≡ p → IsTrue (begins p x)
-begins-by p x e =
-    let whole : x ≡ p ++ drop (length p) x = sym (take-append-drop (length p) x) ∙ ap (λ l. l ++ drop (length p) x) e in
-    subst (λ y. IsTrue (begins p y)) (sym whole) (begins-append p (drop (length p) x))
 
 paths-differ : (dp : Dp) (p : List ℕ) (k : ℕ) (a b : DdNode) → IsReachedBy dp p k a → IsReachedBy dp p k b → row_same a.row b.row ≡ false → begins a.path b.path ≡ false
 paths-differ dp p k a b ra rb differ = not-true (begins a.path b.path) (λ h.
@@ -38,9 +34,6 @@ paths-differ dp p k a b ra rb differ = not-true (begins a.path b.path) (λ h.
     let rows : a.row ≡ b.row = ra.row ∙ (ap (state_of dp) same ∙ sym rb.row) in
     let same_row : row_same a.row b.row ≡ true = subst (λ r. row_same a.row r ≡ true) rows (row_same-self a.row) in
     let clash : true ≡ false = sym same_row ∙ differ in cc)
-
-turned : (a b : List ℤ) → row_same a b ≡ false → row_same b a ≡ false
-turned a b h = not-true (row_same b a) (λ e. let clash : true ≡ false = sym (subst (λ r. row_same r b ≡ true) (row_same-is b a e) (row_same-self b)) ∙ h in cc)
 
 -- those that wait are among the layer's paths
 all-of : (P : List ℕ → Type 0) (best : Option ℤ) (place : ℕ) (nodes : List DdNode) → ((node : DdNode) → Has node nodes → P node.path) → Each P (prefixes (waiting_in best place nodes))
@@ -58,7 +51,7 @@ apart-from dp p k node (x ∷ rest) exact r all new other h =
       | inl same ↦ (
           let of-x = all x (inl refl) in
           let differ : row_same node.row x.row ≡ false = rows-differ node.exact x.exact (row_same node.row x.row) exact of-x.0 none.0 in
-          subst (λ (n : DdNode). NeitherBegins node.path n.path) same (record { first = paths-differ dp p k node x r of-x.1 differ; second = paths-differ dp p k x node of-x.1 r (turned node.row x.row differ) }))
+          subst (λ (n : DdNode). NeitherBegins node.path n.path) same (record { first = paths-differ dp p k node x r of-x.1 differ; second = paths-differ dp p k x node of-x.1 r (row_same-turned node.row x.row differ) }))
       | inr later ↦ apart-from dp p k node rest exact r (λ n has. all n (inr has)) (rw none.1 refl) other later
     ]
 

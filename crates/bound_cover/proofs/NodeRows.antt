@@ -11,14 +11,15 @@ use Rattle.dp_model.specs.Numbers.{AtMost, add_some, greatest}
 use Rattle.dp_model.proofs.Members.{Has, each-has, Has-map-from, Has-filter-from, Has-below-from}
 use Rattle.dp_laws.specs.declared.arc.DdArc.{DdArc}
 use Rattle.dp_laws.specs.Diagrams.Nodes.{DdNode}
-use Rattle.dp_laws.specs.Diagrams.Seen.{decisions_at, HasArcs, CoversWithin, LeadsTo, Leads, lengths_into, HaveValues, suffix_at, suffix_from, IsLayer}
-use Rattle.dp_laws.proofs.Diagrams.Following.{value-at, Has-length}
+use Rattle.dp_laws.specs.Diagrams.Seen.{decisions_at, HasArcs, LeadsTo, Leads, lengths_into, HaveValues, suffix_at, suffix_from, IsLayer}
+use Rattle.dp_laws.proofs.Diagrams.Following.{value-at, Has-length, covers-within}
 use Rattle.dp_laws.proofs.Diagrams.Places.{Has-at, Has-filter_map, greatest-most, greatest-at_least}
 use Rattle.bound_cover.specs.declared.cover.CoverArc.{CoverArc}
 use Rattle.bound_cover.specs.declared.cover.Why.TheVariants.{Row, Arc, Target, Terminal}
 use Rattle.bound_cover.specs.Covers.{CoverRow}
 use Rattle.bound_cover.specs.Tests.{is_at_most, is_state_row, arc_for, tested, gap_fault, row_arc_fault, arc_fault, listed_fault, decision_fault, decisions_fault, inner_fault, last_fault}
-use Rattle.bound_cover.specs.Exploring.{rest_of, greater_of, is_deep, claim_of, moved, row_for, Passes}
+use Rattle.bound_cover.specs.Exploring.{rest_of, greater_of, is_deep, claim_of, moved, row_for}
+use Rattle.bound_cover.specs.DraftRows.{Passes}
 use Rattle.bound_cover.proofs.Faults.{first-both, unless-holds, cond-holds}
 use Rattle.bound_cover.proofs.Keeping.{append-behind}
 use Rattle.bound_cover.proofs.Rising.{Rises, rises-below, rises-filter, arc-for, with_listed-from}
@@ -69,10 +70,6 @@ within-bound best reduced k node target bound gain gap longer enough low reach o
     ] refl
 
 -- ---- an arc
-
-covers-within : (gap : Option ℤ) (most : ℤ) → CoversWithin gap most → (g : ℤ) × (gap ≡ Some g) × (g ≤ℤ most)
-covers-within None most h = absurd h
-covers-within (Some g) most h = (g, refl, h)
 
 -- the row of a node with a bound
 abbrev pub row_with : Option ℤ → DdNode → Option (List CoverArc) → CoverRow

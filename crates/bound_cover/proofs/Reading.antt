@@ -73,9 +73,6 @@ row-found cover starts heads words arcs layer row place is rises at =
     each place ∙ (ap (option_and_then (slice_get rows)) (at ∙ ap (λ n. place_at starts n layer row) (sym long))
     ∙ (row-at starts rows layer row (subst (RiseTo starts) (sym long) rises) ∙ ap (λ (ls : List (List CoverRow)). slice_get (layer_of ls layer) row) is))
 
-pub head-within : (words arcs : ℕ) (heads : List Head) (i : ℕ) (head : Head) → Each (IsWithin words arcs) heads → slice_get heads i ≡ Some head → IsWithin words arcs head
-head-within words arcs heads i head all at = each-has (IsWithin words arcs) heads head all (Has-at heads i head at)
-
 -- what the code answers
 
 pub row-none : (cover : List (List CoverRow)) (starts s : List ℕ) (heads : List Head) (words : List ℤ) (arcs : List CoverArc) (layer row n : ℕ) (place : Option ℕ) → layers_of starts (map (row_of words arcs) heads) ≡ cover → RiseTo starts (length heads)

@@ -22,7 +22,7 @@ use Rattle.bound_cover.specs.declared.cover.Verdict.TheVariants.{Accepted, Refus
 use Rattle.bound_cover.specs.Covers.{CoverRow}
 use Rattle.bound_cover.specs.Tests.{is_at_most, is_state_row, unless, first_of, tested, gap_fault, row_arc_fault, arc_fault, inner_fault, last_fault, row_fault}
 use Rattle.bound_cover.specs.Clamping.{IsWritable}
-use Rattle.bound_cover.specs.Proved.{Shows, IsProved, LiesWithin, IsProvedWithin}
+use Rattle.bound_cover.specs.Proved.{Shows, IsReportedBest, LiesWithin, IsReportedWithin}
 use Rattle.bound_cover.specs.Verdicts.{first_layer, rows_fault, layers_fault, covers_root, has_root, cover_fault, checked_rows, worth_from, worth, value_fault, solution_fault, claim_of, checked, verdict_of}
 use Rattle.bound_cover.proofs.Faults.{first-none, unless-none, cond-none, at-most-over, add-at-most, at-most-below, at-most-zero, state-of-row, Has-with_listed, decision-of, arc-of}
 
@@ -219,7 +219,7 @@ proved-by dp x (Some v) within e most (Some b) is =
     ((omega (arith, ints), omega (arith, ints)), w)
 
 -- accepted: the best value lies within the distance
-pub accepted-is-near : (dp : Dp) → IsLawful dp → (o : Option ℤ) (within : ℤ) (x : List ℕ) (layers : List (List CoverRow)) → checked dp o within x layers ≡ None → IsProvedWithin dp x o within
+pub accepted-is-near : (dp : Dp) → IsLawful dp → (o : Option ℤ) (within : ℤ) (x : List ℕ) (layers : List (List CoverRow)) → checked dp o within x layers ≡ None → IsReportedWithin dp x o within
 accepted-is-near dp laws o within x layers e =
     let parts = checked-parts dp o within x layers e in
     let is = proved-by dp x o within parts.0 (checked-rows-bound dp laws (claim_of o within) layers parts.1) (best dp) (best-is_best dp) in
@@ -233,7 +233,7 @@ near-exact (Some b) (Some v) within zero near =
     let same : v ≡ b = omega (arith, ints) in ap Some same
 
 -- without a distance it is the reported one
-pub accepted-is-best : (dp : Dp) → IsLawful dp → (o : Option ℤ) (within : ℤ) (x : List ℕ) (layers : List (List CoverRow)) → checked dp o within x layers ≡ None → within ≡ pos 0 → IsProved dp x o
+pub accepted-is-best : (dp : Dp) → IsLawful dp → (o : Option ℤ) (within : ℤ) (x : List ℕ) (layers : List (List CoverRow)) → checked dp o within x layers ≡ None → within ≡ pos 0 → IsReportedBest dp x o
 accepted-is-best dp laws o within x layers e zero =
     let is = accepted-is-near dp laws o within x layers e in
     record { best = near-exact (best dp) o within zero is.near; shown = is.shown }

@@ -11,8 +11,9 @@ use Rattle.dp_laws.proofs.Diagrams.Places.{same-Some, Has-at}
 use Rattle.dp_laws.proofs.Diagrams.Starts.{reducible}
 use Rattle.bound_cover.specs.Covers.{CoverRow}
 use Rattle.bound_cover.specs.Tests.{is_at_most, is_state_row}
-use Rattle.bound_cover.specs.Verdicts.{covers_root, has_root}
-use Rattle.bound_cover.specs.Exploring.{HoldsAll, needed_layers, layer_of, rest_of, greater_of, is_deep, is_last_exact, claim_of, leads_above, moved, row_for, Waiting, with_arcs_at, arcs_of_first, explored, waiting_in, waiting_after, Passes, IsWaiting, IsDraft}
+use Rattle.bound_cover.specs.Verdicts.{covers_root, has_root, root_test}
+use Rattle.bound_cover.specs.Exploring.{HoldsAll, needed_layers, layer_of, rest_of, greater_of, is_deep, is_last_exact, claim_of, leads_above, moved, row_for, Waiting, with_arcs_at, arcs_of_first, explored, waiting_in, waiting_after}
+use Rattle.bound_cover.specs.DraftRows.{Passes, IsWaiting, IsDraft}
 use Rattle.bound_cover.proofs.Keeping.{Keeps, keeps-same, keeps-behind, keeps-arcs, append-behind, map-at}
 use Rattle.bound_cover.proofs.Claims.{at-most-self, greater-left, greater-right, suffix-within}
 use Rattle.bound_cover.proofs.NodeRows.{IsEnough, row_with, passes-node}
@@ -64,9 +65,6 @@ keeps-after dp best q d rows long j =
     ]
 
 -- ---- the root stays covered
-
-abbrev root_test : Dp → Option ℤ → CoverRow → Bool
-root_test dp claim row = is_state_row dp 0 row.words && covers_root (dp.gap 0 row.words dp.root) dp.root_value row.bound claim
 
 root-from : (dp : Dp) (claim : Option ℤ) (rows : List CoverRow) → IsTrue (has_root dp claim rows) → (t : ℕ) × (r : CoverRow) × (slice_get rows t ≡ Some r) × IsTrue (root_test dp claim r)
 root-from dp claim [] h = absurd (let clash : false ≡ true = h in cc)

@@ -9,7 +9,8 @@ use Rattle.bound_cover.specs.declared.cover.Why.{Why}
 use Rattle.bound_cover.specs.declared.cover.Why.TheVariants.{Target}
 use Rattle.bound_cover.specs.Covers.{CoverRow}
 use Rattle.bound_cover.specs.Tests.{tested, decisions_fault}
-use Rattle.bound_cover.specs.Walking.{least_behind, lesser, at_hand, decision_of, step_fault, rest_fault, IsWalked}
+use Rattle.bound_cover.specs.Walking.{least_behind, lesser, at_hand, decision_of, step_fault}
+use Rattle.bound_cover.proofs.Walking.{rest_fault, IsWalked}
 use Rattle.bound_cover.proofs.Walked.{place_after, walks-on, walk-fails, walk-behind, walk-ends}
 
 found : (o : Option ℕ) (d : ℕ) → true ≡ option_eq eqb o (Some d) → o ≡ Some d

@@ -12,7 +12,8 @@ use Rattle.bound_cover.specs.declared.cover.Why.{Why}
 use Rattle.bound_cover.specs.declared.cover.Why.TheVariants.{Target}
 use Rattle.bound_cover.specs.Covers.{CoverRow}
 use Rattle.bound_cover.specs.Tests.{lists, arc_for, tested, arc_fault, listed_fault, decision_fault, decisions_fault}
-use Rattle.bound_cover.specs.Walking.{lesser, least_behind, IsBefore, IsUpTo, at_hand, step_fault, decision_of, rest_fault, IsWalked}
+use Rattle.bound_cover.specs.Walking.{lesser, least_behind, at_hand, step_fault, decision_of}
+use Rattle.bound_cover.proofs.Walking.{IsBefore, IsUpTo, rest_fault, IsWalked}
 use Rattle.bound_cover.proofs.Faults.{Has-with_listed}
 use Rattle.bound_cover.proofs.Rising.{with_listed-from}
 use Rattle.bound_cover.proofs.Walks.{rises-tested, least-first, none-fails, listed-tested, before-lesser, not-listed, listed-is, lesser-is, arc-at, arc-missing, arc-ended, behind-missing}
@@ -84,14 +85,6 @@ tested-cases dp k words arcs d h =
 tested-allowed : (dp : Dp) (k : ℕ) (words : List ℤ) (arcs : List CoverArc) (d : ℕ) → d < dp.choices k → IsTrue (dp.allowed k words d) → Has d (tested dp k words arcs)
 tested-allowed dp k words arcs d less may =
     Has-with_listed (filter (dp.allowed k words) (below (dp.choices k))) arcs d (Has-filter (dp.allowed k words) (below (dp.choices k)) d (Has-below (dp.choices k) d less) may)
-
-listed-from : (d : ℕ) (arcs : List CoverArc) → lists d arcs ≡ true → Has d (map (λ (a : CoverArc). a.decision) arcs)
-listed-from d [] h = absurd (let clash : false ≡ true = h in cc)
-listed-from d (a ∷ arcs) h =
-    elim (nat_eq a.decision d) as (λ b. nat_eq a.decision d ≡ b → (b || lists d arcs) ≡ true → Has d (map (λ (x : CoverArc). x.decision) (a ∷ arcs))) [
-      | true ↦ λ e _. inl (grind arith)
-      | false ↦ λ _ more. inr (listed-from d arcs more)
-    ] refl h
 
 -- ---- the arc at hand
 
@@ -170,23 +163,9 @@ fails-tested dp k i next row arcs place d (Some arc) why less h e =
     listed-tested (filter (dp.allowed k row.words) (below (dp.choices k))) arcs d
     (subst (λ l. Has d (map (λ (a : CoverArc). a.decision) l)) (sym split) (in-middle d (take place arcs) arc (drop (suc place) arcs) at.1))
 
-up-from-zero : (o : Option ℕ) → IsUpTo 0 o
-up-from-zero None = tt
-up-from-zero (Some e) = omega arith
-
 not-equal : (d : ℕ) (arc : CoverArc) → at_hand d (Some arc) ≡ None → nat_eq arc.decision d ≡ false
 not-equal d arc e =
     elim (nat_eq arc.decision d) as (λ b. cond b (Some arc) None ≡ None → b ≡ false) [ true ↦ λ f. absurd (let clash : Some arc ≡ None = f in cc) | false ↦ λ _. refl ] e
-
--- at the start
-pub walk-starts : (dp : Dp) (k i : ℕ) (next : List CoverRow) (row : CoverRow) (arcs : List CoverArc) → IsWalked dp k i next row arcs 0 0
-walk-starts dp k i next row arcs = record {
-  inside = omega arith;
-  before = tt;
-  at = λ arc e. omega arith;
-  behind = up-from-zero (least_behind 0 arcs);
-  fine = λ e h less. absurd (omega arith);
-}
 
 up-to-before : (d : ℕ) (o : Option ℕ) → IsUpTo d o → (o ≡ Some d → ⊥) → IsBefore d o
 up-to-before d None up other = tt

@@ -9,8 +9,10 @@ use Rattle.bound_cover.specs.declared.cover.CoverArc.{CoverArc}
 use Rattle.bound_cover.specs.declared.cover.Why.{Why}
 use Rattle.bound_cover.specs.Covers.{CoverRow}
 use Rattle.bound_cover.specs.Tests.{first_of, lists, arc_for, put_in, with_listed, tested, decision_fault, decisions_fault}
-use Rattle.bound_cover.specs.Walking.{lesser, least_behind, IsBefore}
+use Rattle.bound_cover.specs.Walking.{lesser, least_behind}
+use Rattle.bound_cover.proofs.Walking.{IsBefore}
 use Rattle.bound_cover.proofs.Rising.{Rises, rises-below, rises-filter}
+use Rattle.bound_cover.proofs.Faults.{Has-put_in}
 
 -- ---- the tested decisions rise
 
@@ -70,21 +72,10 @@ put_in-has d (e ∷ es) =
       | false ↦ elim (nat_eq d e) as (λ b. nat_eq d e ≡ b → Has d (cond b (e ∷ es) (e ∷ put_in d es))) [ true ↦ λ t. inl (let same : d ≡ e = grind arith in sym same) | false ↦ λ _. inr (put_in-has d es) ] refl
     ]
 
-put_in-keeps : (d e : ℕ) (es : List ℕ) → Has e es → Has e (put_in d es)
-put_in-keeps d e [] h = absurd h
-put_in-keeps d e (x ∷ es) h =
-    elim (nat_lt d x) as (λ b. Has e (cond b (d ∷ x ∷ es) (cond (nat_eq d x) (x ∷ es) (x ∷ put_in d es)))) [
-      | true ↦ inr h
-      | false ↦ elim (nat_eq d x) as (λ b. Has e (cond b (x ∷ es) (x ∷ put_in d es))) [
-        | true ↦ h
-        | false ↦ elim h as (λ _. Has e (x ∷ put_in d es)) [ inl same ↦ inl same | inr later ↦ inr (put_in-keeps d e es later) ]
-      ]
-    ]
-
 pub listed-tested : (allowed : List ℕ) (arcs : List CoverArc) (d : ℕ) → Has d (map (λ (a : CoverArc). a.decision) arcs) → Has d (with_listed allowed arcs)
 listed-tested allowed [] d h = absurd h
 listed-tested allowed (arc ∷ arcs) d (inl same) = subst (λ n. Has n (put_in arc.decision (with_listed allowed arcs))) same (put_in-has arc.decision (with_listed allowed arcs))
-listed-tested allowed (arc ∷ arcs) d (inr later) = put_in-keeps arc.decision d (with_listed allowed arcs) (listed-tested allowed arcs d later)
+listed-tested allowed (arc ∷ arcs) d (inr later) = Has-put_in arc.decision d (with_listed allowed arcs) (listed-tested allowed arcs d later)
 
 -- ---- the arcs below the least that stands behind one as great
 

@@ -1,17 +1,15 @@
 -- The cover of an exploration: a row waits for a diagram of its own prefix, which gives it its arcs and further rows.
-use Rattle.std.specs.Prelude.{◌≡◌, ℕ, zero, suc, ◌+◌, ◌-◌, ◌<◌, nat_eq, nat_lt, nat_le, ℤ, ◌-ℤ◌, int_le, Bool, true, false, not, cond, ◌&&◌, List, [], ◌∷◌, ◌++◌, length, map, take, replicate, slice_get, Option, Some, None, option_map, IsTrue, ◌⊎◌}
+use Rattle.std.specs.Prelude.{◌≡◌, ℕ, zero, suc, ◌+◌, ◌-◌, nat_eq, nat_lt, nat_le, ℤ, ◌-ℤ◌, int_le, Bool, true, false, not, cond, ◌&&◌, List, [], ◌∷◌, ◌++◌, length, map, take, replicate, Option, Some, None, option_map}
 use Rattle.dp_model.specs.Dp.{Dp}
 use Rattle.dp_model.specs.Decisions.{below}
-use Rattle.dp_model.specs.Lists.{Each, OneOf}
 use Rattle.dp_model.specs.Numbers.{AtMost, add_some}
-use Rattle.dp_model.specs.Prefixes.{IsPrefix, IsSolution, state_of, value_of}
+use Rattle.dp_model.specs.Prefixes.{IsSolution, value_of}
 use Rattle.dp_laws.specs.declared.arc.DdArc.{DdArc}
 use Rattle.dp_laws.specs.Diagrams.Nodes.{DdNode, DdLayers}
 use Rattle.dp_laws.specs.Diagrams.Seen.{IsDiagram}
 use Rattle.bound_cover.specs.declared.cover.CoverArc.{CoverArc}
 use Rattle.bound_cover.specs.Covers.{CoverRow}
-use Rattle.bound_cover.specs.Tests.{is_at_most, row_fault}
-use Rattle.bound_cover.specs.Verdicts.{has_root}
+use Rattle.bound_cover.specs.Tests.{is_at_most}
 
 -- no feasible solution has more than the claim; where it is none there is no feasible solution
 abbrev pub HoldsAll : Dp → Option ℤ → Type 0
@@ -120,33 +118,6 @@ start_cover dp best = (record { bound = rest_of best dp.root_value; words = dp.r
 
 abbrev pub start_waiting : Dp → List Waiting
 start_waiting dp = cond (nat_eq dp.vars 0) [] (record { place = 0; prefix = [] } ∷ [])
-
--- ---- what is kept from step to step
-
--- the row passes its tests
-abbrev pub Passes : Dp → ℕ → List CoverRow → CoverRow → Type 0
-Passes dp k next row = (i : ℕ) → row_fault dp k i next row ≡ None
-
--- the waiting row is the one at the place of the layer
-pub record IsAt (k i : ℕ) (q : Waiting) : Type 0 where
-  pub depth : length q.prefix ≡ k
-  pub place : q.place ≡ i
-
--- a waiting row stands for a prefix that is not whole, and claims best less its value
-pub record IsWaiting (dp : Dp) (best : Option ℤ) (rows : List (List CoverRow)) (q : Waiting) : Type 0 where
-  pub prefix : IsPrefix dp q.prefix
-  pub short : length q.prefix < dp.vars
-  pub row : CoverRow
-  pub at : slice_get (layer_of rows (length q.prefix)) q.place ≡ Some row
-  pub words : row.words ≡ state_of dp q.prefix
-  pub bound : row.bound ≡ rest_of best (value_of dp q.prefix)
-
--- each row passes its tests, or waits
-pub record IsDraft (dp : Dp) (best : Option ℤ) (rows : List (List CoverRow)) (waiting : List Waiting) : Type 0 where
-  pub long : length rows ≡ dp.vars + 1
-  pub root : IsTrue (has_root dp best (layer_of rows 0))
-  pub fine : (k i : ℕ) (row : CoverRow) → slice_get (layer_of rows k) i ≡ Some row → Passes dp k (layer_of rows (k + 1)) row ⊎ OneOf (IsAt k i) waiting
-  pub waits : Each (IsWaiting dp best rows) waiting
 
 -- the diagrams are put in one after another, each for the first row that waits, till nothing waits; this is the cover that is
 -- left

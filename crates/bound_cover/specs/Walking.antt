@@ -1,12 +1,11 @@
 -- How the arcs of a row are read once: the least decision that stands behind one as great.
-use Rattle.std.specs.Prelude.{◌≡◌, ℕ, ◌+◌, ◌<◌, ◌≤◌, nat_eq, nat_lt, nat_le, Bool, cond, List, [], ◌∷◌, length, take, slice_get, Option, Some, None}
+use Rattle.std.specs.Prelude.{ℕ, ◌+◌, nat_eq, nat_lt, nat_le, Bool, cond, List, [], ◌∷◌, Option, Some, None}
 use Rattle.dp_model.specs.Dp.{Dp}
-use Rattle.dp_model.specs.Lists.{Each, OneOf}
 use Rattle.bound_cover.specs.declared.cover.CoverArc.{CoverArc}
 use Rattle.bound_cover.specs.declared.cover.Why.{Why}
 use Rattle.bound_cover.specs.declared.cover.Why.TheVariants.{Target}
 use Rattle.bound_cover.specs.Covers.{CoverRow}
-use Rattle.bound_cover.specs.Tests.{tested, arc_fault, decision_fault}
+use Rattle.bound_cover.specs.Tests.{arc_fault}
 
 -- the lesser of two numbers, where none is greater than every number
 abbrev pub lesser : Option ℕ → Option ℕ → Option ℕ
@@ -18,11 +17,6 @@ lesser (Some m) (Some n) = Some (cond (nat_le m n) m n)
 abbrev pub least_behind : ℕ → List CoverArc → Option ℕ
 least_behind low [] = None
 least_behind low (arc ∷ arcs) = cond (nat_lt arc.decision low) (lesser (Some arc.decision) (least_behind low arcs)) (least_behind (arc.decision + 1) arcs)
-
--- the decision is less than the other, where there is one
-abbrev pub IsBefore : ℕ → Option ℕ → Type 0
-IsBefore d None = Unit {0}
-IsBefore d (Some e) = d < e
 
 -- the arc that is at hand, where it is that of the decision
 abbrev pub at_hand : ℕ → Option CoverArc → Option CoverArc
@@ -37,21 +31,3 @@ step_fault dp k i next row d allowed (Some arc) = cond allowed (arc_fault dp k i
 abbrev pub decision_of : Option CoverArc → Option ℕ
 decision_of None = None
 decision_of (Some arc) = Some arc.decision
-
--- the failure at what is listed behind all decisions
-abbrev pub rest_fault : ℕ → ℕ → Option ℕ → Option Why
-rest_fault k i None = None
-rest_fault k i (Some d) = Some (Target k i d)
-
-abbrev pub IsUpTo : ℕ → Option ℕ → Type 0
-IsUpTo d None = Unit {0}
-IsUpTo d (Some e) = d ≤ e
-
--- a walk has come to the decision d, with the arc at the place at hand: arcs before it have smaller decisions, those from it on
--- no smaller one, and no tested decision below d fails
-pub record IsWalked (dp : Dp) (k i : ℕ) (next : List CoverRow) (row : CoverRow) (arcs : List CoverArc) (place d : ℕ) : Type 0 where
-  pub inside : place ≤ length arcs
-  pub before : Each (λ (a : CoverArc). a.decision < d) (take place arcs)
-  pub at : (arc : CoverArc) → slice_get arcs place ≡ Some arc → d ≤ arc.decision
-  pub behind : IsUpTo d (least_behind 0 arcs)
-  pub fine : (e : ℕ) → OneOf (λ x. x ≡ e) (tested dp k row.words arcs) → e < d → decision_fault dp k i next row arcs e ≡ None

@@ -2,7 +2,7 @@
 
 ghost use Rattle.std.specs.Prelude.{◌≡◌, ◌^◌, pos, ◌≤ℤ◌, IfOk, length};
 ghost use Rattle.bound_cover.specs.Verdicts.{checked_rows, verdict};
-ghost use Rattle.bound_cover.specs.Proved.{IsProved, IsProvedWithin};
+ghost use Rattle.bound_cover.specs.Proved.{IsReportedBest, IsReportedWithin};
 ghost use Rattle.bound_cover.specs.declared.cover.Verdict.TheVariants.{Accepted};
 
 use crate::cover::{Verdict, Why};
@@ -76,8 +76,8 @@ impl Checker {
         requires least { pos 0 ≤ℤ within }
         requires most { within ≤ℤ pos (2 ^ 50) }
         ensures verdict { result ≡ verdict (M.meaning (M.numbers model.now)) best within assignment.now cover.now }
-        ensures near { result ≡ Accepted → IsProvedWithin (M.meaning (M.numbers model.now)) assignment.now best within }
-        ensures sound { result ≡ Accepted → within ≡ pos 0 → IsProved (M.meaning (M.numbers model.now)) assignment.now best }
+        ensures near { result ≡ Accepted → IsReportedWithin (M.meaning (M.numbers model.now)) assignment.now best within }
+        ensures sound { result ≡ Accepted → within ≡ pos 0 → IsReportedBest (M.meaning (M.numbers model.now)) assignment.now best }
         ensures same { self.new ≡ self.old }
     {
         check(

@@ -5,7 +5,10 @@ ghost use Rattle.bound_cover.specs.Covers.{CoverRow};
 ghost use Rattle.bound_cover.specs.Stored.{with_row, shown_row, row_of, place_at, count_at, last_layer, AreShort, IsWithin};
 ghost use Rattle.bound_cover.specs.Exploring.{layer_of};
 
+mod building;
+
 use crate::cover::CoverArc;
+pub use building::CoverBuilder;
 use dp_model::OutOfMemory;
 use std::alloc::Global;
 use std::marker::Model;

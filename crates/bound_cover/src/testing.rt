@@ -10,7 +10,7 @@ ghost use Rattle.bound_cover.specs.Tests.{is_at_most, is_state_row, arc_fault, t
 ghost use Rattle.bound_cover.specs.Stored.{shown_row, to_row_fault};
 ghost use Rattle.bound_cover.specs.Verdicts.{rows_fault, layers_fault, has_root, root_test, checked_rows, worth, solution_fault, claim_of, verdict};
 ghost use Rattle.bound_cover.specs.Clamping.{IsWritable};
-ghost use Rattle.bound_cover.specs.Proved.{IsProved, IsProvedWithin};
+ghost use Rattle.bound_cover.specs.Proved.{IsReportedBest, IsReportedWithin};
 ghost use Rattle.bound_cover.specs.declared.cover.Verdict.TheVariants.{Accepted};
 ghost use Rattle.bound_cover.specs.Exploring.{layer_of};
 
@@ -536,8 +536,8 @@ pub fn check<M: DpModel>(
     requires least { pos 0 ≤ℤ within }
     requires most { within ≤ℤ pos (2 ^ 50) }
     ensures verdict { result ≡ verdict (M.meaning (M.numbers model.now)) best within assignment.now cover.now }
-    ensures near { result ≡ Accepted → IsProvedWithin (M.meaning (M.numbers model.now)) assignment.now best within }
-    ensures sound { result ≡ Accepted → within ≡ pos 0 → IsProved (M.meaning (M.numbers model.now)) assignment.now best }
+    ensures near { result ≡ Accepted → IsReportedWithin (M.meaning (M.numbers model.now)) assignment.now best within }
+    ensures sound { result ≡ Accepted → within ≡ pos 0 → IsReportedBest (M.meaning (M.numbers model.now)) assignment.now best }
 {
     if cover.layers() != model.vars() + 1 {
         return Verdict::Refused(Why::Layers);

@@ -8,15 +8,15 @@ ghost use Rattle.dp_laws.specs.Diagrams.Nodes.{DdLayers};
 ghost use Rattle.bound_cover.specs.declared.cover.Verdict.TheVariants.{Accepted};
 ghost use Rattle.bound_cover.specs.Covers.{CoverRow};
 ghost use Rattle.bound_cover.specs.Verdicts.{verdict, checked_rows};
-ghost use Rattle.bound_cover.specs.Proved.{IsProved, IsProvedWithin};
+ghost use Rattle.bound_cover.specs.Proved.{IsReportedBest, IsReportedWithin};
 ghost use Rattle.bound_cover.specs.Clamping.{clamped_layers, AreWritable, IsReachable};
 ghost use Rattle.bound_cover.specs.Exploring.{HoldsAll, Explores, IsExplored, start_cover, start_waiting};
 
 /// The best value lies within the distance of an accepted one, and the assignment is a feasible solution of that value; without
 /// a distance the accepted value is the best one. Where none is reported there is no feasible solution.
 pub fn accepted_values_are_best()
-    ensures near { (dp : Dp) (value : Option ℤ) (within : ℤ) (x : List ℕ) (cover : List (List CoverRow)) → IsLawful dp → verdict dp value within x cover ≡ Accepted → IsProvedWithin dp x value within }
-    ensures best { (dp : Dp) (value : Option ℤ) (x : List ℕ) (cover : List (List CoverRow)) → IsLawful dp → verdict dp value (pos 0) x cover ≡ Accepted → IsProved dp x value }
+    ensures near { (dp : Dp) (value : Option ℤ) (within : ℤ) (x : List ℕ) (cover : List (List CoverRow)) → IsLawful dp → verdict dp value within x cover ≡ Accepted → IsReportedWithin dp x value within }
+    ensures best { (dp : Dp) (value : Option ℤ) (x : List ℕ) (cover : List (List CoverRow)) → IsLawful dp → verdict dp value (pos 0) x cover ≡ Accepted → IsReportedBest dp x value }
 {}
 
 /// Rows that pass hold every feasible solution within the claim.

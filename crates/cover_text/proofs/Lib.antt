@@ -1,5 +1,6 @@
 pub mod Chains
 pub mod LastLayers
+pub mod Passing
 pub mod Places
 pub mod PrintedTokens
 pub mod PrintedRows

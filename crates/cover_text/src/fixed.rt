@@ -44,6 +44,7 @@ pub(crate) fn early_end(tokens: &mut Tokens<'_>) -> CoverError
 }
 
 /// Reads a number of 32 bits.
+#[inline(always)]
 #[tactic(auto, unfolding(crate::specs::Grammar::small_at))]
 pub(crate) fn next_small(tokens: &mut Tokens<'_>) -> Result<u32, CoverError>
     ensures { Reads (λ n. (n, tokens.new)) result (small_at tokens.old) }

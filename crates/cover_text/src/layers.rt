@@ -8,8 +8,8 @@ ghost use Rattle.cover_text.specs.Sections.{layer_at, sections_at};
 
 use crate::cover_error::CoverError;
 use crate::fixed::{next_small, pass_word};
-use crate::rows::{RowParts, read_row};
-use bound_cover::Cover;
+use crate::rows::read_row;
+use bound_cover::{Cover, CoverBuilder};
 use dd_text::{Comment, Tokens};
 use itoa::Buffer;
 use std::alloc::Global;
@@ -20,15 +20,18 @@ fn read_rows(
     tokens: &mut Tokens<'_>,
     most: usize,
     rows: u32,
-    parts: &mut RowParts,
-    cover: &mut Cover,
+    cover: &mut CoverBuilder,
 ) -> Result<(), CoverError>
-    requires layer { 0 < length cover.old }
-    requires empty { length (last_layer cover.old) ≡ 0 }
-    ensures { Reads (λ _. (cover.new, tokens.new)) result (until never (row_into most) rows cover.old tokens.old) }
+    requires layer { 0 < length cover.old.cover }
+    requires empty { length (last_layer cover.old.cover) ≡ 0 }
+    requires no_words { cover.old.words ≡ [] }
+    requires no_arcs { cover.old.arcs ≡ [] }
+    ensures read { Reads (λ _. (cover.new.cover, tokens.new)) result (until never (row_into most) rows cover.old.cover tokens.old) }
+    ensures words { OnOk result (cover.new.words ≡ []) }
+    ensures arcs { OnOk result (cover.new.arcs ≡ []) }
 {
     for _ in 0..rows {
-        read_row(tokens, most, parts, cover)?;
+        read_row(tokens, most, cover)?;
     }
     Ok(())
 }
@@ -38,17 +41,20 @@ fn read_rows(
 fn read_layer(
     tokens: &mut Tokens<'_>,
     most: usize,
-    parts: &mut RowParts,
-    cover: &mut Cover,
+    cover: &mut CoverBuilder,
 ) -> Result<(), CoverError>
-    ensures { Reads (λ _. (cover.new, tokens.new)) result (layer_at most cover.old tokens.old) }
+    requires no_words { cover.old.words ≡ [] }
+    requires no_arcs { cover.old.arcs ≡ [] }
+    ensures read { Reads (λ _. (cover.new.cover, tokens.new)) result (layer_at most cover.old.cover tokens.old) }
+    ensures words { OnOk result (cover.new.words ≡ []) }
+    ensures arcs { OnOk result (cover.new.arcs ≡ []) }
 {
     pass_word(tokens, b"layer")?;
     let mut digits = Buffer::new();
     pass_word(tokens, digits.format(cover.layers()).as_bytes())?;
     let rows = next_small(tokens)?;
     cover.add_layer()?;
-    read_rows(tokens, most, rows, parts, cover)
+    read_rows(tokens, most, rows, cover)
 }
 
 /// Reads the sections up to the word `end`, at most so many.
@@ -56,16 +62,19 @@ fn read_layer(
 fn read_layers(
     tokens: &mut Tokens<'_>,
     most: usize,
-    parts: &mut RowParts,
-    cover: &mut Cover,
+    cover: &mut CoverBuilder,
 ) -> Result<(), CoverError>
-    ensures { Reads (λ _. (cover.new, tokens.new)) result (until (stands (codes "end")) (layer_at most) most cover.old tokens.old) }
+    requires no_words { cover.old.words ≡ [] }
+    requires no_arcs { cover.old.arcs ≡ [] }
+    ensures read { Reads (λ _. (cover.new.cover, tokens.new)) result (until (stands (codes "end")) (layer_at most) most cover.old.cover tokens.old) }
+    ensures words { OnOk result (cover.new.words ≡ []) }
+    ensures arcs { OnOk result (cover.new.arcs ≡ []) }
 {
     for _ in 0..most {
         if tokens.next_is(b"end") {
             return Ok(());
         }
-        read_layer(tokens, most, parts, cover)?;
+        read_layer(tokens, most, cover)?;
     }
     Ok(())
 }
@@ -77,10 +86,9 @@ pub(crate) fn read_sections(alloc: Global, bytes: &[u8]) -> Result<Cover, CoverE
     ensures { Reads (λ c. c) result (sections_at bytes.now) }
 {
     let mut tokens = Tokens::new(bytes, Comment::Never);
-    let mut parts = RowParts::new(alloc);
-    let mut cover = Cover::new(alloc);
-    read_layers(&mut tokens, bytes.len(), &mut parts, &mut cover)?;
+    let mut cover = CoverBuilder::new(alloc);
+    read_layers(&mut tokens, bytes.len(), &mut cover)?;
     pass_word(&mut tokens, b"end")?;
     tokens.finish()?;
-    Ok(cover)
+    Ok(cover.finish())
 }

@@ -1,7 +1,6 @@
 -- What a crash may leave of a disk in memory as its calls go on.
-use Rattle.std.proofs.Common.{◌≡◌, ◌⊎◌, ◌↔◌, inl, inr, ⊎_elim, ℕ, zero, suc, ◌+◌, ◌-◌, ◌<◌, ◌≤◌, List, [], ◌∷◌, ◌++◌, length, take, drop, replicate, set, refl, sym, ◌∙◌, ap, subst, arith, length-append, Option, Some, None, Vec, Global}
+use Rattle.std.proofs.Common.{◌≡◌, ◌⊎◌, ◌↔◌, inl, inr, ⊎_elim, ℕ, zero, suc, ◌+◌, ◌-◌, ◌≤◌, List, [], ◌∷◌, ◌++◌, length, drop, refl, sym, subst, arith, length-append, Option, Some, None, Vec, Global}
 use Rattle.std.specs.Prelude.{IsSome}
-use Rattle.std.proofs.lemmas.List.{take-set-le, drop-set-lt, take_all, drop_all, length-set, length-replicate, take-append-le}
 use Rattle.std.proofs.lemmas.Bool.{false≢true}
 use Rattle.std.specs.declared.snapshot.Snapshot.{Snapshot}
 use Rattle.dd_disk.specs.declared.content.Write.{Write}
@@ -72,26 +71,6 @@ torn_same at n file = record { before = refl; after = refl; no_shorter = omega a
 pub reaches_none : (base : List ℕ) (writes : List Write) → Reaches base writes base
 reaches_none base [] = refl
 reaches_none base (w ∷ writes) = (base, torn_same w.at w.count base, reaches_none base writes)
-
--- one byte of the range more
-pub torn_set : (at n i v : ℕ) (old new : List ℕ) → at ≤ i → i < at + n → Torn at n old new → Torn at n old (set new i v)
-torn_set at n i v old new low high torn = record {
-  before = take-set-le at new i v low ∙ torn.before;
-  after = drop-set-lt (at + n) new i v high ∙ torn.after;
-  no_shorter = omega (arith, length-set new i v, torn.no_shorter);
-  no_longer = omega (arith, length-set new i v, torn.no_longer);
-}
-
-pub torn_grown : (at n v : ℕ) (old new : List ℕ) → at ≤ length old → length old < at + n → new ≡ take (at + n) old ++ replicate (at + n - length old) v → Torn at n old new
-torn_grown at n v old new low high is =
-    let whole : new ≡ old ++ replicate (at + n - length old) v = is ∙ ap (λ (l : List ℕ). l ++ replicate (at + n - length old) v) (take_all (at + n) old (omega arith)) in
-    let long : length new ≡ at + n = ap length whole ∙ length-append old _ ∙ (omega (arith, length-replicate (at + n - length old) v)) in
-    record {
-      before = ap (λ (l : List ℕ). take at l) whole ∙ take-append-le at old _ low;
-      after = drop_all (at + n) new (omega arith) ∙ sym (drop_all (at + n) old (omega arith));
-      no_shorter = omega arith;
-      no_longer = omega arith;
-    }
 
 -- the next write of those that are left
 pub reaches_step : (base image next : List ℕ) (writes : List Write) (i : ℕ) (write : Write) → drop i writes ≡ write ∷ drop (i + 1) writes → Torn write.at write.count image next

@@ -1,6 +1,7 @@
 -- Bytes read from the head on: digits, and the token that they are.
 use Rattle.std.proofs.Common.{◌≡◌, ◌≢◌, ℕ, ◌+◌, ◌-◌, ◌*◌, ◌≤◌, ◌<◌, min, Bool, true, false, List, [], ◌∷◌, length, take, drop, get_or, refl, ap, ◌∙◌, sym, subst, arith}
-use Rattle.std.specs.Prelude.{Some, None, option_map, ℤ, nat_eq, nat_le}
+use Rattle.std.specs.Prelude.{Some, None, option_map, ℤ, nat_eq, nat_le, ◌&&◌}
+use Rattle.std.specs.Cmp.Lexicographic.{pointwise}
 use Rattle.std.specs.Char.{is_ascii_digit}
 use Rattle.std.specs.Str.{all_ascii_digits}
 use Rattle.std.proofs.lemmas.Bool.Decides.{nat_tests}
@@ -167,3 +168,44 @@ plain_number least greatest place (x ∷ xs) some other solid ascii =
     rw (token, no_minus, low) refl
 
 pub ruleset number_steps = (minus_number, behind_minus, plain_number)
+
+by_test : (b : Bool) → (b && false) ≡ false
+by_test true = refl
+by_test false = refl
+
+longer_by : (w x : ℕ) (b : Bool) (xs more : List ℕ) → is_solid x ≡ b → first_token xs ≡ more → 0 < length more → pointwise nat_eq (first_token (x ∷ xs)) (w ∷ []) ≡ false
+longer_by w x true xs [] h same some = absurd (omega arith)
+longer_by w x true xs (y ∷ more) h same some = rw (token_first x xs h, same) (by_test (nat_eq x w))
+longer_by w x false xs more h same some = rw (blank_first x xs h) refl
+
+apart_by : (w x : ℕ) (b : Bool) (xs : List ℕ) → is_solid x ≡ b → x ≢ w → pointwise nat_eq (first_token (x ∷ xs)) (w ∷ []) ≡ false
+apart_by w x true xs h other =
+    let no : nat_eq x w ≡ false = grind (arith, nat_tests) in
+    rw (token_first x xs h, no) refl
+apart_by w x false xs h other = rw (blank_first x xs h) refl
+
+-- bytes whose first token is a byte alone begin with it, and no token begins behind it
+pub one_byte : (xs : List ℕ) → 1 ≤ length xs → is_blank (get_or xs 0 0) ≡ false → length (first_token (take (length xs - 1) (drop 1 xs))) ≡ 0
+    → (first_token xs ≡ get_or xs 0 0 ∷ []) × (behind_token xs ≡ take (length xs - 1) (drop 1 xs))
+one_byte [] some solid ends = absurd (omega arith)
+one_byte (x ∷ xs) some solid ends =
+    let none = empty (first_token xs) (rw (behind_first x xs) at ends) in
+    let token : first_token (x ∷ xs) ≡ x ∷ [] = token_first x xs (rw solid refl) ∙ ap (λ l. x ∷ l) none in
+    (token, rw (behind_first x xs, token) refl)
+
+-- a first token is no byte alone where another begins behind the first byte
+pub longer : (w : ℕ) (xs : List ℕ) → 1 ≤ length xs → 0 < length (first_token (take (length xs - 1) (drop 1 xs))) → pointwise nat_eq (first_token xs) (w ∷ []) ≡ false
+longer w [] some more = absurd (omega arith)
+longer w (x ∷ xs) some more = longer_by w x (is_solid x) xs (first_token xs) refl refl (rw (behind_first x xs) at more)
+
+-- nor where it begins otherwise
+pub apart : (w : ℕ) (xs : List ℕ) → get_or xs 0 0 ≢ w → pointwise nat_eq (first_token xs) (w ∷ []) ≡ false
+apart w [] other = refl
+apart w (x ∷ xs) other = apart_by w x (is_solid x) xs refl other
+
+-- nor is it a blank
+pub no_blank : (xs : List ℕ) → is_blank (get_or xs 0 0) ≡ true → pointwise nat_eq (first_token xs) (get_or xs 0 0 ∷ []) ≡ false
+no_blank [] blank = refl
+no_blank (x ∷ xs) blank = rw (blank_first x xs (rw blank refl)) refl
+
+pub ruleset byte_steps = (one_byte, longer, apart, no_blank)

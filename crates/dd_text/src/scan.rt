@@ -1,4 +1,4 @@
-ghost use Rattle.std.specs.Prelude.{◌≡◌, ℕ, Bool, ◌+◌, ◌-◌, ◌*◌, ◌^◌, ◌<◌, ◌≤◌, ◌==◌, ◌||◌, not, min, length, false, IfOk, IfSome, option_map, SomeIff, pos, neg_ℤ, FitsSigned, true, nat_eq};
+ghost use Rattle.std.specs.Prelude.{◌≡◌, ℕ, Bool, ◌+◌, ◌-◌, ◌*◌, ◌^◌, ◌<◌, ◌≤◌, ◌==◌, ◌||◌, not, min, length, false, IfOk, IfSome, option_map, is_some, [], ◌∷◌, SomeIff, pos, neg_ℤ, FitsSigned, true, nat_eq};
 ghost use Rattle.std.specs.Cmp.Lexicographic.{pointwise};
 ghost use Rattle.std.specs.Result.{result_map_both};
 ghost use Rattle.std.specs.List.{prefix_len};
@@ -135,6 +135,53 @@ pub(crate) fn skip_comments<'a>(comment: Comment, fresh: bool, from: Spot<'a>) -
     }
 }
 
+/// Whether a byte is surely no blank.
+#[inline]
+fn is_above_blanks(b: u8) -> bool
+    ensures { result ≡ true → is_blank b ≡ false }
+{
+    b > b' '
+}
+
+/// The token behind a single blank that ends a token; `None` where anything else stands here, or a token of control bytes.
+#[inline]
+pub(crate) fn behind_one_blank<'a>(
+    comment: Comment,
+    from: Place,
+    bytes: &'a [u8],
+) -> Option<Spot<'a>>
+    requires { IsCountable from bytes.now }
+    ensures rest { IfSome result (λ s. (skip comment false false from bytes.now).rest ≡ s.rest.now) }
+    ensures place { IfSome result (λ s. (skip comment false false from bytes.now).place ≡ s.place) }
+    ensures comment { IfSome result (λ s. (skip comment false false from bytes.now).comment ≡ comment) }
+    ensures countable { IfSome result (λ s. IsCountable s.place s.rest.now) }
+    ensures line { IfSome result (λ s. is_blank_line bytes.now ≡ not (s.place.line == from.line)) }
+{
+    match bytes {
+        [b' ', rest @ ..] => match rest {
+            [first, ..] if is_above_blanks(*first) => Some(Spot {
+                rest,
+                place: Place {
+                    line: from.line,
+                    column: from.column + 1,
+                },
+            }),
+            _ => None,
+        },
+        [b'\n', rest @ ..] => match rest {
+            [first, ..] if !is_passed_over(comment, false, true, *first) => Some(Spot {
+                rest,
+                place: Place {
+                    line: from.line + 1,
+                    column: 1,
+                },
+            }),
+            _ => None,
+        },
+        _ => None,
+    }
+}
+
 /// How many bytes stand before the first blank.
 pub(crate) fn token_len(bytes: &[u8]) -> usize
     ensures { result ≡ prefix_len is_solid bytes.now }
@@ -153,13 +200,22 @@ pub(crate) fn token_len(bytes: &[u8]) -> usize
 
 /// Whether bytes begin otherwise than a word, which is not empty.
 #[inline]
-pub(crate) fn begin_apart(bytes: &[u8], word: &[u8]) -> bool
+fn begin_apart(bytes: &[u8], word: &[u8]) -> bool
     ensures { result ≡ true → pointwise nat_eq (first_token bytes.now) word.now ≡ false }
 {
     match (bytes, word) {
         ([first, ..], [wanted, ..]) => *first != *wanted,
         _ => false,
     }
+}
+
+/// The number behind one more digit, or 2^64 - 1 where it is greater, for numbers of any size.
+#[cold]
+#[inline(never)]
+fn saturated_behind(total: u64, digit: u64) -> u64
+    ensures { result ≡ min (10 * total + digit) (2 ^ 64 - 1) }
+{
+    total.saturating_mul(10).saturating_add(digit)
 }
 
 /// The number behind one more digit, or 2^64 - 1 where it is greater.
@@ -173,7 +229,7 @@ fn capped_behind(total: u64, digit: u8) -> u64
     if total < SURELY_SHORT {
         total * 10 + digit
     } else {
-        total.saturating_mul(10).saturating_add(digit)
+        saturated_behind(total, digit)
     }
 }
 
@@ -186,6 +242,7 @@ struct Digits<'a> {
 }
 
 /// The digits at the head of the bytes, of which there may be none.
+#[inline]
 #[tactic(auto, using(crate::proofs::Scanning::digit_steps))]
 fn leading_digits(bytes: &[u8]) -> Digits<'_>
     ensures size { result.size ≡ min (value_after 0 (head_digits bytes.now)) (2 ^ 64 - 1) }
@@ -212,6 +269,42 @@ fn begins_no_token(bytes: &[u8]) -> bool
     match bytes {
         [first, ..] => is_blank_byte(*first),
         [] => true,
+    }
+}
+
+/// What stands behind the first token, where it is this byte alone.
+#[inline]
+#[tactic(auto, using(crate::proofs::Scanning::byte_steps))]
+fn behind_byte(bytes: &[u8], wanted: u8) -> Option<&[u8]>
+    ensures found { is_some result ≡ pointwise nat_eq (first_token bytes.now) (wanted ∷ []) }
+    ensures behind { IfSome result (λ b. b.now ≡ behind_token bytes.now) }
+{
+    match bytes {
+        [first, behind @ ..]
+            if *first == wanted && !is_blank_byte(wanted) && begins_no_token(behind) => {
+            Some(behind)
+        }
+        _ => None,
+    }
+}
+
+/// What stands behind the first token, where it is this word.
+#[inline]
+pub(crate) fn behind_word<'a>(bytes: &'a [u8], word: &[u8]) -> Option<&'a [u8]>
+    ensures found { is_some result ≡ pointwise nat_eq (first_token bytes.now) word.now }
+    ensures behind { IfSome result (λ b. b.now ≡ behind_token bytes.now) }
+{
+    if let [only] = word {
+        return behind_byte(bytes, *only);
+    }
+    if begin_apart(bytes, word) {
+        return None;
+    }
+    let len = token_len(bytes);
+    if &bytes[..len] == word {
+        Some(&bytes[len..])
+    } else {
+        None
     }
 }
 
@@ -275,8 +368,23 @@ fn number_within<'a>(
     }
 }
 
+/// Reads the first token as digits behind a minus, of a number from `least` to `greatest`.
+#[cold]
+#[inline(never)]
+fn negative_within<'a>(
+    digits: &'a [u8],
+    place: &Place,
+    least: i64,
+    greatest: i64,
+) -> Result<Number<'a>, TextError>
+    ensures value { result_map_both (λ n. n.value) (λ e. e) result ≡ within least greatest place.now (option_map (signed_of true) (natural_of (first_token digits.now))) }
+    ensures behind { IfOk result (λ n. n.behind.now ≡ behind_token digits.now) }
+{
+    number_within(true, digits, place, least, greatest)
+}
+
 /// Reads the first token as a number from `least` to `greatest`.
-#[inline]
+#[inline(always)]
 #[tactic(auto, using(crate::proofs::Scanning::number_steps))]
 pub(crate) fn leading_number<'a>(
     bytes: &'a [u8],
@@ -288,7 +396,7 @@ pub(crate) fn leading_number<'a>(
     ensures behind { IfOk result (λ n. n.behind.now ≡ behind_token bytes.now) }
 {
     match bytes {
-        [b'-', digits @ ..] => number_within(true, digits, place, least, greatest),
+        [b'-', digits @ ..] => negative_within(digits, place, least, greatest),
         [first, ..] if is_blank_byte(*first) => Err(TextError::EndOfText(*place)),
         [first, ..] if *first >= 128 => Err(TextError::NotAscii(*place)),
         [_, ..] => number_within(false, bytes, place, least, greatest),

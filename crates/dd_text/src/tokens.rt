@@ -1,11 +1,13 @@
-ghost use Rattle.std.specs.Prelude.{◌≡◌, ◌+◌, ◌-◌, ◌^◌, ◌<◌, ◌≤◌, length, ◌≤ℤ◌, pos, OnOk, OnErr, IfOk, MatchResult, Ok, Err, nat_eq};
+ghost use Rattle.std.specs.Prelude.{◌≡◌, ◌+◌, ◌-◌, ◌^◌, ◌<◌, ◌≤◌, length, ◌≤ℤ◌, pos, OnOk, OnErr, IfOk, MatchResult, false, true, Ok, Err, nat_eq};
 ghost use Rattle.std.specs.Cmp.Lexicographic.{pointwise};
 ghost use Rattle.dd_text.specs.Scanned.{behind_token, IsNext};
 ghost use Rattle.dd_text.specs.Text.{text_start, at_token, IsCountable, token, place_of, ends_line, is_at_end, number_at, word_at, after_token, finish_at};
 
 use crate::comment::Comment;
 use crate::place::Place;
-use crate::scan::{Spot, begin_apart, leading_number, skip_blanks, skip_comments, token_len};
+use crate::scan::{
+    Spot, behind_one_blank, behind_word, leading_number, skip_blanks, skip_comments, token_len,
+};
 use crate::text_error::TextError;
 use std::marker::Model;
 use std::snapshot::Snapshot;
@@ -123,10 +125,34 @@ impl<'a> Tokens<'a> {
     pub fn next_is(&self, word: &[u8]) -> bool
         ensures { result ≡ pointwise nat_eq (token self.now) word.now }
     {
-        if begin_apart(self.spot().rest, word) {
-            return false;
-        }
-        self.peek_word() == word
+        behind_word(self.spot().rest, word).is_some()
+    }
+
+    /// Goes on at this place, whatever stands there.
+    #[cold]
+    #[inline(never)]
+    fn go_on(&mut self, here: Here<'a>)
+        requires { IsCountable here.place here.rest.now }
+        ensures { self.new ≡ record { rest = here.entry.rest.now; place = here.entry.place; fresh = here.entry.fresh; comment = self.old.comment } }
+    {
+        *self = tokens_from(self.comment, here);
+    }
+
+    /// Goes on right behind a token, of which the next one is most often behind a single blank.
+    #[inline]
+    #[tactic(auto, unfolding(crate::specs::Text::at_token))]
+    fn go_on_behind(&mut self, here: Here<'a>)
+        requires countable { IsCountable here.place here.rest.now }
+        requires on_line { here.fresh ≡ false }
+        ensures { self.new ≡ record { rest = here.entry.rest.now; place = here.entry.place; fresh = here.entry.fresh; comment = self.old.comment } }
+    {
+        let Some(next) = behind_one_blank(self.comment, here.place, here.rest) else {
+            self.go_on(here);
+            return;
+        };
+        self.here = Snapshot::of(&here);
+        self.ends_line = next.place.line != here.place.line;
+        self.next = next;
     }
 
     #[inline]
@@ -145,7 +171,7 @@ impl<'a> Tokens<'a> {
             },
             fresh: false,
         };
-        *self = tokens_from(self.comment, here);
+        self.go_on_behind(here);
     }
 
     /// Reads the next token as a number from `least` to `greatest`: an optional minus and one or more
@@ -154,6 +180,7 @@ impl<'a> Tokens<'a> {
     /// `EndOfText` where no token is left, `NotAscii` where its first byte is not ASCII, `NotNumber`
     /// where it is otherwise no number, `OutOfRange` where the number is outside the range, each at
     /// the token's first byte. After an error the token is still the next.
+    #[inline(always)]
     #[tactic(auto, unfolding(crate::specs::Text::token, crate::specs::Text::place_of, crate::specs::Text::number_at), using(crate::proofs::Ranges::number_at_range))]
     pub fn next_number(&mut self, least: i64, greatest: i64) -> Result<i64, TextError>
         ensures value { result ≡ number_at least greatest self.old }
@@ -168,6 +195,7 @@ impl<'a> Tokens<'a> {
     }
 
     /// Reads the next token as a natural number from `least` to `greatest`, with the faults of `next_number`.
+    #[inline(always)]
     pub fn next_natural(&mut self, least: u64, greatest: u64) -> Result<u64, TextError>
         requires least { least < 2 ^ 63 }
         requires greatest { greatest < 2 ^ 63 }
@@ -201,6 +229,23 @@ impl<'a> Tokens<'a> {
         }
         self.pass(&rest[len..]);
         Ok(word)
+    }
+
+    /// Passes over the next token where it is this word, and tells whether it is. Another token stays.
+    #[inline(always)]
+    #[tactic(auto, unfolding(crate::specs::Text::token))]
+    pub fn pass_if(&mut self, word: &[u8]) -> bool
+        ensures word { result ≡ pointwise nat_eq (token self.old) word.now }
+        ensures passed { result ≡ true → self.new ≡ after_token self.old }
+        ensures other { result ≡ false → self.new ≡ self.old }
+    {
+        match behind_word(self.spot().rest, word) {
+            None => false,
+            Some(behind) => {
+                self.pass(behind);
+                true
+            }
+        }
     }
 
     /// Tests that no token is left.

@@ -1,6 +1,7 @@
 //! Which entries dominate a new state.
 
-ghost use Rattle.std.specs.Prelude.{◌≡◌, ◌+◌, ◌*◌, ◌≤◌, length, true, Option, Some};
+ghost use Rattle.std.specs.Prelude.{◌≡◌, ◌+◌, ◌*◌, ◌≤◌, ◌≤ℤ◌, ◌-ℤ◌, length, true, Option, Some};
+ghost use Rattle.std.specs.Int.{w64, saturate_signed};
 ghost use Rattle.dp_model.specs.Gaps.{IsStateOf, covers_at};
 ghost use Rattle.dominance_table.specs.Dominator.{lesser, dominates, dominator, IsReached, AreStates};
 ghost use Rattle.dominance_table.specs.Entries.{AreGrouped, AreRising, group_fold, row_at, with_row, with_rows};
@@ -56,25 +57,31 @@ fn rank_of<M: DpModel>(model: &M, depth: usize, row: &[i64], told: Option<i64>) 
     }
 }
 
-/// Whether the gap of the entry's row to the new state lifts that state's value to at most the entry's. A gap is no less than
-/// zero, so the values alone often tell.
+/// By how much the one value is above the other, or the greatest number where it is more.
+fn excess(above: i64, value: i64) -> i64
+    requires { value ≤ℤ above }
+    ensures { result ≡ saturate_signed w64 (above -ℤ value) }
+{
+    above.abs_diff(value).min(i64::MAX.cast_unsigned()) as i64
+}
+
+/// Whether the gap of the entry's row to the new state lifts that state's value to at most the entry's.
 fn covers<M: DpModel>(model: &M, entry: &Entry, row: &[i64], sought: &Sought) -> bool
     requires state { IsStateOf (M.meaning (M.numbers model.now)) sought.now.depth sought.now.row.now }
     requires rank { sought.now.rank ≡ (M.meaning (M.numbers model.now)).rank sought.now.depth sought.now.row.now }
     requires row { IsReached (M.meaning (M.numbers model.now)) sought.now.depth row.now entry.now.rank }
+    requires worth { sought.now.value ≤ℤ entry.now.value }
     ensures { result ≡ covers_at ((M.meaning (M.numbers model.now)).gap sought.now.depth row.now sought.now.row.now) entry.now.value sought.now.value }
 {
-    if entry.value < sought.value {
-        return false;
-    }
-    let most = entry.value.saturating_sub(sought.value);
+    let most = excess(entry.value, sought.value);
     let rank = rank_of(model, sought.depth, row, entry.rank);
     model
         .covers_within(sought.depth, row, rank, sought.row, sought.rank, most)
         .is_some()
 }
 
-/// Whether the entry, which has this row, is one of the depth and bucket that dominates.
+/// Whether the entry, which has this row, is one of the depth and bucket that dominates. A gap is no less than zero, so the values
+/// alone often tell, and they are compared first.
 fn dominates<M: DpModel>(model: &M, entry: &Entry, row: &[i64], sought: &Sought) -> bool
     requires state { IsStateOf (M.meaning (M.numbers model.now)) sought.now.depth sought.now.row.now }
     requires bucket { sought.now.bucket ≡ (M.meaning (M.numbers model.now)).bucket sought.now.depth sought.now.row.now }
@@ -82,6 +89,9 @@ fn dominates<M: DpModel>(model: &M, entry: &Entry, row: &[i64], sought: &Sought)
     requires row { entry.now.depth ≡ sought.now.depth → IsReached (M.meaning (M.numbers model.now)) sought.now.depth row.now entry.now.rank }
     ensures { result ≡ dominates (M.meaning (M.numbers model.now)) sought.now.depth sought.now.row.now sought.now.value (with_row entry.now row.now) }
 {
+    if entry.value < sought.value {
+        return false;
+    }
     if entry.depth != sought.depth || entry.bucket != sought.bucket {
         return false;
     }
@@ -90,6 +100,7 @@ fn dominates<M: DpModel>(model: &M, entry: &Entry, row: &[i64], sought: &Sought)
 
 /// The least ticket of the entries that dominate, whose rows lie one after another in `cells`. Where tickets rise, that is the
 /// ticket of the first one, at which the search ends.
+#[inline(never)]
 pub fn least_dominator<M: DpModel>(
     model: &M,
     entries: &[Entry],

@@ -1,4 +1,4 @@
-ghost use Rattle.std.specs.Prelude.{◌≡◌, ℕ, ◌+◌, ◌<◌, ◌≤◌, ℤ, pos, List, length, replicate, take, is_some, IsNone, IsSome, IfSome, IsTrue};
+ghost use Rattle.std.specs.Prelude.{◌≡◌, ℕ, ◌+◌, ◌<◌, ◌≤◌, ℤ, pos, List, length, replicate, take, false, is_some, IsNone, IsSome, IfSome, IsTrue};
 ghost use Rattle.dp_model.specs.Dp.{Dp, IsAllowed};
 ghost use Rattle.dp_model.specs.Laws.{IsLawful, IsChained};
 ghost use Rattle.dp_model.specs.Gaps.{IsStateOf, within};
@@ -18,8 +18,8 @@ pub struct Extended {
 /// The type is a problem with its instance: the meaning of each call is that of the program that the instance's list of
 /// numbers spells, and this program meets the laws.
 ///
-/// `covers_within`, `extend`, `rough_by_rank` and `first_live` say nothing that the other calls don't. They are there for speed: each has a
-/// body by the others, which a problem replaces where it knows a shorter way.
+/// `covers_within`, `extend`, `rough_by_rank`, `first_live` and `next_choice` say nothing that the other calls don't. They are there for
+/// speed: each has a body by the others, which a problem replaces where it knows a shorter way.
 pub trait DpModel: Send + Sync + Drop {
     /// The whole numbers of the instance.
     ghost numbers: { Self → List ℤ };
@@ -173,6 +173,20 @@ pub trait DpModel: Send + Sync + Drop {
         ensures zeros { (s : List ℤ) → IsStateOf (meaning (numbers self.now)) k s → take result s ≡ replicate result (pos 0) }
     {
         0
+    }
+
+    /// Where to go on from a decision: no decision from `from` on is allowed before the answer, which need not be allowed itself.
+    /// The answer is the number of choices where none is left. A problem of many choices, few of which are allowed in most
+    /// states, steps over the others here, as from one member of a set to the next; `extend` is then asked of fewer.
+    fn next_choice(&self, k: usize, s: &[i64], from: u32) -> u32
+        requires layer { k < (meaning (numbers self.now)).vars }
+        requires state { IsTrue ((meaning (numbers self.now)).is_state k s.now) }
+        requires from { from ≤ (meaning (numbers self.now)).choices k }
+        ensures on { from ≤ result }
+        ensures within { result ≤ (meaning (numbers self.now)).choices k }
+        ensures skipped { (d : ℕ) → from ≤ d → d < result → (meaning (numbers self.now)).allowed k s.now d ≡ false }
+    {
+        from
     }
 
     /// The six laws.

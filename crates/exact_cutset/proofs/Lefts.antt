@@ -1,9 +1,9 @@
 -- The borders that are left from a place on.
-use Rattle.std.proofs.Common.{◌≡◌, ℕ, zero, suc, ◌+◌, ◌-◌, ◌<◌, ◌≤◌, List, [], ◌∷◌, ◌++◌, length, drop, slice_get, Option, Some, None, unwrap_or, refl, sym, ◌∙◌, ap, subst, arith}
+use Rattle.std.proofs.Common.{◌≡◌, ℕ, zero, suc, ◌+◌, ◌-◌, ◌<◌, ◌≤◌, List, [], ◌∷◌, ◌++◌, length, drop, slice_get, Option, Some, None, unwrap_or, refl, sym, ◌∙◌, ap, arith}
 use Rattle.std.specs.List.{cons_option}
 use Rattle.dp_model.specs.Dp.{Dp}
 use Rattle.dp_laws.specs.Diagrams.Nodes.{DdNode, DdLayers, node_at}
-use Rattle.dp_laws.specs.Diagrams.Cutsets.{ChildAt, is_border, all_borders_at, outermost, path_at, frontier_at, places_where}
+use Rattle.dp_laws.specs.Diagrams.Cutsets.{is_border, all_borders_at, places_where}
 use Rattle.relaxed_dd.specs.Shown.{layer_in, last_of}
 use Rattle.exact_cutset.specs.Walking.{border_at, borders_from, borders_left}
 use Rattle.exact_cutset.proofs.Searched.{drop-at}
@@ -59,6 +59,3 @@ from-last dp d depth low last =
     let here = nth-drop d.layers j (omega arith) in
     let end : drop (suc j) d.layers ≡ [] = past d.layers (suc j) (omega arith) in
     ap (all_borders_at dp depth) (here ∙ ap (λ ls. unwrap_or (slice_get d.layers j) [] ∷ ls) end)
-
-pub frontier-from : (dp : Dp) (d : DdLayers) → frontier_at dp d ≡ outermost (path_at d) [] (borders_from dp d (d.first + 1))
-frontier-from dp d = let one : d.first + 1 - d.first ≡ 1 = omega arith in ap (λ n. outermost (path_at d) [] (all_borders_at dp (d.first + 1) (drop n d.layers))) (sym one)

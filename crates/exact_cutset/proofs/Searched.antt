@@ -36,10 +36,3 @@ pub first-further : (layer : List DdNode) (i : ℕ) → i < length layer → opt
 first-further layer i less e h =
     let x = there layer i less in
     sym (first-of layer i x.0 false x.1 (exact-is layer i x.0 false x.1 e)) ∙ h
-
-drop-none : (xs : List DdNode) → drop (length xs) xs ≡ []
-drop-none [] = refl
-drop-none (x ∷ xs) = drop-none xs
-
-pub first-none : (layer : List DdNode) (i : ℕ) → i ≡ length layer → first_exact (drop i layer) ≡ first_exact layer → first_exact layer ≡ None
-first-none layer i end h = sym h ∙ ap first_exact (ap (λ n. drop n layer) end ∙ drop-none layer)

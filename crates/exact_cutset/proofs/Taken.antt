@@ -21,14 +21,6 @@ pub record IsTakenTo (dp : Dp) (d : DdLayers) (depth i : ℕ) (start s : Childre
   pub subs : s.subs ≡ map (child_from d) s.places
   pub few : length s.places ≤ i
 
-pub takes-none : (dp : Dp) (d : DdLayers) (depth : ℕ) (start : ChildrenView) → start.places ≡ [] → start.subs ≡ [] → IsTakenTo dp d depth 0 start start
-takes-none dp d depth start a b = record {
-  rest = refl;
-  places = ap (λ ps. ps ++ places_from dp d depth 0) a;
-  subs = b ∙ ap (map (child_from d)) (sym a);
-  few = (let e = ap (λ ps. length ps) a in omega arith);
-}
-
 -- the child of a bound
 abbrev child_for : ℕ → ℕ → Option ℤ → Option ChildAt
 child_for depth i o = option_map (λ bound. record { depth = depth; place = i; bound = bound }) o
@@ -62,20 +54,6 @@ takes-further dp d depth i start s new less h n =
     let at : node_at d depth i ≡ Some x.0 = node-here d depth i ∙ x.1 in
     let is : bound_at dp d depth i ≡ bound_of dp depth x.0 = ap (option_and_then (λ (m : DdNode). bound_of dp depth m)) at in
     subst (IsTakenTo dp d depth (i + 1) start) (sym n) (takes-one dp d depth i start s (bound_at dp d depth i) (left-from dp d depth i x.0 x.1 ∙ ap (λ (o : Option ℤ). cons_option (child_for depth i o) (places_from dp d depth (i + 1))) (sym is)) h)
-
-append-none : {X : Type 0} (xs : List X) → xs ++ [] ≡ xs
-append-none [] = refl
-append-none (x ∷ xs) = ap (λ ys. x ∷ ys) (append-none xs)
-
-drop-none : {X : Type 0} (xs : List X) → drop (length xs) xs ≡ []
-drop-none [] = refl
-drop-none (x ∷ xs) = drop-none xs
-
-pub takes-all : (dp : Dp) (d : DdLayers) (depth i : ℕ) (start s : ChildrenView) → i ≡ length (layer_in d depth) → IsTakenTo dp d depth i start s → s ≡ record start { places = places_from dp d depth 0; subs = map (child_from d) (places_from dp d depth 0) }
-takes-all dp d depth i start s end h =
-    let none : places_from dp d depth i ≡ [] = ap (places_where (λ node. true) dp depth i) (ap (λ n. drop n (layer_in d depth)) end ∙ drop-none (layer_in d depth)) in
-    let all : s.places ≡ places_from dp d depth 0 = sym (append-none s.places) ∙ (ap (λ ps. s.places ++ ps) (sym none) ∙ h.places) in
-    h.rest ∙ (ap (λ ss. record start { places = s.places; subs = ss }) h.subs ∙ ap (λ ps. record start { places = ps; subs = map (child_from d) ps }) all)
 
 -- whether a node of the last layer is exact
 pub exact-here : (d : DdLayers) (depth i : ℕ) (r b : Bool) → depth ≡ last_of d → option_map (λ (n : DdNode). n.exact) (node_at d depth i) ≡ Some r → r ≡ b → option_map (λ (n : DdNode). n.exact) (slice_get (layer_in d (last_of d)) i) ≡ Some b

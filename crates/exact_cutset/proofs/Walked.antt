@@ -10,7 +10,7 @@ use Rattle.dp_laws.specs.Diagrams.Cutsets.{ChildAt, bound_of, with_bound, is_bor
 use Rattle.dp_laws.proofs.Diagrams.Places.{same-Some, slice_get-append, slice_get-last}
 use Rattle.relaxed_dd.specs.Shown.{layer_in, last_of}
 use Rattle.exact_cutset.specs.Seen.{ChildrenView, with_child}
-use Rattle.exact_cutset.specs.Walking.{IsStem, IsWalkable, border_at, with_border, borders_left, is_free, AreMarks, IsWalked, IsTakenExact, IsTakenNode}
+use Rattle.exact_cutset.specs.Walking.{IsStem, IsWalkable, border_at, with_border, borders_left, is_free, AreMarks, HasLooked, IsTakenExact, IsTakenNode}
 use Rattle.exact_cutset.proofs.Kept.{map-last}
 use Rattle.exact_cutset.proofs.Lefts.{left-from}
 use Rattle.exact_cutset.proofs.Taken.{node-here}
@@ -143,7 +143,7 @@ stays-at : (marks : List Bool) (free b : Bool) (j : ℕ) → slice_get marks j �
 stays-at marks free b j e = slice_get-append marks (free ∷ []) j b e
 
 walked-step : (dp : Dp) (d : DdLayers) (wide room depth : ℕ) (before cs new : List ChildAt) (marks : List Bool) (x : DdNode) (free : Bool) → IsWalkable dp d wide room → d.first < depth → depth < last_of d
-    → node_at d depth (length marks) ≡ Some x → IsWalked dp d wide depth before cs marks → IsStepOf dp d depth (length marks) x before cs new free → IsWalked dp d wide depth before new (marks ++ free ∷ [])
+    → node_at d depth (length marks) ≡ Some x → HasLooked dp d wide depth before cs marks → IsStepOf dp d depth (length marks) x before cs new free → HasLooked dp d wide depth before new (marks ++ free ∷ [])
 walked-step dp d wide room depth before cs new marks x free w low high at h s =
     let i = length marks in
     let next : length (marks ++ free ∷ []) ≡ i + 1 = length-append marks (free ∷ []) in
@@ -189,14 +189,14 @@ rest-with d (Some c) v = refl
 pub record IsFurther (dp : Dp) (d : DdLayers) (wide depth : ℕ) (before : List ChildAt) (marks : List Bool) (old new : ChildrenView) (free : Bool) : Type 0 where
   pub rest : new ≡ record old { places = new.places; subs = new.subs }
   pub subs : new.subs ≡ map (child_from d) new.places
-  pub walked : IsWalked dp d wide depth before new.places (marks ++ free ∷ [])
+  pub walked : HasLooked dp d wide depth before new.places (marks ++ free ∷ [])
 
-same-list : (dp : Dp) (d : DdLayers) (wide depth : ℕ) (before : List ChildAt) (marks : List Bool) (old new : ChildrenView) (free : Bool) → new ≡ old → old.subs ≡ map (child_from d) old.places → IsWalked dp d wide depth before old.places (marks ++ free ∷ []) → IsFurther dp d wide depth before marks old new free
+same-list : (dp : Dp) (d : DdLayers) (wide depth : ℕ) (before : List ChildAt) (marks : List Bool) (old new : ChildrenView) (free : Bool) → new ≡ old → old.subs ≡ map (child_from d) old.places → HasLooked dp d wide depth before old.places (marks ++ free ∷ []) → IsFurther dp d wide depth before marks old new free
 same-list dp d wide depth before marks old new free e subs walked = subst (λ v. IsFurther dp d wide depth before marks old v free) (sym e) (record { rest = refl; subs = subs; walked = walked })
 
 pub further : (dp : Dp) (d : DdLayers) (wide room depth : ℕ) (before : List ChildAt) (above marks : List Bool) (old new : ChildrenView) (free : Bool) → IsWalkable dp d wide room → d.first < depth → depth < last_of d
     → AreMarks d (depth - 1) before above → length above ≡ length (layer_in d (depth - 1)) → Each (λ c. length (path_at d c) ≤ depth - 1) before → old.subs ≡ map (child_from d) old.places
-    → IsWalked dp d wide depth before old.places marks → IsTakenNode dp d depth (length marks) above old new free → IsFurther dp d wide depth before marks old new free
+    → HasLooked dp d wide depth before old.places marks → IsTakenNode dp d depth (length marks) above old new free → IsFurther dp d wide depth before marks old new free
 further dp d wide room depth before above marks old new free w low high marked all short subs h t =
     let x = t.node in
     let i = length marks in
@@ -212,8 +212,8 @@ further dp d wide room depth before above marks old new free w low high marked a
           let walked = walked-step dp d wide room depth before old.places (cond y.clear (and_border old.places o) old.places) marks x (y.clear && not (is_some o)) w low high t.is h step in
           let Goal : ChildrenView → Bool → Type 0 = λ v f. IsFurther dp d wide depth before marks old v f in
           let done : Goal (cond y.clear (with_border d o old) old) (y.clear && not (is_some o)) =
-          elim y.clear as (λ b. IsWalked dp d wide depth before (cond b (and_border old.places o) old.places) (marks ++ (b && not (is_some o)) ∷ []) → Goal (cond b (with_border d o old) old) (b && not (is_some o))) [
-            | true ↦ λ k. record { rest = rest-with d o old; subs = subs-with d o old subs; walked = subst (λ cs. IsWalked dp d wide depth before cs (marks ++ not (is_some o) ∷ [])) (sym (places-with d o old)) k }
+          elim y.clear as (λ b. HasLooked dp d wide depth before (cond b (and_border old.places o) old.places) (marks ++ (b && not (is_some o)) ∷ []) → Goal (cond b (with_border d o old) old) (b && not (is_some o))) [
+            | true ↦ λ k. record { rest = rest-with d o old; subs = subs-with d o old subs; walked = subst (λ cs. HasLooked dp d wide depth before cs (marks ++ not (is_some o) ∷ [])) (sym (places-with d o old)) k }
             | false ↦ λ k. record { rest = refl; subs = subs; walked = k }
           ] walked in
           subst (λ v. Goal v free) (sym y.new_is) (subst (Goal (cond y.clear (with_border d o old) old)) (sym y.free_is) done))

@@ -9,7 +9,7 @@ use Rattle.layer_build.specs.declared.workspace.PrepareError.TheVariants.{Width,
 use Rattle.exact_cutset.specs.Seen.{ChildrenView}
 
 -- so many nodes are enough for a layer of the width, and for one below a single node
-pub record AreEnough (dp : Dp) (w n wide : ℕ) : Type 0 where
+pub record AreEnoughChildren (dp : Dp) (w n wide : ℕ) : Type 0 where
   pub width : w ≤ wide
   pub choices : (k : ℕ) → k < n → dp.choices k ≤ wide
 
@@ -20,16 +20,16 @@ room_for dp LastExactLayer wide = wide
 room_for dp Frontier wide = dp.vars * wide
 
 -- it was prepared for the sizes of the program, and for the children of the kind of diagrams of the width
-pub record IsPreparedFor (dp : Dp) (w : ℕ) (kind : CutKind) (c : ChildrenView) : Type 0 where
+pub record IsListPreparedFor (dp : Dp) (w : ℕ) (kind : CutKind) (c : ChildrenView) : Type 0 where
   pub is_width : IsWidth dp w
   pub width : c.width ≡ w
   pub vars : c.vars ≡ dp.vars
   pub words : c.words ≡ dp.words
-  pub enough : AreEnough dp w dp.vars c.wide
+  pub enough : AreEnoughChildren dp w dp.vars c.wide
   pub room : room_for dp kind c.wide ≤ c.room
 
 -- a list for the width; a refused width exactly where it is not positive or does not fit
-abbrev pub IsPrepared : Dp → ℕ → CutKind → Result ChildrenView PrepareError → Type 0
-IsPrepared dp w kind (Ok c) = IsPreparedFor dp w kind c
-IsPrepared dp w kind (Err Width) = IsWidth dp w → ⊥
-IsPrepared dp w kind (Err OutOfMemory) = IsWidth dp w
+abbrev pub IsListPrepared : Dp → ℕ → CutKind → Result ChildrenView PrepareError → Type 0
+IsListPrepared dp w kind (Ok c) = IsListPreparedFor dp w kind c
+IsListPrepared dp w kind (Err Width) = IsWidth dp w → ⊥
+IsListPrepared dp w kind (Err OutOfMemory) = IsWidth dp w

@@ -68,7 +68,7 @@ abbrev pub AreMarks : DdLayers → ℕ → List ChildAt → List Bool → Type 0
 AreMarks d depth cs marks = (j : ℕ) (x : DdNode) → j < length marks → node_at d depth j ≡ Some x → x.exact ≡ true → slice_get marks j ≡ Some (is_free d cs x.path)
 
 -- the first nodes of the layer were looked at, as many as there are marks, after those above with the children `before`
-pub record IsWalked (dp : Dp) (d : DdLayers) (wide depth : ℕ) (before cs : List ChildAt) (marks : List Bool) : Type 0 where
+pub record HasLooked (dp : Dp) (d : DdLayers) (wide depth : ℕ) (before cs : List ChildAt) (marks : List Bool) : Type 0 where
   pub whole : cs ++ outermost (path_at d) cs (borders_left dp d depth (length marks)) ≡ frontier_at dp d
   pub ahead : (j : ℕ) (x : DdNode) → length marks ≤ j → node_at d depth j ≡ Some x → x.exact ≡ true → passes (path_at d) cs x.path ≡ passes (path_at d) before x.path
   pub marked : AreMarks d depth cs marks

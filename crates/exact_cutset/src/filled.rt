@@ -1,7 +1,7 @@
 ghost use Rattle.std.specs.Prelude.{◌≡◌, ◌<◌, ◌≤◌, Some, length, option_map, slice_get, IfOk};
 ghost use Rattle.dp_laws.specs.Diagrams.Cutsets.{children_at, children_of, found_in};
 ghost use Rattle.relaxed_dd.specs.Shown.{layers_of, width_of, IsDiagramOf};
-ghost use Rattle.exact_cutset.specs.Prepared.{IsPreparedFor};
+ghost use Rattle.exact_cutset.specs.Prepared.{IsListPreparedFor};
 ghost use Rattle.exact_cutset.specs.Seen.{ShowsSolution, subproblems};
 
 use crate::listed::Listed;
@@ -35,7 +35,7 @@ impl Children {
     /// Fills the list with the children of a diagram and with the solution that it finds.
     pub(crate) fn fill<M: DpModel>(&mut self, model: &M, diagram: &Diagram, kind: CutKind)
         requires diagram { IsDiagramOf (M.meaning (M.numbers model.now)) diagram.now }
-        requires prepared { IsPreparedFor (M.meaning (M.numbers model.now)) (width_of diagram.now) kind self.old }
+        requires prepared { IsListPreparedFor (M.meaning (M.numbers model.now)) (width_of diagram.now) kind self.old }
         ensures { self.new ≡ record self.old {
           places = children_at (M.meaning (M.numbers model.now)) (layers_of diagram.now) kind;
           subs = children_of (M.meaning (M.numbers model.now)) (layers_of diagram.now) kind;

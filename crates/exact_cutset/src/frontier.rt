@@ -5,7 +5,7 @@ ghost use Rattle.dp_model.specs.Lists.{Each};
 ghost use Rattle.dp_laws.specs.Diagrams.Nodes.{node_at};
 ghost use Rattle.dp_laws.specs.Diagrams.Cutsets.{leads_out, leaves, frontier_at, child_from};
 ghost use Rattle.relaxed_dd.specs.Shown.{layers_of, last_of, layer_in};
-ghost use Rattle.exact_cutset.specs.Walking.{IsIn, HasLeaving, StemsAt, IsWalkable, IsWalked, IsWalkedTo, HasWalkedLayer, HasFrontier, IsFreeNode, IsTakenBorder, IsTakenNode};
+ghost use Rattle.exact_cutset.specs.Walking.{IsIn, HasLeaving, StemsAt, IsWalkable, HasLooked, IsWalkedTo, HasWalkedLayer, HasFrontier, IsFreeNode, IsTakenBorder, IsTakenNode};
 ghost use Rattle.exact_cutset.specs.Ready.{IsReadyAt};
 
 use crate::listed::Listed;

@@ -1,6 +1,6 @@
 ghost use Rattle.std.specs.Prelude.{◌≡◌, ◌<◌, ◌≤◌, ◌*◌, ◌^◌, IfOk};
 ghost use Rattle.layer_build.specs.Layers.{IsWidth};
-ghost use Rattle.exact_cutset.specs.Prepared.{AreEnough, IsPreparedFor, IsPrepared, room_for};
+ghost use Rattle.exact_cutset.specs.Prepared.{AreEnoughChildren, IsListPreparedFor, IsListPrepared, room_for};
 
 use crate::filled::Children;
 use crate::listed::Listed;
@@ -10,7 +10,7 @@ use std::alloc::Global;
 
 /// How many nodes a layer above the last one has at most: as many as the width, and the one below the first as many as choices.
 fn widest<M: DpModel>(model: &M, width: usize) -> usize
-    ensures enough { AreEnough (M.meaning (M.numbers model.now)) width (M.meaning (M.numbers model.now)).vars result }
+    ensures enough { AreEnoughChildren (M.meaning (M.numbers model.now)) width (M.meaning (M.numbers model.now)).vars result }
     ensures few { width ≤ 2 ^ 24 → result ≤ 2 ^ 24 }
 {
     let mut widest = width;
@@ -41,9 +41,9 @@ fn prepare_list<M: DpModel>(
     wide: usize,
 ) -> Result<Listed, OutOfMemory>
     requires width { IsWidth (M.meaning (M.numbers model.now)) width }
-    requires enough { AreEnough (M.meaning (M.numbers model.now)) width (M.meaning (M.numbers model.now)).vars wide }
+    requires enough { AreEnoughChildren (M.meaning (M.numbers model.now)) width (M.meaning (M.numbers model.now)).vars wide }
     requires few { wide ≤ 2 ^ 24 }
-    ensures prepared { IfOk result (λ c. IsPreparedFor (M.meaning (M.numbers model.now)) width kind c) }
+    ensures prepared { IfOk result (λ c. IsListPreparedFor (M.meaning (M.numbers model.now)) width kind c) }
     ensures wide { IfOk result (λ c. c.wide ≡ wide) }
 {
     let words = model.words();
@@ -73,7 +73,7 @@ impl Children {
         width: u32,
         kind: CutKind,
     ) -> Result<Children, PrepareError>
-        ensures { IsPrepared (M.meaning (M.numbers model.now)) width kind result }
+        ensures { IsListPrepared (M.meaning (M.numbers model.now)) width kind result }
     {
         if width == 0 || width > greatest_width(model) {
             return Err(PrepareError::Width);
@@ -92,7 +92,7 @@ impl Children {
         kind: CutKind,
     ) -> Result<Children, OutOfMemory>
         requires { IsWidth (M.meaning (M.numbers model.now)) width }
-        ensures { IfOk result (λ c. IsPreparedFor (M.meaning (M.numbers model.now)) width kind c) }
+        ensures { IfOk result (λ c. IsListPreparedFor (M.meaning (M.numbers model.now)) width kind c) }
     {
         let wide = widest(model, width);
         Ok(Children {

@@ -4,7 +4,7 @@ ghost use Rattle.std.specs.Prelude.{◌≡◌, ◌<◌, ◌≤◌, [], None, is_
 ghost use Rattle.dp_laws.specs.Diagrams.Nodes.{node_at};
 ghost use Rattle.dp_laws.specs.Diagrams.Cutsets.{children_at, children_of, found_in, last_exact_at, places_where, child_from};
 ghost use Rattle.relaxed_dd.specs.Shown.{layers_of, width_of, layer_in, IsDiagramOf};
-ghost use Rattle.exact_cutset.specs.Prepared.{IsPreparedFor};
+ghost use Rattle.exact_cutset.specs.Prepared.{IsListPreparedFor};
 ghost use Rattle.exact_cutset.specs.Ready.{IsReadyAt, IsCut, CutIsReady, bound_at, with_bounded};
 
 use crate::bounding::bound_of;
@@ -84,7 +84,7 @@ fn take_kind<M: DpModel>(
     out: &mut Listed,
 )
     requires diagram { IsDiagramOf (M.meaning (M.numbers model.now)) diagram.now }
-    requires prepared { IsPreparedFor (M.meaning (M.numbers model.now)) (width_of diagram.now) kind out.old }
+    requires prepared { IsListPreparedFor (M.meaning (M.numbers model.now)) (width_of diagram.now) kind out.old }
     requires no_places { out.old.places ≡ [] }
     requires no_subs { out.old.subs ≡ [] }
     requires above_room { out.old.wide ≤ vec_capacity above.old }
@@ -112,7 +112,7 @@ pub(crate) fn take<M: DpModel>(
     out: &mut Listed,
 )
     requires diagram { IsDiagramOf (M.meaning (M.numbers model.now)) diagram.now }
-    requires prepared { IsPreparedFor (M.meaning (M.numbers model.now)) (width_of diagram.now) kind out.old }
+    requires prepared { IsListPreparedFor (M.meaning (M.numbers model.now)) (width_of diagram.now) kind out.old }
     requires above_room { out.old.wide ≤ vec_capacity above.old }
     requires here_room { out.old.wide ≤ vec_capacity here.old }
     ensures children { out.new ≡ record out.old {
@@ -137,11 +137,11 @@ pub(crate) fn take<M: DpModel>(
 /// solution is the first exact node of the last layer. It takes no memory.
 pub fn children<M: DpModel>(model: &M, diagram: &Diagram, kind: CutKind, out: &mut Children)
     requires diagram { IsDiagramOf (M.meaning (M.numbers model.now)) diagram.now }
-    requires prepared { IsPreparedFor (M.meaning (M.numbers model.now)) (width_of diagram.now) kind out.old }
+    requires prepared { IsListPreparedFor (M.meaning (M.numbers model.now)) (width_of diagram.now) kind out.old }
     ensures places { out.new.places ≡ children_at (M.meaning (M.numbers model.now)) (layers_of diagram.now) kind }
     ensures subs { out.new.subs ≡ children_of (M.meaning (M.numbers model.now)) (layers_of diagram.now) kind }
     ensures found { out.new.found ≡ found_in (M.meaning (M.numbers model.now)) (layers_of diagram.now) }
-    ensures prepared { IsPreparedFor (M.meaning (M.numbers model.now)) (width_of diagram.now) kind out.new }
+    ensures prepared { IsListPreparedFor (M.meaning (M.numbers model.now)) (width_of diagram.now) kind out.new }
 {
     out.fill(model, diagram, kind);
 }

@@ -8,8 +8,7 @@ use Rattle.std.proofs.lemmas.Grind.{flat_map-append}
 use Rattle.std.proofs.lemmas.List.Sums.{get_or-le-sum_by, sum_by-cons}
 use Rattle.journal_bytes.specs.declared.record.Child.{Child}
 use Rattle.journal_bytes.specs.Bodies.{ChildView, RecordView, Improve, Finish}
-use Rattle.journal_bytes.specs.Journal.{HeadView}
-use Rattle.journal_bytes.specs.Spelling.{head_bytes, numbers, decision_bytes, child_bytes, record_bytes, number_of_ticket, child_size, record_size, IsTicket}
+use Rattle.journal_bytes.specs.Spelling.{numbers, decision_bytes, child_bytes, record_bytes, number_of_ticket, child_size, record_size, IsTicket}
 use Rattle.journal_bytes.specs.Views.{child_view}
 
 length-numbers : (ds : List ℕ) → length (numbers ds) ≡ 4 * length ds
@@ -70,7 +69,3 @@ pub child_is : (old first second new : List ℕ) (number : ℕ) (c : ChildView) 
 unfolding child_bytes
 child_is old first second new number c is a b d =
     d ∙ ap (λ (l : List ℕ). l ++ decision_bytes c.decisions) (b ∙ ap (λ (l : List ℕ). l ++ to_be_bytes w64 (cast_unsigned w64 c.bound)) (a ∙ ap (λ (n : ℕ). old ++ to_be_bytes w64 n) is)) ∙ simp append_assoc
-
-pub length-head : (body : List ℕ) (h : HeadView) → body ≡ head_bytes h → length body ≡ 9 + length h.text
-unfolding head_bytes
-length-head body h bytes = omega (arith, ap length bytes)

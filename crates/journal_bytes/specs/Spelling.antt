@@ -73,6 +73,3 @@ RecordFits (Finish ticket cs) = (ticket < 2 ^ 64) × (length cs < 2 ^ 32) × All
 -- the frames of a head and of a record
 abbrev pub head_frame : HeadView → Frame
 head_frame h = record { kind = 1; body = head_bytes h }
-
-abbrev pub record_frame : RecordView → Frame
-record_frame r = record { kind = record_kind r; body = record_bytes r }

@@ -1,15 +1,13 @@
 -- Items that are drawn one after another.
-use Rattle.std.proofs.Common.{◌≡◌, ◌∙◌, ℕ, ◌+◌, ◌*◌, ◌/◌, ◌≤◌, ◌&&◌, true, List, [], ◌∷◌, ◌++◌, length, sym, ap, ap₂, arith, length-append, Result, Ok, Err, IfOk}
+use Rattle.std.proofs.Common.{◌≡◌, ◌∙◌, ℕ, ◌+◌, ◌*◌, ◌≤◌, ◌&&◌, true, List, [], ◌∷◌, ◌++◌, length, sym, ap, ap₂, arith, length-append}
 use Rattle.std.specs.List.{list_all}
 use Rattle.std.proofs.lemmas.List.Folds.{list_all-append}
 use Rattle.std.proofs.lemmas.List.Sums.{sum_by-append}
 use Rattle.draws.specs.Draws.{steps}
 use Rattle.draws.proofs.Steps.{steps_more, steps_none}
 use Rattle.knapsack.specs.declared.item.Item.{Item}
-use Rattle.knapsack.specs.declared.instance.Knapsack.{Knapsack}
-use Rattle.knapsack.specs.Shown.{instance_in}
 use Rattle.knapsack.specs.Instance.{is_small_item}
-use Rattle.knapsack.specs.Generating.{behind_item, generated, item_drawn, whole_weight, with_item}
+use Rattle.knapsack.specs.Generating.{behind_item, item_drawn, whole_weight, with_item}
 
 -- so many items are drawn from the seed, and these draws are left
 pub record AreDrawn (seed k x : ℕ) (items : List Item) (weight : ℕ) : Type 0 where
@@ -37,12 +35,3 @@ one_more seed k x y items more weight total item d is behind small light pushed 
   light = let l = d.light in omega (arith, added);
   small = ap (list_all is_small_item) pushed ∙ list_all-append is_small_item items (item ∷ []) ∙ ap₂ (λ a b. a && (b && true)) d.small small;
 }
-
--- the instance of all of them
-pub all_drawn : {E : Type 0} (r : Result Knapsack E) (n seed x : ℕ) (items : List Item) (weight : ℕ) → AreDrawn seed n x items weight
-    → IfOk r (λ m. m.capacity ≡ weight / 2) → IfOk r (λ m. m.items.items ≡ items) → IfOk r (λ m. instance_in m ≡ generated n seed)
-all_drawn (Err e) n seed x items weight d capacity listed = tt
-all_drawn (Ok m) n seed x items weight d capacity listed =
-    let all : items ≡ (steps with_item n [] seed).0 = sym (ap (λ p. p.0) d.drawn) in
-    let holds = capacity ∙ ap (λ w. w / 2) (d.weight_is ∙ ap whole_weight all) in
-    λ j. record { capacity = holds j; items = (listed ∙ all) j }

@@ -1,18 +1,12 @@
 -- The greedy fill, item by item.
-use Rattle.std.proofs.Common.{◌≡◌, ℕ, ◌+◌, ◌-◌, ◌*◌, ◌/◌, ◌<◌, ◌≤◌, Bool, true, false, cond, List, ◌∷◌, length, drop, get_or, refl, ap, ◌∙◌, arith, ltb, eqb}
+use Rattle.std.proofs.Common.{◌≡◌, ℕ, ◌+◌, ◌-◌, ◌*◌, ◌/◌, ◌<◌, ◌≤◌, Bool, true, false, cond, List, ◌∷◌, refl, ap, ◌∙◌, arith, ltb, eqb}
 use Rattle.std.proofs.lemmas.Bool.{lt-ltb, le-ltb}
 use Rattle.std.proofs.lemmas.Bool.Decides.{nat_tests}
-use Rattle.std.proofs.lemmas.List.{drop_more}
-use Rattle.std.proofs.lemmas.List.Elements.{All-get_or}
-use Rattle.std.proofs.lemmas.List.Sums.{AllPass-from_list_all}
 use Rattle.std.proofs.lemmas.Nat.{le-div, mul-le, div_below}
 use Rattle.knapsack.specs.declared.item.Item.{Item}
-use Rattle.knapsack.specs.declared.placed.Placed.{Placed}
-use Rattle.knapsack.specs.Instance.{is_small_item}
-use Rattle.knapsack.specs.Limits.{IsSmallItem, is_small_item-is}
+use Rattle.knapsack.specs.Limits.{IsSmallItem}
 use Rattle.knapsack.specs.Order.{fitting, fill}
-use Rattle.knapsack.specs.Greedy.{part-le-copy}
-use Rattle.knapsack.specs.Placed.{kept_from, HasSmallItems}
+use Rattle.knapsack.specs.Laws.Greedy.{part-le-copy}
 
 -- an item of which not all copies fit weighs something
 some_weight : (c w rest : ℕ) → rest < c * w → 0 < w

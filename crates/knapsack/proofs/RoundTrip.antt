@@ -13,7 +13,8 @@ use Rattle.dd_text.proofs.Printing.{before_start, before_behind, reads_natural, 
 use Rattle.dd_text.proofs.Repeats.{fold_pushes, times_reads}
 use Rattle.knapsack.specs.declared.item.Item.{Item}
 use Rattle.knapsack.specs.Instance.{Instance, is_small, is_small_item}
-use Rattle.knapsack.specs.Limits.{IsSmallItem, is_small_item-is, is_small-is}
+use Rattle.knapsack.specs.Limits.{IsSmallItem}
+use Rattle.knapsack.specs.Laws.Limits.{is_small_item-is, is_small-is}
 use Rattle.knapsack.specs.Reading.{copies_at, item_behind, instance_at, instance_text}
 use Rattle.knapsack.specs.Printing.{copies_text, line_of, text_of}
 

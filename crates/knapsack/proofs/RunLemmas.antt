@@ -9,7 +9,8 @@ use Rattle.knapsack.specs.declared.item.Item.{Item}
 use Rattle.knapsack.specs.declared.placed.Placed.{Placed}
 use Rattle.knapsack.specs.declared.running.Run.{Run}
 use Rattle.knapsack.specs.Instance.{is_small_item}
-use Rattle.knapsack.specs.Limits.{IsSmallItem, is_small_item-is}
+use Rattle.knapsack.specs.Limits.{IsSmallItem}
+use Rattle.knapsack.specs.Laws.Limits.{is_small_item-is}
 use Rattle.knapsack.specs.Order.{fill}
 use Rattle.knapsack.specs.Placed.{kept_from}
 use Rattle.knapsack.specs.Runs.{no_item, runs_of, part_of}

@@ -7,7 +7,8 @@ use Rattle.dd_text.specs.Decimal.{decimal_of}
 use Rattle.dd_text.proofs.Lengths.{parts_short}
 use Rattle.knapsack.specs.declared.item.Item.{Item}
 use Rattle.knapsack.specs.Instance.{Instance, is_small, is_small_item}
-use Rattle.knapsack.specs.Limits.{IsSmallItem, is_small_item-is, is_small-is}
+use Rattle.knapsack.specs.Limits.{IsSmallItem}
+use Rattle.knapsack.specs.Laws.Limits.{is_small_item-is, is_small-is}
 use Rattle.knapsack.specs.Printing.{copies_text, line_of, text_of}
 
 copies_short : (c : ℕ) → c ≤ 1000 → length (copies_text c) ≤ 5

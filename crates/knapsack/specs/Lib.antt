@@ -2,16 +2,12 @@ pub mod Instance
 pub mod Limits
 pub mod Order
 pub mod OwnWords
-pub mod Greedy
 pub mod Program
-pub mod States
-pub mod Packings
-pub mod Sizes
-pub mod ProgramLaws
-pub mod ModelLaws
 pub mod Placed
 pub mod Runs
 pub mod Shown
 pub mod Generating
 pub mod Reading
 pub mod Printing
+-- what an `impl` cites and no clause
+pub mod Laws

@@ -73,12 +73,12 @@ impl Knapsack {
     }
 }
 
-#[tactic(auto, using(crate::specs::ProgramLaws::round_trip))]
+#[tactic(auto, using(crate::specs::Laws::Program::round_trip))]
 impl DpModel for Knapsack {
     ghost use Rattle.knapsack.specs.Instance.{numbers_of};
     ghost use Rattle.knapsack.specs.Program.{program};
     ghost use Rattle.knapsack.specs.Shown.{instance_in};
-    ghost use Rattle.knapsack.specs.ModelLaws.{lawful_numbers, chained_numbers};
+    ghost use Rattle.knapsack.specs.Laws.Model.{lawful_numbers, chained_numbers};
 
     ghost numbers = { λ m. numbers_of (instance_in m) };
 

@@ -148,11 +148,11 @@ one-pruned dp k t q old new few e =
     below-count : (nodes : List NodeView) → length (shown_below (λ _. []) nodes) ≡ length nodes
     below-count nodes = map-length (λ (node : NodeView). shown (path_below (λ _. []) node.parent node.decision) node) nodes
 
-pub struck-layers : (dp : Dp) (i : Inside) → the_invariant i → IsUnderWay dp (the_view i) → (t : Option ℤ) (at : ℕ) (old d x n : LayerView) (redirects : ℕ) (first_reduced : Option ℕ) → HasChanged i at old d x n redirects
+pub struck-layers : (dp : Dp) (i : Inside) → the_invariant i → (last_depth (the_view i) ≡ length (the_view i).prefix → length (last_layer (the_view i).layers) ≤ 1) → (t : Option ℤ) (at : ℕ) (old d x n : LayerView) (redirects : ℕ) (first_reduced : Option ℕ) → HasChanged i at old d x n redirects
     → ((paths below : ℕ → List ℕ) → shown_layer paths x.nodes ≡ with_redirected (prune_redirects dp i.stack.last t [] 0 (shown_below below i.stack.newest.nodes)) (shown_layer paths old.nodes))
     → ((paths : ℕ → List ℕ) → shown_below paths n.nodes ≡ pruned_nodes dp i.stack.last t [] 0 (shown_below paths i.stack.newest.nodes))
     → (the_view (changed i at x n redirects first_reduced)).layers ≡ on_last_two (prune dp i.stack.last t) (the_view i).layers
-struck-layers dp i h u t at old d x n redirects first_reduced e above next = go (first-or i h)
+struck-layers dp i h one t at old d x n redirects first_reduced e above next = go (first-or i h)
   where
     q : ℕ → List ℕ
     q = path_in (i.prefix.items ∷ [])
@@ -174,5 +174,5 @@ struck-layers dp i h u t at old d x n redirects first_reduced e above next = go 
         let begun = h.first in
         let here = deep i h in
         let count = count-seen i h in
-        let few = u.one (here ∙ (same ∙ begun)) in
+        let few = one (here ∙ (same ∙ begun)) in
         alone (omega arith) (i.stack.last - i.stack.first) i.stack.first (omega arith) (sym same)

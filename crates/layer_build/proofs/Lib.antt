@@ -4,6 +4,7 @@ pub mod Bare
 pub mod Depths
 pub mod Expansions
 pub mod Kept
+pub mod Pruning
 pub mod Stacks
 pub mod Going
 pub mod Changing

@@ -4,3 +4,4 @@ pub mod Preparing
 pub mod UnderWay
 pub mod Space
 pub mod Finding
+pub mod Kept

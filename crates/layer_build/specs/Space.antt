@@ -6,7 +6,7 @@ use Rattle.layer_build.specs.declared.workspace.PrepareError.{PrepareError}
 use Rattle.layer_build.specs.declared.workspace.PrepareError.TheVariants.{Width, OutOfMemory}
 
 -- a workspace of the width; a refused width exactly where it is not positive or does not fit
-abbrev pub IsPrepared : Dp → ℕ → Result SpaceView PrepareError → Type 0
-IsPrepared dp w (Ok s) = IsPreparedFor dp s × (s.width ≡ w)
-IsPrepared dp w (Err Width) = IsWidth dp w → ⊥
-IsPrepared dp w (Err OutOfMemory) = IsWidth dp w
+abbrev pub IsSpacePrepared : Dp → ℕ → Result SpaceView PrepareError → Type 0
+IsSpacePrepared dp w (Ok s) = IsPreparedFor dp s × (s.width ≡ w)
+IsSpacePrepared dp w (Err Width) = IsWidth dp w → ⊥
+IsSpacePrepared dp w (Err OutOfMemory) = IsWidth dp w

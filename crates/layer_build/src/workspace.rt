@@ -1,14 +1,17 @@
-ghost use Rattle.std.specs.Prelude.{◌≡◌, ◌+◌, ◌-◌, ◌*◌, ◌<◌, ◌≤◌, ℕ, List, [], ◌∷◌, Option, None, IfOk, is_some, length, map, vec_capacity};
+ghost use Rattle.std.specs.Prelude.{◌≡◌, ◌+◌, ◌-◌, ◌*◌, ◌<◌, ◌≤◌, ℕ, ℤ, List, [], ◌∷◌, false, Option, None, IfOk, is_some, length, map, vec_capacity};
 ghost use Rattle.dp_model.specs.Dp.{Dp};
+ghost use Rattle.dp_model.specs.Lists.{Each};
 ghost use Rattle.dp_model.specs.Prefixes.{IsPrefix, state_of, value_of};
 ghost use Rattle.dp_model.specs.Reached.{reached};
 ghost use Rattle.dp_model.specs.Subproblem.{IsOwn};
 ghost use Rattle.dp_laws.specs.Restricted.Beams.{beam, wide};
 ghost use Rattle.dp_laws.specs.Rules.Compiling.{expand, prune, keep_first, merge_rest, start_layer};
+ghost use Rattle.dp_laws.specs.Rules.Pruning.{is_struck};
 ghost use Rattle.layer_nodes.specs.Sifting.{expand_sifted};
+ghost use Rattle.layer_nodes.specs.Striking.{drop_dominated};
 ghost use Rattle.layer_candidates.specs.Beaming.{IsFirst};
 ghost use Rattle.layer_build.specs.Layers.{IsWidth, IsPreparedFor, last_depth, last_layer, expand_last, on_last_two, reduced_first};
-ghost use Rattle.layer_build.specs.Space.{IsPrepared};
+ghost use Rattle.layer_build.specs.Space.{IsSpacePrepared};
 ghost use Rattle.layer_build.specs.UnderWay.{IsUnderWay};
 
 use crate::preparing::{choices_of, prepare_stack, room_for};
@@ -16,7 +19,7 @@ use crate::stack::{Stack, expand_newest, expand_newest_sifted, place_above, plac
 use crate::width::greatest_width;
 use dp_model::{DpModel, OutOfMemory, Sub};
 use layer_candidates::{Beam, Beamed};
-use layer_nodes::{Expansion, Redirects, keep_first, merge_rest, strike};
+use layer_nodes::{Expansion, Redirects, drop_dominated, keep_first, merge_rest, strike};
 use std::alloc::Global;
 use std::marker::Model;
 
@@ -77,7 +80,7 @@ impl Workspace {
         model: &M,
         width: u32,
     ) -> Result<Workspace, PrepareError>
-        ensures { IsPrepared (M.meaning (M.numbers model.now)) width result }
+        ensures { IsSpacePrepared (M.meaning (M.numbers model.now)) width result }
     {
         if width == 0 || width > greatest_width(model) {
             return Err(PrepareError::Width);
@@ -205,6 +208,42 @@ impl Workspace {
             &mut self.stack.newest,
             &mut self.redirects,
         );
+    }
+
+    /// Takes out the nodes of the last layer that one of the first 16 exact ones that stay dominates; the arcs into it follow. No
+    /// node is struck.
+    fn drop_dominated<M: DpModel>(&mut self, model: &M)
+        requires under_way { IsUnderWay (M.meaning (M.numbers model.now)) self.old }
+        ensures layers { self.new ≡ record self.old {
+          layers = on_last_two (drop_dominated (M.meaning (M.numbers model.now)) (last_depth self.old)) self.old.layers;
+          ranks = self.new.ranks;
+        } }
+        ensures under_way { (t : Option ℤ) → Each (λ node. is_struck (M.meaning (M.numbers model.now)) (last_depth self.old) t node ≡ false) (last_layer self.old.layers) → IsUnderWay (M.meaning (M.numbers model.now)) self.new }
+    {
+        let at = place_above(self.stack.vars, self.stack.first, self.stack.last);
+        drop_dominated(
+            model,
+            self.stack.last,
+            &mut self.stack.layers[at],
+            &mut self.stack.newest,
+            &mut self.redirects,
+        );
+    }
+
+    /// Expands the last layer into the next one and takes out of that what `strike` does: it makes the layers that `expand_layer`
+    /// and `strike` make, but a rough bound is asked once, and no struck node is put in order.
+    pub fn expand_pruned<M: DpModel>(&mut self, model: &M, threshold: Option<i64>)
+        requires under_way { IsUnderWay (M.meaning (M.numbers model.now)) self.old }
+        requires below { last_depth self.old < (M.meaning (M.numbers model.now)).vars }
+        requires narrow { length self.old.prefix + 2 ≤ last_depth self.old → length (last_layer self.old.layers) ≤ self.old.width }
+        ensures layers { self.new ≡ record self.old {
+          layers = expand_last (λ layer. prune (M.meaning (M.numbers model.now)) (last_depth self.old + 1) threshold (expand (M.meaning (M.numbers model.now)) (last_depth self.old) layer)) self.old.layers;
+          ranks = self.new.ranks;
+        } }
+        ensures under_way { IsUnderWay (M.meaning (M.numbers model.now)) self.new }
+    {
+        self.expand_sifted(model, threshold);
+        self.drop_dominated(model);
     }
 
     /// Keeps the first nodes of the last layer, as many as the width; the arcs into it follow.

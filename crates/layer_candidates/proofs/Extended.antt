@@ -1,7 +1,7 @@
 -- A layer is extended, decision by decision and member by member.
 use Rattle.std.proofs.Common.{◌≡◌, ℕ, zero, suc, ◌+◌, ◌*◌, ◌<◌, ◌≤◌, ℤ, ◌+ℤ◌, true, false, cond, List, [], ◌∷◌, ◌++◌, length, map, drop, get_or, replicate, mul-le-mul_right, refl, sym, ap, subst, ◌∙◌, arith, add-one, IsTrue, length-append, inl, inr}
 use Rattle.std.proofs.lemmas.Int.{ints}
-use Rattle.std.proofs.lemmas.List.{map-append, length-replicate, get_or-replicate, length-map, drop_all, drop_more, drop-map}
+use Rattle.std.proofs.lemmas.List.{append-nil, map-append, length-replicate, get_or-replicate, length-map, drop_all, drop_more, drop-map}
 use Rattle.std.proofs.lemmas.List.Elements.{filter-append}
 use Rattle.dp_model.specs.Decisions.{below}
 use Rattle.dp_model.specs.Dp.{Dp, IsAllowed}
@@ -16,7 +16,7 @@ use Rattle.layer_candidates.specs.declared.member.Member.{Member}
 use Rattle.layer_candidates.specs.Rows.{row_at, with_row, HasZeros}
 use Rattle.layer_candidates.specs.Ways.{way_at, reached_by, reached_at, all_reached, IsNear, IsNearly, IsWay, AllHaveZeros, AreWays, AreJoined}
 use Rattle.layer_candidates.specs.Members.{member_as, members_as, IsMemberOf}
-use Rattle.layer_candidates.specs.Extending.{HasRoom, AreSame, parent_as, all_allowed, HasExtended, AreExtended}
+use Rattle.layer_candidates.specs.Extending.{HasWayRoom, AreSame, parent_as, all_allowed, HasExtended, AreExtended}
 use Rattle.layer_candidates.proofs.Blocks.{before-with, here-with, table-with}
 use Rattle.layer_candidates.proofs.Joined.{last_or, table_same, all_joined_both}
 
@@ -96,8 +96,8 @@ way-reaches dp k paths row s d step way value a b c e = cc
 
 -- Decisions.
 
-pub room-less : (words m n : ℕ) (rows rows2 : List ℤ) (cap cap2 : ℕ) (folds folds2 next next2 : List ℕ) → HasRoom words n rows cap folds next → m ≤ n
-    → length rows2 ≡ length rows → cap2 ≡ cap → length folds2 ≡ length folds → length next2 ≡ length next → HasRoom words m rows2 cap2 folds2 next2
+pub room-less : (words m n : ℕ) (rows rows2 : List ℤ) (cap cap2 : ℕ) (folds folds2 next next2 : List ℕ) → HasWayRoom words n rows cap folds next → m ≤ n
+    → length rows2 ≡ length rows → cap2 ≡ cap → length folds2 ≡ length folds → length next2 ≡ length next → HasWayRoom words m rows2 cap2 folds2 next2
 room-less words m n rows rows2 cap cap2 folds folds2 next next2 h few a b c d =
     let less = mul-le-mul_right words few in
     let one = h.rows_hold in let two = h.ways_hold in let three = h.folds_hold in let four = h.next_hold in let five = h.small in
@@ -163,6 +163,34 @@ module _ (dp : Dp) (k step : ℕ) (s : List ℤ) (value : ℤ) (words live : ℕ
   extended-next n old_rows rows rows2 old_ways ways ways2 folds heads next folds2 heads2 next2 g h =
       subst (λ l. HasExtended dp k step s value l words live old_rows old_ways rows2 ways2 folds2 heads2 next2) (sym (ap below (add-one n)))
       (extended-both (below n) (n ∷ []) old_rows rows rows2 old_ways ways ways2 folds heads next folds2 heads2 next2 g h)
+
+-- Decisions that are stepped over.
+
+-- none of those from a number on is allowed
+abbrev pub AreSkipped : Dp → ℕ → List ℤ → ℕ → ℕ → Type 0
+AreSkipped dp k s from to = (d : ℕ) → from ≤ d → d < to → dp.allowed k s d ≡ false
+
+pub allowed-skipped : (dp : Dp) (k : ℕ) (s : List ℤ) (from to : ℕ) → from ≤ to → AreSkipped dp k s from to → all_allowed dp k s (below to) ≡ all_allowed dp k s (below from)
+allowed-skipped dp k s from zero on skipped = let e : from ≡ 0 = omega arith in ap (λ n. all_allowed dp k s (below n)) (sym e)
+allowed-skipped dp k s from (suc to) on skipped =
+    elim (last_or from (suc to) (omega arith)) [
+      | inl e ↦ ap (λ n. all_allowed dp k s (below n)) (sym e)
+      | inr less ↦
+          filter-append (dp.allowed k s) (below to) (to ∷ [])
+          ∙ (ap (λ b. all_allowed dp k s (below to) ++ cond b (to ∷ []) []) (skipped to (omega arith) (omega arith))
+          ∙ (append-nil (all_allowed dp k s (below to)) ∙ allowed-skipped dp k s from to (omega arith) (λ d a b. skipped d a (omega arith))))
+    ]
+
+pub extended-skipped : (dp : Dp) (k step : ℕ) (s : List ℤ) (value : ℤ) (words live from to : ℕ) (old_rows rows : List ℤ) (old_ways ways : List Way) (folds heads next : List ℕ) → from ≤ to → AreSkipped dp k s from to
+    → HasExtended dp k step s value (below from) words live old_rows old_ways rows ways folds heads next → HasExtended dp k step s value (below to) words live old_rows old_ways rows ways folds heads next
+extended-skipped dp k step s value words live from to old_rows rows old_ways ways folds heads next on skipped h =
+    let few = h.few in let one = length-below from in let two = length-below to in
+    record {
+      joined = h.joined;
+      list = λ paths. h.list paths ∙ ap (λ ds. all_joined (all_reached paths old_rows words old_ways) (map (extended dp k (parent_as paths step s value)) ds)) (sym (allowed-skipped dp k s from to on skipped));
+      few = omega arith;
+      size = h.size;
+    }
 
 -- Members.
 

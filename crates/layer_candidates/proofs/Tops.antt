@@ -5,7 +5,7 @@ use Rattle.std.proofs.lemmas.Bool.Decides.{nat_tests}
 use Rattle.std.proofs.lemmas.List.{get_or-set_same, get_or-set_other, length-set}
 use Rattle.layer_candidates.specs.Rows.{live_at}
 use Rattle.dp_model.specs.Folds.{fold_of}
-use Rattle.layer_candidates.specs.Table.{slot_of, top, has_slot, IsTable, IsFound, IsSearched}
+use Rattle.layer_candidates.specs.Table.{slot_of, top, has_slot, IsTable, IsRowFound, IsSearched}
 
 pub true_false : (b : Bool) → b ≡ true → b ≡ false → ⊥
 true_false b h k = let e : true ≡ false = sym h ∙ k in cc
@@ -103,7 +103,7 @@ search_smaller rows words live count fold folds heads next i t s positive =
     omega arith
 
 -- a search that is over found none
-pub search_ends : (rows : List ℤ) (words live count fold : ℕ) (folds heads next : List ℕ) → IsTable rows words live count folds heads next → fold ≡ fold_of 0 (live_at rows words live count) → IsSearched rows words live count fold folds (length heads) 0 → IsFound rows words live count count
+pub search_ends : (rows : List ℤ) (words live count fold : ℕ) (folds heads next : List ℕ) → IsTable rows words live count folds heads next → fold ≡ fold_of 0 (live_at rows words live count) → IsSearched rows words live count fold folds (length heads) 0 → IsRowFound rows words live count count
 search_ends rows words live count fold folds heads next t is s = record {
   within = omega arith;
   same = λ h. absurd (omega arith);

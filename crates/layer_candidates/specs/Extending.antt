@@ -9,7 +9,7 @@ use Rattle.layer_candidates.specs.Members.{members_as}
 use Rattle.layer_candidates.specs.Ways.{all_reached, AreJoined}
 
 -- there is memory for so many ways
-pub record HasRoom (words count : ℕ) (rows : List ℤ) (ways_room : ℕ) (folds next : List ℕ) : Type 0 where
+pub record HasWayRoom (words count : ℕ) (rows : List ℤ) (ways_room : ℕ) (folds next : List ℕ) : Type 0 where
   pub rows_hold : count * words ≤ length rows
   pub ways_hold : count ≤ ways_room
   pub folds_hold : count ≤ length folds

@@ -27,7 +27,7 @@ pub record IsTable (rows : List ℤ) (words live count : ℕ) (folds heads next 
   pub next_are : (k : ℕ) → k < count → slice_index_or next k 0 ≡ top (has_slot folds (length heads) (slot_of (slice_index_or folds k 0) (length heads))) k
 
 -- the place has the live cells of the row that stands at `count`, or is `count` where no row before has them
-pub record IsFound (rows : List ℤ) (words live count place : ℕ) : Type 0 where
+pub record IsRowFound (rows : List ℤ) (words live count place : ℕ) : Type 0 where
   pub within : place ≤ count
   pub same : place < count → live_at rows words live place ≡ live_at rows words live count
   pub none : place ≡ count → (k : ℕ) → k < count → live_at rows words live k ≢ live_at rows words live count

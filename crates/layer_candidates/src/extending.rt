@@ -9,7 +9,7 @@ ghost use Rattle.layer_candidates.specs.Rows.{row_at, with_row};
 ghost use Rattle.layer_candidates.specs.Table.{IsPlaced};
 ghost use Rattle.layer_candidates.specs.Ways.{all_reached, IsNear, AllHaveZeros, AreJoined, AreDistinct};
 ghost use Rattle.layer_candidates.specs.Members.{members_as, IsMemberOf};
-ghost use Rattle.layer_candidates.specs.Extending.{HasRoom, AreSame, HasExtended};
+ghost use Rattle.layer_candidates.specs.Extending.{HasWayRoom, AreSame, HasExtended};
 
 use crate::joining::take_in;
 use crate::member::Member;
@@ -97,7 +97,7 @@ pub fn extend_by<M: DpModel>(
     requires live { live ≤ length s.now }
     requires zeros { AllHaveZeros (M.meaning (M.numbers model.now)) (k + 1) live }
     requires joined { AreJoined (M.meaning (M.numbers model.now)) (k + 1) rows.old (length s.now) live ways.old.items folds.old heads.old next.old }
-    requires room { HasRoom (length s.now) (length ways.old.items + 1) rows.old (vec_capacity ways.old) folds.old next.old }
+    requires room { HasWayRoom (length s.now) (length ways.old.items + 1) rows.old (vec_capacity ways.old) folds.old next.old }
     ensures allowed { is_some result ≡ (M.meaning (M.numbers model.now)).allowed k s.now decision }
     ensures refused { IsNone result → AreSame rows.old ways.old.items folds.old heads.old next.old rows.new ways.new.items folds.new heads.new next.new }
     ensures extended { HasExtended (M.meaning (M.numbers model.now)) k parent.step s.now parent.value (decision ∷ []) (length s.now) live rows.old ways.old.items rows.new ways.new.items folds.new heads.new next.new }
@@ -138,14 +138,17 @@ fn extend_member<M: DpModel>(
     requires live { live ≤ length s.now }
     requires zeros { AllHaveZeros (M.meaning (M.numbers model.now)) (k + 1) live }
     requires joined { AreJoined (M.meaning (M.numbers model.now)) (k + 1) rows.old (length s.now) live ways.old.items folds.old heads.old next.old }
-    requires room { HasRoom (length s.now) (length ways.old.items + (M.meaning (M.numbers model.now)).choices k) rows.old (vec_capacity ways.old) folds.old next.old }
+    requires room { HasWayRoom (length s.now) (length ways.old.items + (M.meaning (M.numbers model.now)).choices k) rows.old (vec_capacity ways.old) folds.old next.old }
     ensures extended { HasExtended (M.meaning (M.numbers model.now)) k parent.step s.now parent.value (below ((M.meaning (M.numbers model.now)).choices k)) (length s.now) live rows.old ways.old.items rows.new ways.new.items folds.new heads.new next.new }
     ensures capacity { vec_capacity ways.new ≡ vec_capacity ways.old }
 {
-    'decisions: for decision in 0..model.choices(k) {
+    let choices = model.choices(k);
+    let mut decision = model.next_choice(k, s, 0);
+    'decisions: while decision < choices {
         extend_by(
             model, k, parent, s, decision, live, rows, ways, folds, heads, next,
         );
+        decision = model.next_choice(k, s, decision + 1);
     }
 }
 
@@ -167,7 +170,7 @@ pub fn extend_layer<M: DpModel>(
     requires words { words ≡ (M.meaning (M.numbers model.now)).words }
     requires members { Each (IsMemberOf (M.meaning (M.numbers model.now)) k above.now words) members.now }
     requires slots { 0 < length heads.old }
-    requires room { HasRoom words (length members.now * (M.meaning (M.numbers model.now)).choices k) rows.old (vec_capacity ways.old) folds.old next.old }
+    requires room { HasWayRoom words (length members.now * (M.meaning (M.numbers model.now)).choices k) rows.old (vec_capacity ways.old) folds.old next.old }
     ensures distinct { AreDistinct (M.meaning (M.numbers model.now)) (k + 1) rows.new words ways.new.items }
     ensures list { (paths : ℕ → List ℕ) → all_reached paths rows.new words ways.new.items ≡ all_joined [] (candidates (M.meaning (M.numbers model.now)) k (members_as paths above.now words members.now)) }
     ensures few { length ways.new.items ≤ length members.now * (M.meaning (M.numbers model.now)).choices k }

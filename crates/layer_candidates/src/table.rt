@@ -3,7 +3,7 @@
 ghost use Rattle.std.specs.Prelude.{◌≡◌, ◌≢◌, ℕ, ◌+◌, ◌*◌, ◌^◌, ◌<◌, ◌≤◌, ℤ, List, ◌↔◌, length, replicate, slice_index_or, IsTrue};
 ghost use Rattle.layer_candidates.specs.Rows.{live_at};
 ghost use Rattle.dp_model.specs.Folds.{fold_of};
-ghost use Rattle.layer_candidates.specs.Table.{slot_of, IsTable, IsFound};
+ghost use Rattle.layer_candidates.specs.Table.{slot_of, IsTable, IsRowFound};
 
 use crate::rows::{live_cells, same_row};
 
@@ -68,7 +68,7 @@ pub fn find(
     requires room { count * words + words ≤ length rows.now }
     requires live { live ≤ words }
     requires fold { fold ≡ fold_of 0 (live_at rows.now words live count) }
-    ensures { IsFound rows.now words live count result }
+    ensures { IsRowFound rows.now words live count result }
 {
     let new = live_cells(rows, words, live, count);
     let mut i = heads[slot(fold, heads.len())] as usize;

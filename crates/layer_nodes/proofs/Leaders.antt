@@ -41,6 +41,11 @@ by-within place None a v = refl
 by-within place (Some g) a v =
     by-cond place g (int_le g (a -ℤ v)) ∙ ap (λ b. cond b (Some (record { place = place; longer = g })) None) (compared g a v)
 
+-- leaders ask for no rough bound
+pub leader_rough : (dp : Dp) (k : ℕ) (rough : ℕ → List ℤ → Option ℤ) (leaders : List Leader) (node : DdNode) → at_leader (record dp { rough = rough }) k leaders node ≡ at_leader dp k leaders node
+leader_rough dp k rough [] node = refl
+leader_rough dp k rough (l ∷ leaders) node = ap (first_redirect (redirect_within l.place (dp.gap k l.row node.row) l.value node.value)) (leader_rough dp k rough leaders node)
+
 -- only the row and the value count
 pub at-leader-same : (dp : Dp) (k : ℕ) (leaders : List Leader) (a b : DdNode) → a.row ≡ b.row → a.value ≡ b.value → at_leader dp k leaders a ≡ at_leader dp k leaders b
 at-leader-same dp k [] a b row value = refl

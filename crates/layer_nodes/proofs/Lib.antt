@@ -8,6 +8,7 @@ pub mod Shown
 pub mod Leaders
 pub mod Pruned
 pub mod Sifted
+pub mod Dropped
 pub mod SiftedLayers
 pub mod Kept
 pub mod Merged

@@ -11,10 +11,11 @@ use Rattle.dp_laws.specs.Rules.Redirects.{Redirect}
 use Rattle.dp_laws.specs.Rules.Pruning.{Leader, at_leader, is_struck, leaders_past, pruned_nodes, prune_redirects}
 use Rattle.layer_nodes.specs.declared.node.Node.{Node}
 use Rattle.layer_nodes.specs.declared.redirecting.LeaderAt.{LeaderAt}
+use Rattle.layer_nodes.specs.declared.striking.Strikes.{Strikes}
 use Rattle.layer_nodes.specs.Leading.{IsNodeIn, leaders_of, led_at, bare}
 use Rattle.layer_nodes.specs.Redirecting.{IsShort}
-use Rattle.layer_nodes.specs.Striking.{Shows, led_out, taken_out, ArePruned, HasPruned}
-use Rattle.layer_nodes.proofs.Leaders.{at-leader-same, struck-same, leaders-led, each-led}
+use Rattle.layer_nodes.specs.Striking.{Shows, threshold_of, rough_for, asking, led_out, taken_out, ArePruned, HasPruned}
+use Rattle.layer_nodes.proofs.Leaders.{leader_rough, at-leader-same, struck-same, leaders-led, each-led}
 use Rattle.layer_nodes.proofs.Redirected.{left-at}
 use Rattle.layer_nodes.proofs.Stored.{each-set, each-get, among-each, among-self}
 
@@ -35,29 +36,29 @@ stays-test true a ns other ls others e = absurd (cc)
 stays-test false None ns other ls others e = (refl, refl)
 stays-test false (Some l) ns other ls others e = absurd (cc)
 
-module _ (dp : Dp) (k : ℕ) (t : Option ℤ) (rows : List ℤ) (words : ℕ) (leaders : List Leader) (stay : ℕ) (show : Node → DdNode) (shows : Shows rows words show) (node : Node) (rest : List DdNode) where
-  as-shown : taken_out dp k t leaders (show node) ≡ taken_out dp k t leaders (bare rows words node)
-  as-shown = ap₂ (λ b o. cond b (Some None) (led_out o)) (struck-same dp k t (show node) (bare rows words node) (shows.rows_are node) (shows.values_are node))
-      (at-leader-same dp k leaders (show node) (bare rows words node) (shows.rows_are node) (shows.values_are node))
+module _ (dp : Dp) (k : ℕ) (strikes : Strikes) (rows : List ℤ) (words : ℕ) (leaders : List Leader) (stay : ℕ) (show : Node → DdNode) (shows : Shows rows words show) (node : Node) (rest : List DdNode) where
+  as-shown : cond (is_struck (asking strikes dp) k (threshold_of strikes) (show node)) (Some None) (led_out (at_leader (asking strikes dp) k leaders (show node))) ≡ taken_out dp k strikes leaders (bare rows words node)
+  as-shown = ap₂ (λ b o. cond b (Some None) (led_out o)) (struck-same (asking strikes dp) k (threshold_of strikes) (show node) (bare rows words node) (shows.rows_are node) (shows.values_are node))
+      (leader_rough dp k (λ i row. rough_for strikes (dp.rough i row)) leaders (show node) ∙ at-leader-same dp k leaders (show node) (bare rows words node) (shows.rows_are node) (shows.values_are node))
 
   abbrev more_leaders : List Leader
   more_leaders = leaders_past leaders stay (show node)
 
   -- a node that is taken out
-  out-next : (o : Option Redirect) → taken_out dp k t leaders (bare rows words node) ≡ Some o
-      → (pruned_nodes dp k t leaders stay (show node ∷ rest) ≡ pruned_nodes dp k t leaders stay rest)
-      × (prune_redirects dp k t leaders stay (show node ∷ rest) ≡ o ∷ prune_redirects dp k t leaders stay rest)
-  out-next o h = out-test (is_struck dp k t (show node)) (at_leader dp k leaders (show node)) o
-      (pruned_nodes dp k t leaders stay rest) (show node ∷ pruned_nodes dp k t more_leaders (stay + 1) rest)
-      (prune_redirects dp k t leaders stay rest) (here stay ∷ prune_redirects dp k t more_leaders (stay + 1) rest) (as-shown ∙ h)
+  out-next : (o : Option Redirect) → taken_out dp k strikes leaders (bare rows words node) ≡ Some o
+      → (pruned_nodes (asking strikes dp) k (threshold_of strikes) leaders stay (show node ∷ rest) ≡ pruned_nodes (asking strikes dp) k (threshold_of strikes) leaders stay rest)
+      × (prune_redirects (asking strikes dp) k (threshold_of strikes) leaders stay (show node ∷ rest) ≡ o ∷ prune_redirects (asking strikes dp) k (threshold_of strikes) leaders stay rest)
+  out-next o h = out-test (is_struck (asking strikes dp) k (threshold_of strikes) (show node)) (at_leader (asking strikes dp) k leaders (show node)) o
+      (pruned_nodes (asking strikes dp) k (threshold_of strikes) leaders stay rest) (show node ∷ pruned_nodes (asking strikes dp) k (threshold_of strikes) more_leaders (stay + 1) rest)
+      (prune_redirects (asking strikes dp) k (threshold_of strikes) leaders stay rest) (here stay ∷ prune_redirects (asking strikes dp) k (threshold_of strikes) more_leaders (stay + 1) rest) (as-shown ∙ h)
 
   -- a node that stays
-  stays-next : taken_out dp k t leaders (bare rows words node) ≡ None
-      → (pruned_nodes dp k t leaders stay (show node ∷ rest) ≡ show node ∷ pruned_nodes dp k t more_leaders (stay + 1) rest)
-      × (prune_redirects dp k t leaders stay (show node ∷ rest) ≡ here stay ∷ prune_redirects dp k t more_leaders (stay + 1) rest)
-  stays-next h = stays-test (is_struck dp k t (show node)) (at_leader dp k leaders (show node))
-      (pruned_nodes dp k t leaders stay rest) (show node ∷ pruned_nodes dp k t more_leaders (stay + 1) rest)
-      (prune_redirects dp k t leaders stay rest) (here stay ∷ prune_redirects dp k t more_leaders (stay + 1) rest) (as-shown ∙ h)
+  stays-next : taken_out dp k strikes leaders (bare rows words node) ≡ None
+      → (pruned_nodes (asking strikes dp) k (threshold_of strikes) leaders stay (show node ∷ rest) ≡ show node ∷ pruned_nodes (asking strikes dp) k (threshold_of strikes) more_leaders (stay + 1) rest)
+      × (prune_redirects (asking strikes dp) k (threshold_of strikes) leaders stay (show node ∷ rest) ≡ here stay ∷ prune_redirects (asking strikes dp) k (threshold_of strikes) more_leaders (stay + 1) rest)
+  stays-next h = stays-test (is_struck (asking strikes dp) k (threshold_of strikes) (show node)) (at_leader (asking strikes dp) k leaders (show node))
+      (pruned_nodes (asking strikes dp) k (threshold_of strikes) leaders stay rest) (show node ∷ pruned_nodes (asking strikes dp) k (threshold_of strikes) more_leaders (stay + 1) rest)
+      (prune_redirects (asking strikes dp) k (threshold_of strikes) leaders stay rest) (here stay ∷ prune_redirects (asking strikes dp) k (threshold_of strikes) more_leaders (stay + 1) rest) (as-shown ∙ h)
 
 -- What was done and what is left.
 
@@ -69,8 +70,8 @@ drop-next old now i d left same less =
     let after = drop_more now i d (omega arith) in
     (before ∙ ap (λ x. x ∷ drop (i + 1) old) (sym at), ap (drop 1) (sym after ∙ (left ∙ before)))
 
-module _ (dp : Dp) (k : ℕ) (t : Option ℤ) (rows : List ℤ) (words : ℕ) (old : List Node) (ls : List LeaderAt) (now : List Node) (redirects : List (Option Redirect)) (stay i : ℕ) (d : Node)
-    (h : ArePruned dp k t rows words old ls now redirects stay i) (more : i < length old) where
+module _ (dp : Dp) (k : ℕ) (strikes : Strikes) (rows : List ℤ) (words : ℕ) (old : List Node) (ls : List LeaderAt) (now : List Node) (redirects : List (Option Redirect)) (stay i : ℕ) (d : Node)
+    (h : ArePruned dp k strikes rows words old ls now redirects stay i) (more : i < length old) where
   abbrev node : Node
   node = get_or now i d
 
@@ -83,16 +84,16 @@ module _ (dp : Dp) (k : ℕ) (t : Option ℤ) (rows : List ℤ) (words : ℕ) (o
   nodes-next : (show : Node → DdNode) → map show (drop i old) ≡ show node ∷ map show (drop (i + 1) old)
   nodes-next show = ap (map show) next.0
 
-  targets-more : (show : Node → DdNode) → Shows rows words show → (o : Option Redirect) (rest : List (Option Redirect)) → prune_redirects dp k t L stay (map show (drop i old)) ≡ o ∷ rest
-      → (redirects ++ o ∷ []) ++ rest ≡ prune_redirects dp k t [] 0 (map show old)
+  targets-more : (show : Node → DdNode) → Shows rows words show → (o : Option Redirect) (rest : List (Option Redirect)) → prune_redirects (asking strikes dp) k (threshold_of strikes) L stay (map show (drop i old)) ≡ o ∷ rest
+      → (redirects ++ o ∷ []) ++ rest ≡ prune_redirects (asking strikes dp) k (threshold_of strikes) [] 0 (map show old)
   targets-more show shows o rest is = append_assoc redirects (o ∷ []) rest ∙ (ap (λ l. redirects ++ l) (sym is) ∙ h.targets show shows)
 
   -- the next one is taken out
-  pub pruned-out : (o : Option Redirect) → taken_out dp k t L (bare rows words node) ≡ Some o → IsShort o
-      → ArePruned dp k t rows words old ls now (redirects ++ o ∷ []) stay (i + 1)
+  pub pruned-out : (o : Option Redirect) → taken_out dp k strikes L (bare rows words node) ≡ Some o → IsShort o
+      → ArePruned dp k strikes rows words old ls now (redirects ++ o ∷ []) stay (i + 1)
   pruned-out o out short =
       let low = h.few in
-      let one = λ (show : Node → DdNode) (shows : Shows rows words show). out-next dp k t rows words L stay show shows node (map show (drop (i + 1) old)) o out in
+      let one = λ (show : Node → DdNode) (shows : Shows rows words show). out-next dp k strikes rows words L stay show shows node (map show (drop (i + 1) old)) o out in
       record {
         left = next.1;
         size = h.size;
@@ -101,18 +102,18 @@ module _ (dp : Dp) (k : ℕ) (t : Option ℤ) (rows : List ℤ) (words : ℕ) (o
         leading = h.leading;
         short = Each-append IsShort redirects (o ∷ []) h.short (short, tt);
         among = h.among;
-        nodes = λ show shows. ap (λ l. map show (take stay now) ++ l) (sym (ap (pruned_nodes dp k t L stay) (nodes-next show) ∙ (one show shows).0)) ∙ h.nodes show shows;
-        targets = λ show shows. targets-more show shows o (prune_redirects dp k t L stay (map show (drop (i + 1) old))) (ap (prune_redirects dp k t L stay) (nodes-next show) ∙ (one show shows).1);
+        nodes = λ show shows. ap (λ l. map show (take stay now) ++ l) (sym (ap (pruned_nodes (asking strikes dp) k (threshold_of strikes) L stay) (nodes-next show) ∙ (one show shows).0)) ∙ h.nodes show shows;
+        targets = λ show shows. targets-more show shows o (prune_redirects (asking strikes dp) k (threshold_of strikes) L stay (map show (drop (i + 1) old))) (ap (prune_redirects (asking strikes dp) k (threshold_of strikes) L stay) (nodes-next show) ∙ (one show shows).1);
       }
 
   -- the next one stays
-  pub pruned-stays : taken_out dp k t L (bare rows words node) ≡ None → Each (IsNodeIn dp k rows words) old
-      → ArePruned dp k t rows words old (led_at ls stay node) (set now stay node) (redirects ++ here stay ∷ []) (stay + 1) (i + 1)
+  pub pruned-stays : taken_out dp k strikes L (bare rows words node) ≡ None → Each (IsNodeIn dp k rows words) old
+      → ArePruned dp k strikes rows words old (led_at ls stay node) (set now stay node) (redirects ++ here stay ∷ []) (stay + 1) (i + 1)
   pruned-stays out all =
       let low = h.few in
       let size = h.size in
       let rest = λ (show : Node → DdNode). map show (drop (i + 1) old) in
-      let one = λ (show : Node → DdNode) (shows : Shows rows words show). stays-next dp k t rows words L stay show shows node (rest show) out in
+      let one = λ (show : Node → DdNode) (shows : Shows rows words show). stays-next dp k strikes rows words L stay show shows node (rest show) out in
       let leads = λ (show : Node → DdNode) (shows : Shows rows words show). leaders-led dp k rows words ls stay node (show node) (shows.rows_are node) (shows.values_are node) (shows.exact_are node) in
       record {
         left = drop-set-lt (i + 1) now stay node (omega arith) ∙ next.1;
@@ -123,25 +124,25 @@ module _ (dp : Dp) (k : ℕ) (t : Option ℤ) (rows : List ℤ) (words : ℕ) (o
         short = Each-append IsShort redirects (here stay ∷ []) h.short (small_natural 0 (omega arith), tt);
         among = each-set (λ x. OneOf (λ (other : Node). other ≡ x) old) now stay node (each-get (λ x. OneOf (λ (other : Node). other ≡ x) old) now i d h.among (omega arith)) h.among;
         nodes = λ show shows. (
-            let later = pruned_nodes dp k t (leaders_of rows words (led_at ls stay node)) (stay + 1) (rest show) in
+            let later = pruned_nodes (asking strikes dp) k (threshold_of strikes) (leaders_of rows words (led_at ls stay node)) (stay + 1) (rest show) in
             let done = map show (take stay now) in
             let first : map show (take (stay + 1) (set now stay node)) ≡ done ++ show node ∷ [] = ap (map show) (take_more_set now stay node (omega arith)) ∙ map-append show (take stay now) (node ∷ []) in
-            let left : pruned_nodes dp k t L stay (map show (drop i old)) ≡ show node ∷ later =
-            ap (pruned_nodes dp k t L stay) (nodes-next show) ∙ ((one show shows).0 ∙ ap (λ x. show node ∷ pruned_nodes dp k t x (stay + 1) (rest show)) (sym (leads show shows))) in
+            let left : pruned_nodes (asking strikes dp) k (threshold_of strikes) L stay (map show (drop i old)) ≡ show node ∷ later =
+            ap (pruned_nodes (asking strikes dp) k (threshold_of strikes) L stay) (nodes-next show) ∙ ((one show shows).0 ∙ ap (λ x. show node ∷ pruned_nodes (asking strikes dp) k (threshold_of strikes) x (stay + 1) (rest show)) (sym (leads show shows))) in
             ap (λ l. l ++ later) first ∙ (append_assoc done (show node ∷ []) later ∙ (ap (λ l. done ++ l) (sym left) ∙ h.nodes show shows)));
         targets = λ show shows. (
-            let left = ap (prune_redirects dp k t L stay) (nodes-next show) ∙ ((one show shows).1 ∙ ap (λ x. here stay ∷ prune_redirects dp k t x (stay + 1) (rest show)) (sym (leads show shows))) in
-            targets-more show shows (here stay) (prune_redirects dp k t (leaders_of rows words (led_at ls stay node)) (stay + 1) (rest show)) left);
+            let left = ap (prune_redirects (asking strikes dp) k (threshold_of strikes) L stay) (nodes-next show) ∙ ((one show shows).1 ∙ ap (λ x. here stay ∷ prune_redirects (asking strikes dp) k (threshold_of strikes) x (stay + 1) (rest show)) (sym (leads show shows))) in
+            targets-more show shows (here stay) (prune_redirects (asking strikes dp) k (threshold_of strikes) (leaders_of rows words (led_at ls stay node)) (stay + 1) (rest show)) left);
       }
 
-pub pruned-none : (dp : Dp) (k : ℕ) (t : Option ℤ) (rows : List ℤ) (words : ℕ) (nodes : List Node) → ArePruned dp k t rows words nodes [] nodes [] 0 0
-pruned-none dp k t rows words nodes =
+pub pruned-none : (dp : Dp) (k : ℕ) (strikes : Strikes) (rows : List ℤ) (words : ℕ) (nodes : List Node) → ArePruned dp k strikes rows words nodes [] nodes [] 0 0
+pruned-none dp k strikes rows words nodes =
     record { left = refl; size = refl; few = omega arith; count = refl; leading = tt; short = tt; among = among-self nodes; nodes = λ show shows. refl; targets = λ show shows. refl }
 
 -- all nodes were looked at
-pub pruned-all : (dp : Dp) (k : ℕ) (t : Option ℤ) (rows : List ℤ) (words : ℕ) (old : List Node) (ls : List LeaderAt) (now : List Node) (redirects : List (Option Redirect)) (stay i : ℕ)
-    → ArePruned dp k t rows words old ls now redirects stay i → i ≡ length old → HasPruned dp k t rows words old now redirects stay
-pruned-all dp k t rows words old ls now redirects stay i h end =
+pub pruned-all : (dp : Dp) (k : ℕ) (strikes : Strikes) (rows : List ℤ) (words : ℕ) (old : List Node) (ls : List LeaderAt) (now : List Node) (redirects : List (Option Redirect)) (stay i : ℕ)
+    → ArePruned dp k strikes rows words old ls now redirects stay i → i ≡ length old → HasPruned dp k strikes rows words old now redirects stay
+pruned-all dp k strikes rows words old ls now redirects stay i h end =
     let L = leaders_of rows words ls in
     let none = drop_all i old (omega arith) in
     record {
@@ -149,15 +150,15 @@ pruned-all dp k t rows words old ls now redirects stay i h end =
       few = (let low = h.few in omega arith);
       short = h.short;
       among = h.among;
-      nodes = λ show shows. sym (append-nil (map show (take stay now))) ∙ (ap (λ l. map show (take stay now) ++ pruned_nodes dp k t L stay (map show l)) (sym none) ∙ h.nodes show shows);
-      targets = λ show shows. sym (append-nil redirects) ∙ (ap (λ l. redirects ++ prune_redirects dp k t L stay (map show l)) (sym none) ∙ h.targets show shows);
+      nodes = λ show shows. sym (append-nil (map show (take stay now))) ∙ (ap (λ l. map show (take stay now) ++ pruned_nodes (asking strikes dp) k (threshold_of strikes) L stay (map show l)) (sym none) ∙ h.nodes show shows);
+      targets = λ show shows. sym (append-nil redirects) ∙ (ap (λ l. redirects ++ prune_redirects (asking strikes dp) k (threshold_of strikes) L stay (map show l)) (sym none) ∙ h.targets show shows);
     }
 
 -- the same by equal parts
-pub pruned-by : (dp : Dp) (k : ℕ) (t : Option ℤ) (rows : List ℤ) (words : ℕ) (old : List Node) (ls ls2 : List LeaderAt) (now now2 : List Node) (redirects redirects2 : List (Option Redirect)) (stay stay2 i : ℕ)
-    → ArePruned dp k t rows words old ls now redirects stay i → ls2 ≡ ls → now2 ≡ now → redirects2 ≡ redirects → stay2 ≡ stay → ArePruned dp k t rows words old ls2 now2 redirects2 stay2 i
-pruned-by dp k t rows words old ls ls2 now now2 redirects redirects2 stay stay2 i h a b c d =
-    subst (λ x. ArePruned dp k t rows words old x now2 redirects2 stay2 i) (sym a)
-    (subst (λ x. ArePruned dp k t rows words old ls x redirects2 stay2 i) (sym b)
-    (subst (λ x. ArePruned dp k t rows words old ls now x stay2 i) (sym c)
-    (subst (λ x. ArePruned dp k t rows words old ls now redirects x i) (sym d) h)))
+pub pruned-by : (dp : Dp) (k : ℕ) (strikes : Strikes) (rows : List ℤ) (words : ℕ) (old : List Node) (ls ls2 : List LeaderAt) (now now2 : List Node) (redirects redirects2 : List (Option Redirect)) (stay stay2 i : ℕ)
+    → ArePruned dp k strikes rows words old ls now redirects stay i → ls2 ≡ ls → now2 ≡ now → redirects2 ≡ redirects → stay2 ≡ stay → ArePruned dp k strikes rows words old ls2 now2 redirects2 stay2 i
+pruned-by dp k strikes rows words old ls ls2 now now2 redirects redirects2 stay stay2 i h a b c d =
+    subst (λ x. ArePruned dp k strikes rows words old x now2 redirects2 stay2 i) (sym a)
+    (subst (λ x. ArePruned dp k strikes rows words old ls x redirects2 stay2 i) (sym b)
+    (subst (λ x. ArePruned dp k strikes rows words old ls now x stay2 i) (sym c)
+    (subst (λ x. ArePruned dp k strikes rows words old ls now redirects x i) (sym d) h)))

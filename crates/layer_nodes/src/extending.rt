@@ -6,7 +6,7 @@ ghost use Rattle.dp_model.specs.Lists.{Each};
 ghost use Rattle.dp_laws.specs.Restricted.Extensions.{candidates, all_joined};
 ghost use Rattle.layer_candidates.specs.Ways.{all_reached, IsNear, AllHaveZeros, AreJoined, AreDistinct};
 ghost use Rattle.layer_candidates.specs.Members.{members_as, IsMemberOf};
-ghost use Rattle.layer_candidates.specs.Extending.{HasRoom, HasExtended};
+ghost use Rattle.layer_candidates.specs.Extending.{HasWayRoom, HasExtended};
 ghost use Rattle.layer_nodes.specs.Expanding.{member_of, members_from, Trial, trials_by, trials_of, spanned, all_spanned, marked, AreTried};
 
 use crate::node::Node;
@@ -48,7 +48,7 @@ fn try_by<M: DpModel>(
     requires live { live ≤ length s.now }
     requires zeros { AllHaveZeros (M.meaning (M.numbers model.now)) (k + 1) live }
     requires joined { AreJoined (M.meaning (M.numbers model.now)) (k + 1) rows.old (length s.now) live ways.old.items folds.old heads.old next.old }
-    requires room { HasRoom (length s.now) (length ways.old.items + 1) rows.old (vec_capacity ways.old) folds.old next.old }
+    requires room { HasWayRoom (length s.now) (length ways.old.items + 1) rows.old (vec_capacity ways.old) folds.old next.old }
     requires marks_room { length ways.old.items < length marks.old }
     requires arcs_room { length arcs.old.items < vec_capacity arcs.old }
     ensures extended { HasExtended (M.meaning (M.numbers model.now)) k parent.step s.now parent.value (decision ∷ []) (length s.now) live rows.old ways.old.items rows.new ways.new.items folds.new heads.new next.new }
@@ -97,7 +97,7 @@ fn try_node<M: DpModel>(
     requires live { live ≤ length s.now }
     requires zeros { AllHaveZeros (M.meaning (M.numbers model.now)) (k + 1) live }
     requires joined { AreJoined (M.meaning (M.numbers model.now)) (k + 1) rows.old (length s.now) live ways.old.items folds.old heads.old next.old }
-    requires room { HasRoom (length s.now) (length ways.old.items + (M.meaning (M.numbers model.now)).choices k) rows.old (vec_capacity ways.old) folds.old next.old }
+    requires room { HasWayRoom (length s.now) (length ways.old.items + (M.meaning (M.numbers model.now)).choices k) rows.old (vec_capacity ways.old) folds.old next.old }
     requires marks_room { length ways.old.items + (M.meaning (M.numbers model.now)).choices k ≤ length marks.old }
     requires arcs_room { length arcs.old.items + (M.meaning (M.numbers model.now)).choices k ≤ vec_capacity arcs.old }
     ensures extended { HasExtended (M.meaning (M.numbers model.now)) k parent.step s.now parent.value (below ((M.meaning (M.numbers model.now)).choices k)) (length s.now) live rows.old ways.old.items rows.new ways.new.items folds.new heads.new next.new }
@@ -107,10 +107,13 @@ fn try_node<M: DpModel>(
     ensures arcs_few { length arcs.new.items ≤ length arcs.old.items + (M.meaning (M.numbers model.now)).choices k }
     ensures arcs_capacity { vec_capacity arcs.new ≡ vec_capacity arcs.old }
 {
-    'decisions: for decision in 0..model.choices(k) {
+    let choices = model.choices(k);
+    let mut decision = model.next_choice(k, s, 0);
+    'decisions: while decision < choices {
         try_by(
             model, k, parent, exact, s, decision, live, rows, ways, folds, heads, next, marks, arcs,
         );
+        decision = model.next_choice(k, s, decision + 1);
     }
 }
 
@@ -159,7 +162,7 @@ pub fn extend_layer<M: DpModel>(
     requires members { Each (IsMemberOf (M.meaning (M.numbers model.now)) k cells.now words) (members_from 0 nodes.old) }
     requires slots { 0 < length heads.old }
     requires few_nodes { length nodes.old < 2 ^ 32 }
-    requires room { HasRoom words (length nodes.old * (M.meaning (M.numbers model.now)).choices k) rows.old (vec_capacity ways.old) folds.old next.old }
+    requires room { HasWayRoom words (length nodes.old * (M.meaning (M.numbers model.now)).choices k) rows.old (vec_capacity ways.old) folds.old next.old }
     requires marks_room { length nodes.old * (M.meaning (M.numbers model.now)).choices k ≤ length marks.old }
     requires arcs_room { length nodes.old * (M.meaning (M.numbers model.now)).choices k ≤ vec_capacity arcs.old }
     ensures distinct { AreDistinct (M.meaning (M.numbers model.now)) (k + 1) rows.new words ways.new.items }

@@ -3,7 +3,7 @@
 //! A layer has its nodes in order, with their rows in one block of cells and their arcs in one vector; a node names the places
 //! of its row and of its first arc. `expand` gives the nodes of a layer an arc for each allowed decision and makes the next
 //! layer in the reduction order; `expand_sifted` does so but leaves out the nodes that are struck; `strike` takes nodes out of
-//! it; `keep_first` and `merge_rest` reduce it to a width. In each step the arcs of the layer above are redirected.
+//! it, and behind `expand_sifted` `drop_dominated` is enough; `keep_first` and `merge_rest` reduce it to a width. In each step the arcs of the layer above are redirected.
 //!
 //! It stands on `dp_model`, `dp_laws` and `layer_candidates`. Each step is proved to be the one that is defined in `dp_laws` on
 //! plain lists of nodes. Only the `prepare` calls take memory.
@@ -19,7 +19,6 @@ mod node;
 mod numbering;
 mod redirecting;
 mod rows;
-mod sorting;
 mod striking;
 
 pub use expanding::{Expansion, expand, expand_sifted};
@@ -27,4 +26,4 @@ pub use keeping::keep_first;
 pub use layer::Layer;
 pub use merging::merge_rest;
 pub use redirecting::Redirects;
-pub use striking::strike;
+pub use striking::{drop_dominated, strike};

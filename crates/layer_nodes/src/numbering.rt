@@ -8,10 +8,9 @@ ghost use Rattle.layer_candidates.specs.Rows.{row_at, HasZeros};
 ghost use Rattle.layer_candidates.specs.Ways.{way_at, AreDistinct};
 
 use crate::node::Node;
-use crate::sorting::{list_unstruck, sort};
 use dp_laws::DdArc;
 use dp_model::DpModel;
-use layer_candidates::{Key, Way, put_in_order};
+use layer_candidates::{Key, Way, list_unstruck, put_in_order, sort};
 
 /// Numbers the ways by the places of their keys.
 fn number(keys: &[Key], places: &mut [u32])

@@ -1,6 +1,6 @@
 //! Nodes that are struck, or that a leader dominates, are taken out of a layer.
 
-ghost use Rattle.std.specs.Prelude.{◌≡◌, ℕ, ◌≤◌, ◌<◌, ◌^◌, ◌∷◌, [], ◌++◌, List, IfSome, length, pos, set, Some, vec_capacity};
+ghost use Rattle.std.specs.Prelude.{◌≡◌, ℕ, ◌≤◌, ◌<◌, ◌^◌, ◌∷◌, [], ◌++◌, List, IfSome, length, pos, set, Some, None, vec_capacity};
 ghost use Rattle.dp_model.specs.Lists.{Each};
 ghost use Rattle.dp_laws.specs.Rules.Redirects.{with_redirected};
 ghost use Rattle.dp_laws.specs.Rules.Pruning.{is_struck, pruned_nodes, prune_redirects};
@@ -8,7 +8,7 @@ ghost use Rattle.layer_nodes.specs.Leading.{IsNodeIn, IsLeaderIn, leaders_of, le
 ghost use Rattle.layer_nodes.specs.Nodes.{shown_layer, shown_below};
 ghost use Rattle.layer_nodes.specs.Redirecting.{IsShort};
 ghost use Rattle.layer_nodes.specs.Steps.{AreAmong, IsNodeOf, MayBeLengthened, KeepsNodes, KeepsRoom};
-ghost use Rattle.layer_nodes.specs.Striking.{taken_out, HasPruned};
+ghost use Rattle.layer_nodes.specs.Striking.{threshold_of, asking, unstruck, taken_out, HasPruned};
 
 use crate::layer::Layer;
 use crate::leading::{at_leader, lead};
@@ -17,18 +17,30 @@ use crate::redirecting::{LeaderAt, Redirect, Redirects, redirect_layer};
 use dp_model::DpModel;
 use layer_candidates::{is_struck_by, row};
 
-/// Whether no completion of the node is known to be above the threshold.
+/// Which nodes are struck before the leaders are asked.
+#[derive(Clone, Copy, Debug)]
+pub(crate) enum Strikes {
+    /// Those that their rough bound lifts to at most the threshold, and those without one.
+    AtMost(Option<i64>),
+    /// None: the rough bounds are not asked.
+    Nothing,
+}
+
+/// Whether the node is struck.
 fn is_struck<M: DpModel>(
     model: &M,
     k: usize,
-    threshold: Option<i64>,
+    strikes: Strikes,
     rows: &[i64],
     words: usize,
     node: Node,
 ) -> bool
     requires node { IsNodeIn (M.meaning (M.numbers model.now)) k rows.now words node }
-    ensures { result ≡ is_struck (M.meaning (M.numbers model.now)) k threshold (bare rows.now words node) }
+    ensures { result ≡ is_struck (asking strikes (M.meaning (M.numbers model.now))) k (threshold_of strikes) (bare rows.now words node) }
 {
+    let Strikes::AtMost(threshold) = strikes else {
+        return false;
+    };
     let rough = model.rough_by_rank(k, row(rows, words, node.row as usize), node.rank);
     is_struck_by(node.value, rough, threshold)
 }
@@ -37,7 +49,7 @@ fn is_struck<M: DpModel>(
 fn taken_out<M: DpModel>(
     model: &M,
     k: usize,
-    threshold: Option<i64>,
+    strikes: Strikes,
     rows: &[i64],
     words: usize,
     leaders: &[LeaderAt],
@@ -45,10 +57,10 @@ fn taken_out<M: DpModel>(
 ) -> Option<Option<Redirect>>
     requires leaders { Each (IsLeaderIn (M.meaning (M.numbers model.now)) k rows.now words) leaders.now }
     requires node { IsNodeIn (M.meaning (M.numbers model.now)) k rows.now words node }
-    ensures out { result ≡ taken_out (M.meaning (M.numbers model.now)) k threshold (leaders_of rows.now words leaders.now) (bare rows.now words node) }
+    ensures out { result ≡ taken_out (M.meaning (M.numbers model.now)) k strikes (leaders_of rows.now words leaders.now) (bare rows.now words node) }
     ensures short { IfSome result (λ redirect. IsShort redirect) }
 {
-    if is_struck(model, k, threshold, rows, words, node) {
+    if is_struck(model, k, strikes, rows, words, node) {
         return Some(None);
     }
     let redirect = at_leader(model, k, rows, words, leaders, node)?;
@@ -86,7 +98,7 @@ fn keep_at(
 fn prune<M: DpModel>(
     model: &M,
     k: usize,
-    threshold: Option<i64>,
+    strikes: Strikes,
     rows: &[i64],
     words: usize,
     nodes: &mut [Node],
@@ -97,7 +109,7 @@ fn prune<M: DpModel>(
     requires small { length nodes.old < 2 ^ 32 }
     requires leaders_room { 16 ≤ vec_capacity leaders.old }
     requires redirects_room { length nodes.old ≤ vec_capacity redirects.old }
-    ensures pruned { HasPruned (M.meaning (M.numbers model.now)) k threshold rows.now words nodes.old nodes.new redirects.new.items result }
+    ensures pruned { HasPruned (M.meaning (M.numbers model.now)) k strikes rows.now words nodes.old nodes.new redirects.new.items result }
     ensures leaders_capacity { vec_capacity leaders.new ≡ vec_capacity leaders.old }
     ensures redirects_capacity { vec_capacity redirects.new ≡ vec_capacity redirects.old }
 {
@@ -106,7 +118,7 @@ fn prune<M: DpModel>(
     let mut stay = 0;
     'nodes: for i in 0..nodes.len() {
         let node = nodes[i];
-        let out = taken_out(model, k, threshold, rows, words, leaders.as_slice(), node);
+        let out = taken_out(model, k, strikes, rows, words, leaders.as_slice(), node);
         match out {
             Some(redirect) => redirects.push_reserved(redirect),
             None => {
@@ -116,6 +128,40 @@ fn prune<M: DpModel>(
         }
     }
     stay
+}
+
+/// Takes out the nodes of the next layer, at depth `k`, that are struck, or that one of the first 16 exact ones that stay
+/// dominates; the arcs of the nodes above follow.
+fn take_out<M: DpModel>(
+    model: &M,
+    k: usize,
+    strikes: Strikes,
+    above: &mut Layer,
+    next: &mut Layer,
+    redirects: &mut Redirects,
+)
+    requires nodes { Each (IsNodeOf (M.meaning (M.numbers model.now)) k) next.old.nodes }
+    requires lengths { Each MayBeLengthened above.old.nodes }
+    requires room { length next.old.nodes ≤ redirects.old }
+    ensures next { (paths : ℕ → List ℕ) → shown_below paths next.new.nodes ≡ pruned_nodes (asking strikes (M.meaning (M.numbers model.now))) k (threshold_of strikes) [] 0 (shown_below paths next.old.nodes) }
+    ensures above { (paths below : ℕ → List ℕ) → shown_layer paths above.new.nodes ≡ with_redirected (prune_redirects (asking strikes (M.meaning (M.numbers model.now))) k (threshold_of strikes) [] 0 (shown_below below next.old.nodes)) (shown_layer paths above.old.nodes) }
+    ensures stay { AreAmong next.old.nodes next.new.nodes }
+    ensures rest { KeepsNodes above.old above.new }
+    ensures next_rooms { KeepsRoom next.old next.new }
+    ensures redirects { redirects.new ≡ redirects.old }
+{
+    let stay = prune(
+        model,
+        k,
+        strikes,
+        next.rows.as_slice(),
+        next.words,
+        next.nodes.as_mut_slice(),
+        &mut redirects.leaders,
+        &mut redirects.all,
+    );
+    next.nodes.truncate(stay);
+    redirect_layer(above, redirects.all.as_slice());
 }
 
 /// Takes out the nodes of the next layer, at depth `k`, that are struck by their rough bound, or that one of the first 16 exact
@@ -138,16 +184,28 @@ pub fn strike<M: DpModel>(
     ensures next_rooms { KeepsRoom next.old next.new }
     ensures redirects { redirects.new ≡ redirects.old }
 {
-    let stay = prune(
-        model,
-        k,
-        threshold,
-        next.rows.as_slice(),
-        next.words,
-        next.nodes.as_mut_slice(),
-        &mut redirects.leaders,
-        &mut redirects.all,
-    );
-    next.nodes.truncate(stay);
-    redirect_layer(above, redirects.all.as_slice());
+    take_out(model, k, Strikes::AtMost(threshold), above, next, redirects);
+}
+
+/// Takes out the nodes of the next layer, at depth `k`, that one of the first 16 exact ones that stay dominates; the arcs of the
+/// nodes above follow. No node is struck, and no rough bound asked: it is for a layer whose struck nodes were left out before. It
+/// takes no memory.
+pub fn drop_dominated<M: DpModel>(
+    model: &M,
+    k: usize,
+    above: &mut Layer,
+    next: &mut Layer,
+    redirects: &mut Redirects,
+)
+    requires nodes { Each (IsNodeOf (M.meaning (M.numbers model.now)) k) next.old.nodes }
+    requires lengths { Each MayBeLengthened above.old.nodes }
+    requires room { length next.old.nodes ≤ redirects.old }
+    ensures next { (paths : ℕ → List ℕ) → shown_below paths next.new.nodes ≡ pruned_nodes (unstruck (M.meaning (M.numbers model.now))) k None [] 0 (shown_below paths next.old.nodes) }
+    ensures above { (paths below : ℕ → List ℕ) → shown_layer paths above.new.nodes ≡ with_redirected (prune_redirects (unstruck (M.meaning (M.numbers model.now))) k None [] 0 (shown_below below next.old.nodes)) (shown_layer paths above.old.nodes) }
+    ensures stay { AreAmong next.old.nodes next.new.nodes }
+    ensures rest { KeepsNodes above.old above.new }
+    ensures next_rooms { KeepsRoom next.old next.new }
+    ensures redirects { redirects.new ≡ redirects.old }
+{
+    take_out(model, k, Strikes::Nothing, above, next, redirects);
 }

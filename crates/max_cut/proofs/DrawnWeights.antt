@@ -1,13 +1,11 @@
 -- Weights that are drawn one after another.
-use Rattle.std.proofs.Common.{◌≡◌, ◌∙◌, ℕ, ◌+◌, ◌≤◌, ℤ, List, [], ◌∷◌, ◌++◌, length, sym, ap, subst, arith, length-append, Result, Ok, Err, IfOk}
+use Rattle.std.proofs.Common.{◌≡◌, ◌∙◌, ℕ, ◌+◌, ℤ, List, [], ◌∷◌, ◌++◌, length, sym, ap, subst, arith, length-append}
 use Rattle.std.specs.List.{All}
 use Rattle.std.proofs.lemmas.List.Elements.{All-nil, All-push}
 use Rattle.draws.specs.Draws.{steps}
 use Rattle.draws.proofs.Steps.{steps_more, steps_none}
-use Rattle.max_cut.specs.declared.instance.MaxCut.{MaxCut}
-use Rattle.max_cut.specs.Graph.{IsGraph, IsWeight, pairs_of}
-use Rattle.max_cut.specs.Generating.{behind_weight, generated, weight_drawn, with_weight}
-use Rattle.max_cut.specs.Shown.{instance_in}
+use Rattle.max_cut.specs.Graph.{IsWeight}
+use Rattle.max_cut.specs.Generating.{behind_weight, weight_drawn, with_weight}
 
 -- so many weights are drawn from the seed, and these draws are left
 pub record AreDrawn (seed k x : ℕ) (weights : List ℤ) : Type 0 where
@@ -29,12 +27,3 @@ one_more seed k x y weights more weight d is behind small pushed = record {
   count = ap length pushed ∙ (let c = d.count in omega (arith, length-append weights (weight ∷ [])));
   small = subst (All IsWeight) (sym pushed) (All-push IsWeight weights weight d.small small);
 }
-
-pub is_graph : (n seed x : ℕ) (weights : List ℤ) → n ≤ 1024 → AreDrawn seed (pairs_of n) x weights → IsGraph (record { vertices = n; weights = weights })
-is_graph n seed x weights few d = record { few = few; whole = d.count; small = d.small }
-
--- the instance of all of them
-pub all_drawn : {E : Type 0} (r : Result MaxCut E) (n seed x : ℕ) (weights : List ℤ) → AreDrawn seed (pairs_of n) x weights
-    → IfOk r (λ m. instance_in m ≡ record { vertices = n; weights = weights }) → IfOk r (λ m. instance_in m ≡ generated n seed)
-all_drawn (Err e) n seed x weights d is = tt
-all_drawn (Ok m) n seed x weights d is = is ∙ ap (λ ws. record { vertices = n; weights = ws }) (sym (ap (λ p. p.0) d.drawn))

@@ -4,9 +4,9 @@ use Rattle.std.specs.Prelude.{int_le}
 use Rattle.std.proofs.lemmas.List.{drop_more, length-drop, length-replicate, get_or-append_right, get_or-drop, get_or-take}
 use Rattle.benefit_rows.specs.Benefits.{size_of}
 use Rattle.max_cut.specs.Graph.{Graph, IsGraph, row_start, row_of, weights_from, weight_at}
-use Rattle.max_cut.specs.GraphLaws.{length-row_of}
+use Rattle.max_cut.specs.Laws.Graph.{length-row_of}
 use Rattle.max_cut.specs.Program.{zeros, grown_by, is_within, limits_of, words_of}
-use Rattle.max_cut.specs.StateLaws.{length-limits_of, words_of-some}
+use Rattle.max_cut.specs.Laws.States.{length-limits_of, words_of-some}
 
 grown_at : (rs ws : List ℤ) (i : ℕ) → i < length rs → i < length ws → get_or (grown_by rs ws) i (pos 0) ≡ get_or rs i (pos 0) +ℤ size_of (get_or ws i (pos 0))
 grown_at [] ws i h k = absurd (omega arith)

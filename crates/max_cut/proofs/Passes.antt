@@ -8,7 +8,7 @@ use Rattle.benefit_rows.specs.BenefitLaws.{size_of-add}
 use Rattle.benefit_rows.proofs.Sums.{sums_of-at}
 use Rattle.benefit_rows.proofs.Steps.{fits_by_size, read_at, read_by_size, size_of-at}
 use Rattle.max_cut.specs.Graph.{negatives_of}
-use Rattle.max_cut.specs.PullLaws.{length-pulls, size_of-pull}
+use Rattle.max_cut.specs.Laws.Pulls.{length-pulls, size_of-pull}
 use Rattle.max_cut.specs.Program.{pull_of, pulls_of}
 use Rattle.benefit_rows.specs.Benefits.{sums_of}
 

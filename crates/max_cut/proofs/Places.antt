@@ -1,7 +1,7 @@
 -- Where pairs stand.
 use Rattle.std.proofs.Common.{◌≡◌, ◌≢◌, ℕ, zero, suc, ◌+◌, ◌-◌, ◌*◌, ◌/◌, ◌<◌, ◌≤◌, arith, ap, refl}
 use Rattle.max_cut.specs.Graph.{pairs_of, row_start}
-use Rattle.max_cut.specs.GraphLaws.{row_start-pairs}
+use Rattle.max_cut.specs.Laws.Graph.{row_start-pairs}
 
 pairs_of-doubled : (m : ℕ) → 2 * pairs_of (suc m) ≡ suc m * m
 pairs_of-doubled zero = refl

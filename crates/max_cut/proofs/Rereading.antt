@@ -18,7 +18,7 @@ use Rattle.dd_text.specs.Decimal.{decimal_of}
 use Rattle.dd_text.specs.Printed.{IsBefore}
 use Rattle.dd_text.proofs.Printing.{before_start, passes_number, passes_natural, finishes}
 use Rattle.max_cut.specs.Graph.{Graph, IsGraph, IsWeight, pairs_of, row_start, row_of, weights_from}
-use Rattle.max_cut.specs.GraphLaws.{row_start-next, row_within, length-row_of, weights_from-split, weights_from-none, pairs_of-most}
+use Rattle.max_cut.specs.Laws.Graph.{row_start-next, row_within, length-row_of, weights_from-split, weights_from-none, pairs_of-most}
 use Rattle.max_cut.specs.Program.{zeros}
 use Rattle.max_cut.specs.Edges.{vertex_from, vertex_at, place_among, with_edge, made_before, edge_at, instance_at}
 use Rattle.max_cut.specs.EdgeLines.{is_none, edges_in, edge_line, row_lines, lines_from, text_of}

@@ -8,7 +8,7 @@ use Rattle.benefit_rows.specs.BenefitLaws.{rank_of-positive, rank_of-drop, size_
 use Rattle.benefit_rows.proofs.Steps.{rank_of-drop_more, read_at}
 use Rattle.max_cut.specs.Program.{pulls_of, settled_of}
 use Rattle.benefit_rows.specs.Benefits.{sums_of}
-use Rattle.max_cut.specs.PullLaws.{length-pulls, rank_of-pulls, settled_of-is_gap, settled_of-positive}
+use Rattle.max_cut.specs.Laws.Pulls.{length-pulls, rank_of-pulls, settled_of-is_gap, settled_of-positive}
 use Rattle.benefit_rows.specs.BenefitLaws.{length-sums_of}
 
 size_of-back : (s p : ℤ) → size_of (s -ℤ (s +ℤ p)) ≡ size_of p

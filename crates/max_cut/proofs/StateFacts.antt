@@ -10,11 +10,11 @@ use Rattle.dp_model.specs.NumberLaws.{int_le-is}
 use Rattle.dp_model.specs.Gaps.{IsStateOf}
 use Rattle.max_cut.specs.declared.instance.MaxCut.{MaxCut}
 use Rattle.max_cut.specs.Graph.{Graph, IsGraph, row_of, weights_from}
-use Rattle.max_cut.specs.GraphLaws.{length-row_of, rank_of-split, rank_of-most, rank_of-weights_from}
+use Rattle.max_cut.specs.Laws.Graph.{length-row_of, rank_of-split, rank_of-most, rank_of-weights_from}
 use Rattle.max_cut.specs.Program.{zeros, pulls_of, grown_by, is_within, limits_of, words_of, stepped}
 use Rattle.benefit_rows.specs.Benefits.{sums_of}
 use Rattle.max_cut.specs.Shown.{instance_in, program_in}
-use Rattle.max_cut.specs.StateLaws.{length-state, rank_of-state, words_of-some}
+use Rattle.max_cut.specs.Laws.States.{length-state, rank_of-state, words_of-some}
 use Rattle.benefit_rows.proofs.Steps.{size_of-at}
 
 -- the vertices before k have no benefit

@@ -5,8 +5,5 @@ pub mod Edges
 pub mod EdgeLines
 pub mod Shown
 pub mod Generating
-pub mod GraphLaws
-pub mod PullLaws
-pub mod StateLaws
-pub mod ProgramLaws
-pub mod CutLaws
+-- what an `impl` cites and no clause
+pub mod Laws

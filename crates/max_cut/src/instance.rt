@@ -1,7 +1,7 @@
 //! An instance, with what is made once of its graph.
 
 ghost use Rattle.std.specs.Prelude.{◌≡◌};
-ghost use Rattle.max_cut.specs.Graph.{IsPrepared};
+ghost use Rattle.max_cut.specs.Graph.{IsPreparedGraph};
 
 use crate::layers::sum_of_negatives;
 use crate::rests::sizes_of_rests;
@@ -17,7 +17,7 @@ pub struct MaxCut {
     // For each vertex the sum of the sizes of the weights of pairs from it on, and a last 0.
     pub(crate) sizes: Vec<i64>,
     pub(crate) negatives: i64,
-    ghost prepared: { IsPrepared (record { vertices = vertices; weights = weights.items }) sizes.items negatives },
+    ghost prepared: { IsPreparedGraph (record { vertices = vertices; weights = weights.items }) sizes.items negatives },
 }
 
 impl MaxCut {

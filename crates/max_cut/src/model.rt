@@ -54,7 +54,7 @@ impl MaxCut {
 impl DpModel for MaxCut {
     ghost use Rattle.max_cut.specs.Graph.{numbers_of};
     ghost use Rattle.max_cut.specs.Program.{program};
-    ghost use Rattle.max_cut.specs.ProgramLaws.{lawful_program, chained_program};
+    ghost use Rattle.max_cut.specs.Laws.Program.{lawful_program, chained_program};
 
     ghost numbers = { λ m. numbers_of (record { vertices = m.vertices; weights = m.weights.items }) };
 

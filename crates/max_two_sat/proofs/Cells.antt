@@ -10,11 +10,12 @@ use Rattle.benefit_rows.proofs.Steps.{size_of-at, read_by_size}
 use Rattle.max_two_sat.specs.declared.weights.PairWeights.{PairWeights}
 use Rattle.max_two_sat.specs.declared.weights.UnitWeights.{UnitWeights}
 use Rattle.max_two_sat.specs.Instance.{pair_total, pairs_total, unit_total, units_total, no_pair, no_unit}
-use Rattle.max_two_sat.specs.Kept.{PairIsPositive, pair_is_positive, pairs_are_positive, pair-positive, UnitIsPositive, unit_is_positive, units_are_positive, unit-positive}
+use Rattle.max_two_sat.specs.Limits.{PairIsPositive, pair_is_positive, pairs_are_positive, UnitIsPositive, unit_is_positive, units_are_positive}
+use Rattle.max_two_sat.specs.Laws.Limits.{pair-positive, unit-positive}
 use Rattle.max_two_sat.specs.Fitting.{FitsBenefits, FitsState}
 use Rattle.max_two_sat.specs.Program.{settled, open_true, open_false, cell_part, row_gain, shared_gain, lesser_units}
-use Rattle.max_two_sat.specs.SizeLaws.{cell_part-positive, shared_gain-positive, shared_gain-most, lesser_units-positive, lesser_units-most}
-use Rattle.max_two_sat.specs.Totals.{all-at, all-drop, pair_total-low, total_by-at, unit_total-low}
+use Rattle.max_two_sat.specs.Laws.Sizes.{cell_part-positive, shared_gain-positive, shared_gain-most, lesser_units-positive, lesser_units-most}
+use Rattle.max_two_sat.specs.Laws.Totals.{all-at, all-drop, pair_total-low, total_by-at, unit_total-low}
 use Rattle.max_two_sat.proofs.RunningSums.{PartsAdd, SumGrows, parts-add, sum-grows, sum-done}
 
 -- the parts of an entry for a decision

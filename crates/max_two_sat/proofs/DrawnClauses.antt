@@ -8,8 +8,8 @@ use Rattle.max_two_sat.specs.declared.header.Header.{Header}
 use Rattle.max_two_sat.specs.declared.header.Form.TheVariants.{Weighted}
 use Rattle.max_two_sat.specs.declared.instance.MaxTwoSat.{MaxTwoSat}
 use Rattle.max_two_sat.specs.Clauses.{FitsLiterals, Gathered, gathered_with, nothing_gathered}
-use Rattle.max_two_sat.specs.Model.{instance_in}
-use Rattle.max_two_sat.specs.Room.{HasRoom}
+use Rattle.max_two_sat.specs.Shown.{instance_in}
+use Rattle.max_two_sat.specs.Room.{HasClauseRoom}
 use Rattle.max_two_sat.specs.Generating.{IsDrawing, behind_clause, clause_drawn, generated, with_clause_drawn}
 use Rattle.max_two_sat.proofs.Gathering.{clause-fits, total-low, way-begins}
 
@@ -18,7 +18,7 @@ header n = record { variables = n; clauses = 3 * n; form = Weighted None }
 
 -- a clause of a weight from 1 to 10 may be added
 pub record Fits (n : ℕ) (g : Gathered) (w : ℕ) (literals : Literals) : Type 0 where
-  pub room : HasRoom g.instance (pos w)
+  pub room : HasClauseRoom g.instance (pos w)
   pub total : (g.total +ℤ pos w) ≤ℤ pos (2 ^ 48)
   pub low : pos 0 ≤ℤ g.total
   pub after : IsDrawing n (gathered_with g (pos w) literals)
@@ -63,9 +63,3 @@ one_more n seed k x y g more d is behind drawing counted = record {
   drawing = drawing;
   count = let c = d.count in omega (arith, counted);
 }
-
--- the instance of all of them
-pub all_drawn : {E : Type 0} (r : Result MaxTwoSat E) (n seed x : ℕ) (g : Gathered) → AreDrawn n seed (3 * n) x g → IfOk r (λ m. instance_in m ≡ g.instance)
-    → IfOk r (λ m. instance_in m ≡ generated n seed)
-all_drawn (Err e) n seed x g d is = tt
-all_drawn (Ok m) n seed x g d is = is ∙ sym (ap (λ p. p.0.instance) d.drawn)

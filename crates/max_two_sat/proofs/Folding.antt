@@ -12,10 +12,12 @@ use Rattle.max_two_sat.specs.declared.weights.UnitWeights.{UnitWeights}
 use Rattle.max_two_sat.specs.declared.weights.PairWeights.{PairWeights}
 use Rattle.max_two_sat.specs.Clauses.{empty_instance, heavier_unit, heavier_pair, place_of_pair, with_clause}
 use Rattle.max_two_sat.specs.Instance.{Instance, rows_of, pair_count, no_pair, no_unit}
-use Rattle.max_two_sat.specs.Kept.{IsKept, PairIsPositive, UnitIsPositive, pairs_are_positive, units_are_positive, pair_is_positive, unit_is_positive, unit-positive, pair-positive}
+use Rattle.max_two_sat.specs.Limits.{IsWithinLimits, PairIsPositive, UnitIsPositive, pairs_are_positive, units_are_positive, pair_is_positive, unit_is_positive}
+use Rattle.max_two_sat.specs.Laws.Limits.{unit-positive, pair-positive}
 use Rattle.max_two_sat.specs.Lines.{Clause, clause_where, clauses_of, literal, tautology_lines, unit_lines, units_lines, pair_lines, row_lines, rows_lines}
-use Rattle.max_two_sat.specs.Table.{entries_before, entries_before-more}
-use Rattle.max_two_sat.specs.Totals.{all-drop, all-take}
+use Rattle.max_two_sat.specs.Table.{entries_before}
+use Rattle.max_two_sat.proofs.Table.{entries_before-more}
+use Rattle.max_two_sat.specs.Laws.Totals.{all-drop, all-take}
 use Rattle.max_two_sat.proofs.Gathering.{two-in-order}
 
 abbrev pub add_to : Instance → Clause → Instance
@@ -175,7 +177,7 @@ tautology-added t us ps low =
     (λ none. ap (λ z. instance_with z us ps) (sym none))
 
 -- all clauses together
-pub clauses-added : (i : Instance) → IsKept i → fold add_to (empty_instance (length i.units)) (clauses_of i) ≡ i
+pub clauses-added : (i : Instance) → IsWithinLimits i → fold add_to (empty_instance (length i.units)) (clauses_of i) ≡ i
 unfolding clauses_of
 clauses-added i kept =
     let n : ℕ = length i.units in

@@ -19,11 +19,12 @@ use Rattle.max_two_sat.specs.declared.weights.UnitWeights.{UnitWeights}
 use Rattle.max_two_sat.specs.declared.weights.PairWeights.{PairWeights}
 use Rattle.max_two_sat.specs.Clauses.{FitsLiteral, FitsLiterals, Gathered, gathered_with, nothing_gathered, heavier_unit, heavier_pair, place_of_pair, same_sign, with_clause, with_two, with_pair, with_tautology, with_unit}
 use Rattle.max_two_sat.specs.Instance.{Instance, pair_count, unit_total, pair_total, units_total, pairs_total, total_by, no_pair, no_unit}
-use Rattle.max_two_sat.specs.Kept.{PairIsPositive, UnitIsPositive, pairs_are_positive, units_are_positive, pair_is_positive, unit_is_positive}
+use Rattle.max_two_sat.specs.Limits.{PairIsPositive, UnitIsPositive, pairs_are_positive, units_are_positive, pair_is_positive, unit_is_positive}
 use Rattle.max_two_sat.specs.Lines.{line_count, pair_weighing, unit_weighing, weighs}
-use Rattle.max_two_sat.specs.Room.{FormGives, FormKeeps, HasRoom, IsGathered, IsUnderWay}
-use Rattle.max_two_sat.specs.Table.{entries_before, entries_before-more, entries_before-most}
-use Rattle.max_two_sat.specs.Totals.{units_total-positive, pairs_total-positive}
+use Rattle.max_two_sat.specs.Room.{FormGives, FormKeeps, HasClauseRoom, IsGathered, IsGathering}
+use Rattle.max_two_sat.specs.Table.{entries_before}
+use Rattle.max_two_sat.proofs.Table.{entries_before-more, entries_before-most}
+use Rattle.max_two_sat.specs.Laws.Totals.{units_total-positive, pairs_total-positive}
 use Rattle.max_two_sat.proofs.Cells.{pair-at, unit-at}
 
 pub entries_before-all : (n : ℕ) → entries_before n n ≡ pair_count n
@@ -43,7 +44,7 @@ pub record RoomLeaves (i : Instance) (weight : ℤ) : Type 0 where
   pub units : (units_total i.units +ℤ weight) ≤ℤ pos (2 ^ 48)
   pub pairs : (pairs_total i.pairs +ℤ weight) ≤ℤ pos (2 ^ 48)
 
-pub room-leaves : (i : Instance) (weight : ℤ) → HasRoom i weight → RoomLeaves i weight
+pub room-leaves : (i : Instance) (weight : ℤ) → HasClauseRoom i weight → RoomLeaves i weight
 room-leaves i weight room =
     let units = units_total-positive i.units room.units in
     let pairs = pairs_total-positive i.pairs room.pairs in
@@ -127,7 +128,7 @@ pub record Keeps (i next : Instance) (w : ℤ) : Type 0 where
   pub lines : line_count next ≤ line_count i + 1
   pub some : weighs next.tautologies ≤ length next.units
 
-keeps-unit : (i : Instance) (w : ℤ) (a : Literal) → HasRoom i w → weighs i.tautologies ≤ length i.units → FitsLiteral (length i.units) a → Keeps i (with_unit i w a) w
+keeps-unit : (i : Instance) (w : ℤ) (a : Literal) → HasClauseRoom i w → weighs i.tautologies ≤ length i.units → FitsLiteral (length i.units) a → Keeps i (with_unit i w a) w
 keeps-unit i w a room some fits =
     let old : UnitWeights = get_or i.units a.variable no_unit in
     let there = unit-at i.units a.variable no_unit fits room.units in
@@ -145,7 +146,7 @@ keeps-unit i w a room some fits =
       some = omega (arith, count);
     }
 
-keeps-pair : (i : Instance) (w : ℤ) (a b : Literal) → HasRoom i w → weighs i.tautologies ≤ length i.units → a.variable < b.variable → FitsLiteral (length i.units) b → Keeps i (with_pair i w a b) w
+keeps-pair : (i : Instance) (w : ℤ) (a b : Literal) → HasClauseRoom i w → weighs i.tautologies ≤ length i.units → a.variable < b.variable → FitsLiteral (length i.units) b → Keeps i (with_pair i w a b) w
 keeps-pair i w a b room some less fits =
     let place : ℕ = place_of_pair (length i.units) a.variable b.variable in
     let inside : place < length i.pairs = omega (arith, place-inside (length i.units) a.variable b.variable less fits, room.whole) in
@@ -164,7 +165,7 @@ keeps-pair i w a b room some less fits =
       some = some;
     }
 
-keeps-tautology : (i : Instance) (w : ℤ) → HasRoom i w → 0 < length i.units → Keeps i (with_tautology i w) w
+keeps-tautology : (i : Instance) (w : ℤ) → HasClauseRoom i w → 0 < length i.units → Keeps i (with_tautology i w) w
 keeps-tautology i w room some = record {
   units_count = refl;
   pairs_count = refl;
@@ -176,7 +177,7 @@ keeps-tautology i w room some = record {
   some = omega (arith, weighs-most (i.tautologies +ℤ w));
 }
 
-keeps-two : (i : Instance) (w : ℤ) (a b : Literal) → HasRoom i w → weighs i.tautologies ≤ length i.units → FitsLiteral (length i.units) a → FitsLiteral (length i.units) b → Keeps i (with_two i w a b) w
+keeps-two : (i : Instance) (w : ℤ) (a b : Literal) → HasClauseRoom i w → weighs i.tautologies ≤ length i.units → FitsLiteral (length i.units) a → FitsLiteral (length i.units) b → Keeps i (with_two i w a b) w
 keeps-two i w a b room some first second =
     elim (a.variable == b.variable) as (λ t. (a.variable == b.variable) ≡ t →
     Keeps i (if t then (if same_sign a.positive b.positive then with_unit i w a else with_tautology i w) else (if nat_lt a.variable b.variable then with_pair i w a b else with_pair i w b a)) w) [
@@ -192,7 +193,7 @@ keeps-two i w a b room some first second =
           ] refl
     ] refl
 
-pub keeps : (i : Instance) (w : ℤ) (literals : Literals) → HasRoom i w → weighs i.tautologies ≤ length i.units → FitsLiterals (length i.units) literals → Keeps i (with_clause i w literals) w
+pub keeps : (i : Instance) (w : ℤ) (literals : Literals) → HasClauseRoom i w → weighs i.tautologies ≤ length i.units → FitsLiterals (length i.units) literals → Keeps i (with_clause i w literals) w
 keeps i w Empty room some fits = record {
   units_count = refl;
   pairs_count = refl;
@@ -212,7 +213,7 @@ pub total-low : (g : Gathered) → IsGathered g → pos 0 ≤ℤ g.total
 total-low g kept =
     omega (arith, ints, kept.weight, kept.tautologies, units_total-positive g.instance.units kept.units, pairs_total-positive g.instance.pairs kept.pairs)
 
-room-for : (g : Gathered) (w : ℤ) → IsGathered g → pos 0 ≤ℤ w → (g.total +ℤ w) ≤ℤ pos (2 ^ 48) → HasRoom g.instance w
+room-for : (g : Gathered) (w : ℤ) → IsGathered g → pos 0 ≤ℤ w → (g.total +ℤ w) ≤ℤ pos (2 ^ 48) → HasClauseRoom g.instance w
 room-for g w kept low most = record {
   variables = kept.variables;
   whole = kept.whole;
@@ -253,11 +254,11 @@ weight-fits (Weighted top) g w few keep gives = record { low = gives.0; most = g
 -- a clause that was read may be added, and leaves what is gathered under way
 pub record ClauseFits (h : Header) (g : Gathered) (w : ℤ) (literals : Literals) : Type 0 where
   pub read : to_z w64 (of_z w64 w) ≡ w
-  pub room : HasRoom g.instance w
+  pub room : HasClauseRoom g.instance w
   pub total : (g.total +ℤ w) ≤ℤ pos (2 ^ 48)
-  pub after : IsUnderWay h (gathered_with g w literals)
+  pub after : IsGathering h (gathered_with g w literals)
 
-pub clause-fits : (h : Header) (g : Gathered) (w : ℤ) (literals : Literals) → IsUnderWay h g → g.clauses < 2 ^ 20 → FormGives h.form (to_z w64 (of_z w64 g.total)) w → FitsLiterals h.variables literals →
+pub clause-fits : (h : Header) (g : Gathered) (w : ℤ) (literals : Literals) → IsGathering h g → g.clauses < 2 ^ 20 → FormGives h.form (to_z w64 (of_z w64 g.total)) w → FitsLiterals h.variables literals →
     ClauseFits h g w literals
 clause-fits h g w literals way few gives fits =
     let low = total-low g way.gathered in
@@ -307,11 +308,6 @@ form-first (Weighted top) n = tt
 
 -- a clause with two literals, case by case
 
-pub two-same : (i : Instance) (w : ℤ) (a b : Literal) → a.variable ≡ b.variable → same_sign a.positive b.positive ≡ true → with_two i w a b ≡ with_unit i w a
-two-same i w a b same sign =
-    let one : (a.variable == b.variable) ≡ true = eq-eqb a.variable b.variable same in
-    rw (one, sign) refl
-
 pub two-opposite : (i : Instance) (w : ℤ) (a b : Literal) → a.variable ≡ b.variable → same_sign a.positive b.positive ≡ false → with_two i w a b ≡ with_tautology i w
 two-opposite i w a b same sign =
     let one : (a.variable == b.variable) ≡ true = eq-eqb a.variable b.variable same in
@@ -323,13 +319,7 @@ two-in-order i w a b less =
     let first : nat_lt a.variable b.variable ≡ true = grind (arith, nat_tests) in
     rw (other, first) refl
 
-pub two-turned : (i : Instance) (w : ℤ) (a b : Literal) → b.variable < a.variable → with_two i w a b ≡ with_pair i w b a
-two-turned i w a b less =
-    let other : (a.variable == b.variable) ≡ false = grind (arith, nat_tests) in
-    let first : nat_lt a.variable b.variable ≡ false = grind (arith, nat_tests) in
-    rw (other, first) refl
-
-pub way-begins : (h : Header) → h.variables ≤ 1024 → IsUnderWay h (nothing_gathered h.variables)
+pub way-begins : (h : Header) → h.variables ≤ 1024 → IsGathering h (nothing_gathered h.variables)
 way-begins h few = record {
   gathered = nothing-gathered h.variables few;
   form = form-first h.form h.variables;

@@ -9,20 +9,20 @@ use Rattle.dp_model.specs.NumberLaws.{int_le-is}
 use Rattle.max_two_sat.specs.declared.weights.UnitWeights.{UnitWeights}
 use Rattle.max_two_sat.specs.declared.weights.PairWeights.{PairWeights}
 use Rattle.max_two_sat.specs.Instance.{Instance, rows_of, row_at, unit_total, pair_total, pairs_total, no_pair, no_unit, without_tautologies}
-use Rattle.max_two_sat.specs.Kept.{IsKept, PairIsPositive, pairs_are_positive}
-use Rattle.max_two_sat.specs.Program.{raised, first_limits, limits_at, are_within, is_within, words_of}
-use Rattle.max_two_sat.specs.Rows.{length-row_at, words_of-some}
-use Rattle.max_two_sat.specs.SizeLaws.{later-positive}
-use Rattle.max_two_sat.specs.Totals.{limits, none_negative, sum_of, sum_of-positive}
+use Rattle.max_two_sat.specs.Limits.{IsWithinLimits, PairIsPositive, pairs_are_positive}
+use Rattle.max_two_sat.specs.Program.{raised_limits, first_limits, limits_at, are_within, is_within, words_of}
+use Rattle.max_two_sat.specs.Laws.Rows.{length-row_at, words_of-some}
+use Rattle.max_two_sat.specs.Laws.Sizes.{later-positive}
+use Rattle.max_two_sat.specs.Laws.Totals.{limits, none_negative, sum_of, sum_of-positive}
 use Rattle.max_two_sat.proofs.Cells.{pair-at, pair_total-at}
 use Rattle.max_two_sat.proofs.Layers.{RowHas, row-has}
 
-get_or-raised : (ps : List PairWeights) (ls : List ℤ) (m : ℕ) → m < length ps → length ps ≡ length ls →
-    get_or (raised ps ls) m (pos 0) ≡ get_or ls m (pos 0) +ℤ pair_total (get_or ps m no_pair)
-get_or-raised [] ls m h e = absurd (omega arith)
-get_or-raised (p ∷ ps) [] m h e = absurd (omega arith)
-get_or-raised (p ∷ ps) (l ∷ ls) zero h e = refl
-get_or-raised (p ∷ ps) (l ∷ ls) (suc m) h e = get_or-raised ps ls m (omega arith) (omega arith)
+get_or-raised_limits : (ps : List PairWeights) (ls : List ℤ) (m : ℕ) → m < length ps → length ps ≡ length ls →
+    get_or (raised_limits ps ls) m (pos 0) ≡ get_or ls m (pos 0) +ℤ pair_total (get_or ps m no_pair)
+get_or-raised_limits [] ls m h e = absurd (omega arith)
+get_or-raised_limits (p ∷ ps) [] m h e = absurd (omega arith)
+get_or-raised_limits (p ∷ ps) (l ∷ ls) zero h e = refl
+get_or-raised_limits (p ∷ ps) (l ∷ ls) (suc m) h e = get_or-raised_limits ps ls m (omega arith) (omega arith)
 
 get_or-behind : (ls : List ℤ) (m : ℕ) → get_or (drop 1 ls) m (pos 0) ≡ get_or ls (suc m) (pos 0)
 get_or-behind [] m = refl
@@ -38,16 +38,8 @@ pub limit-first : (us : List UnitWeights) (v : ℕ) → v < length us → get_or
 limit-first [] v h = absurd (omega arith)
 limit-first (u ∷ us) v h = get_or-units (u ∷ us) v h
 
--- where there is no variable, the one limit is zero
-pub limit-none : (us : List UnitWeights) (ps : List PairWeights) (k m : ℕ) → k ≤ length us → length us ≤ k + m → k + m < words_of (length us) →
-    pos 0 ≡ get_or (limits_at us ps k) m (pos 0)
-limit-none [] ps zero zero h g e = refl
-limit-none [] ps zero (suc m) h g e = absurd (omega arith)
-limit-none [] ps (suc k) m h g e = absurd (omega arith)
-limit-none (u ∷ us) ps k m h g e = absurd (omega arith)
-
 -- behind a decision each limit is raised by the weight of the pair
-pub limit-more : (i : Instance) (j v : ℕ) → IsKept i → j < v → v < length i.units →
+pub limit-more : (i : Instance) (j v : ℕ) → IsWithinLimits i → j < v → v < length i.units →
     get_or (limits_at i.units i.pairs (j + 1)) (v - (j + 1)) (pos 0) ≡
     get_or (limits_at i.units i.pairs j) (v - j) (pos 0) +ℤ pair_total (get_or (row_at (rows_of (length i.units) i.pairs) j) (v - j - 1) no_pair)
 limit-more i j v kept h g =
@@ -58,9 +50,9 @@ limit-more i j v kept h g =
     let count = (limits i j kept (omega arith)).count in
     let words = words_of-some (length i.units) j (omega arith) in
     let shorter = length-drop 1 ls in
-    let raise : get_or (raised row (drop 1 ls)) m (pos 0) ≡ get_or (drop 1 ls) m (pos 0) +ℤ pair_total (get_or row m no_pair) = get_or-raised row (drop 1 ls) m (omega arith) (omega arith) in
+    let raise : get_or (raised_limits row (drop 1 ls)) m (pos 0) ≡ get_or (drop 1 ls) m (pos 0) +ℤ pair_total (get_or row m no_pair) = get_or-raised_limits row (drop 1 ls) m (omega arith) (omega arith) in
     let one : j + 1 ≡ suc j = omega arith in
-    let next : limits_at i.units i.pairs (j + 1) ≡ raised row (drop 1 ls) = ap (λ n. limits_at i.units i.pairs n) one in
+    let next : limits_at i.units i.pairs (j + 1) ≡ raised_limits row (drop 1 ls) = ap (λ n. limits_at i.units i.pairs n) one in
     let place : v - (j + 1) ≡ m = omega arith in
     let index : suc m ≡ v - j = omega arith in
     let before : get_or (drop 1 ls) m (pos 0) ≡ get_or ls (v - j) (pos 0) = get_or-behind ls m ∙ ap (λ n. get_or ls n (pos 0)) index in
@@ -78,7 +70,7 @@ pub record LimitIsSmall (limit : ℤ) : Type 0 where
   pub low : pos 0 ≤ℤ limit
   pub high : limit ≤ℤ pos (2 ^ 48)
 
-pub limit-small : (i : Instance) (k m : ℕ) → IsKept i → k ≤ length i.units → LimitIsSmall (get_or (limits_at i.units i.pairs k) m (pos 0))
+pub limit-small : (i : Instance) (k m : ℕ) → IsWithinLimits i → k ≤ length i.units → LimitIsSmall (get_or (limits_at i.units i.pairs k) m (pos 0))
 limit-small i k m kept h =
     let there = limits i k kept h in
     let here = limit-within (limits_at i.units i.pairs k) m there.positive in
@@ -86,7 +78,7 @@ limit-small i k m kept h =
 
 -- a pass that tests the limits
 
-pub within-more : (i : Instance) (k m : ℕ) (ts : List ℤ) (answer : Bool) (limit : ℤ) → IsKept i → k ≤ length i.units → length ts + k ≡ words_of (length i.units) → m < length ts →
+pub within-more : (i : Instance) (k m : ℕ) (ts : List ℤ) (answer : Bool) (limit : ℤ) → IsWithinLimits i → k ≤ length i.units → length ts + k ≡ words_of (length i.units) → m < length ts →
     SFits w64 (get_or ts m (pos 0)) → answer ≡ is_within (to_z w64 (of_z w64 (get_or ts m (pos 0)))) (to_z w64 (of_z w64 limit)) → limit ≡ get_or (limits_at i.units i.pairs k) m (pos 0) →
     are_within (drop m ts) (drop m (limits_at i.units i.pairs k)) ≡ are_within ts (limits_at i.units i.pairs k) →
     are_within ts (limits_at i.units i.pairs k) ≡ (answer && are_within (drop (m + 1) ts) (drop (m + 1) (limits_at i.units i.pairs k)))
@@ -103,7 +95,7 @@ pub within-done : (ts ls : List ℤ) (i : ℕ) → length ts ≤ i → are_withi
 within-done ts ls i h before = ap (λ us. are_within us (drop i ls)) (sym (drop_all i ts h)) ∙ before
 
 -- the tautologies are no matter for limits
-pub without-tautologies : (i : Instance) → IsKept i → IsKept (without_tautologies i.units i.pairs)
+pub without-tautologies : (i : Instance) → IsWithinLimits i → IsWithinLimits (without_tautologies i.units i.pairs)
 without-tautologies i kept = record {
   variables = kept.variables;
   whole = kept.whole;
@@ -121,7 +113,7 @@ pub record PairThere (row : List PairWeights) (at_index : ℕ) : Type 0 where
   pub positive : PairIsPositive (get_or row at_index no_pair)
   pub weight : pair_total (get_or row at_index no_pair) ≤ℤ pos (2 ^ 48)
 
-pub pair-there : (i : Instance) (j v : ℕ) (row : List PairWeights) → IsKept i → j < v → v < length i.units →
+pub pair-there : (i : Instance) (j v : ℕ) (row : List PairWeights) → IsWithinLimits i → j < v → v < length i.units →
     row ≡ row_at (rows_of (length i.units) i.pairs) j → PairThere row (v - j - 1)
 pair-there i j v row kept h g is =
     let entries = length-row_at (length i.units) i.pairs j kept.whole (omega arith) in
@@ -142,7 +134,7 @@ pub record LimitAdds (i : Instance) (j v : ℕ) (total weight : ℤ) : Type 0 wh
   pub total_low : pos 0 ≤ℤ total
   pub weight_low : pos 0 ≤ℤ weight
 
-pub limit-adds : (i : Instance) (j v : ℕ) (total weight : ℤ) → IsKept i → j < v → v < length i.units → total ≡ get_or (limits_at i.units i.pairs j) (v - j) (pos 0) →
+pub limit-adds : (i : Instance) (j v : ℕ) (total weight : ℤ) → IsWithinLimits i → j < v → v < length i.units → total ≡ get_or (limits_at i.units i.pairs j) (v - j) (pos 0) →
     weight ≡ pair_total (get_or (row_at (rows_of (length i.units) i.pairs) j) (v - j - 1) no_pair) → LimitAdds i j v total weight
 limit-adds i j v total weight kept h g total_is weight_is =
     let positive = (pair-there i j v (row_at (rows_of (length i.units) i.pairs) j) kept h g refl).positive in

@@ -10,15 +10,17 @@ use Rattle.dp_model.specs.Gaps.{IsStateOf}
 use Rattle.max_two_sat.specs.declared.weights.PairWeights.{PairWeights}
 use Rattle.max_two_sat.specs.Instance.{Instance, rows_of, row_at, pairs_total, units_total, rows_total}
 use Rattle.max_two_sat.specs.Fitting.{FitsState}
-use Rattle.max_two_sat.specs.InstanceNumbers.{instance_of, numbers_of, instance_of-numbers_of}
-use Rattle.max_two_sat.specs.Kept.{IsKept, pairs_are_positive}
+use Rattle.max_two_sat.specs.Numbers.{instance_of, numbers_of}
+use Rattle.max_two_sat.specs.Laws.Numbers.{instance_of-numbers_of}
+use Rattle.max_two_sat.specs.Limits.{IsWithinLimits, pairs_are_positive}
 use Rattle.max_two_sat.specs.Program.{all_zero, are_within, is_state_of, limits_at, lesser_units, program_of, words_of}
-use Rattle.max_two_sat.specs.Rows.{length-rows_of, length-row_at, drop-rows, words_of-some}
-use Rattle.max_two_sat.specs.SizeLaws.{lesser_units-positive, lesser_units-most, rank-most, later-positive, rank_of-state}
-use Rattle.max_two_sat.specs.StateLaws.{state-is}
-use Rattle.max_two_sat.specs.Table.{later_totals, later_totals-at, length-later_totals}
+use Rattle.max_two_sat.specs.Laws.Rows.{length-rows_of, length-row_at, drop-rows, words_of-some}
+use Rattle.max_two_sat.specs.Laws.Sizes.{lesser_units-positive, lesser_units-most, rank-most, later-positive, rank_of-state}
+use Rattle.max_two_sat.specs.Laws.States.{state-is}
+use Rattle.max_two_sat.specs.Table.{later_totals}
+use Rattle.max_two_sat.proofs.Table.{later_totals-at, length-later_totals}
 use Rattle.max_two_sat.proofs.Shifting.{zeros-before}
-use Rattle.max_two_sat.specs.Totals.{units_total-positive, positive-rows_of, positive-row_at, rows_total-rows_of, rows_total-drop, pairs_total-positive, rank_of-zero}
+use Rattle.max_two_sat.specs.Laws.Totals.{units_total-positive, positive-rows_of, positive-row_at, rows_total-rows_of, rows_total-drop, pairs_total-positive, rank_of-zero}
 
 -- a state of the layer, by the instance itself
 pub record LayerHas (i : Instance) (k : ℕ) (s : List ℤ) : Type 0 where
@@ -28,7 +30,7 @@ pub record LayerHas (i : Instance) (k : ℕ) (s : List ℤ) : Type 0 where
   pub rough : (rank_of (drop k s) +ℤ rows_total (drop k (rows_of (length i.units) i.pairs))) ≤ℤ pos (2 ^ 48)
   pub later_low : pos 0 ≤ℤ rows_total (drop k (rows_of (length i.units) i.pairs))
 
-pub layer-has : (i : Instance) (k : ℕ) (s : List ℤ) → IsKept i → IsStateOf (program_of i) k s → LayerHas i k s
+pub layer-has : (i : Instance) (k : ℕ) (s : List ℤ) → IsWithinLimits i → IsStateOf (program_of i) k s → LayerHas i k s
 layer-has i k s kept state =
     let later = later-positive i k kept in
     let most = rank-most i k s kept state in
@@ -46,7 +48,7 @@ pub record RowHas (i : Instance) (k : ℕ) (cells : ℕ) : Type 0 where
   pub positive : IsTrue (pairs_are_positive (row_at (rows_of (length i.units) i.pairs) k))
   pub weight : pairs_total (row_at (rows_of (length i.units) i.pairs) k) ≤ℤ pos (2 ^ 48)
 
-pub row-has : (i : Instance) (k cells : ℕ) → IsKept i → k < length i.units → cells ≡ words_of (length i.units) → RowHas i k cells
+pub row-has : (i : Instance) (k cells : ℕ) → IsWithinLimits i → k < length i.units → cells ≡ words_of (length i.units) → RowHas i k cells
 row-has i k cells kept layer is =
     let rows : List (List PairWeights) = rows_of (length i.units) i.pairs in
     let positive : IsTrue (pairs_are_positive (row_at rows k)) = positive-row_at rows k (positive-rows_of (length i.units) i.pairs kept.pairs) in
@@ -72,7 +74,7 @@ pub same-allowed : (i : Instance) (k : ℕ) (s : List ℤ) (d : ℕ) → IsAllow
 same-allowed i k s d allowed = (rw instance_of-numbers_of at allowed).layer
 
 -- the row of the layer's variable fits the state
-pub row-fits : (i : Instance) (k : ℕ) (s : List ℤ) (d : ℕ) → IsKept i → IsTrue ((program_of (instance_of (numbers_of i))).is_state k s) →
+pub row-fits : (i : Instance) (k : ℕ) (s : List ℤ) (d : ℕ) → IsWithinLimits i → IsTrue ((program_of (instance_of (numbers_of i))).is_state k s) →
     IsAllowed (program_of (instance_of (numbers_of i))) k s d → FitsState (row_at (rows_of (length i.units) i.pairs) k) k s
 row-fits i k s d kept test allowed =
     let layer : k < length i.units = same-allowed i k s d allowed in
@@ -81,7 +83,7 @@ row-fits i k s d kept test allowed =
     record { entries = row.entries; positive = row.positive; weight = row.weight; rank = has.rank }
 
 -- a row with the words of a state is as long as a state of a layer
-pub same-cells : (i : Instance) (k : ℕ) (s out : List ℤ) → IsKept i → IsTrue ((program_of (instance_of (numbers_of i))).is_state k s) → k < length i.units
+pub same-cells : (i : Instance) (k : ℕ) (s out : List ℤ) → IsWithinLimits i → IsTrue ((program_of (instance_of (numbers_of i))).is_state k s) → k < length i.units
     → length out ≡ (program_of (instance_of (numbers_of i))).words → length out ≡ length s
 same-cells i k s out kept test layer cells =
     let has = layer-has i k s kept (same-test i k s (omega arith) test) in
@@ -91,10 +93,6 @@ same-cells i k s out kept test layer cells =
 pub words-over : (n : ℕ) → n ≤ words_of n
 words-over zero = omega arith
 words-over (suc n) = omega arith
-
--- the layers before that of a state have no benefit
-pub empty-front : (i : Instance) (k : ℕ) (s : List ℤ) → IsStateOf (program_of i) k s → rank_of (take k s) ≡ pos 0
-empty-front i k s state = rank_of-zero (take k s) (state-is i k s state.test).before
 
 -- and are zero
 pub none-before : (i : Instance) (k : ℕ) (s : List ℤ) → IsStateOf (program_of i) k s → take k s ≡ replicate k (pos 0)
@@ -108,7 +106,7 @@ pub always-allowed : (i : Instance) (k : ℕ) (s : List ℤ) (d : ℕ) → k < (
 always-allowed i k s d layer choice = record { layer = layer; choice = choice; test = refl }
 
 -- all weights of units are within the total
-pub units-most : (i : Instance) → IsKept i → units_total i.units ≤ℤ pos (2 ^ 48)
+pub units-most : (i : Instance) → IsWithinLimits i → units_total i.units ≤ℤ pos (2 ^ 48)
 units-most i kept = omega (arith, ints, kept.total, kept.tautologies, pairs_total-positive i.pairs kept.pairs)
 
 -- the weight of the pairs from a layer on, as it stands in memory
@@ -133,14 +131,14 @@ words-some (suc n) h = refl
 
 -- the sums that are made
 
-pub root-value-adds : (i : Instance) (lesser : ℤ) → IsKept i → lesser ≡ lesser_units i.units → PartsAdd (i.tautologies +ℤ lesser_units i.units) i.tautologies lesser
+pub root-value-adds : (i : Instance) (lesser : ℤ) → IsWithinLimits i → lesser ≡ lesser_units i.units → PartsAdd (i.tautologies +ℤ lesser_units i.units) i.tautologies lesser
 root-value-adds i lesser kept is =
     let low = lesser_units-positive i.units kept.units in
     let most = lesser_units-most i.units kept.units in
     let pairs = pairs_total-positive i.pairs kept.pairs in
     parts-add _ i.tautologies lesser (ap (λ z. i.tautologies +ℤ z) is) kept.tautologies (omega (arith, ints)) (omega (arith, ints, kept.total))
 
-pub rough-adds : (i : Instance) (k : ℕ) (s laters : List ℤ) (rank later : ℤ) → IsKept i → IsStateOf (program_of i) k s →
+pub rough-adds : (i : Instance) (k : ℕ) (s laters : List ℤ) (rank later : ℤ) → IsWithinLimits i → IsStateOf (program_of i) k s →
     laters ≡ later_totals (rows_of (length i.units) i.pairs) → rank ≡ rank_of (drop k s) → later ≡ get_or laters k later →
     PartsAdd (rank_of (drop k s) +ℤ rows_total (drop k (rows_of (length i.units) i.pairs))) rank later
 rough-adds i k s laters rank later kept state summed rank_is later_is =

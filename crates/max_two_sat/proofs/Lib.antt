@@ -3,6 +3,7 @@ pub mod Cells
 pub mod Shifting
 pub mod Writing
 pub mod ZeroRows
+pub mod Table
 pub mod Layers
 pub mod LayerLimits
 pub mod Weighing

@@ -12,7 +12,7 @@ use Rattle.max_two_sat.specs.declared.weights.PairWeights.{PairWeights}
 use Rattle.max_two_sat.specs.Instance.{Instance, rows_of, row_at, no_pair, no_unit}
 use Rattle.max_two_sat.specs.Lines.{Clause, clause_where, literal, clauses_of, tautology_lines, unit_lines, units_lines, pair_lines, row_lines, rows_lines}
 use Rattle.max_two_sat.specs.Printed.{line_of, text_of, first_line_of}
-use Rattle.max_two_sat.specs.Rows.{drop-rows}
+use Rattle.max_two_sat.specs.Laws.Rows.{drop-rows}
 
 -- one more part is printed
 part-printed : (out part rest whole : List ℕ) (made : List ℕ) → made ≡ out ++ part → out ++ (part ++ rest) ≡ whole → made ++ rest ≡ whole
@@ -73,13 +73,6 @@ text-printed i start first tautologies units rows none first_is tautologies_is u
     rw (rows_is, units_is, tautologies_is, first_is, none, outer, inner) (simp append_assoc)
 
 -- one clause
-
-pub clause-none : (w : ℤ) (literals : Literals) → w ≤ℤ pos 0 → clause_where w literals ≡ []
-clause-none w literals h =
-    rw (int_lt-fails (pos 0) w h) refl
-
-pub clause-some : (w : ℤ) (literals : Literals) → int_lt (pos 0) w ≡ true → flat_map line_of (clause_where w literals) ≡ line_of (record { weight = w; literals = literals })
-clause-some w literals test = rw test (append-nil (line_of (record { weight = w; literals = literals })))
 
 four-parts : (start one two three four : List ℕ) (a b d e : List Clause) → one ≡ start ++ flat_map line_of a → two ≡ one ++ flat_map line_of b → three ≡ two ++ flat_map line_of d → four ≡ three ++ flat_map line_of e →
     four ≡ start ++ flat_map line_of (a ++ (b ++ (d ++ e)))

@@ -14,7 +14,7 @@ use Rattle.dd_text.proofs.Printing.{before_start, before_behind, passes_natural,
 use Rattle.dd_text.proofs.Repeats.{times_reads}
 use Rattle.max_two_sat.specs.Clauses.{Gathered, gathered_with, nothing_gathered}
 use Rattle.max_two_sat.specs.Instance.{Instance}
-use Rattle.max_two_sat.specs.Kept.{IsKept}
+use Rattle.max_two_sat.specs.Limits.{IsWithinLimits}
 use Rattle.max_two_sat.specs.Lines.{Clause, clauses_of, line_count}
 use Rattle.max_two_sat.specs.Printed.{first_line_of, line_of, text_of}
 use Rattle.max_two_sat.specs.Texts.{clause_at, ends_clauses, ends_token, form_at, header_at, instance_at, letter_at, top_at}
@@ -48,7 +48,7 @@ gathered-instance [] g = refl
 gathered-instance (x ∷ xs) g = gathered-instance xs (gather g x)
 
 -- the canonical text is read as the instance
-pub reads_back : (i : Instance) → IsKept i → instance_at (text_start LetterC (text_of i)) ≡ Ok i
+pub reads_back : (i : Instance) → IsWithinLimits i → instance_at (text_start LetterC (text_of i)) ≡ Ok i
 unfolding instance_at header_at letter_at form_at top_at first_line_of
 reads_back i kept =
     let n : ℕ = length i.units in

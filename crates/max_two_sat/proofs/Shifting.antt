@@ -7,17 +7,19 @@ use Rattle.std.proofs.lemmas.Bool.{and_parts}
 use Rattle.std.proofs.lemmas.List.{drop_more, drop_all, drop-map, length-map, length-drop, append-nil}
 use Rattle.std.specs.List.{take-map}
 use Rattle.max_two_sat.specs.Fitting.{FitsState}
-use Rattle.max_two_sat.specs.Table.{entries_before, row_at-is}
+use Rattle.max_two_sat.specs.Table.{entries_before}
+use Rattle.max_two_sat.proofs.Table.{row_at-is}
 use Rattle.benefit_rows.specs.Benefits.{size_of, gain_of, rank_of, sums_of}
 use Rattle.benefit_rows.specs.BenefitLaws.{size_of-positive, rank_of-positive, rank_of-append, rank_of-zeros, rank_of-sums_of, gain_of-positive, gain_of-most}
 use Rattle.benefit_rows.proofs.Steps.{rank_of-drop_more}
 use Rattle.max_two_sat.specs.declared.weights.PairWeights.{PairWeights}
 use Rattle.max_two_sat.specs.Instance.{rows_of, row_at, pair_count, pair_total, pairs_total, no_pair}
-use Rattle.max_two_sat.specs.Kept.{PairIsPositive, pairs_are_positive, pair_is_positive, pair-positive, size-is}
+use Rattle.max_two_sat.specs.Limits.{PairIsPositive, pairs_are_positive, pair_is_positive}
+use Rattle.max_two_sat.specs.Laws.Limits.{pair-positive, size-is}
 use Rattle.max_two_sat.specs.Program.{cell_part, grown, row_gain, shared_gain, all_zero, is_within}
-use Rattle.max_two_sat.specs.Rows.{length-rows_of, drop-rows}
+use Rattle.max_two_sat.specs.Laws.Rows.{length-rows_of, drop-rows}
 use Rattle.max_two_sat.specs.Shifts.{shift_of, shifts_of, stake_of, stakes_of, half_lost}
-use Rattle.max_two_sat.specs.Totals.{total_by-positive, all-drop}
+use Rattle.max_two_sat.specs.Laws.Totals.{total_by-positive, all-drop}
 use Rattle.max_two_sat.proofs.Cells.{pair-at, parts, benefit-read}
 use Rattle.max_two_sat.proofs.RunningSums.{SumGrows, sum-grows, sum-done}
 
@@ -172,9 +174,6 @@ stakes-grow ps d i total cell h positive weight is before =
     let low : pos 0 ≤ℤ cell = rw is (stake-low d (get_or ps i no_pair) (pair-at ps i no_pair h positive)) in
     sum-grows (stakes_of d ps) (stakes_of d (drop i ps)) cell (stakes_of d (drop (i + 1) ps)) total (rw is cut) low
     (stakes-low d (drop (i + 1) ps) (all-drop pair_is_positive (i + 1) ps positive)) (omega (arith, ints, stakes-high d ps positive)) before
-
-pub stakes-done : (ps : List PairWeights) (d i : ℕ) (total : ℤ) → length ps ≤ i → total +ℤ stakes_of d (drop i ps) ≡ stakes_of d ps → total ≡ stakes_of d ps
-stakes-done ps d i total h before = sum-done (stakes_of d ps) (stakes_of d (drop i ps)) total (ap (stakes_of d) (drop_all i ps h)) before
 
 -- the stakes of one more row
 pub rows-more : (ps : List PairWeights) (d n k : ℕ) (items : List ℤ) (cell : ℤ) → k < n → cell ≡ stakes_of d (row_at (rows_of n ps) k)

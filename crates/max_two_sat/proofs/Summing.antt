@@ -5,10 +5,10 @@ use Rattle.std.proofs.lemmas.Int.{ints}
 use Rattle.std.proofs.lemmas.List.{drop_more, drop_all}
 use Rattle.max_two_sat.specs.declared.weights.PairWeights.{PairWeights}
 use Rattle.max_two_sat.specs.Instance.{rows_of, row_at, pair_count, pair_total, pairs_total, rows_total, no_pair}
-use Rattle.max_two_sat.specs.Kept.{PairIsPositive, pairs_are_positive, pair_is_positive}
-use Rattle.max_two_sat.specs.Rows.{length-rows_of, drop-rows}
+use Rattle.max_two_sat.specs.Limits.{PairIsPositive, pairs_are_positive, pair_is_positive}
+use Rattle.max_two_sat.specs.Laws.Rows.{length-rows_of, drop-rows}
 use Rattle.max_two_sat.specs.Table.{later_totals}
-use Rattle.max_two_sat.specs.Totals.{pairs_total-positive, positive-rows_of, positive-row_at, rows_total-rows_of, rows_total-drop, rows_total-positive, all-drop}
+use Rattle.max_two_sat.specs.Laws.Totals.{pairs_total-positive, positive-rows_of, positive-row_at, rows_total-rows_of, rows_total-drop, rows_total-positive, all-drop}
 use Rattle.max_two_sat.proofs.Cells.{pair-at}
 use Rattle.max_two_sat.proofs.RunningSums.{SumGrows, sum-grows, sum-done}
 

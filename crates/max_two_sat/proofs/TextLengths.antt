@@ -11,7 +11,7 @@ use Rattle.max_two_sat.specs.declared.clause.Literal.{Literal}
 use Rattle.max_two_sat.specs.declared.clause.Literals.{Literals}
 use Rattle.max_two_sat.specs.declared.clause.Literals.TheVariants.{Empty, One, Two}
 use Rattle.max_two_sat.specs.Instance.{Instance}
-use Rattle.max_two_sat.specs.Kept.{IsKept}
+use Rattle.max_two_sat.specs.Limits.{IsWithinLimits}
 use Rattle.max_two_sat.specs.Lines.{Clause, clauses_of, line_count}
 use Rattle.max_two_sat.specs.Printed.{first_line_of, line_of, literal_text, literals_text, number_of_literal, text_of}
 use Rattle.max_two_sat.proofs.RoundTrip.{ClauseStands, LiteralsStand, literal-size}
@@ -61,7 +61,7 @@ lines_short n xs few light =
     (line_short n x few first (omega (arith, ints, here.weight)), record { stand = here.stand.1; weight = omega (arith, ints, here.weight, first.low) }))
     xs light
 
-first_line_short : (i : Instance) → IsKept i → length (first_line_of i) ≤ 20
+first_line_short : (i : Instance) → IsWithinLimits i → length (first_line_of i) ≤ 20
 unfolding first_line_of
 first_line_short i kept =
     let variables = length-decimal-le 4 (length i.units) (omega arith) (omega (arith, kept.variables)) (omega arith) in
@@ -75,7 +75,7 @@ first_line_short i kept =
       length-append (decimal_of (pos (line_count i))) (10 ∷ []),
     )
 
-pub text_short : (i : Instance) → IsKept i → length (text_of i) ≤ 2 ^ 25
+pub text_short : (i : Instance) → IsWithinLimits i → length (text_of i) ≤ 2 ^ 25
 text_short i kept =
     let there = clauses-stand i kept in
     let lines = lines_short (length i.units) (clauses_of i) kept.variables (record { stand = there.stand; weight = omega (arith, ints, there.weight, kept.total) }) in

@@ -10,13 +10,14 @@ use Rattle.max_two_sat.specs.declared.weights.PairWeights.{PairWeights}
 use Rattle.max_two_sat.specs.Instance.{Instance, rows_of, row_at, pair_count, unit_total, pair_total, units_total, pairs_total, rows_total, no_pair, no_unit}
 use Rattle.dp_model.specs.Prefixes.{IsSolution}
 use Rattle.dp_model.specs.Solution.{IsSolutionWith, SolutionGives}
-use Rattle.max_two_sat.specs.GapLaws.{row_value-most, rows_value-most}
-use Rattle.max_two_sat.specs.Kept.{IsKept, PairIsPositive, UnitIsPositive, pairs_are_positive, units_are_positive, pair_is_positive, unit_is_positive, unit-positive, pair-positive}
+use Rattle.max_two_sat.specs.Laws.Gaps.{row_value-most, rows_value-most}
+use Rattle.max_two_sat.specs.Limits.{IsWithinLimits, PairIsPositive, UnitIsPositive, pairs_are_positive, units_are_positive, pair_is_positive, unit_is_positive}
+use Rattle.max_two_sat.specs.Laws.Limits.{unit-positive, pair-positive}
 use Rattle.max_two_sat.specs.OwnWords.{all_truth_values, own_value, weight_of, unit_value, pair_value, pair_left, units_value, row_value, rows_value}
 use Rattle.max_two_sat.specs.Program.{program_of}
-use Rattle.max_two_sat.specs.Solutions.{own_value-agrees}
-use Rattle.max_two_sat.specs.Rows.{length-rows_of, length-row_at, drop-rows}
-use Rattle.max_two_sat.specs.Totals.{units_total-positive, positive-rows_of, positive-row_at, rows_are_positive, rows_total-rows_of, rows_total-drop, rows_total-positive, all-drop}
+use Rattle.max_two_sat.specs.Laws.Solutions.{own_value-agrees}
+use Rattle.max_two_sat.specs.Laws.Rows.{length-rows_of, length-row_at, drop-rows}
+use Rattle.max_two_sat.specs.Laws.Totals.{units_total-positive, positive-rows_of, positive-row_at, rows_are_positive, rows_total-rows_of, rows_total-drop, rows_total-positive, all-drop}
 use Rattle.max_two_sat.proofs.Cells.{unit-at, pair-at}
 use Rattle.max_two_sat.proofs.RunningSums.{SumGrows, sum-grows, sum-done}
 
@@ -112,16 +113,6 @@ left-first p zero zero h g = absurd (g refl)
 left-first p zero (suc y) h g = refl
 left-first p (suc x) y h g = absurd (omega arith)
 
-pub left-second : (p : PairWeights) (x y : ℕ) → (x ≡ 0 → ⊥) → y ≡ 0 → p.second ≡ pair_left p x y
-left-second p zero y h g = absurd (h refl)
-left-second p (suc x) zero h g = refl
-left-second p (suc x) (suc y) h g = absurd (omega arith)
-
-pub left-neither : (p : PairWeights) (x y : ℕ) → (x ≡ 0 → ⊥) → (y ≡ 0 → ⊥) → p.neither ≡ pair_left p x y
-left-neither p zero y h g = absurd (h refl)
-left-neither p (suc x) zero h g = absurd (g refl)
-left-neither p (suc x) (suc y) h g = refl
-
 pair_value-positive : (p : PairWeights) (x y : ℕ) → PairIsPositive p → pos 0 ≤ℤ pair_value p x y
 pair_value-positive p x y here = omega (arith, ints, pair_left-is p x y, pair_left-most p x y here)
 
@@ -201,7 +192,7 @@ rows-bounds ps n xs whole positive =
 
 -- what value_of answers
 
-pub value-none : (i : Instance) (xs : List ℕ) (answer : Bool) → IsKept i → answer ≡ ((length xs == length i.units) && all_truth_values xs) → answer ≡ false → ¬ IsSolution (program_of i) xs
+pub value-none : (i : Instance) (xs : List ℕ) (answer : Bool) → IsWithinLimits i → answer ≡ ((length xs == length i.units) && all_truth_values xs) → answer ≡ false → ¬ IsSolution (program_of i) xs
 value-none i xs answer kept is no_assignment =
     let test : ((length xs == length i.units) && all_truth_values xs) ≡ false = sym is ∙ no_assignment in
     subst (λ (b : Bool). SolutionGives (program_of i) xs (if b then Some (weight_of i xs) else None)) test (own_value-agrees i xs kept)
@@ -211,7 +202,7 @@ pub record ValueIs (i : Instance) (xs : List ℕ) (units_part pairs_part : ℤ) 
   pub solution : IsSolutionWith (program_of i) xs (i.tautologies +ℤ (units_part +ℤ pairs_part))
   pub read : to_z w64 (of_z w64 (to_z w64 (of_z w64 i.tautologies) +ℤ to_z w64 (of_z w64 (to_z w64 (of_z w64 units_part) +ℤ to_z w64 (of_z w64 pairs_part))))) ≡ i.tautologies +ℤ (units_part +ℤ pairs_part)
 
-pub value-is : (i : Instance) (xs : List ℕ) (answer : Bool) (units_part pairs_part : ℤ) → IsKept i → answer ≡ ((length xs == length i.units) && all_truth_values xs) → answer ≡ true →
+pub value-is : (i : Instance) (xs : List ℕ) (answer : Bool) (units_part pairs_part : ℤ) → IsWithinLimits i → answer ≡ ((length xs == length i.units) && all_truth_values xs) → answer ≡ true →
     units_part ≡ units_value i.units xs → pairs_part ≡ rows_value (rows_of (length xs) i.pairs) xs → ValueIs i xs units_part pairs_part
 value-is i xs answer units_part pairs_part kept is yes_assignment units_is pairs_is =
     let test : ((length xs == length i.units) && all_truth_values xs) ≡ true = sym is ∙ yes_assignment in

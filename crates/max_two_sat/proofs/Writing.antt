@@ -11,7 +11,7 @@ use Rattle.max_two_sat.specs.declared.weights.UnitWeights.{UnitWeights}
 use Rattle.benefit_rows.proofs.Steps.{read_by_size}
 use Rattle.max_two_sat.specs.Instance.{units_total, no_unit}
 use Rattle.max_two_sat.specs.Fitting.{FitsBenefits, FitsState}
-use Rattle.max_two_sat.specs.Kept.{units_are_positive}
+use Rattle.max_two_sat.specs.Limits.{units_are_positive}
 use Rattle.max_two_sat.specs.Program.{row_step, root_of, words_of}
 use Rattle.benefit_rows.specs.Benefits.{sums_of}
 use Rattle.max_two_sat.specs.Shifts.{shifts_of}

@@ -3,7 +3,7 @@ use Rattle.std.specs.Prelude.{◌≡◌, ℕ, suc, ◌+◌, ◌^◌, ℤ, pos, �
 use Rattle.benefit_rows.specs.Benefits.{rank_of}
 use Rattle.max_two_sat.specs.declared.weights.PairWeights.{PairWeights}
 use Rattle.max_two_sat.specs.Instance.{pairs_total}
-use Rattle.max_two_sat.specs.Kept.{pairs_are_positive}
+use Rattle.max_two_sat.specs.Limits.{pairs_are_positive}
 
 -- beside the benefits of the later variables: an entry for each, no negative weight, and sums of at most 2^48
 pub record FitsBenefits (row : List PairWeights) (benefits : List ℤ) : Type 0 where

@@ -6,7 +6,7 @@ use Rattle.max_two_sat.specs.declared.clause.Literals.TheVariants.{Two}
 use Rattle.max_two_sat.specs.declared.header.Form.TheVariants.{Weighted}
 use Rattle.max_two_sat.specs.Instance.{Instance}
 use Rattle.max_two_sat.specs.Clauses.{Gathered, gathered_with, nothing_gathered}
-use Rattle.max_two_sat.specs.Room.{IsUnderWay}
+use Rattle.max_two_sat.specs.Room.{IsGathering}
 
 -- a literal on one of n variables, by two draws: the variable, and that it is negated where the second is odd
 abbrev pub literal_drawn : ℕ → ℕ → Literal
@@ -35,5 +35,5 @@ generated n seed = (steps (with_clause_drawn n) (3 * n) (nothing_gathered n) see
 
 -- what is gathered of clauses on n variables, none of which weighs more than 10
 pub record IsDrawing (n : ℕ) (g : Gathered) : Type 0 where
-  pub under_way : IsUnderWay (record { variables = n; clauses = 3 * n; form = Weighted None }) g
+  pub under_way : IsGathering (record { variables = n; clauses = 3 * n; form = Weighted None }) g
   pub light : g.total ≤ℤ pos (10 * g.clauses)

@@ -1,19 +1,12 @@
 pub mod Instance
+pub mod Limits
 pub mod OwnWords
 pub mod Program
-pub mod Rows
-pub mod Split
-pub mod Kept
+pub mod Numbers
+pub mod Shown
 pub mod Fitting
-pub mod Totals
-pub mod StateLaws
-pub mod GapLaws
-pub mod SizeLaws
-pub mod Solutions
-pub mod InstanceNumbers
 pub mod Table
 pub mod Shifts
-pub mod Model
 pub mod Clauses
 pub mod Lines
 pub mod Texts
@@ -21,3 +14,5 @@ pub mod Room
 pub mod Generating
 pub mod Drafted
 pub mod Printed
+-- what an `impl` cites and no clause
+pub mod Laws

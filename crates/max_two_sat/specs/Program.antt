@@ -63,10 +63,10 @@ lesser_units [] = pos 0
 lesser_units (u ∷ us) = int_min u.positive u.negative +ℤ lesser_units us
 
 -- how large the benefits of the variables from a layer on may be: the unit weights and the weight with the variables before the layer
-abbrev pub raised : List PairWeights → List ℤ → List ℤ
-raised [] ls = []
-raised (p ∷ ps) [] = []
-raised (p ∷ ps) (l ∷ ls) = (l +ℤ pair_total p) ∷ raised ps ls
+abbrev pub raised_limits : List PairWeights → List ℤ → List ℤ
+raised_limits [] ls = []
+raised_limits (p ∷ ps) [] = []
+raised_limits (p ∷ ps) (l ∷ ls) = (l +ℤ pair_total p) ∷ raised_limits ps ls
 
 abbrev pub first_limits : List UnitWeights → List ℤ
 first_limits [] = pos 0 ∷ []
@@ -74,7 +74,7 @@ first_limits (u ∷ us) = map unit_total (u ∷ us)
 
 abbrev pub limits_at : List UnitWeights → List PairWeights → ℕ → List ℤ
 limits_at units pairs zero = first_limits units
-limits_at units pairs (suc k) = raised (row_at (rows_of (length units) pairs) k) (drop 1 (limits_at units pairs k))
+limits_at units pairs (suc k) = raised_limits (row_at (rows_of (length units) pairs) k) (drop 1 (limits_at units pairs k))
 
 -- whether the number is at most the limit in size
 abbrev pub is_within : ℤ → ℤ → Bool

@@ -6,11 +6,11 @@ use Rattle.max_two_sat.specs.declared.header.Form.{Form}
 use Rattle.max_two_sat.specs.declared.header.Form.TheVariants.{Plain, Weighted}
 use Rattle.max_two_sat.specs.Instance.{Instance, pair_count, units_total, pairs_total}
 use Rattle.max_two_sat.specs.Clauses.{FitsLiteral, Gathered}
-use Rattle.max_two_sat.specs.Kept.{units_are_positive, pairs_are_positive}
+use Rattle.max_two_sat.specs.Limits.{units_are_positive, pairs_are_positive}
 use Rattle.max_two_sat.specs.Lines.{line_count, weighs}
 
 -- a clause of this weight may be added
-pub record HasRoom (i : Instance) (weight : ℤ) : Type 0 where
+pub record HasClauseRoom (i : Instance) (weight : ℤ) : Type 0 where
   pub variables : length i.units ≤ 1024
   pub whole : length i.pairs ≡ pair_count (length i.units)
   pub tautologies : pos 0 ≤ℤ i.tautologies
@@ -47,7 +47,7 @@ FitsOption n None = Unit {0}
 FitsOption n (Some a) = FitsLiteral n a
 
 -- clauses are read behind this first line, and so much is gathered of them
-pub record IsUnderWay (h : Header) (g : Gathered) : Type 0 where
+pub record IsGathering (h : Header) (g : Gathered) : Type 0 where
   pub gathered : IsGathered g
   pub form : FormKeeps h.form g
   pub variables : length g.instance.units ≡ h.variables

@@ -1,8 +1,8 @@
 ghost use Rattle.std.specs.Prelude.{◌≡◌, ◌^◌, ◌+◌, ◌<◌, ◌≤◌, pos, ◌+ℤ◌, ◌≤ℤ◌, length, IfOk};
 ghost use Rattle.max_two_sat.specs.Instance.{pair_count, pair_total, unit_total};
-ghost use Rattle.max_two_sat.specs.Kept.{PairIsPositive, UnitIsPositive};
+ghost use Rattle.max_two_sat.specs.Limits.{PairIsPositive, UnitIsPositive};
 ghost use Rattle.max_two_sat.specs.Clauses.{FitsLiteral, FitsLiterals, gathered_with, heavier_pair, heavier_unit, nothing_gathered, place_of_pair, same_sign, with_pair, with_two, with_unit};
-ghost use Rattle.max_two_sat.specs.Room.{HasRoom};
+ghost use Rattle.max_two_sat.specs.Room.{HasClauseRoom};
 ghost use Rattle.max_two_sat.specs.Drafted.{gathered_in, instance_gathered};
 
 use crate::clause::{Literal, Literals};
@@ -41,7 +41,7 @@ impl Draft {
 
     /// Adds a clause.
     pub(crate) fn add(&mut self, weight: i64, literals: Literals)
-        requires room { HasRoom (instance_gathered self.old) weight }
+        requires room { HasClauseRoom (instance_gathered self.old) weight }
         requires variables { FitsLiterals (length self.old.units.items) literals }
         requires total { (self.old.total +ℤ weight) ≤ℤ pos (2 ^ 48) }
         requires low { pos 0 ≤ℤ self.old.total }
@@ -58,7 +58,7 @@ impl Draft {
     }
 
     fn add_two(&mut self, weight: i64, a: Literal, b: Literal)
-        requires room { HasRoom (instance_gathered self.old) weight }
+        requires room { HasClauseRoom (instance_gathered self.old) weight }
         requires first { FitsLiteral (length self.old.units.items) a }
         requires second { FitsLiteral (length self.old.units.items) b }
         ensures instance { instance_gathered self.new ≡ with_two (instance_gathered self.old) weight a b }
@@ -79,7 +79,7 @@ impl Draft {
     }
 
     fn add_unit(&mut self, weight: i64, a: Literal)
-        requires room { HasRoom (instance_gathered self.old) weight }
+        requires room { HasClauseRoom (instance_gathered self.old) weight }
         requires variable { FitsLiteral (length self.old.units.items) a }
         ensures instance { instance_gathered self.new ≡ with_unit (instance_gathered self.old) weight a }
         ensures total { self.new.total ≡ self.old.total }
@@ -90,7 +90,7 @@ impl Draft {
 
     /// Adds a clause on two variables, of which that of `a` is the lesser.
     fn add_pair(&mut self, weight: i64, a: Literal, b: Literal)
-        requires room { HasRoom (instance_gathered self.old) weight }
+        requires room { HasClauseRoom (instance_gathered self.old) weight }
         requires lesser { a.variable < b.variable }
         requires variable { FitsLiteral (length self.old.units.items) b }
         ensures instance { instance_gathered self.new ≡ with_pair (instance_gathered self.old) weight a b }

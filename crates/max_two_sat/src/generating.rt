@@ -5,7 +5,7 @@ ghost use Rattle.draws.specs.Draws.{next};
 ghost use Rattle.max_two_sat.specs.Clauses.{FitsLiteral};
 ghost use Rattle.max_two_sat.specs.Drafted.{gathered_in};
 ghost use Rattle.max_two_sat.specs.Generating.{literal_drawn, behind_literal, clause_drawn, behind_clause, IsDrawing, generated};
-ghost use Rattle.max_two_sat.specs.Model.{instance_in};
+ghost use Rattle.max_two_sat.specs.Shown.{instance_in};
 
 use crate::clause::{Literal, Literals};
 use crate::draft::Draft;

@@ -1,6 +1,6 @@
 ghost use Rattle.std.specs.Prelude.{◌≡◌, suc, ◌-◌, ◌<◌, ◌≤◌, length, take, drop};
 ghost use Rattle.max_two_sat.specs.Instance.{pair_count, row_at, rows_of};
-ghost use Rattle.max_two_sat.specs.Kept.{IsKept};
+ghost use Rattle.max_two_sat.specs.Limits.{IsWithinLimits};
 ghost use Rattle.max_two_sat.specs.Shifts.{AreShifts, shifts_of, stakes_of};
 ghost use Rattle.max_two_sat.specs.Table.{entries_before, later_totals};
 
@@ -24,7 +24,7 @@ pub struct MaxTwoSat {
     /// What the decision for false does, and what that for true does.
     pub(crate) on_false: Shifts,
     pub(crate) on_true: Shifts,
-    ghost kept: { IsKept (record { tautologies = tautologies; units = units.items; pairs = pairs.items }) },
+    ghost kept: { IsWithinLimits (record { tautologies = tautologies; units = units.items; pairs = pairs.items }) },
     ghost summed: { later.items ≡ later_totals (rows_of (length units.items) pairs.items) },
     ghost false_shifts: { AreShifts 0 (length units.items) pairs.items on_false.cells.items on_false.stakes.items },
     ghost true_shifts: { AreShifts 1 (length units.items) pairs.items on_true.cells.items on_true.stakes.items },
@@ -33,7 +33,7 @@ pub struct MaxTwoSat {
 impl MaxTwoSat {
     ghost use Rattle.std.specs.Prelude.{◌^◌, IfOk};
     ghost use Rattle.max_two_sat.specs.Drafted.{gathered_in, instance_gathered};
-    ghost use Rattle.max_two_sat.specs.Model.{instance_in};
+    ghost use Rattle.max_two_sat.specs.Shown.{instance_in};
     ghost use Rattle.max_two_sat.specs.Room.{IsGathered};
 
     /// The problem that a draft holds.

@@ -1,6 +1,6 @@
 ghost use Rattle.std.specs.Prelude.{◌≡◌, ◌^◌, ◌+◌, ◌-◌, ◌<◌, ◌≤◌, ◌≤ℤ◌, length, pos, slice_index_or};
 ghost use Rattle.max_two_sat.specs.Instance.{no_pair, pair_total, row_at, rows_of, unit_total, without_tautologies};
-ghost use Rattle.max_two_sat.specs.Kept.{IsKept, PairIsPositive, UnitIsPositive};
+ghost use Rattle.max_two_sat.specs.Limits.{IsWithinLimits, PairIsPositive, UnitIsPositive};
 ghost use Rattle.max_two_sat.specs.Program.{are_within, limits_at, words_of};
 
 use crate::instance::row_of;
@@ -14,7 +14,7 @@ pub(crate) fn are_within_limits(
     k: usize,
     benefits: &[i64],
 ) -> bool
-    requires kept { IsKept (without_tautologies units.now pairs.now) }
+    requires kept { IsWithinLimits (without_tautologies units.now pairs.now) }
     requires layer { k ≤ length units.now }
     requires cells { length benefits.now + k ≡ words_of (length units.now) }
     ensures { result ≡ are_within benefits.now (limits_at units.now pairs.now k) }
@@ -30,7 +30,7 @@ pub(crate) fn are_within_limits(
 /// How large the benefit may be that stands at an index behind layer `k`: the unit weights of its variable, and the weight of the
 /// clauses on it and a variable before the layer.
 fn limit_of(units: &[UnitWeights], pairs: &[PairWeights], k: usize, index: usize) -> i64
-    requires kept { IsKept (without_tautologies units.now pairs.now) }
+    requires kept { IsWithinLimits (without_tautologies units.now pairs.now) }
     requires layer { k ≤ length units.now }
     requires variable { index + k < words_of (length units.now) }
     ensures limit { result ≡ slice_index_or (limits_at units.now pairs.now k) index (pos 0) }
@@ -49,7 +49,7 @@ fn limit_of(units: &[UnitWeights], pairs: &[PairWeights], k: usize, index: usize
 
 /// What all clauses on two variables weigh, of which the first is the lesser.
 fn weight_between(units: &[UnitWeights], pairs: &[PairWeights], first: usize, second: usize) -> i64
-    requires kept { IsKept (without_tautologies units.now pairs.now) }
+    requires kept { IsWithinLimits (without_tautologies units.now pairs.now) }
     requires lesser { first < second }
     requires variable { second < length units.now }
     ensures { result ≡ pair_total (slice_index_or (row_at (rows_of (length units.now) pairs.now) first) (second - first - 1) no_pair) }

@@ -6,16 +6,17 @@ use crate::row::{extend_row, is_zero_row, lesser_sum, step_gain, write_root, wri
 use benefit_rows::{gap, gap_within, merge_into, rank};
 use dp_model::{DpModel, Extended};
 
-#[tactic(auto, using(crate::specs::InstanceNumbers::reads_numbers))]
+#[tactic(auto, using(crate::specs::Laws::Numbers::reads_numbers))]
 impl DpModel for MaxTwoSat {
     ghost use Rattle.std.specs.Prelude.{◌≡◌};
     ghost use Rattle.std.proofs.Common.{subst, sym};
     ghost use Rattle.dp_model.specs.Laws.{IsChained, IsLawful};
-    ghost use Rattle.max_two_sat.specs.Model.{instance_in};
-    ghost use Rattle.max_two_sat.specs.InstanceNumbers.{instance_of, instance_of-numbers_of, numbers_of};
+    ghost use Rattle.max_two_sat.specs.Shown.{instance_in};
+    ghost use Rattle.max_two_sat.specs.Numbers.{instance_of, numbers_of};
+    ghost use Rattle.max_two_sat.specs.Laws.Numbers.{instance_of-numbers_of};
     ghost use Rattle.max_two_sat.specs.Program.{program_of};
-    ghost use Rattle.max_two_sat.specs.SizeLaws.{lawful_program};
-    ghost use Rattle.max_two_sat.specs.GapLaws.{is_chained};
+    ghost use Rattle.max_two_sat.specs.Laws.Sizes.{lawful_program};
+    ghost use Rattle.max_two_sat.specs.Laws.Gaps.{is_chained};
 
     ghost numbers = { λ m. numbers_of (instance_in m) };
 

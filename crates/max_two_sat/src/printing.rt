@@ -7,7 +7,7 @@ ghost use Rattle.dd_text.specs.declared.comment.Comment.TheVariants.{LetterC};
 ghost use Rattle.max_two_sat.specs.Instance.{rows_of};
 ghost use Rattle.max_two_sat.specs.Texts.{instance_at};
 ghost use Rattle.max_two_sat.specs.Lines.{rows_lines};
-ghost use Rattle.max_two_sat.specs.Model.{instance_in};
+ghost use Rattle.max_two_sat.specs.Shown.{instance_in};
 ghost use Rattle.max_two_sat.specs.Printed.{first_line_of, line_of, text_of};
 
 use crate::clause::{Literal, Literals};

@@ -4,7 +4,7 @@ ghost use Rattle.std.specs.Prelude.{◌≡◌, ◌-◌, ◌^◌, ◌<◌, length
 ghost use Rattle.dd_text.specs.Text.{text_start};
 ghost use Rattle.dd_text.specs.Grammar.{Reads};
 ghost use Rattle.dd_text.specs.declared.comment.Comment.TheVariants.{LetterC};
-ghost use Rattle.max_two_sat.specs.Model.{instance_in};
+ghost use Rattle.max_two_sat.specs.Shown.{instance_in};
 ghost use Rattle.max_two_sat.specs.Texts.{instance_at};
 
 use crate::draft::Draft;

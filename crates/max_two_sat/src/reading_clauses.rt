@@ -6,7 +6,7 @@ ghost use Rattle.dd_text.specs.Grammar.{Reads, times};
 ghost use Rattle.dd_text.specs.declared.read_model_error.ReadModelError.TheVariants.{Text};
 ghost use Rattle.max_two_sat.specs.Clauses.{FitsLiterals};
 ghost use Rattle.max_two_sat.specs.Drafted.{gathered_in};
-ghost use Rattle.max_two_sat.specs.Room.{FitsOption, FormGives, IsGathered, IsUnderWay};
+ghost use Rattle.max_two_sat.specs.Room.{FitsOption, FormGives, IsGathered, IsGathering};
 ghost use Rattle.max_two_sat.specs.Texts.{behind_first, clause_at, end_of_clause, ends_clauses, ends_token, literal_at, literal_of, literals_at, reaches, weight_at};
 
 use crate::clause::{Literal, Literals};
@@ -24,7 +24,7 @@ pub(crate) fn read_clauses(
     draft: &mut Draft,
 ) -> Result<(), ReadModelError>
     requires few { header.clauses ≤ 2 ^ 20 }
-    requires under_way { IsUnderWay header (gathered_in draft.old) }
+    requires under_way { IsGathering header (gathered_in draft.old) }
     requires none { draft.old.clauses ≡ 0 }
     ensures read { Reads (λ _. (gathered_in draft.new, tokens.new)) result (times (clause_at header) header.clauses (gathered_in draft.old) tokens.old) }
     ensures gathered { OnOk result (IsGathered (gathered_in draft.new)) }
@@ -44,9 +44,9 @@ fn read_clause(
     draft: &mut Draft,
 ) -> Result<(), ReadModelError>
     requires few { draft.old.clauses < 2 ^ 20 }
-    requires under_way { IsUnderWay header (gathered_in draft.old) }
+    requires under_way { IsGathering header (gathered_in draft.old) }
     ensures read { Reads (λ _. (gathered_in draft.new, tokens.new)) result (clause_at header (gathered_in draft.old) tokens.old) }
-    ensures under_way { OnOk result (IsUnderWay header (gathered_in draft.new)) }
+    ensures under_way { OnOk result (IsGathering header (gathered_in draft.new)) }
     ensures count { OnOk result (draft.new.clauses ≡ draft.old.clauses + 1) }
 {
     if ends_clauses(tokens) {

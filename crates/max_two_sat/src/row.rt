@@ -4,7 +4,7 @@ ghost use Rattle.benefit_rows.specs.Benefits.{above_zero, below_zero, gain_of, r
 ghost use Rattle.max_two_sat.specs.Shifts.{half_lost};
 ghost use Rattle.max_two_sat.specs.Instance.{pair_total, unit_total, units_total};
 ghost use Rattle.max_two_sat.specs.Fitting.{FitsBenefits, FitsState};
-ghost use Rattle.max_two_sat.specs.Kept.{PairIsPositive, UnitIsPositive, units_are_positive};
+ghost use Rattle.max_two_sat.specs.Limits.{PairIsPositive, UnitIsPositive, units_are_positive};
 ghost use Rattle.max_two_sat.specs.Program.{all_zero, cell_part, grown, is_within, lesser_units, open_false, open_true, root_of, row_gain, row_step, settled, shared_gain, words_of};
 
 use crate::weights::{PairWeights, UnitWeights};

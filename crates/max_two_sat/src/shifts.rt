@@ -2,7 +2,7 @@
 
 ghost use Rattle.std.specs.Prelude.{◌≡◌, ◌^◌, ◌≤◌, length, map, pos, ◌≤ℤ◌, IfOk, IsTrue};
 ghost use Rattle.max_two_sat.specs.Instance.{pair_count, pair_total, pairs_total, rows_of};
-ghost use Rattle.max_two_sat.specs.Kept.{PairIsPositive, pairs_are_positive};
+ghost use Rattle.max_two_sat.specs.Limits.{PairIsPositive, pairs_are_positive};
 ghost use Rattle.max_two_sat.specs.Shifts.{AreShifts, shift_of, shifts_of, stake_of, stakes_of};
 
 use crate::instance::row_of;

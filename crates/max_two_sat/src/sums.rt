@@ -1,6 +1,6 @@
 ghost use Rattle.std.specs.Prelude.{◌≡◌, ◌^◌, ◌≤◌, length, pos, ◌≤ℤ◌, IfOk, IsTrue};
 ghost use Rattle.max_two_sat.specs.Instance.{pair_count, pairs_total, rows_of};
-ghost use Rattle.max_two_sat.specs.Kept.{pairs_are_positive};
+ghost use Rattle.max_two_sat.specs.Limits.{pairs_are_positive};
 ghost use Rattle.max_two_sat.specs.Table.{later_totals};
 
 use crate::instance::row_of;

@@ -1,14 +1,20 @@
 -- What is left of a word tells the next member.
-use Rattle.std.proofs.Common.{◌≡◌, ℕ, ◌+◌, ◌-◌, ◌*◌, ◌/◌, ◌%◌, ◌^◌, ◌<◌, ◌≤◌, ℤ, false, List, length, refl, sym, ap, ap₂, ◌∙◌, subst, arith, inl, inr}
-use Rattle.std.specs.Int.{w32, trailing_zeros}
-use Rattle.std.proofs.lemmas.Bool.{cases_lt, false≢true}
-use Rattle.std.proofs.lemmas.Nat.{pow-add}
-use Rattle.std.proofs.Math.Nat.{div-div-eq-div-mul}
+use Rattle.std.proofs.Common.{◌≡◌, ℕ, ◌+◌, ◌-◌, ◌*◌, ◌%◌, ◌^◌, ◌<◌, ◌≤◌, ℤ, not, ◌&&◌, nat_lt, nat_eq, false, List, length, sym, ap, ◌∙◌, arith, inl, inr, bit_and}
+use Rattle.std.specs.Int.{bit_not, w32, trailing_zeros}
+use Rattle.std.proofs.lemmas.Bool.{cases_eq, cases_lt, false≢true, lt-ltb, le-ltb}
+use Rattle.std.proofs.lemmas.Nat.Bits.{bit_at_clear_same, bit_at_clear_other}
 use Rattle.node_sets.specs.Sets.{AreWords, IsNext, word_at, has}
 use Rattle.node_sets.specs.Coming.{IsRest}
-use Rattle.node_sets.proofs.Words.{word_at-lt}
-use Rattle.node_sets.proofs.Words.{has-past}
-use Rattle.node_sets.proofs.Tests.{none_in_first, next_in_first}
+use Rattle.node_sets.proofs.Bits.{on, on_zero, lowest_on}
+use Rattle.node_sets.proofs.Words.{has_in, has-past}
+
+-- a number before the first one is not among the members
+rest_before : (row : List ℤ) (word from j : ℕ) → 32 * word + j < from → (not (nat_lt (32 * word + j) from) && has row (32 * word + j)) ≡ false
+rest_before row word from j l = ap (λ b. not b && has row (32 * word + j)) (lt-ltb (32 * word + j) from l)
+
+-- and one behind it is, where the row has it
+rest_behind_first : (row : List ℤ) (word from j : ℕ) → from ≤ 32 * word + j → (not (nat_lt (32 * word + j) from) && has row (32 * word + j)) ≡ has row (32 * word + j)
+rest_behind_first row word from j l = ap (λ b. not b && has row (32 * word + j)) (le-ltb (32 * word + j) from l)
 
 -- a whole word is left
 pub whole_word : (row : List ℤ) (i bits : ℕ) → AreWords row → length row < 2 ^ 32 → bits ≡ word_at row i → IsRest row i (32 * i) bits
@@ -17,40 +23,34 @@ whole_word row i bits cells short e = record {
   short = short;
   low = omega arith;
   high = omega arith;
-  left = (let none : 32 * i - 32 * i ≡ 0 = omega arith in let whole : word_at row i / 2 ^ 0 ≡ word_at row i = omega arith in e ∙ sym (ap (λ k. word_at row i / 2 ^ k) none ∙ whole));
+  left = λ j l. ap (λ b. on b j) e ∙ has_in row i j l ∙ sym (rest_behind_first row i (32 * i) j (omega arith));
 }
 
--- where bits are left, the number lies in the word
-in_word : (row : List ℤ) (word from bits : ℕ) → IsRest row word from bits → 0 < bits → from < 32 * word + 32
-in_word row word from bits r some =
-    elim (cases_lt from (32 * word + 32)) [
-      | inl l ↦ l
-      | inr l ↦
-          let low = r.low in
-          let high = r.high in
-          let small = word_at-lt row word r.cells in
-          let all : from - 32 * word ≡ 32 = omega arith in
-          let zero : word_at row word / 2 ^ 32 ≡ 0 = omega arith in
-          let none : bits ≡ 0 = r.left ∙ ap (λ k. word_at row word / 2 ^ k) all ∙ zero in
-          absurd (omega arith)
-    ]
-
--- what is left, by the number alone
-rest_is : (row : List ℤ) (word from bits : ℕ) → IsRest row word from bits → from < 32 * word + 32 → word_at row (from / 32) / 2 ^ (from % 32) ≡ bits
-rest_is row word from bits r l =
+-- the members of the word, from the number on, are its bits
+rest_at : (row : List ℤ) (word from bits : ℕ) → IsRest row word from bits → (u : ℕ) → from ≤ u → u < 32 * word + 32 → has row u ≡ on bits (u - 32 * word)
+rest_at row word from bits r u a b =
     let low = r.low in
-    let quotient : from / 32 ≡ word = omega arith in
-    let place : from % 32 ≡ from - 32 * word = omega arith in
-    ap₂ (λ x y. word_at row x / 2 ^ y) quotient place ∙ sym r.left
+    let place : 32 * word + (u - 32 * word) ≡ u = omega arith in
+    ap (has row) (sym place) ∙ sym (rest_behind_first row word from (u - 32 * word) (omega arith)) ∙ sym (r.left (u - 32 * word) (omega arith))
 
-pub next_in_rest : (row : List ℤ) (word from bits : ℕ) → IsRest row word from bits → 0 < bits → bits < 2 ^ 32 → (from + trailing_zeros w32 bits < 32 * word + 32) × IsNext (has row) from (from + trailing_zeros w32 bits)
+pub next_in_rest : (row : List ℤ) (word from bits : ℕ) → IsRest row word from bits → 0 < bits → bits < 2 ^ 32
+    → (trailing_zeros w32 bits < 32) × IsNext (has row) from (32 * word + trailing_zeros w32 bits)
 next_in_rest row word from bits r some small =
-    let inside = in_word row word from bits r some in
-    let same = rest_is row word from bits r inside in
+    let t = trailing_zeros w32 bits in
+    let lowest = lowest_on bits some small in
     let low = r.low in
-    let quotient : from / 32 ≡ word = omega arith in
-    let next = next_in_first row from (word_at row (from / 32)) refl (word_at-lt row (from / 32) r.cells) (omega (arith, same)) (omega (arith, same)) in
-    subst (λ b. (from + trailing_zeros w32 b < 32 * word + 32) × IsNext (has row) from (from + trailing_zeros w32 b)) same (omega (arith, next.0), next.1)
+    let reached : from ≤ 32 * word + t = elim (cases_lt (32 * word + t) from) [
+      | inl l ↦ absurd (false≢true (sym (rest_before row word from t l) ∙ sym (r.left t lowest.0) ∙ lowest.1))
+      | inr l ↦ l
+    ] in
+    let place : 32 * word + t - 32 * word ≡ t = omega arith in (
+      lowest.0,
+      record {
+        reached = reached;
+        passes = rest_at row word from bits r (32 * word + t) reached (omega (arith, lowest.0)) ∙ ap (on bits) place ∙ lowest.1;
+        skipped = λ u a b. rest_at row word from bits r u a (omega (arith, lowest.0)) ∙ lowest.2 (u - 32 * word) (omega arith);
+      },
+    )
 
 -- a member lies in the row
 pub next_small : (row : List ℤ) (from v : ℕ) → IsNext (has row) from v → v < 32 * length row
@@ -71,28 +71,28 @@ next_from row first from v l none next = record {
   ];
 }
 
-shifted_twice : (a s k : ℕ) → a / 2 ^ s / 2 ^ k ≡ a / 2 ^ (s + k)
-shifted_twice a s k = div-div-eq-div-mul a (2 ^ s) (2 ^ k) ∙ ap (λ x. a / x) (sym (pow-add 2 s k))
-
 -- what is left behind the next member
-pub rest_behind : (row : List ℤ) (word from bits t : ℕ) → IsRest row word from bits → from + t < 32 * word + 32 → IsRest row word (from + t + 1) (bits / 2 ^ t / 2 ^ 1)
-rest_behind row word from bits t r l =
-    let low = r.low in
-    let place : from - 32 * word + t + 1 ≡ from + t + 1 - 32 * word = omega arith in
+pub rest_behind : (row : List ℤ) (word from bits : ℕ) → IsRest row word from bits → 0 < bits → bits < 2 ^ 32
+    → IsRest row word (32 * word + trailing_zeros w32 bits + 1) (bit_and bits (bit_not w32 (1 * 2 ^ trailing_zeros w32 bits % 2 ^ 32)))
+rest_behind row word from bits r some small =
+    let t = trailing_zeros w32 bits in
+    let lowest = lowest_on bits some small in
+    let next = (next_in_rest row word from bits r some small).1 in
+    let reached = next.reached in
     record {
       cells = r.cells;
       short = r.short;
       low = omega arith;
-      high = omega arith;
-      left = ap (λ b. b / 2 ^ t / 2 ^ 1) r.left
-          ∙ ap (λ x. x / 2 ^ 1) (shifted_twice (word_at row word) (from - 32 * word) t)
-          ∙ shifted_twice (word_at row word) (from - 32 * word + t) 1
-          ∙ ap (λ k. word_at row word / 2 ^ k) place;
+      high = omega (arith, lowest.0);
+      left = λ j l. elim (cases_eq j t) [
+        | inl e ↦ ap (λ i. on (bit_and bits (bit_not w32 (1 * 2 ^ t % 2 ^ 32))) i) e ∙ ap (λ x. nat_eq x 1) (bit_at_clear_same w32 bits t lowest.0) ∙ sym (rest_before row word (32 * word + t + 1) j (omega arith))
+        | inr other ↦ ap (λ x. nat_eq x 1) (bit_at_clear_other w32 bits t lowest.0 j l other) ∙ (elim (cases_lt j t) [
+          | inl before ↦ lowest.2 j before ∙ sym (rest_before row word (32 * word + t + 1) j (omega arith))
+          | inr behind ↦ r.left j l ∙ (rest_behind_first row word from j (omega arith) ∙ sym (rest_behind_first row word (32 * word + t + 1) j (omega arith)))
+        ])
+      ];
     }
 
 pub none_in_rest : (row : List ℤ) (word from bits : ℕ) → IsRest row word from bits → bits ≡ 0 → (v : ℕ) → from ≤ v → v < 32 * (word + 1) → has row v ≡ false
 none_in_rest row word from bits r zero v a b =
-    let inside : from < 32 * word + 32 = omega arith in
-    let low = r.low in
-    let quotient : from / 32 ≡ word = omega arith in
-    none_in_first row from (word_at row (from / 32)) refl (rest_is row word from bits r inside ∙ zero) v a (omega arith)
+    rest_at row word from bits r v a (omega arith) ∙ (ap (λ w. on w (v - 32 * word)) zero ∙ on_zero (v - 32 * word))

@@ -1,7 +1,15 @@
 -- Rows that are written whole.
-use Rattle.std.proofs.Common.{◌≡◌, ℕ, ◌+◌, ◌≤◌, ℤ, Bool, true, false, not, ◌&&◌, ◌||◌, nat_eq, nat_lt, List, refl, sym, ap, ap₂, ◌∙◌, arith, inl, inr, eq-eqb}
+use Rattle.std.proofs.Common.{◌≡◌, ◌≢◌, ℕ, ◌+◌, ◌*◌, ◌/◌, ◌%◌, ◌^◌, ◌<◌, ◌≤◌, ℤ, pos, Bool, true, false, not, ◌&&◌, ◌||◌, nat_eq, nat_lt, List, length, get_or, set, refl, sym, ap, ap₂, ◌∙◌, arith, inl, inr, bit_and, bit_or, eq-eqb, below_more, get_or-set_same, get_or-set_other}
+use Rattle.std.specs.Int.{bit_not, w32}
 use Rattle.std.proofs.lemmas.Bool.{cases_eq, cases_lt, false≢true, ne_eqb, lt-ltb, le-ltb}
-use Rattle.node_sets.specs.Sets.{has}
+use Rattle.std.proofs.lemmas.List.{ext_get_or}
+use Rattle.std.proofs.lemmas.Nat.Bits.{bit_at_set_same, bit_at_set_other}
+use Rattle.node_sets.specs.Sets.{AreWords, word_at, has, row_of}
+use Rattle.node_sets.specs.declared.pairing.Pairing.TheVariants.{Difference}
+use Rattle.node_sets.proofs.Bits.{on, on_zero, on_or, same_word}
+use Rattle.node_sets.proofs.Words.{has_in, cell_is, word_at-lt}
+use Rattle.node_sets.proofs.Pairings.{made_bits, made_small}
+use Rattle.node_sets.proofs.Made.{length-row_of, AreWords-row_of, has-row_of}
 
 -- one more number
 pub others_more : (row now : List ℤ) (v : ℕ) → 1 ≤ v → ((u : ℕ) → has row u ≡ (nat_lt u v && not (nat_eq u 0))) → ((u : ℕ) → has now u ≡ (has row u || nat_eq u v)) → (u : ℕ) → has now u ≡ (nat_lt u (v + 1) && not (nat_eq u 0))
@@ -29,3 +37,43 @@ others_none row h u =
 pub one_is : (none same : Bool) → none ≡ false → (none || same) ≡ same
 one_is true same e = absurd (false≢true (sym e))
 one_is false same e = refl
+
+-- ---- sets that are written word by word
+
+-- the words below the i-th are those of the row
+abbrev pub IsWritten : List ℤ → List ℤ → ℕ → Type 0
+IsWritten row now i = (k : ℕ) → k < i → get_or now k (pos 0) ≡ get_or row k (pos 0)
+
+cell_written : (words i w : ℕ) (test : ℕ → Bool) → i < words → w < 2 ^ 32 → ((j : ℕ) → j < 32 → on w j ≡ test (32 * i + j)) → pos w ≡ get_or (row_of words test) i (pos 0)
+cell_written words i w test l p bits =
+    ap pos (same_word w (word_at (row_of words test) i) p (word_at-lt (row_of words test) i (AreWords-row_of words test))
+    (λ j m. bits j m ∙ sym (has-row_of words test (32 * i + j) (omega arith)) ∙ sym (has_in (row_of words test) i j m)))
+    ∙ sym (cell_is (row_of words test) i (AreWords-row_of words test))
+
+pub written_more : (words : ℕ) (test : ℕ → Bool) (now : List ℤ) (i w : ℕ) → IsWritten (row_of words test) now i → i < length now → i < words → w < 2 ^ 32 → ((j : ℕ) → j < 32 → on w j ≡ test (32 * i + j)) → IsWritten (row_of words test) (set now i (pos w)) (i + 1)
+written_more words test now i w h l m p bits =
+    below_more _ _
+    (λ k n. get_or-set_other now i k (pos w) (pos 0) (omega arith) ∙ h k n)
+    (get_or-set_same now i (pos w) (pos 0) l ∙ cell_written words i w test m p bits)
+
+-- a word of a set without the number of another word
+pub without_more : (words v : ℕ) (from now : List ℤ) (i a b : ℕ) → AreWords from → IsWritten (row_of words (λ u. has from u && not (nat_eq u v))) now i → i < length now → i < words → a ≡ word_at from i → b < 2 ^ 32 → ((j : ℕ) → j < 32 → on b j ≡ nat_eq (32 * i + j) v) → IsWritten (row_of words (λ u. has from u && not (nat_eq u v))) (set now i (pos (bit_and a (bit_not w32 b)))) (i + 1)
+without_more words v from now i a b cells h l m e p bits =
+    written_more words (λ u. has from u && not (nat_eq u v)) now i (bit_and a (bit_not w32 b)) h l m
+    (made_small Difference a b (rw e (word_at-lt from i cells)) p)
+    (λ j n. made_bits Difference a b j p n ∙ ap₂ (λ x y. x && not y) (ap (λ x. on x j) e ∙ has_in from i j n) (bits j n))
+
+pub written_all : (words : ℕ) (test : ℕ → Bool) (now : List ℤ) (i : ℕ) → length now ≡ words → words ≤ i → IsWritten (row_of words test) now i → now ≡ row_of words test
+written_all words test now i l all h =
+    ext_get_or (pos 0) now (row_of words test) (l ∙ sym (length-row_of words test)) (λ k m. h k (omega arith))
+
+-- the only bit of the word of a number
+pub bit_of_one : (v i j : ℕ) → i ≡ v / 32 → j < 32 → on (1 * 2 ^ (v % 32) % 2 ^ 32) j ≡ nat_eq (32 * i + j) v
+bit_of_one v i j e l =
+    ap (λ b. b || on (1 * 2 ^ (v % 32) % 2 ^ 32) j) (sym (on_zero j)) ∙ sym (on_or 0 (1 * 2 ^ (v % 32) % 2 ^ 32) j) ∙ elim (cases_eq j (v % 32)) [
+      | inl s ↦ ap (on (bit_or 0 (1 * 2 ^ (v % 32) % 2 ^ 32))) s ∙ ap (λ x. nat_eq x 1) (bit_at_set_same w32 0 (v % 32) (omega arith)) ∙ sym (eq-eqb (32 * i + j) v (omega arith))
+      | inr n ↦ ap (λ x. nat_eq x 1) (bit_at_set_other w32 0 (v % 32) (omega arith) j n) ∙ on_zero j ∙ sym (ne_eqb (32 * i + j) v (λ s. n (omega arith)))
+    ]
+
+pub bit_of_none : (v i j : ℕ) → i ≢ v / 32 → j < 32 → on 0 j ≡ nat_eq (32 * i + j) v
+bit_of_none v i j n l = on_zero j ∙ sym (ne_eqb (32 * i + j) v (λ s. n (omega arith)))

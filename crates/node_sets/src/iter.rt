@@ -8,7 +8,7 @@ ghost use Rattle.node_sets.specs.Coming.{IsRest};
 use crate::word::word;
 use std::marker::Model;
 
-// A number, the word in which it lies or which it has just passed, and the bits of that word from the number on.
+// A number, the word in which it lies or which it has just passed, and that word with the bits from the number on alone.
 #[derive(Clone, Copy)]
 struct Spot {
     word: usize,
@@ -96,12 +96,12 @@ impl<'a> Members<'a> {
         ensures none { IfNone result ((v : ℕ) → self.old.from ≤ v → has self.old.row v ≡ false) }
     {
         let spot = next_spot(self.row, self.spot)?;
-        let place = spot.bits.trailing_zeros() as usize;
-        let member = spot.from + place;
+        let place = spot.bits.trailing_zeros();
+        let member = 32 * spot.word + place as usize;
         self.spot = Spot {
             word: spot.word,
             from: member + 1,
-            bits: spot.bits >> place >> 1,
+            bits: spot.bits & !(1u32 << place),
         };
         Some(member)
     }

@@ -18,6 +18,6 @@ pub use iter::Members;
 pub use member::{clear, contains, insert, remove};
 pub use test::{
     count, is_disjoint, is_empty, is_set, is_subset, is_union_subset, least, next_member,
-    rows_are_sets, words_for,
+    next_of_either, rows_are_sets, words_for,
 };
-pub use write::{write_one, write_others, write_without};
+pub use write::{write_one, write_others, write_split, write_without};

@@ -162,6 +162,33 @@ pub fn next_member(row: &[i64], from: usize) -> Option<usize>
     None
 }
 
+/// The least number at or above `from` that is a member of one of the two sets, or none where there is none.
+#[inline]
+pub fn next_of_either(one: &[i64], two: &[i64], from: usize) -> Option<usize>
+    requires one_cells { AreWords one.now }
+    requires two_cells { AreWords two.now }
+    requires same { length one.now ≡ length two.now }
+    requires short { length one.now < 2 ^ 32 }
+    ensures some { IfSome result (λ v. v < 32 * length one.now) }
+    ensures next { IfSome result (IsNext (λ v. has one.now v || has two.now v) from) }
+    ensures none { IfNone result ((v : ℕ) → from ≤ v → (has one.now v || has two.now v) ≡ false) }
+{
+    if from / 32 >= one.len() {
+        return None;
+    }
+    let rest = (word(one, from / 32) | word(two, from / 32)) >> (from % 32);
+    if rest != 0 {
+        return Some(from + rest.trailing_zeros() as usize);
+    }
+    for i in from / 32 + 1..one.len() {
+        let all = word(one, i) | word(two, i);
+        if all != 0 {
+            return Some(32 * i + all.trailing_zeros() as usize);
+        }
+    }
+    None
+}
+
 /// The least member, or none where there is no member.
 pub fn least(row: &[i64]) -> Option<usize>
     requires cells { AreWords row.now }

@@ -1,5 +1,5 @@
 -- Maximum cut as a problem of the program.
-use Rattle.max_cut.specs.CutLaws.{own_words_solve}
+use Rattle.max_cut.specs.Laws.Cuts.{own_words_solve}
 use Rattle.max_cut.specs.Cuts.{cut_value}
 use Rattle.max_cut.specs.EdgeLines.{text_of}
 use Rattle.max_cut.specs.Edges.{instance_text}

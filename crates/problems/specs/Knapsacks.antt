@@ -5,7 +5,7 @@ use Rattle.knapsack.specs.Instance.{Instance, instance_of, numbers_of}
 use Rattle.knapsack.specs.OwnWords.{packed_value}
 use Rattle.knapsack.specs.Printing.{text_of}
 use Rattle.knapsack.specs.Program.{program, program_of}
-use Rattle.knapsack.specs.ProgramLaws.{instance_of-numbers_of, own_words_solve}
+use Rattle.knapsack.specs.Laws.Program.{instance_of-numbers_of, own_words_solve}
 use Rattle.knapsack.specs.Reading.{instance_text}
 use Rattle.knapsack.specs.Generating.{generated}
 use Rattle.problems.specs.Theory.{Theory, Agrees, with_numbers}

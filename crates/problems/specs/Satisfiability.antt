@@ -4,12 +4,13 @@ use Rattle.dd_text.specs.Text.{text_start}
 use Rattle.dd_text.specs.declared.comment.Comment.TheVariants.{LetterC}
 use Rattle.dp_model.specs.Solution.{SolutionGives}
 use Rattle.max_two_sat.specs.Instance.{Instance}
-use Rattle.max_two_sat.specs.InstanceNumbers.{numbers_of, instance_of, instance_of-numbers_of}
-use Rattle.max_two_sat.specs.Kept.{IsKept}
+use Rattle.max_two_sat.specs.Numbers.{numbers_of, instance_of}
+use Rattle.max_two_sat.specs.Laws.Numbers.{instance_of-numbers_of}
+use Rattle.max_two_sat.specs.Limits.{IsWithinLimits}
 use Rattle.max_two_sat.specs.OwnWords.{own_value}
 use Rattle.max_two_sat.specs.Printed.{text_of}
 use Rattle.max_two_sat.specs.Program.{program_of}
-use Rattle.max_two_sat.specs.Solutions.{own_value-agrees}
+use Rattle.max_two_sat.specs.Laws.Solutions.{own_value-agrees}
 use Rattle.max_two_sat.specs.Texts.{instance_at}
 use Rattle.max_two_sat.specs.Generating.{generated}
 use Rattle.problems.specs.Theory.{Theory, Agrees, with_numbers}
@@ -25,9 +26,6 @@ sat_theory = record {
   most_size = 1024;
 }
 
--- an instance's numbers are read back as the instance
-pub ruleset round_trip = (instance_of-numbers_of)
-
 -- its own words and its program speak of the same solutions
-pub sat_agrees : (i : Instance) → IsKept i → Agrees (program_of (instance_of (numbers_of i))) (sat_theory.own_value (numbers_of i))
+pub sat_agrees : (i : Instance) → IsWithinLimits i → Agrees (program_of (instance_of (numbers_of i))) (sat_theory.own_value (numbers_of i))
 sat_agrees i h = λ x. subst (λ j. SolutionGives (program_of j) x (own_value j x)) (sym (instance_of-numbers_of i)) (own_value-agrees i x h)

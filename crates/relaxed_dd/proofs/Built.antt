@@ -6,12 +6,11 @@ use Rattle.dp_laws.specs.Diagrams.Nodes.{DdNode}
 use Rattle.dp_laws.specs.Restricted.Beam.{is_reduced}
 use Rattle.dp_laws.specs.Rules.Compiling.{TwoLayers, expand, prune, is_wide, reduced, built, compiled, first_reduced_below, start_layer}
 use Rattle.dp_laws.proofs.Rules.Built.{built-narrow}
-use Rattle.layer_nodes.specs.Sifting.{expand_sifted}
-use Rattle.layer_nodes.proofs.Sifted.{prune-sifted}
 use Rattle.layer_build.specs.Layers.{SpaceView, last_depth, last_layer, expand_last, on_last_two, reduced_first}
 use Rattle.layer_build.specs.UnderWay.{IsUnderWay}
+use Rattle.layer_build.proofs.Pruning.{two-expanded}
 use Rattle.relaxed_dd.specs.Building.{HasReduced, HasBuilt, HasCompiled, IsStarted, with_last, with_next, compiled_from}
-use Rattle.relaxed_dd.proofs.Lasts.{length-expand, length-two, last-expand, two-expand, with_rest, rest-expand, rest-none}
+use Rattle.relaxed_dd.proofs.Lasts.{length-expand, last-expand, with_rest, rest-expand, rest-none}
 
 -- the first that there is
 abbrev pub first_of : Option ℕ → Option ℕ → Option ℕ
@@ -108,58 +107,40 @@ builds-all dp t start s h =
       under_way = h.under_way;
     }
 
--- rules that are the same expand in the same way
-expand-same : (f g : List DdNode → TwoLayers) → ((l : List DdNode) → f l ≡ g l) → (ls : List (List DdNode)) → expand_last f ls ≡ expand_last g ls
-expand-same f g same [] = refl
-expand-same f g same (l ∷ []) = ap (λ (two : TwoLayers). two.above ∷ two.next ∷ []) (same l)
-expand-same f g same (l ∷ m ∷ ls) = ap (λ r. l ∷ r) (expand-same f g same (m ∷ ls))
+-- a layer that is expanded, pruned and reduced is built
 
--- a layer that is expanded without its struck nodes, struck and reduced is built
+abbrev after_pruning : Dp → Option ℤ → List ℤ → SpaceView → SpaceView
+after_pruning dp t ranks s = record s { layers = expand_last (λ l. prune dp (last_depth s + 1) t (expand dp (last_depth s) l)) s.layers; ranks = ranks }
 
-abbrev after_expand : Dp → Option ℤ → List ℤ → SpaceView → SpaceView
-after_expand dp t ranks s = record s { layers = expand_last (expand_sifted dp (last_depth s) t) s.layers; ranks = ranks }
-
-abbrev after_strike : Dp → Option ℤ → List ℤ → SpaceView → SpaceView
-after_strike dp t ranks s = record s { layers = on_last_two (prune dp (last_depth s) t) s.layers; ranks = ranks }
-
-one-built : (dp : Dp) (t : Option ℤ) (s new : SpaceView) (r1 r2 : List ℤ) → 0 < length s.layers → HasReduced dp (after_strike dp t r2 (after_expand dp t r1 s)) new → HasBuilt dp t s new
-one-built dp t s new r1 r2 some h =
+one-built : (dp : Dp) (t : Option ℤ) (s new : SpaceView) (ranks : List ℤ) → 0 < length s.layers → HasReduced dp (after_pruning dp t ranks s) new → HasBuilt dp t s new
+one-built dp t s new ranks some h =
     let first = length s.prefix in
     let w = s.width in
     let k = last_depth s in
     let ls = s.layers in
-    let s1 = after_expand dp t r1 s in
-    let s2 = after_strike dp t r2 s1 in
-    let long1 = length-expand (expand_sifted dp k t) ls some in
-    let d1 : last_depth s1 ≡ k + 1 = omega arith in
-    let long2 = length-two (prune dp (last_depth s1) t) s1.layers in
-    let d2 : last_depth s2 ≡ k + 1 = omega arith in
-    let struck : on_last_two (prune dp (k + 1) t) (expand_last (expand_sifted dp k t) ls) ≡ expand_last (λ l. prune dp (k + 1) t (expand dp k l)) ls =
-    two-expand (prune dp (k + 1) t) (expand_sifted dp k t) ls
-    ∙ expand-same (λ l. prune dp (k + 1) t (expand_sifted dp k t l)) (λ l. prune dp (k + 1) t (expand dp k l)) (λ l. prune-sifted dp (k + 1) t (expand dp k l)) ls in
-    let layers : on_last_two (reduced dp first w (last_depth s2)) s2.layers ≡ expand_last (built dp first w t k) ls =
-    ap (λ n. on_last_two (reduced dp first w n) s2.layers) d2 ∙ (ap (λ n. on_last_two (reduced dp first w (k + 1)) (on_last_two (prune dp n t) (expand_last (expand_sifted dp k t) ls))) d1
-    ∙ (ap (on_last_two (reduced dp first w (k + 1))) struck ∙ two-expand (reduced dp first w (k + 1)) (λ l. prune dp (k + 1) t (expand dp k l)) ls)) in
-    let last : last_layer s2.layers ≡ (prune dp (k + 1) t (expand dp k (last_layer ls))).next =
-    ap (λ n. last_layer (on_last_two (prune dp n t) (expand_last (expand_sifted dp k t) ls))) d1 ∙ (ap last_layer struck ∙ last-expand (λ l. prune dp (k + 1) t (expand dp k l)) ls some) in
-    let least : with_last dp s2 ≡ with_next dp t s =
-    ap (λ n. cond (is_wide dp first w n (last_layer s2.layers)) (reduced_first s.first_reduced n) s.first_reduced) d2
+    let rule : List DdNode → TwoLayers = λ l. prune dp (k + 1) t (expand dp k l) in
+    let pruned = after_pruning dp t ranks s in
+    let long = length-expand rule ls some in
+    let deep : last_depth pruned ≡ k + 1 = omega arith in
+    let layers : on_last_two (reduced dp first w (last_depth pruned)) pruned.layers ≡ expand_last (built dp first w t k) ls =
+    ap (λ n. on_last_two (reduced dp first w n) pruned.layers) deep ∙ two-expanded (reduced dp first w (k + 1)) rule ls in
+    let last : last_layer pruned.layers ≡ (rule (last_layer ls)).next = last-expand rule ls some in
+    let least : with_last dp pruned ≡ with_next dp t s =
+    ap (λ n. cond (is_wide dp first w n (last_layer pruned.layers)) (reduced_first s.first_reduced n) s.first_reduced) deep
     ∙ ap (λ l. cond (is_wide dp first w (k + 1) l) (reduced_first s.first_reduced (k + 1)) s.first_reduced) last in
     record {
-      space = h.space ∙ (ap (λ ls. record s { layers = ls; ranks = new.ranks; first_reduced = with_last dp s2 }) layers ∙ ap (λ (o : Option ℕ). record s { layers = expand_last (built dp first w t k) ls; ranks = new.ranks; first_reduced = o }) least);
+      space = h.space ∙ (ap (λ ls. record s { layers = ls; ranks = new.ranks; first_reduced = with_last dp pruned }) layers ∙ ap (λ (o : Option ℕ). record s { layers = expand_last (built dp first w t k) ls; ranks = new.ranks; first_reduced = o }) least);
       under_way = h.under_way;
     }
 
-pub builds-one : (dp : Dp) (t : Option ℤ) (s s1 s2 new : SpaceView) → 0 < length s.layers → s1 ≡ after_expand dp t s1.ranks s → s2 ≡ after_strike dp t s2.ranks s1 → HasReduced dp s2 new → HasBuilt dp t s new
-builds-one dp t s s1 s2 new some e1 e2 h = one-built dp t s new s1.ranks s2.ranks some (subst (λ v. HasReduced dp v new) (e2 ∙ ap (after_strike dp t s2.ranks) e1) h)
+pub builds-one : (dp : Dp) (t : Option ℤ) (s pruned new : SpaceView) → 0 < length s.layers → pruned ≡ after_pruning dp t pruned.ranks s → HasReduced dp pruned new → HasBuilt dp t s new
+builds-one dp t s pruned new some e h = one-built dp t s new pruned.ranks some (subst (λ v. HasReduced dp v new) e h)
 
--- the struck layers are as many as the expanded ones
-pub some-struck : (dp : Dp) (t : Option ℤ) (s s1 s2 : SpaceView) → 0 < length s.layers → s1 ≡ after_expand dp t s1.ranks s → s2 ≡ after_strike dp t s2.ranks s1 → 0 < length s2.layers
-some-struck dp t s s1 s2 some e1 e2 =
-    let a = ap (λ (v : SpaceView). length v.layers) e1 in
-    let b = ap (λ (v : SpaceView). length v.layers) e2 in
-    let c = length-expand (expand_sifted dp (last_depth s) t) s.layers some in
-    let d = length-two (prune dp (last_depth s1) t) s1.layers in
+-- the expanded layers are one more
+pub some-pruned : (dp : Dp) (t : Option ℤ) (s pruned : SpaceView) → 0 < length s.layers → pruned ≡ after_pruning dp t pruned.ranks s → 0 < length pruned.layers
+some-pruned dp t s pruned some e =
+    let a = ap (λ (v : SpaceView). length v.layers) e in
+    let b = length-expand (λ l. prune dp (last_depth s + 1) t (expand dp (last_depth s) l)) s.layers some in
     omega arith
 
 -- what the next layer needs

@@ -4,17 +4,12 @@ use Rattle.dp_model.specs.Dp.{Dp}
 use Rattle.dp_laws.specs.Diagrams.Nodes.{DdNode}
 use Rattle.dp_laws.specs.Rules.Compiling.{TwoLayers, merge_rest, is_wide, reduced, built, compiled}
 use Rattle.layer_build.specs.Layers.{last_layer, expand_last, on_last_two}
+use Rattle.layer_build.proofs.Pruning.{two-same}
 
 pub length-expand : (rule : List DdNode → TwoLayers) (ls : List (List DdNode)) → 0 < length ls → length (expand_last rule ls) ≡ length ls + 1
 length-expand rule [] some = absurd (omega arith)
 length-expand rule (l ∷ []) some = refl
 length-expand rule (l ∷ n ∷ rest) some = let ih = length-expand rule (n ∷ rest) (omega arith) in omega arith
-
-pub length-two : (rule : TwoLayers → TwoLayers) (ls : List (List DdNode)) → length (on_last_two rule ls) ≡ length ls
-length-two rule [] = refl
-length-two rule (l ∷ []) = refl
-length-two rule (l ∷ n ∷ []) = refl
-length-two rule (l ∷ n ∷ m ∷ rest) = ap suc (length-two rule (n ∷ m ∷ rest))
 
 -- an expanded list has two layers at least
 last-over : (rule : List DdNode → TwoLayers) (l n : List DdNode) (rest : List (List DdNode)) → last_layer (l ∷ expand_last rule (n ∷ rest)) ≡ last_layer (expand_last rule (n ∷ rest))
@@ -25,22 +20,6 @@ pub last-expand : (rule : List DdNode → TwoLayers) (ls : List (List DdNode)) �
 last-expand rule [] some = absurd (omega arith)
 last-expand rule (l ∷ []) some = refl
 last-expand rule (l ∷ n ∷ rest) some = last-over rule l n rest ∙ last-expand rule (n ∷ rest) (omega arith)
-
-two-over : (r2 : TwoLayers → TwoLayers) (r1 : List DdNode → TwoLayers) (l n : List DdNode) (rest : List (List DdNode)) → on_last_two r2 (l ∷ expand_last r1 (n ∷ rest)) ≡ l ∷ on_last_two r2 (expand_last r1 (n ∷ rest))
-two-over r2 r1 l n [] = refl
-two-over r2 r1 l n (m ∷ []) = refl
-two-over r2 r1 l n (m ∷ o ∷ rest) = refl
-
-pub two-expand : (r2 : TwoLayers → TwoLayers) (r1 : List DdNode → TwoLayers) (ls : List (List DdNode)) → on_last_two r2 (expand_last r1 ls) ≡ expand_last (λ l. r2 (r1 l)) ls
-two-expand r2 r1 [] = refl
-two-expand r2 r1 (l ∷ []) = refl
-two-expand r2 r1 (l ∷ n ∷ rest) = two-over r2 r1 l n rest ∙ ap (λ ls. l ∷ ls) (two-expand r2 r1 (n ∷ rest))
-
-pub two-same : (r r' : TwoLayers → TwoLayers) (ls : List (List DdNode)) → ((above : List DdNode) → r (record { above = above; next = last_layer ls }) ≡ r' (record { above = above; next = last_layer ls })) → on_last_two r ls ≡ on_last_two r' ls
-two-same r r' [] same = refl
-two-same r r' (l ∷ []) same = ap (λ (two : TwoLayers). two.next ∷ []) (same [])
-two-same r r' (l ∷ n ∷ []) same = ap (λ (two : TwoLayers). two.above ∷ two.next ∷ []) (same l)
-two-same r r' (l ∷ n ∷ m ∷ rest) same = ap (λ ls. l ∷ ls) (two-same r r' (n ∷ m ∷ rest) same)
 
 two-as-is : (ls : List (List DdNode)) → on_last_two (λ two. two) ls ≡ ls
 two-as-is [] = refl

@@ -8,7 +8,7 @@ use Rattle.dp_laws.specs.declared.arc.DdArc.{DdArc}
 use Rattle.dp_laws.specs.Diagrams.Nodes.{DdNode}
 use Rattle.dp_laws.specs.Diagrams.Seen.{suffix_at}
 use Rattle.dp_laws.proofs.Diagrams.Places.{Has-at, same-Some}
-use Rattle.relaxed_dd.specs.Lengths.{raised, lengths}
+use Rattle.relaxed_dd.specs.Lengths.{longest_yet, lengths}
 
 -- the arcs of a node that may be there
 abbrev pub arcs_of : Option DdNode → List DdArc
@@ -38,7 +38,7 @@ abbrev pub greatest_with : Option ℤ → List ℤ → Option ℤ
 greatest_with None zs = greatest zs
 greatest_with (Some z) zs = Some (greatest_from z zs)
 
-with-one : (best one : Option ℤ) (zs : List ℤ) → greatest_with (raised best one) zs ≡ greatest_with best (cons_option one zs)
+with-one : (best one : Option ℤ) (zs : List ℤ) → greatest_with (longest_yet best one) zs ≡ greatest_with best (cons_option one zs)
 with-one None None zs = refl
 with-one (Some y) None zs = refl
 with-one None (Some z) zs = refl
@@ -46,7 +46,7 @@ with-one (Some y) (Some z) zs = refl
 
 -- one arc more
 pub longer-by-one : (next : List DdNode) (arcs : List DdArc) (i : ℕ) (arc : DdArc) (best now : Option ℤ) → slice_get arcs i ≡ Some arc → greatest_with best (lengths next (drop i arcs)) ≡ greatest (lengths next arcs)
-    → now ≡ raised best (add_some (arc.gain +ℤ arc.longer) (suffix_at next arc.target)) → greatest_with now (lengths next (drop (i + 1) arcs)) ≡ greatest (lengths next arcs)
+    → now ≡ longest_yet best (add_some (arc.gain +ℤ arc.longer) (suffix_at next arc.target)) → greatest_with now (lengths next (drop (i + 1) arcs)) ≡ greatest (lengths next arcs)
 longer-by-one next arcs i arc best now at h e =
     let length_of : DdArc → Option ℤ = λ (a : DdArc). add_some (a.gain +ℤ a.longer) (suffix_at next a.target) in
     let rest = filter_map length_of (drop (i + 1) arcs) in

@@ -16,10 +16,10 @@ abbrev pub arcs_at : SpaceView → ℕ → ℕ → List DdArc
 arcs_at s depth node = unwrap_or (option_map (λ (n : DdNode). n.arcs) (node_at (diagram_of s) depth node)) []
 
 -- the greatest length so far, once there is one more or none
-abbrev pub raised : Option ℤ → Option ℤ → Option ℤ
-raised best None = best
-raised None (Some z) = Some z
-raised (Some y) (Some z) = Some (cond (int_lt y z) z y)
+abbrev pub longest_yet : Option ℤ → Option ℤ → Option ℤ
+longest_yet best None = best
+longest_yet None (Some z) = Some z
+longest_yet (Some y) (Some z) = Some (cond (int_lt y z) z y)
 
 -- the lengths of the arcs, each with the suffix of its target
 abbrev pub lengths : List DdNode → List DdArc → List ℤ

@@ -1,4 +1,3 @@
 pub mod Building
 pub mod Lengths
-pub mod Kept
 pub mod Shown

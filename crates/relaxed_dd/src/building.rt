@@ -49,8 +49,7 @@ fn build_layer<M: DpModel>(space: &mut Workspace, model: &M, threshold: Option<i
     requires narrow { length space.old.prefix + 2 ≤ last_depth space.old → length (last_layer space.old.layers) ≤ space.old.width }
     ensures { HasBuilt (M.meaning (M.numbers model.now)) threshold space.old space.new }
 {
-    space.expand_sifted(model, threshold);
-    space.strike(model, threshold);
+    space.expand_pruned(model, threshold);
     reduce(space, model);
 }
 

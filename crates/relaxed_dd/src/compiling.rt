@@ -5,7 +5,7 @@ ghost use Rattle.dp_model.specs.Subproblem.{IsOwn};
 ghost use Rattle.dp_laws.specs.Rules.Compiling.{relaxed};
 ghost use Rattle.layer_build.specs.Layers.{IsPreparedFor, diagram_of};
 ghost use Rattle.relaxed_dd.specs.Building.{IsMade};
-ghost use Rattle.relaxed_dd.specs.Kept.{StaysPrepared};
+ghost use Rattle.layer_build.specs.Kept.{StaysPrepared};
 ghost use Rattle.relaxed_dd.specs.Shown.{layers_of, width_of, IsDiagramOf};
 
 use crate::building::build;

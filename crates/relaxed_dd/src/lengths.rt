@@ -7,7 +7,7 @@ ghost use Rattle.dp_model.specs.Numbers.{add_some, greatest};
 ghost use Rattle.dp_laws.specs.Diagrams.Nodes.{node_at};
 ghost use Rattle.dp_laws.specs.Diagrams.Seen.{suffix_at, suffix_from};
 ghost use Rattle.layer_build.specs.Layers.{diagram_of, last_depth, layer_at};
-ghost use Rattle.relaxed_dd.specs.Lengths.{arcs_at, raised, MayAdd, MayLead, MayFollow, lengths};
+ghost use Rattle.relaxed_dd.specs.Lengths.{arcs_at, longest_yet, MayAdd, MayLead, MayFollow, lengths};
 
 use dp_laws::DdArc;
 use dp_model::DpModel;
@@ -15,7 +15,7 @@ use layer_build::Workspace;
 
 /// The greater of the greatest length so far and one more.
 fn greater(best: Option<i64>, length: Option<i64>) -> Option<i64>
-    ensures { result ≡ raised best length }
+    ensures { result ≡ longest_yet best length }
 {
     let Some(length) = length else {
         return best;

@@ -5,7 +5,7 @@ ghost use Rattle.std.specs.Borrow.{sem};
 ghost use Rattle.dp_model.specs.Subproblem.{IsOwn};
 ghost use Rattle.dp_laws.specs.Restricted.Beams.{beam, wide};
 ghost use Rattle.layer_build.specs.Layers.{IsPreparedFor};
-ghost use Rattle.restricted_dd.specs.Kept.{StaysPrepared};
+ghost use Rattle.layer_build.specs.Kept.{StaysPrepared};
 ghost use Rattle.restricted_dd.specs.Beams.{ShowsBeam};
 
 use dp_model::{DpModel, Found, Sub};

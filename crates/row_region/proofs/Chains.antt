@@ -4,7 +4,7 @@ use Rattle.std.proofs.lemmas.Int.{ints}
 use Rattle.std.proofs.lemmas.Bool.Decides.{eqb_tells, nat_tests}
 use Rattle.std.proofs.lemmas.List.{replicate_more, length-append, ext_get_or, get_or_append_left}
 use Rattle.std.proofs.lemmas.List.Sums.{sum_by_push}
-use Rattle.row_region.specs.Layout.{named, first_cell, free_from, has, Apart, Each, row_at, slot_at, table, slots, IsFreeRow, IsChained, SameBut, IsThreaded}
+use Rattle.row_region.specs.Layout.{named, first_cell, free_from, has, Apart, EachNumber, row_at, slot_at, table, slots, IsFreeRow, IsChained, SameBut, IsThreaded}
 use Rattle.row_region.proofs.Rows.{row_within, length-row, get-row, same_first, other_row, table_same, table_set}
 
 same_number : (p : ℕ) → nat_eq p p ≡ true
@@ -33,11 +33,11 @@ has_rest p q ps h = go (eqb_tells p q)
 apart_from : (ps : List ℕ) (p q : ℕ) → has ps p ≡ false → has ps q ≡ true → q ≢ p
 apart_from ps p q h k e = let k2 : has ps p ≡ true = subst (λ (j : ℕ). has ps j ≡ true) e k in cc
 
-Each_map : (P Q : ℕ → Type 0) (ps : List ℕ) → ((q : ℕ) → has ps q ≡ true → P q → Q q) → Each P ps → Each Q ps
+Each_map : (P Q : ℕ → Type 0) (ps : List ℕ) → ((q : ℕ) → has ps q ≡ true → P q → Q q) → EachNumber P ps → EachNumber Q ps
 Each_map P Q [] f h = tt
 Each_map P Q (p ∷ ps) f h = (f p (has_head p ps) h.0, Each_map P Q ps (λ q k. f q (has_rest p q ps k)) h.1)
 
-Each_at : (P : ℕ → Type 0) (ps : List ℕ) (q : ℕ) → Each P ps → has ps q ≡ true → P q
+Each_at : (P : ℕ → Type 0) (ps : List ℕ) (q : ℕ) → EachNumber P ps → has ps q ≡ true → P q
 Each_at P [] q h k = absurd (cc)
 Each_at P (p ∷ ps) q h k = go (eqb_tells p q) (Each_at P ps q h.1)
   where
@@ -90,7 +90,7 @@ hits_more p ps (suc n) h free = go (eqb_tells p n) (λ l. hits_more p ps n l fre
         rw (k.0, one) (omega arith)
 
 -- places within n, no two of them the same, are at most n
-pub few : (n : ℕ) (ps : List ℕ) → Each (λ p. p < n) ps → Apart ps → length ps ≡ hits ps n
+pub few : (n : ℕ) (ps : List ℕ) → EachNumber (λ p. p < n) ps → Apart ps → length ps ≡ hits ps n
 few n [] within apart = sym (none n)
   where
     none : (n : ℕ) → hits [] n ≡ 0
@@ -121,7 +121,7 @@ free_row_stays cells new words count more q positive le same f =
     record { within = (let w = f.within in omega arith); positive = rw e f.positive; small = rw e f.small }
 
 -- a place of the chain is within
-within_chain : (cells : List ℤ) (words count n place q : ℕ) → Each (IsFreeRow cells words count) (free_from cells words n place) → has (free_from cells words n place) q ≡ true → q < count
+within_chain : (cells : List ℤ) (words count n place q : ℕ) → EachNumber (IsFreeRow cells words count) (free_from cells words n place) → has (free_from cells words n place) q ≡ true → q < count
 within_chain cells words count n place q h k = (Each_at (IsFreeRow cells words count) (free_from cells words n place) q h k).within
 
 module _ (cells new : List ℤ) (words count p : ℕ) (positive : 0 < words) (room : count * words ≤ length cells) (but : SameBut cells new words p) where
@@ -129,13 +129,13 @@ module _ (cells new : List ℤ) (words count p : ℕ) (positive : 0 < words) (ro
   stays q less n = other_row cells new words p q but n (let w = row_within q count words less in omega arith)
 
   -- a chain without the row stays as it is
-  pub kept_chain : (n place : ℕ) → Each (IsFreeRow cells words count) (free_from cells words n place) → has (free_from cells words n place) p ≡ false → free_from new words n place ≡ free_from cells words n place
+  pub kept_chain : (n place : ℕ) → EachNumber (IsFreeRow cells words count) (free_from cells words n place) → has (free_from cells words n place) p ≡ false → free_from new words n place ≡ free_from cells words n place
   kept_chain n place rows live = same_chain cells new words n place positive (λ q k. stays q (within_chain cells words count n place q rows k) (apart_from (free_from cells words n place) p q live k))
 
-  pub kept_rows : (more n place : ℕ) → count ≤ more → Each (IsFreeRow cells words count) (free_from cells words n place) → has (free_from cells words n place) p ≡ false → Each (IsFreeRow new words more) (free_from new words n place)
+  pub kept_rows : (more n place : ℕ) → count ≤ more → EachNumber (IsFreeRow cells words count) (free_from cells words n place) → has (free_from cells words n place) p ≡ false → EachNumber (IsFreeRow new words more) (free_from new words n place)
   kept_rows more n place le rows live =
       let ps = free_from cells words n place in
-      subst (λ (l : List ℕ). Each (IsFreeRow new words more) l) (sym (kept_chain n place rows live))
+      subst (λ (l : List ℕ). EachNumber (IsFreeRow new words more) l) (sym (kept_chain n place rows live))
       (Each_map (IsFreeRow cells words count) (IsFreeRow new words more) ps (λ q k f. free_row_stays cells new words count more q positive le (stays q f.within (apart_from ps p q live k)) f) rows)
 
   -- the slots of the others stay
@@ -175,7 +175,7 @@ push_chained cells new words count more free spare p c but named_free live less 
       room = room;
       small = small;
       first = omega arith;
-      free_rows = subst (λ (l : List ℕ). Each (IsFreeRow new words more) l) (sym chain) (head, subst (λ (l : List ℕ). Each (IsFreeRow new words more) l) kept rows);
+      free_rows = subst (λ (l : List ℕ). EachNumber (IsFreeRow new words more) l) (sym chain) (head, subst (λ (l : List ℕ). EachNumber (IsFreeRow new words more) l) kept rows);
       apart = subst Apart (sym chain) (live, c.apart);
     }
 
@@ -321,7 +321,7 @@ module _ (cells more : List ℤ) (words count : ℕ) (positive : 0 < words) (roo
       let small : k < words = omega arith in
       get-row (cells ++ more) words q k small ∙ get_or_append_left cells more (pos 0) (q * words + k) (omega arith) ∙ sym (get-row cells words q k small))
 
-  longer_chain : (n place : ℕ) → Each (IsFreeRow cells words count) (free_from cells words n place) → free_from (cells ++ more) words n place ≡ free_from cells words n place
+  longer_chain : (n place : ℕ) → EachNumber (IsFreeRow cells words count) (free_from cells words n place) → free_from (cells ++ more) words n place ≡ free_from cells words n place
   longer_chain n place rows = same_chain cells (cells ++ more) words n place positive (λ q k. longer_row q (within_chain cells words count n place q rows k))
 
   pub longer_chained : (free spare : ℕ) → IsChained cells words count free spare → IsChained (cells ++ more) words count free spare
@@ -334,7 +334,7 @@ module _ (cells more : List ℤ) (words count : ℕ) (positive : 0 < words) (roo
         room = omega arith;
         small = c.small;
         first = c.first;
-        free_rows = subst (λ (l : List ℕ). Each (IsFreeRow (cells ++ more) words count) l) (sym e)
+        free_rows = subst (λ (l : List ℕ). EachNumber (IsFreeRow (cells ++ more) words count) l) (sym e)
             (Each_map (IsFreeRow cells words count) (IsFreeRow (cells ++ more) words count) ps (λ q k f. free_row_stays cells (cells ++ more) words count count q positive (omega arith) (longer_row q f.within) f) c.free_rows);
         apart = subst Apart (sym e) c.apart;
       }

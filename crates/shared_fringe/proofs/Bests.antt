@@ -10,7 +10,7 @@ use Rattle.shared_fringe.specs.Tickets.{Ticketed}
 use Rattle.shared_fringe.specs.Firsts.{is_taken_before}
 use Rattle.shared_fringe.specs.declared.rank.Rank.{Rank}
 use Rattle.shared_fringe.specs.Ranks.{rank_cmp}
-use Rattle.shared_fringe.specs.Slots.{AreRanked, IsBest, has_rank, in_slot, rank_of}
+use Rattle.shared_fringe.specs.Slots.{AreRanked, IsFirstSlot, has_rank, in_slot, rank_of}
 
 -- a rank that is not less is not taken after
 not_before : (r : Rank) (t : ℕ) (o one : Ticketed) → one.ticket ≡ r.ticket → one.subproblem.value ≡ r.value → one.subproblem.bound ≡ r.bound
@@ -23,10 +23,10 @@ has_parts r o h = (grind (arith, ints, nat_tests), grind (arith, ints, nat_tests
 has_itself : (s : ℕ) (o : Ticketed) → has_rank (rank_of s o) (Some o) ≡ true
 has_itself s o = grind (arith, ints, nat_tests)
 
-pub best_of : (slots : List (Option Ticketed)) (ranks : List Rank) (r : Rank) → has_rank r (in_slot slots r.slot) ≡ true → AreRanked slots ranks → IsUpperBound rank_cmp r ranks → IsBest slots r.slot
+pub best_of : (slots : List (Option Ticketed)) (ranks : List Rank) (r : Rank) → has_rank r (in_slot slots r.slot) ≡ true → AreRanked slots ranks → IsUpperBound rank_cmp r ranks → IsFirstSlot slots r.slot
 best_of slots ranks r has ranked most =
-    let go : (x : Option Ticketed) → in_slot slots r.slot ≡ x → has_rank r x ≡ true → IsBest slots r.slot =
-    λ x. elim x as (λ x. in_slot slots r.slot ≡ x → has_rank r x ≡ true → IsBest slots r.slot) [
+    let go : (x : Option Ticketed) → in_slot slots r.slot ≡ x → has_rank r x ≡ true → IsFirstSlot slots r.slot =
+    λ x. elim x as (λ x. in_slot slots r.slot ≡ x → has_rank r x ≡ true → IsFirstSlot slots r.slot) [
       | None ↦ λ e h. absurd (cc)
       | Some one ↦ λ e h. (let p = has_parts r one h in record {
         one = one;

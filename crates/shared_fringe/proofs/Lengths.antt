@@ -2,7 +2,7 @@
 use Rattle.std.proofs.Common.{◌≡◌, ℕ, ℤ, zero, suc, ◌+◌, ◌≤◌, take, List, [], ◌∷◌, length, map, true, false, cond, nat_lt, count_by, is_none, Option, Some, None, refl, ◌∙◌, ap, arith, add-one}
 use Rattle.std.proofs.lemmas.List.Sums.{sum_by-cons}
 use Rattle.shared_fringe.specs.Tickets.{Ticketed, by_ticket}
-use Rattle.shared_fringe.specs.Slots.{in_slot, key_of, opened}
+use Rattle.shared_fringe.specs.Slots.{in_slot, key_of, key_row, opened}
 
 put_length : (o : Ticketed) (os : List Ticketed) → length (by_ticket o os) ≡ suc (length os)
 put_length o [] = refl
@@ -19,7 +19,7 @@ opened_count (None ∷ slots) =
 opened_count (Some o ∷ slots) =
     let k = opened_count slots in
     let l : length (opened (Some o ∷ slots)) ≡ suc (length (opened slots)) = put_length o (opened slots) in
-    let n : count_by is_none (map key_of (Some o ∷ slots)) ≡ 0 + count_by is_none (map key_of slots) = sum_by-cons (λ (x : Option (List ℤ)). cond (is_none x) 1 0) (Some o.subproblem.row) (map key_of slots) in
+    let n : count_by is_none (map key_of (Some o ∷ slots)) ≡ 0 + count_by is_none (map key_of slots) = sum_by-cons (λ (x : Option (List ℤ)). cond (is_none x) 1 0) (Some (key_row o)) (map key_of slots) in
     omega arith
 
 -- one more or less

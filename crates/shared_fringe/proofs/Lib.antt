@@ -13,6 +13,7 @@ pub mod Drops
 pub mod Greatest
 pub mod Filters
 pub mod Entries
+pub mod Folds
 pub mod Keys
 pub mod Lengths
 pub mod Sames

@@ -8,10 +8,9 @@ use Rattle.shared_fringe.specs.Tickets.{Ticketed}
 use Rattle.shared_fringe.specs.Fringe.{is_same}
 use Rattle.shared_fringe.proofs.Rows.{different-turned}
 use Rattle.shared_fringe.specs.declared.rank.Rank.{Rank}
-use Rattle.dp_model.specs.Folds.{fold_of}
 use Rattle.shared_fringe.specs.Index.{IndexView, HasEntered}
 use Rattle.shared_fringe.specs.Ranks.{RanksView}
-use Rattle.shared_fringe.specs.Slots.{IsOpen, IsSet, AreEntered, IsEntered, in_slot, rank_of, is_same_in, key_of}
+use Rattle.shared_fringe.specs.Slots.{IsOpen, IsSet, AreEntered, IsEntered, in_slot, rank_of, is_same_in, key_of, own_fold}
 use Rattle.shared_fringe.specs.Stored.{IsStored}
 use Rattle.shared_fringe.proofs.Entries.{entered_more, entered_here}
 use Rattle.shared_fringe.proofs.Filters.{Contains-cons}
@@ -69,7 +68,7 @@ pub stored_more : (words spare spare' : ℕ) (slots : List (Option Ticketed)) (k
     → IsStored words spare slots keys ranks index → spare' + 1 ≡ spare
     → HasTaken keys s taken → keys'.rows ≡ map key_of (set slots s (Some o)) → keys'.words ≡ taken.words → keys'.spare ≡ taken.spare
     → AreEntered slots ready.nodes → index.room ≤ ready.room
-    → HasEntered ready.nodes index'.nodes fold s → fold ≡ fold_of (length o.subproblem.decisions) o.subproblem.row → ready.room ≤ index'.room
+    → HasEntered ready.nodes index'.nodes fold s → fold ≡ own_fold o → ready.room ≤ index'.room
     → IsPermutation (rank_of s o ∷ ranks.ranks) ranks'.ranks → ranks'.len ≡ ranks.len + 1 → ranks.room ≤ ranks'.room
     → ((t : ℕ) (p : Ticketed) → in_slot slots t ≡ Some p → p.ticket ≢ o.ticket)
     → ((t : ℕ) → is_same_in (length o.subproblem.decisions) o.subproblem.row (in_slot slots t) ≡ false)
@@ -87,9 +86,9 @@ stored_more words spare spare' slots keys taken keys' ranks ranks' index ready i
             (Contains-permutation (rank_of s o ∷ ranks.ranks) ranks'.ranks (rank_of s o) moved (0, omega arith, refl))
         | inr tn ↦ Contains-permutation (rank_of s o ∷ ranks.ranks) ranks'.ranks (rank_of t p) moved (Contains-cons (rank_of s o) (rank_of t p) ranks.ranks (h.ranked t p (was slots slots' s (Some o) t p set tn at)))
       ];
-      entered = λ t p at. elim (cases_eq t s) as (λ _. IsEntered index'.nodes t (fold_of (length p.subproblem.decisions) p.subproblem.row)) [
-        | inl ts ↦ subst (λ (q : Ticketed). IsEntered index'.nodes t (fold_of (length q.subproblem.decisions) q.subproblem.row)) (sym (filled slots slots' s o t p set ts at))
-            (subst (λ n. IsEntered index'.nodes n (fold_of (length o.subproblem.decisions) o.subproblem.row)) (sym ts)
+      entered = λ t p at. elim (cases_eq t s) as (λ _. IsEntered index'.nodes t (own_fold p)) [
+        | inl ts ↦ subst (λ (q : Ticketed). IsEntered index'.nodes t (own_fold q)) (sym (filled slots slots' s o t p set ts at))
+            (subst (λ n. IsEntered index'.nodes n (own_fold o)) (sym ts)
             (subst (λ n. IsEntered index'.nodes s n) fold-is (entered_here ready.nodes index'.nodes fold s more)))
         | inr tn ↦ entered_more ready.nodes index'.nodes fold s t _ more (entered t p (was slots slots' s (Some o) t p set tn at))
       ];
@@ -113,7 +112,7 @@ stored_less words spare spare' slots slots' keys keys' ranks ranks' index s h le
         | inl ts ↦ absurd (cleared slots slots' s t p set ts at)
         | inr tn ↦ ranked t p (was slots slots' s None t p set tn at) tn
       ];
-      entered = λ t p at. elim (cases_eq t s) as (λ _. IsEntered index.nodes t (fold_of (length p.subproblem.decisions) p.subproblem.row)) [
+      entered = λ t p at. elim (cases_eq t s) as (λ _. IsEntered index.nodes t (own_fold p)) [
         | inl ts ↦ absurd (cleared slots slots' s t p set ts at)
         | inr tn ↦ h.entered t p (was slots slots' s None t p set tn at)
       ];

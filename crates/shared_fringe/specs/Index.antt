@@ -1,5 +1,5 @@
 -- Entries of slots under folds, each with the place after the earlier one of its fold.
-use Rattle.std.specs.Prelude.{◌≡◌, ◌≢◌, ℕ, ◌+◌, ◌<◌, ◌≤◌, List, length, slice_index_or, nat_eq, unwrap_or}
+use Rattle.std.specs.Prelude.{◌≡◌, ◌≢◌, ℕ, ◌+◌, ◌^◌, ◌<◌, ◌≤◌, List, length, slice_index_or, nat_eq, unwrap_or}
 use Rattle.std.specs.declared.hash.FoldHasher.{FoldHasher}
 use Rattle.std.specs.declared.hash.BuildHasherDefault.{BuildHasherDefault}
 use Rattle.indexmap.specs.IndexMap.{IndexMap, get, spare, index_map_len}
@@ -38,10 +38,11 @@ pub record IsIndex (heads : Heads) (nodes : List Node) : Type 0 where
   pub next_fold : (j i : ℕ) → j < length nodes → next_at nodes j ≡ i + 1 → fold_at nodes i ≡ fold_at nodes j
   pub next_last : (j i : ℕ) → j < length nodes → next_at nodes j ≤ i → i < j → fold_at nodes i ≢ fold_at nodes j
 
--- each entry that has room has room for a head too
+-- each entry that has room has room for a head too, and its place has 32 bits
 pub record HasHeadRoom (heads : Heads) (nodes : List Node) (room : ℕ) : Type 0 where
   pub few : index_map_len heads ≤ length nodes
   pub enough : room ≤ index_map_len heads + spare heads
+  pub small : room < 2 ^ 32
 
 -- the new entries are the old ones and one more
 pub record HasEntered (old new : List Node) (fold slot : ℕ) : Type 0 where

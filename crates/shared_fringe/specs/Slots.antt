@@ -9,6 +9,7 @@ use Rattle.shared_fringe.specs.declared.index.Node.{Node}
 use Rattle.shared_fringe.specs.declared.rank.Rank.{Rank}
 use Rattle.shared_fringe.specs.Index.{fold_at, slot_at}
 use Rattle.dp_model.specs.Folds.{fold_of}
+use Rattle.std.specs.Int.{w64, cast_signed}
 
 abbrev pub in_slot : List (Option Ticketed) → ℕ → Option Ticketed
 in_slot slots s = slice_index_or slots s None
@@ -19,9 +20,17 @@ opened [] = []
 opened (None ∷ slots) = opened slots
 opened (Some o ∷ slots) = by_ticket o (opened slots)
 
--- the row by which the one in a slot is found
+-- the fold of the depth and state of an open one
+abbrev pub own_fold : Ticketed → ℕ
+own_fold o = fold_of (length o.subproblem.decisions) o.subproblem.row
+
+-- its key, a row of one cell: the fold
+abbrev pub key_row : Ticketed → List ℤ
+key_row o = cast_signed w64 (own_fold o) ∷ []
+
+-- the key of the one in a slot
 abbrev pub key_of : Option Ticketed → Option (List ℤ)
-key_of one = option_map (λ o. o.subproblem.row) one
+key_of one = option_map key_row one
 
 abbrev pub rank_of : ℕ → Ticketed → Rank
 rank_of s o = record { bound = o.subproblem.bound; value = o.subproblem.value; ticket = o.ticket; slot = s }
@@ -39,7 +48,7 @@ pub record IsEntered (nodes : List Node) (s fold : ℕ) : Type 0 where
 
 -- each open one was entered under the fold of its depth and state
 abbrev pub AreEntered : List (Option Ticketed) → List Node → Type 0
-AreEntered slots nodes = (s : ℕ) (o : Ticketed) → in_slot slots s ≡ Some o → IsEntered nodes s (fold_of (length o.subproblem.decisions) o.subproblem.row)
+AreEntered slots nodes = (s : ℕ) (o : Ticketed) → in_slot slots s ≡ Some o → IsEntered nodes s (own_fold o)
 
 -- whether the slot has the one of a depth and state
 abbrev pub is_same_in : ℕ → List ℤ → Option Ticketed → Bool
@@ -52,7 +61,7 @@ has_rank r None = false
 has_rank r (Some o) = nat_eq o.ticket r.ticket && (int_eq o.subproblem.value r.value && int_eq o.subproblem.bound r.bound)
 
 -- the slot has one, and no other is taken before it
-pub record IsBest (slots : List (Option Ticketed)) (s : ℕ) : Type 0 where
+pub record IsFirstSlot (slots : List (Option Ticketed)) (s : ℕ) : Type 0 where
   pub one : Ticketed
   pub there : in_slot slots s ≡ Some one
   pub first : (t : ℕ) (o : Ticketed) → in_slot slots t ≡ Some o → is_taken_before o one ≡ false

@@ -19,7 +19,7 @@ use crate::pushing::{find_same, push_in};
 use crate::ranks::Ranks;
 use crate::same::Same;
 use crate::store::{Store, count_open, take_first};
-use dp_model::{OutOfMemory, Sub};
+use dp_model::{OutOfMemory, Sub, fold};
 use row_region::Region;
 use std::alloc::Global;
 use std::marker::Model;
@@ -58,7 +58,7 @@ impl Fringe {
             words,
             spare: 0,
             slots: Vec::new(alloc),
-            keys: Region::empty(alloc, words),
+            keys: Region::empty(alloc, 1),
             ranks: Ranks::new(alloc),
             index: Index::new(alloc),
         };
@@ -99,7 +99,7 @@ impl Fringe {
         requires { length row.now ≡ self.now.words }
         ensures { result ≡ option_map (λ o. record { ticket = o.ticket; value = o.subproblem.value }) (same_at depth row.now self.now.open_ones) }
     {
-        let (_slot, same) = find_same(&self.store, depth, row)?;
+        let (_slot, same) = find_same(&self.store, fold(depth as u64, row), depth, row)?;
         Some(same)
     }
 

@@ -22,8 +22,9 @@ fn push_empty(slots: &mut Vec<Option<Listed>>, count: usize)
     }
 }
 
-/// At least so many more slots, and at least as many as there are: so a fringe that grows step by step is entered anew at a
-/// constant cost for each.
+/// At least so many more slots, and at least a fourth of those that are there: so a fringe that grows step by step is entered anew
+/// at a constant cost for each, and few slots stay empty. The index has room for half as many entries again as there are slots, so
+/// that it is made anew after so many pushes at the least.
 fn more_slots(alloc: Global, store: &mut Store, count: usize) -> Result<(), AllocError>
     requires stored { IsStored store.old.words store.old.spare store.old.slots.items store.old.keys store.old.ranks store.old.index }
     ensures stored { IsStored store.new.words store.new.spare store.new.slots.items store.new.keys store.new.ranks store.new.index }
@@ -34,13 +35,11 @@ fn more_slots(alloc: Global, store: &mut Store, count: usize) -> Result<(), Allo
     ensures ok { OnOk result (count ≤ store.new.keys.spare) }
 {
     let rows = store.keys.rows();
-    let more = count.max(rows);
-    let room = rows
-        .saturating_add(more)
-        .saturating_add(1)
-        .saturating_mul(2);
+    let more = count.max(rows / 4);
+    let slots = rows.saturating_add(more);
+    let room = slots.saturating_add(slots / 2 + 1);
     store.slots.reserve(more)?;
-    let index = index_for(alloc, store.slots.as_slice(), room)?;
+    let index = index_for(alloc, store.slots.as_slice(), &store.keys, room)?;
     store.keys.grow(more)?;
     push_empty(&mut store.slots, more);
     store.index = index;

@@ -8,19 +8,22 @@ use indexmap::IndexMap;
 use std::alloc::{AllocError, Global};
 use std::marker::Model;
 
+/// The most entries: the place after one has 32 bits.
+const MOST_ENTRIES: usize = 0xFFFF_FFFF;
+
 /// An entry: its fold, its slot, and the place after the earlier entry of that fold, or 0.
 #[derive(Clone, Copy, Debug)]
 pub struct Node {
     pub fold: u64,
     pub slot: u32,
-    pub next: usize,
+    pub next: u32,
 }
 
 /// Entries of slots under folds, in the order in which they came.
 #[derive(Debug, Drop)]
 pub struct Index {
     // of each fold the place after its last entry
-    heads: IndexMap<u64, usize>,
+    heads: IndexMap<u64, u32>,
     nodes: Vec<Node>,
 }
 
@@ -46,11 +49,14 @@ impl Index {
         }
     }
 
-    /// An index without entries, with room for so many.
+    /// An index without entries, with room for so many. It fails for want of memory, and where a place has more than 32 bits.
     pub fn with_room(alloc: Global, room: usize) -> Result<Index, AllocError>
         ensures nodes { IfOk result (λ x. x.nodes ≡ []) }
         ensures room { IfOk result (λ x. room ≤ x.room) }
     {
+        if room > MOST_ENTRIES {
+            return Err(AllocError);
+        }
         let nodes = Vec::with_capacity(alloc, room)?;
         let heads = IndexMap::with_capacity(alloc, nodes.capacity())?;
         Ok(Index { heads, nodes })
@@ -76,7 +82,7 @@ impl Index {
         ensures at { (i : ℕ) → result ≡ i + 1 → fold_at self.now.nodes i ≡ fold }
         ensures later { (j : ℕ) → result ≤ j → j < length self.now.nodes → fold_at self.now.nodes j ≢ fold }
     {
-        self.heads.get(&fold).copied().unwrap_or(0)
+        self.heads.get(&fold).copied().unwrap_or(0) as usize
     }
 
     /// The entry at a place.
@@ -96,7 +102,7 @@ impl Index {
         ensures entered { HasEntered self.old.nodes self.new.nodes fold slot }
         ensures room { self.old.room ≤ self.new.room }
     {
-        let place = self.nodes.len() + 1;
+        let place = self.nodes.len() as u32 + 1;
         let next = set_head(&mut self.heads, fold, place);
         self.nodes.push_reserved(Node { fold, slot, next });
     }
@@ -112,7 +118,7 @@ impl Index {
 }
 
 /// Sets the head of the fold to the place and answers what it was, or 0. It takes no memory.
-fn set_head(heads: &mut IndexMap<u64, usize>, fold: u64, place: usize) -> usize
+fn set_head(heads: &mut IndexMap<u64, u32>, fold: u64, place: u32) -> u32
     requires { get nat_eq heads.old fold ≡ None → 0 < spare heads.old }
     ensures was { result ≡ head_at heads.old fold }
     ensures head { head_at heads.new fold ≡ place }

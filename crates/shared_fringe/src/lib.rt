@@ -9,10 +9,11 @@
 //! pop that gives one raises it by one at least, and no other call lowers it. `reserve` fails only for want of memory, and then
 //! changes nothing.
 //!
-//! The open ones stand in slots, and the row of each in a region at the place of its slot: a slot is free where the region's row
-//! is. A heap has the rank of each, and an index from folds of depth and state the slots that were entered under a fold, in a
-//! chain; rows are compared cell by cell, so the answers are exact. Heap and index may also name some that are gone, which are
-//! skipped as they come up. `ranks` tells how many the heap has: at most twice as many as are open, and 65.
+//! The open ones stand in slots, and the key of each in a region at the place of its slot: a row of one cell with the fold of its
+//! depth and state. A slot is free where the region's row is. A heap has the rank of each, and an index from folds the slots that
+//! were entered under a fold, in a chain; depth and row of the one in the slot are compared cell by cell, so the answers are
+//! exact. Heap and index may also name some that are gone, which are skipped as they come up. `ranks` tells how many the heap
+//! has: at most twice as many as are open, and 65.
 #![tactic(auto)]
 
 mod bounding;

@@ -2,7 +2,7 @@
 
 ghost use Rattle.std.specs.Prelude.{◌≡◌, ◌≢◌, ◌+◌, ◌≤◌, ℕ, Some, None, IfSome, IfNone, OnSome, Contains};
 ghost use Rattle.shared_fringe.specs.Tickets.{Ticketed};
-ghost use Rattle.shared_fringe.specs.Slots.{AreRanked, in_slot, rank_of, IsBest};
+ghost use Rattle.shared_fringe.specs.Slots.{AreRanked, in_slot, rank_of, IsFirstSlot};
 
 use crate::listed::Listed;
 use crate::ranks::Ranks;
@@ -12,7 +12,7 @@ use crate::slots::has_rank;
 pub fn first_slot(slots: &[Option<Listed>], ranks: &mut Ranks) -> Option<u32>
     requires ranked { AreRanked slots.now ranks.old.ranks }
     ensures none { IfNone result ((s : ℕ) → in_slot slots.now s ≡ None) }
-    ensures best { IfSome result (λ s. IsBest slots.now s) }
+    ensures best { IfSome result (λ s. IsFirstSlot slots.now s) }
     ensures ranked { (s : ℕ) (o : Ticketed) → in_slot slots.now s ≡ Some o → IfSome result (λ first. s ≢ first → Contains ranks.new.ranks (rank_of s o)) }
     ensures room { ranks.new.room ≡ ranks.old.room }
     ensures len { ranks.new.len ≤ ranks.old.len }

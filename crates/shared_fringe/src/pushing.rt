@@ -1,6 +1,7 @@
 //! What a push does to what is stored.
 
 ghost use Rattle.std.specs.Prelude.{◌≡◌, ◌≢◌, ◌+◌, ◌<◌, ◌≤◌, length, MatchOption};
+ghost use Rattle.dp_model.specs.Folds.{fold_of};
 ghost use Rattle.dp_model.specs.Lists.{Each};
 ghost use Rattle.shared_fringe.specs.Pushing.{push_gives, after_push};
 ghost use Rattle.shared_fringe.specs.Slots.{opened};
@@ -9,6 +10,7 @@ ghost use Rattle.shared_fringe.specs.Stored.{IsStored, HasFewRanks, HasSame, Has
 use crate::fate::FringeFate;
 use crate::finding::slot_of_same;
 use crate::listed::Listed;
+use crate::reindexing::fold_of_one;
 use crate::same::Same;
 use crate::slots::in_slot;
 use crate::store::{Store, put_in, take_out};
@@ -24,13 +26,14 @@ fn same_of(one: &Listed) -> Same
     }
 }
 
-/// The slot of the one of the depth and state, with its ticket and value.
-pub fn find_same(store: &Store, depth: usize, row: &[i64]) -> Option<(u32, Same)>
-    requires { IsStored store.now.words store.now.spare store.now.slots.items store.now.keys store.now.ranks store.now.index }
+/// The slot of the one of the depth and state, which have this fold, with its ticket and value.
+pub fn find_same(store: &Store, fold: u64, depth: usize, row: &[i64]) -> Option<(u32, Same)>
+    requires stored { IsStored store.now.words store.now.spare store.now.slots.items store.now.keys store.now.ranks store.now.index }
+    requires fold { fold ≡ fold_of depth row.now }
     ensures { MatchOption result (HasNone store.now.slots.items depth row.now) (λ r. HasSame store.now.slots.items depth row.now r.0 r.1.ticket r.1.value) }
 {
     let slots = store.slots.as_slice();
-    let slot = slot_of_same(slots, &store.keys, &store.index, depth, row)?;
+    let slot = slot_of_same(slots, &store.index, fold, depth, row)?;
     let Some(one) = in_slot(slots, slot) else {
         unreachable!();
     };
@@ -51,15 +54,16 @@ pub fn push_in(store: &mut Store, one: Listed) -> FringeFate
     ensures words { store.new.words ≡ store.old.words }
     ensures spare { store.old.spare ≤ store.new.spare + 1 }
 {
-    let found = find_same(store, one.sub.decisions.len(), one.sub.row.as_slice());
+    let fold = fold_of_one(&one);
+    let found = find_same(store, fold, one.sub.decisions.len(), one.sub.row.as_slice());
     let Some((slot, same)) = found else {
-        put_in(store, one);
+        put_in(store, one, fold);
         return FringeFate::Entered;
     };
     if one.sub.value <= same.value {
         return FringeFate::Kept { by: same.ticket };
     }
     let old = take_out(store, slot).ticket;
-    put_in(store, one);
+    put_in(store, one, fold);
     FringeFate::Replaced { old }
 }

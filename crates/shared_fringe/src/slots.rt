@@ -1,13 +1,12 @@
 //! What a slot has.
 
-ghost use Rattle.std.specs.Prelude.{◌≡◌, option_copied, map};
+ghost use Rattle.std.specs.Prelude.{◌≡◌, option_copied};
 ghost use Rattle.dp_model.specs.Rows.{row_same};
 ghost use Rattle.shared_fringe.specs.Fringe.{is_same};
-ghost use Rattle.shared_fringe.specs.Slots.{in_slot, is_low, has_rank, is_same_in, key_of};
+ghost use Rattle.shared_fringe.specs.Slots.{in_slot, is_low, has_rank, is_same_in};
 
 use crate::listed::Listed;
 use crate::rank::Rank;
-use row_region::{Region, RowId};
 
 /// The open one in the slot, where it has one.
 pub fn in_slot(slots: &[Option<Listed>], slot: u32) -> Option<&Listed>
@@ -45,27 +44,19 @@ fn row_same(one: &[i64], other: &[i64]) -> bool
     one == other
 }
 
-/// Whether it is the one of the depth and state. The key is its row.
-fn is_same(one: &Listed, key: &[i64], depth: usize, row: &[i64]) -> bool
-    requires { key.now ≡ one.now.subproblem.row }
+/// Whether it is the one of the depth and state.
+fn is_same(one: &Listed, depth: usize, row: &[i64]) -> bool
     ensures { result ≡ is_same depth row.now one.now }
 {
-    one.sub.decisions.len() == depth && row_same(key, row)
+    one.sub.decisions.len() == depth && row_same(one.sub.row.as_slice(), row)
 }
 
-/// Whether the slot has the one of the depth and state. The keys are the rows of the open ones.
-pub fn is_same_in(
-    slots: &[Option<Listed>],
-    keys: &Region,
-    slot: u32,
-    depth: usize,
-    row: &[i64],
-) -> bool
-    requires { keys.now.rows ≡ map key_of slots.now }
+/// Whether the slot has the one of the depth and state.
+pub fn is_same_in(slots: &[Option<Listed>], slot: u32, depth: usize, row: &[i64]) -> bool
     ensures { result ≡ is_same_in depth row.now (in_slot slots.now slot) }
 {
     match in_slot(slots, slot) {
-        Some(one) => is_same(one, keys.row(RowId { place: slot }), depth, row),
+        Some(one) => is_same(one, depth, row),
         None => false,
     }
 }

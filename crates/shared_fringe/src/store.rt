@@ -4,19 +4,20 @@ ghost use Rattle.std.specs.Prelude.{◌≡◌, ◌≢◌, ℕ, ◌+◌, ◌<◌,
 ghost use Rattle.shared_fringe.specs.Firsts.{first_taken};
 ghost use Rattle.shared_fringe.specs.Popping.{after_pop};
 ghost use Rattle.shared_fringe.specs.Tickets.{Ticketed, by_ticket, without};
-ghost use Rattle.shared_fringe.specs.Slots.{in_slot, is_same_in, key_of, opened, IsSet};
+ghost use Rattle.shared_fringe.specs.Slots.{in_slot, is_same_in, key_of, opened, own_fold, IsSet};
 ghost use Rattle.shared_fringe.specs.Stored.{IsStored, HasFewRanks};
 
 use crate::index::Index;
 use crate::listed::Listed;
 use crate::popping::first_slot;
 use crate::ranks::Ranks;
-use crate::reindexing::{fold_of_one, ready_index};
+use crate::reindexing::ready_index;
 use crate::reranking::{rank_of, rerank};
 use row_region::{Region, RowId};
 
-/// The open ones in slots, a region with the row of each at the place of its slot, a heap with the rank of each, and an index
-/// with the fold of each. Ranks and index may also name some that are gone.
+/// The open ones in slots, a region with the key of each at the place of its slot, a heap with the rank of each, and an index
+/// with the fold of each. A key is a row of one cell: the fold of depth and state. Ranks and index may also name some that are
+/// gone.
 #[derive(Debug, Drop)]
 pub struct Store {
     pub words: usize,
@@ -27,14 +28,15 @@ pub struct Store {
     pub index: Index,
 }
 
-/// One more. It takes no memory.
-pub fn put_in(store: &mut Store, one: Listed)
+/// One more, with its fold. It takes no memory.
+pub fn put_in(store: &mut Store, one: Listed, fold: u64)
     requires stored { IsStored store.old.words store.old.spare store.old.slots.items store.old.keys store.old.ranks store.old.index }
     requires few { HasFewRanks store.old.slots.items store.old.ranks }
     requires room { 0 < store.old.spare }
     requires fresh { (t : ℕ) (p : Ticketed) → in_slot store.old.slots.items t ≡ Some p → p.ticket ≢ one.ticket }
     requires alone { (t : ℕ) → is_same_in (length one.subproblem.decisions) one.subproblem.row (in_slot store.old.slots.items t) ≡ false }
     requires cells { length one.subproblem.row ≡ store.old.words }
+    requires fold { fold ≡ own_fold one }
     ensures stored { IsStored store.new.words store.new.spare store.new.slots.items store.new.keys store.new.ranks store.new.index }
     ensures few { HasFewRanks store.new.slots.items store.new.ranks }
     ensures listed { opened store.new.slots.items ≡ by_ticket one (opened store.old.slots.items) }
@@ -42,15 +44,16 @@ pub fn put_in(store: &mut Store, one: Listed)
     ensures spare { store.new.spare + 1 ≡ store.old.spare }
 {
     let _rows = store.keys.rows();
+    let _free = store.keys.spare();
+    ready_index(store.slots.as_slice(), &store.keys, &mut store.index);
     let Some(key) = store.keys.take() else {
         unreachable!();
     };
     store
         .keys
         .row_mut(key)
-        .copy_from_slice(one.sub.row.as_slice());
-    ready_index(store.slots.as_slice(), &mut store.index);
-    store.index.enter(fold_of_one(&one), key.place);
+        .copy_from_slice(&[fold.cast_signed()]);
+    store.index.enter(fold, key.place);
     store.ranks.push(rank_of(&one, key.place));
     store.slots[key.place as usize] = Some(one);
     store.spare -= 1;

@@ -20,7 +20,7 @@ use Rattle.board_laws.specs.Steps.{first_board}
 use Rattle.board_laws.specs.declared.settings.Settings.{Settings}
 use Rattle.board_laws.proofs.First.{full-none}
 use Rattle.board_laws.proofs.Running.{run-follows}
-use Rattle.worker_gate.specs.Later.{IsCauseAfter, IsLater, HasEnded, IsComplete}
+use Rattle.worker_gate.specs.Later.{IsCauseAfter, IsLater, NoRoundFollows, IsComplete}
 use Rattle.board_laws.specs.Bound.{board_bound}
 use Rattle.board_laws.specs.GoodBoard.{IncumbentHolds, IsBoard}
 use Rattle.solver_report.specs.declared.answer.Stop.{Stop}
@@ -75,10 +75,6 @@ open_left os out idle left none =
     let zero_out : length out ≡ 0 = ap length idle in
     grind arith
 
-raised-some : (most : Option ℤ) (z : ℤ) → raised most z ≡ None → ⊥
-raised-some None z e = absurd (cc)
-raised-some (Some y) z e = absurd (cc)
-
 raised_by-some : (most : Option ℤ) (y : ℤ) (os : List Ticketed) → most ≡ Some y → raised_by most os ≡ None → ⊥
 raised_by-some most y [] e h = absurd (cc)
 raised_by-some None y (o ∷ os) e h = absurd (cc)
@@ -130,7 +126,7 @@ over_exact dp search b over = ap (λ (s : Settings). s.within) (over_settings dp
 
 -- some rounds after the first board
 pub is_over : (dp : Dp) (search : Search) (settings : Settings) (first b : BoardState) → first ≡ first_board dp settings → IsSearchWidth dp search.width settings.width → settings.workers ≡ search.workers → settings.budget ≡ search.budget → settings.within ≡ pos 0
-    → IsLater dp first b → HasEnded b → IsComplete dp b → IsOver dp search b
+    → IsLater dp first b → NoRoundFollows b → IsComplete dp b → IsOver dp search b
 is_over dp search settings first b is wide crew within exact later ended complete = record {
   settings = settings;
   crew = crew;

@@ -12,6 +12,10 @@ use worker_gate::NoGate;
 
 const THREE_ITEMS: &str = "3 10\n60 5\n50 4\n70 6\n";
 
+/// Ten items, on which the two kinds of children lead to searches of different length.
+const TEN_ITEMS: &str =
+    "10 229\n39 9\n16 2 3\n11 20\n87 50 3\n85 11 3\n44 40\n38 17 3\n79 46\n68 5\n46 33 3\n";
+
 /// The clauses that are drawn on two variables from seed 0.
 const DRAWN_CLAUSES: &str = "p wcnf 2 4\n10 1 -1 0\n10 2 0\n2 1 2 0\n7 -1 -2 0\n";
 
@@ -126,6 +130,18 @@ fn prints_what_it_must(rt: HostRuntime) -> Result<(), Fail> {
             "solve knapsack --width 1 --stats",
             THREE_ITEMS,
             "proved\nvalue 120\nassignment 0 1 1\ntaken 3\nfinished 3\n",
+            0,
+        ),
+        (
+            "solve knapsack --width 4 --stats",
+            TEN_ITEMS,
+            "proved\nvalue 709\nassignment 1 3 0 3 3 0 1 0 1 0\ntaken 10\nfinished 10\n",
+            0,
+        ),
+        (
+            "solve knapsack --width 4 --stats --cutset frontier",
+            TEN_ITEMS,
+            "proved\nvalue 709\nassignment 1 3 0 3 3 0 1 0 1 0\ntaken 9\nfinished 9\n",
             0,
         ),
         (

@@ -14,11 +14,11 @@ use Rattle.solver_words.specs.declared.job.JobSettings.{JobSettings}
 use Rattle.solver_words.specs.declared.words_error.WordsError.{WordsError}
 use Rattle.solver_words.specs.declared.words_error.WordsError.TheVariants.{Usage, Model, Number, Cutset, OutOfMemory}
 use Rattle.solver_words.specs.Grammar.{Syntax, Argument, Text, contains, has_flag, setting_of, words_of}
-use Rattle.solver_words.specs.Commands.{IsOutside, Reads, Tells}
+use Rattle.solver_words.specs.Commands.{IsOutside, RowsTell, Tells}
 use Rattle.solver_words.specs.Words.{IsAnswer, by_command, meaning, is_refused, last_is_equals, asked, digest, digest_syntax, digest_line, usage, Refusal, JobView, and_then, digest_of, least_size, most_size, model_of, placed, optional, cover_of, generate, solve, resume, refusal_of, job_view, generate_syntax, generate_line, generate_of, resume_syntax, resume_line, resume_of, settings_of, solve_syntax, solve_line}
 
 -- what the matches tell of a line
-module _ (f : Syntax) (arguments : List Argument) (m : ArgMatches) (reads : Reads f arguments (rows_of (found_of m))) where
+module _ (f : Syntax) (arguments : List Argument) (m : ArgMatches) (reads : RowsTell f arguments (rows_of (found_of m))) where
   pub value_read : (n : Text) → contains n f.valued ≡ true → first_value (found_of m) n ≡ setting_of n arguments
   value_read n here = first_value-rows (found_of m) n ∙ reads.values n here
 
@@ -45,7 +45,7 @@ gives_up shown s (Err y) e is h = subst (λ z. IfSome (refusal_of z) (λ why. s 
 
 -- ---- generate
 
-module _ (m : ArgMatches) (arguments : List Argument) (reads : Reads generate_syntax arguments (rows_of (found_of m))) where
+module _ (m : ArgMatches) (arguments : List Argument) (reads : RowsTell generate_syntax arguments (rows_of (found_of m))) where
   abbrev at_name : Text → Option Text
   at_name id = first_value (found_of m) id
 
@@ -94,7 +94,7 @@ module _ (m : ArgMatches) (arguments : List Argument) (reads : Reads generate_sy
 
 -- ---- solve
 
-module _ (m : ArgMatches) (arguments : List Argument) (reads : Reads solve_syntax arguments (rows_of (found_of m))) where
+module _ (m : ArgMatches) (arguments : List Argument) (reads : RowsTell solve_syntax arguments (rows_of (found_of m))) where
   abbrev value : Text → Option Text
   value id = first_value (found_of m) id
 
@@ -162,7 +162,7 @@ module _ (m : ArgMatches) (arguments : List Argument) (reads : Reads solve_synta
 
 -- ---- resume and digest
 
-module _ (m : ArgMatches) (arguments : List Argument) (reads : Reads resume_syntax arguments (rows_of (found_of m))) where
+module _ (m : ArgMatches) (arguments : List Argument) (reads : RowsTell resume_syntax arguments (rows_of (found_of m))) where
   abbrev to_resume : Option Text → Result JobView Refusal
   to_resume path = resume_of path (λ n. setting_of n arguments) (λ n. has_flag n arguments)
 
@@ -196,7 +196,7 @@ module _ (m : ArgMatches) (arguments : List Argument) (reads : Reads resume_synt
     pub resume_all : (settings : JobSettings) → settings_of (first_value (found_of m)) stats ≡ Ok settings → resume_line arguments ≡ Ok (resume path settings)
     resume_all settings d = let there = sym same_settings ∙ d in rw (here, there) refl
 
-module _ (m : ArgMatches) (arguments : List Argument) (reads : Reads digest_syntax arguments (rows_of (found_of m))) where
+module _ (m : ArgMatches) (arguments : List Argument) (reads : RowsTell digest_syntax arguments (rows_of (found_of m))) where
   digest_same : digest_of (first_value (found_of m) (codes "model")) ≡ digest_line arguments
   digest_same = ap digest_of (word_read digest_syntax arguments m reads 0 (codes "model") refl)
 
@@ -213,7 +213,7 @@ module _ (m : ArgMatches) (arguments : List Argument) (reads : Reads digest_synt
 
 -- where the matches tell of the line, a job that is right for each line that they tell of is right for this one
 pub told : (f : Syntax) (line : Option (List Argument)) (m : ArgMatches) (ask : List Argument → Result JobView Refusal) (r : Result Job WordsError) → Tells f line m
-    → ((arguments : List Argument) → Reads f arguments (rows_of (found_of m)) → IsAnswer job_view (ask arguments) r) → IsAnswer job_view (asked ask line) r
+    → ((arguments : List Argument) → RowsTell f arguments (rows_of (found_of m)) → IsAnswer job_view (ask arguments) r) → IsAnswer job_view (asked ask line) r
 told f None m ask r tells next = absurd tells
 told f (Some arguments) m ask r tells next = next arguments tells
 

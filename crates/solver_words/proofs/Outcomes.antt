@@ -12,7 +12,8 @@ use Rattle.clap.specs.declared.error.kind.ErrorKind.{ErrorKind}
 use Rattle.clap.specs.declared.error.kind.ErrorKind.TheVariants.{OutOfMemory}
 use Rattle.clap.specs.declared.parser.matches.ArgMatches.{ArgMatches}
 use Rattle.solver_words.specs.Grammar.{Syntax, Argument, Text, is_well_formed, line_of}
-use Rattle.solver_words.specs.Commands.{Agrees, Reads, Tells, app_for}
+use Rattle.solver_words.specs.Commands.{RowsTell, Tells, app_for}
+use Rattle.solver_words.proofs.Agreeing.{RowsAgree}
 use Rattle.solver_words.proofs.Names.{both, well_formed_facts}
 use Rattle.solver_words.proofs.Turns.{outcome}
 use Rattle.solver_words.proofs.Walks.{AreUtf8}
@@ -23,11 +24,7 @@ pub strings_are_text : {Z : Type 0} (ws : List (String Z)) → AreUtf8 (map stri
 strings_are_text [] = tt
 strings_are_text (w ∷ ws) = (IsUtf8-string_bytes w, strings_are_text ws)
 
-rest_is_text : (ws : List Text) → AreUtf8 ws → AreUtf8 (drop 1 ws)
-rest_is_text [] u = tt
-rest_is_text (w ∷ ws) u = u.1
-
-taken : (f : Syntax) (line : Option (List Argument)) (kinds : Kinds) (rows : List Row) (m : ArgMatches) → Agrees f line (outcome kinds (Some rows)) → kinds ≡ [] → rows_of (found_of m) ≡ rows
+taken : (f : Syntax) (line : Option (List Argument)) (kinds : Kinds) (rows : List Row) (m : ArgMatches) → RowsAgree f line (outcome kinds (Some rows)) → kinds ≡ [] → rows_of (found_of m) ≡ rows
     → Tells f line m
 taken f None kinds rows m agrees none same = absurd (some_none rows (subst (λ k. outcome k (Some rows) ≡ None) none agrees))
   where
@@ -36,9 +33,9 @@ taken f None kinds rows m agrees none same = absurd (some_none rows (subst (λ k
 taken f (Some arguments) kinds rows m agrees none same =
     let here : Some rows ≡ Some agrees.0 = subst (λ k. outcome k (Some rows) ≡ Some agrees.0) none agrees.1 in
     let both_same : agrees.0 ≡ rows_of (found_of m) = cc in
-    subst (Reads f arguments) both_same agrees.2
+    subst (RowsTell f arguments) both_same agrees.2
 
-refused : (f : Syntax) (line : Option (List Argument)) (kinds : Kinds) (rows : List Row) (k : ErrorKind) → Agrees f line (outcome kinds (Some rows)) → IsAmong k kinds → line ≡ None
+refused : (f : Syntax) (line : Option (List Argument)) (kinds : Kinds) (rows : List Row) (k : ErrorKind) → RowsAgree f line (outcome kinds (Some rows)) → IsAmong k kinds → line ≡ None
 refused f None kinds rows k agrees among = refl
 refused f (Some arguments) [] rows k agrees among = absurd among
 refused f (Some arguments) (x ∷ xs) rows k agrees among = let nothing : None ≡ Some agrees.0 = agrees.1 in absurd (cc)
@@ -47,10 +44,10 @@ module _ (name : Text) (f : Syntax) (e : is_well_formed f ≡ true) {Z : Type 0}
   abbrev texts : List Text
   texts = map string_bytes words
 
-  agrees_with : Agrees f (line_of f (drop 1 texts)) (parsed name f texts)
+  agrees_with : RowsAgree f (line_of f (drop 1 texts)) (parsed name f texts)
   agrees_with = by words some
     where
-      by : (words : List (String Z)) → 0 < length words → Agrees f (line_of f (drop 1 (map string_bytes words))) (parsed name f (map string_bytes words))
+      by : (words : List (String Z)) → 0 < length words → RowsAgree f (line_of f (drop 1 (map string_bytes words))) (parsed name f (map string_bytes words))
       by [] lt = absurd (omega arith)
       by (w ∷ ws) lt = parses name f (well_formed_facts f e) (string_bytes w) (map string_bytes ws) (strings_are_text ws)
 

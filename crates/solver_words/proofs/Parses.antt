@@ -12,7 +12,8 @@ use Rattle.clap.specs.declared.error.kind.ErrorKind.TheVariants.{MissingRequired
 use Rattle.std.specs.Option.{option_map_or}
 use Rattle.clap.proofs.FaultLemmas.{leaf_fault}
 use Rattle.solver_words.specs.Grammar.{Text, Syntax, Argument, contains, words_of, setting_of, has_flag, arguments_of, option_names, differ, is_line, line_of}
-use Rattle.solver_words.specs.Commands.{app_for, Reads, Agrees}
+use Rattle.solver_words.specs.Commands.{app_for, RowsTell}
+use Rattle.solver_words.proofs.Agreeing.{RowsAgree}
 use Rattle.solver_words.proofs.Rules.{given_row, shape_with}
 use Rattle.solver_words.proofs.Names.{IsWellFormed, outside, there}
 use Rattle.solver_words.proofs.Turns.{outcome, outcome-or_else, final, rests}
@@ -100,7 +101,7 @@ module _ (f : Syntax) (is : IsWellFormed f) (arguments : List Argument) (p : pro
       no_more : (i : ℕ) → 0 + i ≡ i
       no_more i = omega arith
 
-  reads : Reads f arguments (completed f rs)
+  reads : RowsTell f arguments (completed f rs)
   reads = record {
     values = λ n here.
         let P : List Row → Type 0 = λ rows. found_in n rows ≡ option_map (given_row n) (setting_of n arguments) in
@@ -132,7 +133,7 @@ module _ (f : Syntax) (is : IsWellFormed f) (arguments : List Argument) (p : pro
 -- ---- the whole parse
 
 abbrev Ends : Text → Syntax → List Argument → Option (List Row) → Type 0
-Ends name f arguments o = Agrees f (cond (is_line f arguments) (Some arguments) None) (option_and_then (checked name f) o)
+Ends name f arguments o = RowsAgree f (cond (is_line f arguments) (Some arguments) None) (option_and_then (checked name f) o)
 
 no_line : (name : Text) (f : Syntax) (arguments : List Argument) (o : Option (List Row)) → is_line f arguments ≡ false → option_and_then (checked name f) o ≡ None → Ends name f arguments o
 no_line name f arguments o e none = rw e none
@@ -166,7 +167,7 @@ by_rows name f is arguments p (Some rs) from count true e =
     rw all (by_count name f is arguments p rs from e (sym count) (nat_le (length f.positional) (length (words_of arguments))) refl)
 
 by_arguments : (name : Text) (f : Syntax) (is : IsWellFormed f) (q : Option (List Argument)) → IfSome q (λ arguments. proper f arguments ≡ true)
-    → Agrees f (option_and_then (λ arguments. cond (is_line f arguments) (Some arguments) None) q) (option_and_then (checked name f) (rest f 0 q []))
+    → RowsAgree f (option_and_then (λ arguments. cond (is_line f arguments) (Some arguments) None) q) (option_and_then (checked name f) (rest f 0 q []))
 by_arguments name f is None p = refl
 by_arguments name f is (Some arguments) p =
     subst (λ o. Ends name f arguments o) (sym (runs f is arguments p 0 [] [] (keeps_nothing f)))
@@ -176,7 +177,7 @@ by_arguments name f is (Some arguments) p =
     no_more i = omega arith
 
 -- clap's answer is the grammar's
-pub parses : (name : Text) (f : Syntax) → IsWellFormed f → (command : Text) (words : List Text) → AreUtf8 words → Agrees f (line_of f words) (parsed name f (command ∷ words))
+pub parses : (name : Text) (f : Syntax) → IsWellFormed f → (command : Text) (words : List Text) → AreUtf8 words → RowsAgree f (line_of f words) (parsed name f (command ∷ words))
 parses name f is command words u =
-    subst (Agrees f (line_of f words)) (sym (parsed_is name f is command words ∙ ap (option_and_then (checked name f)) (walk_is name f (rules_for f) (fits f is) words u)))
+    subst (RowsAgree f (line_of f words)) (sym (parsed_is name f is command words ∙ ap (option_and_then (checked name f)) (walk_is name f (rules_for f) (fits f is) words u)))
     (by_arguments name f is (arguments_of f words None) (arguments_of-proper f words))

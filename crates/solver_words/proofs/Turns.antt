@@ -98,10 +98,6 @@ flag_used id rows = flag_by id rows (has_row id rows) refl
 
 -- ---- one word
 
-pub outcome-then : {X Y : Type 0} (next : X → Option Y) (a : Kinds) (x : X) → option_and_then next (outcome a (Some x)) ≡ outcome a (next x)
-outcome-then next [] x = refl
-outcome-then next (k ∷ ks) x = refl
-
 -- a fault of what was pending, and then the next step
 settles : {X Y : Type 0} (a : Kinds) (next : X → Option Y) (x : X) → outcome (or_else a []) (next x) ≡ option_and_then next (outcome a (Some x))
 settles [] next x = refl

@@ -51,15 +51,10 @@ app_for name f = record {
 -- ---- what the answer has to tell
 
 -- the rows that clap found tell what the arguments do
-pub record Reads (f : Syntax) (arguments : List Argument) (rows : List Row) : Type 0 where
+pub record RowsTell (f : Syntax) (arguments : List Argument) (rows : List Row) : Type 0 where
   pub values : (n : Text) → contains n f.valued ≡ true → first_of n rows ≡ setting_of n arguments
   pub flags : (n : Text) → contains n f.flags ≡ true → one_of n rows ≡ Some (cond (has_flag n arguments) (codes "true") (codes "false"))
   pub words : (i : ℕ) (id : Text) → slice_get f.positional i ≡ Some id → first_of id rows ≡ slice_get (words_of arguments) i
-
--- where there is no line there are no rows, and otherwise rows that tell what its arguments do
-abbrev pub Agrees : Syntax → Option (List Argument) → Option (List Row) → Type 0
-Agrees f None found = found ≡ None
-Agrees f (Some arguments) found = (rows : List Row) × (found ≡ Some rows) × Reads f arguments rows
 
 -- the words are outside the grammar, or memory ran out
 abbrev pub IsOutside : Option (List Argument) → WordsError → Type 0
@@ -70,4 +65,4 @@ IsOutside line _ = ⊥
 -- what clap answered for the line, or why it was refused
 abbrev pub Tells : Syntax → Option (List Argument) → ArgMatches → Type 0
 Tells f None m = ⊥
-Tells f (Some arguments) m = Reads f arguments (rows_of (found_of m))
+Tells f (Some arguments) m = RowsTell f arguments (rows_of (found_of m))

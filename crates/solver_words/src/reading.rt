@@ -3,7 +3,7 @@ ghost use Rattle.std.specs.List.{list_any};
 ghost use Rattle.clap.specs.Matches.{found_of};
 ghost use Rattle.clap.specs.Walk.{rows_of};
 ghost use Rattle.solver_words.specs.Grammar.{Argument, line_of};
-ghost use Rattle.solver_words.specs.Commands.{Reads};
+ghost use Rattle.solver_words.specs.Commands.{RowsTell};
 ghost use Rattle.solver_words.specs.Words.{IsAnswer, IsDrawable, asked, cover_of, job_view, solve_syntax, solve_line, resume_syntax, resume_line, check_syntax, check_line, digest_syntax, digest_line, generate_syntax, generate_line, is_refused, least_size, most_size, meaning};
 
 use crate::command::parse;
@@ -70,7 +70,7 @@ fn read_solve(alloc: Global, words: &[String]) -> Result<Job, WordsError>
 
 /// The search that the matches ask for.
 fn solve_job(alloc: Global, matches: &ArgMatches) -> Result<Job, WordsError>
-    ensures answer { (arguments : List Argument) → Reads solve_syntax arguments (rows_of (found_of matches.now)) → IsAnswer job_view (solve_line arguments) result }
+    ensures answer { (arguments : List Argument) → RowsTell solve_syntax arguments (rows_of (found_of matches.now)) → IsAnswer job_view (solve_line arguments) result }
     ensures drawn { IfOk result IsDrawable }
 {
     let model = read_model(matches)?;
@@ -117,7 +117,7 @@ fn read_resume(alloc: Global, words: &[String]) -> Result<Job, WordsError>
 
 /// The search that is to go on.
 fn resume_job(alloc: Global, matches: &ArgMatches) -> Result<Job, WordsError>
-    ensures answer { (arguments : List Argument) → Reads resume_syntax arguments (rows_of (found_of matches.now)) → IsAnswer job_view (resume_line arguments) result }
+    ensures answer { (arguments : List Argument) → RowsTell resume_syntax arguments (rows_of (found_of matches.now)) → IsAnswer job_view (resume_line arguments) result }
     ensures drawn { IfOk result IsDrawable }
 {
     let Some(path) = matches.get_str("path") else {
@@ -148,7 +148,7 @@ fn read_digest(alloc: Global, words: &[String]) -> Result<Job, WordsError>
 
 /// The digest that the matches ask for.
 fn digest_job(matches: &ArgMatches) -> Result<Job, WordsError>
-    ensures answer { (arguments : List Argument) → Reads digest_syntax arguments (rows_of (found_of matches.now)) → IsAnswer job_view (digest_line arguments) result }
+    ensures answer { (arguments : List Argument) → RowsTell digest_syntax arguments (rows_of (found_of matches.now)) → IsAnswer job_view (digest_line arguments) result }
     ensures drawn { IfOk result IsDrawable }
 {
     let model = read_model(matches)?;
@@ -166,7 +166,7 @@ fn read_generate(alloc: Global, words: &[String]) -> Result<Job, WordsError>
 
 /// The instance that is to be drawn.
 fn generate_job(matches: &ArgMatches) -> Result<Job, WordsError>
-    ensures answer { (arguments : List Argument) → Reads generate_syntax arguments (rows_of (found_of matches.now)) → IsAnswer job_view (generate_line arguments) result }
+    ensures answer { (arguments : List Argument) → RowsTell generate_syntax arguments (rows_of (found_of matches.now)) → IsAnswer job_view (generate_line arguments) result }
     ensures drawn { IfOk result IsDrawable }
 {
     let model = read_model(matches)?;

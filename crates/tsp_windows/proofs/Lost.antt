@@ -4,7 +4,7 @@ use Rattle.std.proofs.lemmas.Bool.{or_left, or_right, lt-ltb, le-ltb}
 use Rattle.node_sets.specs.Sums.{all_below, sum_below, count_below}
 use Rattle.node_sets.specs.Sets.{IsSet, has}
 use Rattle.node_sets.proofs.Below.{sum_below-skip, sum_below-same, count_below-le}
-use Rattle.tsp_windows.specs.Instance.{Instance, IsSmall, Window, no_window, closing, near}
+use Rattle.tsp_windows.specs.Instance.{Instance, IsTourInstance, Window, no_window, closing, near}
 use Rattle.tsp_windows.specs.States.{TourState, must_of, shown, is_lost, way_left}
 use Rattle.tsp_windows.specs.ProgramLaws.{way-most}
 use Rattle.tsp_windows.proofs.StateLemmas.{must-shown}
@@ -55,16 +55,16 @@ pub record IsLeft (i : Instance) (k : ℕ) (t : TourState) (way : ℕ) : Type 0 
   pub left : way ≡ way_left i t
   pub small : way ≤ 301000000000
 
-pub left_is : (i : Instance) (k w : ℕ) (s m : List ℤ) (nearest : List ℕ) (windows : List Window) (time count ways home close : ℕ) → IsSmall i → length nearest ≡ i.nodes → ((v : ℕ) → v < i.nodes → get_or nearest v 0 ≡ near i v) → windows ≡ i.windows → m ≡ must_of w s → IsSet i.nodes m → time ≡ (shown w s).time
-    → count ≡ count_below (32 * length m) (has m) → count + k + 1 ≤ i.nodes → home ≡ get_or nearest 0 0 → close ≡ (get_or windows 0 no_window).closing → time + home ≤ close
+pub left_is : (i : Instance) (k w : ℕ) (s m : List ℤ) (nearest : List ℕ) (windows : List Window) (time count ways home close : ℕ) → IsTourInstance i → length nearest ≡ i.nodes → ((v : ℕ) → v < i.nodes → get_or nearest v 0 ≡ near i v) → windows ≡ i.windows → m ≡ must_of w s → time ≡ (shown w s).time
+    → count ≡ count_below i.nodes (shown w s).must → count + k + 1 ≤ i.nodes → home ≡ get_or nearest 0 0 → close ≡ (get_or windows 0 no_window).closing → time + home ≤ close
     → all_below (length nearest) (in_time nearest windows m time) ≡ true → ways ≡ sum_below (length nearest) (has m) (λ v. get_or nearest v 0) → IsLeft i k (shown w s) (ways + home)
-left_is i k w s m nearest windows time count ways home close small l each ws e set t c few h cl late all sum =
+left_is i k w s m nearest windows time count ways home close small l each ws e t c few h cl late all sum =
     let at_home : home ≡ near i 0 = h ∙ each 0 (omega (arith, small.some)) in
     let shut : close ≡ closing i 0 = cl ∙ ap (λ ws. (get_or ws 0 no_window).closing) ws in
     let total : ways + home ≡ way_left i (shown w s) = ap₂ ◌+◌ (sum ∙ ways_shown i w s m nearest l each e) at_home in
     let most = way-most i (shown w s) small in
     record {
-      found = not_lost i k (shown w s) count home (c ∙ count_shown i.nodes w s m e set) few (sym (times_shown i w s m nearest windows time l each ws e t) ∙ all) at_home (omega (arith, late, shut, t));
+      found = not_lost i k (shown w s) count home c few (sym (times_shown i w s m nearest windows time l each ws e t) ∙ all) at_home (omega (arith, late, shut, t));
       left = total;
       small = omega (arith, total, most);
     }

@@ -16,7 +16,7 @@ use Rattle.dd_text.specs.Printed.{IsBefore, ReadsPart}
 use Rattle.dd_text.proofs.Printing.{before_start, passes_natural, finishes}
 use Rattle.dd_text.proofs.Chains.{number_then_ok, end_then_ok}
 use Rattle.dd_text.proofs.Repeats.{fold_pushes, times_reads}
-use Rattle.tsp_windows.specs.Instance.{Instance, Window, IsSmall, no_window}
+use Rattle.tsp_windows.specs.Instance.{Instance, Window, IsTourInstance, no_window}
 use Rattle.tsp_windows.specs.Texts.{distance_at, window_at, nodes_at, spelled, separator, printed_distances, printed_window, printed_windows, printed}
 use Rattle.tsp_windows.proofs.Readings.{closing_in, opening_in}
 
@@ -69,14 +69,14 @@ blank_separator : (n k : ℕ) → is_blank (separator n k) ≡ true
 blank_separator n k = elim (nat_eq ((k + 1) % n) 0) as (λ b. is_blank (cond b 10 32) ≡ true) [ true ↦ refl | false ↦ refl ]
 
 -- a distance on the diagonal is 0
-diagonal : (i : Instance) (k : ℕ) → IsSmall i → k < length i.distances → k / i.nodes ≡ k % i.nodes → get_or i.distances k 0 ≡ 0
+diagonal : (i : Instance) (k : ℕ) → IsTourInstance i → k < length i.distances → k / i.nodes ≡ k % i.nodes → get_or i.distances k 0 ≡ 0
 diagonal i k small l e =
     let some = small.some in
     let row : k / i.nodes < i.nodes = (div-lt_iff_lt-mul some).1 (omega (arith, l, small.square)) in
     let place : k ≡ k / i.nodes * i.nodes + k / i.nodes = sym (div-add-mod' k i.nodes) ∙ ap (λ x. k / i.nodes * i.nodes + x) (sym e) in
     ap (λ j. get_or i.distances j 0) place ∙ small.home (k / i.nodes) row
 
-distance-reads : (i : Instance) → IsSmall i → (d : ℕ) (rest made tail : List ℕ) (s : TextState) → i.distances ≡ made ++ d ∷ rest → IsBefore ((decimal_of (pos d) ++ separator i.nodes (length made) ∷ []) ++ tail) s → ReadsPart (distance_at i.nodes) made (made ++ d ∷ []) tail s
+distance-reads : (i : Instance) → IsTourInstance i → (d : ℕ) (rest made tail : List ℕ) (s : TextState) → i.distances ≡ made ++ d ∷ rest → IsBefore ((decimal_of (pos d) ++ separator i.nodes (length made) ∷ []) ++ tail) s → ReadsPart (distance_at i.nodes) made (made ++ d ∷ []) tail s
 unfolding distance_at
 distance-reads i small d rest made tail s whole before =
     let here : get_or i.distances (length made) 0 ≡ d = ap (λ xs. get_or xs (length made) 0) whole ∙ get_or_at made d rest 0 (length made) refl in
@@ -96,7 +96,7 @@ distance-reads i small d rest made tail s whole before =
     kept (inl e) here l = ap (λ b. cond b 0 d) e ∙ sym (diagonal i (length made) small l (eqb-true (length made / i.nodes) (length made % i.nodes) e)) ∙ here
     kept (inr e) here l = ap (λ b. cond b 0 d) e
 
-each_distance : (i : Instance) → IsSmall i → (x : ℕ × ℕ) (xs : List (ℕ × ℕ)) (made tail : List ℕ) (s : TextState) → IsMarked i.nodes i.distances made (x ∷ xs) → s.comment ≡ Hash → IsBefore (print_marked x ++ tail) s → ReadsPart (distance_at i.nodes) made (add_distance made x) tail s × IsMarked i.nodes i.distances (add_distance made x) xs
+each_distance : (i : Instance) → IsTourInstance i → (x : ℕ × ℕ) (xs : List (ℕ × ℕ)) (made tail : List ℕ) (s : TextState) → IsMarked i.nodes i.distances made (x ∷ xs) → s.comment ≡ Hash → IsBefore (print_marked x ++ tail) s → ReadsPart (distance_at i.nodes) made (add_distance made x) tail s × IsMarked i.nodes i.distances (add_distance made x) xs
 unfolding marked print_marked add_distance
 each_distance i small x xs made tail s held same before = go held.rest held.is held.whole
   where
@@ -153,7 +153,7 @@ open_from (w ∷ ws) h k = (record { opens = h 0; closes = k 0 }, open_from ws (
 
 -- ---- the whole
 
-nodes-read : (i : Instance) (s : TextState) → IsSmall i → s.comment ≡ Hash → IsBefore (printed_distances i.nodes 0 i.distances ++ printed_windows i.windows) s → nodes_at i.nodes s ≡ Ok i
+nodes-read : (i : Instance) (s : TextState) → IsTourInstance i → s.comment ≡ Hash → IsBefore (printed_distances i.nodes 0 i.distances ++ printed_windows i.windows) s → nodes_at i.nodes s ≡ Ok i
 unfolding nodes_at
 nodes-read i s small same before =
     let xs = marked i.nodes 0 i.distances in
@@ -172,7 +172,7 @@ nodes-read i s small same before =
     made : ℕ → List ℕ → List Window → Instance
     made n ds ws = record { nodes = n; distances = ds; windows = ws }
 
-spelled-printed : (i : Instance) → IsSmall i → spelled (printed i) ≡ Ok i
+spelled-printed : (i : Instance) → IsTourInstance i → spelled (printed i) ≡ Ok i
 unfolding spelled printed
 spelled-printed i small =
     let bytes : List ℕ = printed_distances i.nodes 0 i.distances ++ printed_windows i.windows in
@@ -180,5 +180,5 @@ spelled-printed i small =
     let read = passes_natural i.nodes 1 300 10 bytes start small.some small.few (omega arith) refl (before_start Hash (decimal_of (pos i.nodes) ++ 10 ∷ bytes)) in
     number_then_ok (pos 1) (pos 300) (pos i.nodes) start (λ n s. nodes_at (nat_abs n) s) (sym read.value) ∙ nodes-read i (after_token start) small read.comment_is read.before
 
-pub printed_reads_back : (i : Instance) (text : List ℕ) → IsSmall i → text ≡ printed i → spelled text ≡ Ok i
+pub printed_reads_back : (i : Instance) (text : List ℕ) → IsTourInstance i → text ≡ printed i → spelled text ≡ Ok i
 printed_reads_back i text small e = ap spelled e ∙ spelled-printed i small

@@ -8,11 +8,11 @@ use Rattle.node_sets.specs.Sums.{all_below, lesser, least_amount}
 use Rattle.node_sets.specs.Sets.{IsNext, IsSet, has, is_set, words_for}
 use Rattle.node_sets.proofs.Below.{all_below-gives, all_below-from, least_amount-same, least_amount-next, least_amount-none}
 use Rattle.node_sets.proofs.Counts.{is_set-gives}
-use Rattle.tsp_windows.specs.States.{TourState, positions_of, must_of, may_of, time_of, shown, leg, may_visit, may_return, covers, is_sound, is_state_row}
+use Rattle.tsp_windows.specs.States.{TourState, positions_of, must_of, may_of, time_of, shown, leg, may_visit, may_return, is_open, covers, is_sound, is_state_row}
 use Rattle.tsp_windows.specs.Instance.{Instance, closing}
 use Rattle.tsp_windows.specs.Apart.{IsApart}
 use Rattle.tsp_windows.specs.Tours.{all_below-not, sound-gives, sound-from}
-use Rattle.tsp_windows.specs.Walks.{Covers, covers-gives, covers-from}
+use Rattle.tsp_windows.specs.Walks.{CoversTour, covers-gives, covers-from}
 
 pub fits_time : (t : ℕ) → t ≤ 1000000000000 → FitsSigned w64 (pos t)
 fits_time t l = record { sfits = omega arith }
@@ -58,7 +58,7 @@ pub all_cover : (n w : ℕ) (a s pa ma ya ps ms ys : List ℤ) (ta ts : ℕ) (p 
     → r ≡ covers n (shown w a) (shown w s)
 unfolding shown
 all_cover n w a s pa ma ya ps ms ys ta ts p m r epa ema eya eps ems eys eta ets must_set may_set early pt ph mt mh to from =
-    same_from_decides {P = Covers n (shown w a) (shown w s)} r (covers n (shown w a) (shown w s)) (
+    same_from_decides {P = CoversTour n (shown w a) (shown w s)} r (covers n (shown w a) (shown w s)) (
       (λ e. record {
         positions = λ v l h. ap (λ x. has x v) (sym epa) ∙ ph pt v (ap (λ x. has x v) eps ∙ h);
         must = λ v l h. ap (λ x. has x v) (sym ems) ∙ mh mt v (ap (λ x. has x v) ema ∙ h);
@@ -158,6 +158,13 @@ may-shown w s m v e = ap (λ r. has r v) e
 pub positions-shown : (w : ℕ) (s m : List ℤ) (v : ℕ) → m ≡ positions_of w s → has m v ≡ (shown w s).positions v
 unfolding shown
 positions-shown w s m v e = ap (λ r. has r v) e
+
+-- the members of the two sets are the nodes that must or may be visited
+pub open_shown : (w : ℕ) (s m y : List ℤ) (v : ℕ) {b : Bool} → m ≡ must_of w s → y ≡ may_of w s → (has m v || has y v) ≡ b → is_open (shown w s) v ≡ b
+open_shown w s m y v e f h = sym (ap₂ ◌||◌ (must-shown w s m v e) (may-shown w s y v f)) ∙ h
+
+pub open_inside : (n : ℕ) (m y : List ℤ) (v : ℕ) → IsSet n m → IsSet n y → (has m v || has y v) ≡ true → v < n
+open_inside n m y v ms ys h = elim (or_cases (has m v) (has y v) h) [ inl e ↦ inside_set n m v ms e | inr e ↦ inside_set n y v ys e ]
 
 least_kept : (b : Bool) (n v : ℕ) (o : Option ℕ) → v ≤ n → o ≡ Some v → cond b (lesser n o) o ≡ Some v
 least_kept b n v o l e = ap (λ o. cond b (lesser n o) o) e ∙ (elim b as (λ b. cond b (Some (min v n)) (Some v) ≡ Some v) [ true ↦ (let m : min v n ≡ v = omega arith in ap Some m) | false ↦ refl ])

@@ -5,7 +5,7 @@ use Rattle.std.proofs.lemmas.Fmt.{length-decimal-le}
 use Rattle.std.proofs.lemmas.List.{length-append}
 use Rattle.dd_text.specs.Decimal.{decimal_of}
 use Rattle.dd_text.proofs.Lengths.{parts_short}
-use Rattle.tsp_windows.specs.Instance.{Instance, Window, IsSmall, no_window}
+use Rattle.tsp_windows.specs.Instance.{Instance, Window, IsTourInstance, no_window}
 use Rattle.tsp_windows.specs.Texts.{separator, printed_distances, printed_window, printed_windows, printed}
 
 distances_short : (n k : ℕ) (ds : List ℕ) → ((j : ℕ) → get_or ds j 0 ≤ 1000000000) → length (printed_distances n k ds) ≤ 11 * length ds
@@ -31,7 +31,7 @@ windows_short ws closed =
     parts_short printed_window 28 AreClosed
     (λ w rest h. (window_short w (h.opens 0) (h.closes 0), record { opens = λ v. h.opens (suc v); closes = λ v. h.closes (suc v) })) ws closed
 
-printed_short : (i : Instance) → IsSmall i → length (printed i) ≤ 2 ^ 30
+printed_short : (i : Instance) → IsTourInstance i → length (printed i) ≤ 2 ^ 30
 unfolding printed
 printed_short i small =
     let few = small.few in
@@ -41,5 +41,5 @@ printed_short i small =
     let windows = windows_short i.windows (record { opens = small.opens; closes = small.closes }) in
     omega (arith, nodes, square, distances, windows, small.square, small.each_window, length-append (decimal_of (pos i.nodes)) (10 ∷ (printed_distances i.nodes 0 i.distances ++ printed_windows i.windows)), length-append (printed_distances i.nodes 0 i.distances) (printed_windows i.windows))
 
-pub printed_is_short : (i : Instance) (text : List ℕ) → IsSmall i → text ≡ printed i → length text ≤ 2 ^ 30
+pub printed_is_short : (i : Instance) (text : List ℕ) → IsTourInstance i → text ≡ printed i → length text ≤ 2 ^ 30
 printed_is_short i text small e = subst (λ (bytes : List ℕ). length bytes ≤ 2 ^ 30) (sym e) (printed_short i small)

@@ -41,7 +41,7 @@ unfoldable pub is_small : Instance → Bool
 is_small i = nat_le 1 i.nodes && (nat_le i.nodes 300 && (nat_eq (length i.distances) (i.nodes * i.nodes) && (list_all (λ d. nat_le d 1000000000) i.distances && (all_below i.nodes (λ v. nat_eq (distance i v v) 0) && (nat_eq (length i.windows) i.nodes && list_all is_window i.windows)))))
 
 -- that test, as facts
-pub record IsSmall (i : Instance) : Type 0 where
+pub record IsTourInstance (i : Instance) : Type 0 where
   pub some : 1 ≤ i.nodes
   pub few : i.nodes ≤ 300
   pub square : length i.distances ≡ i.nodes * i.nodes

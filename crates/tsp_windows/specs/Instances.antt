@@ -6,7 +6,7 @@ use Rattle.std.proofs.lemmas.List.{take_at, drop_at, length-map}
 use Rattle.node_sets.specs.Sums.{all_below}
 use Rattle.node_sets.proofs.Below.{all_below-gives}
 use Rattle.dp_model.specs.Laws.{IsLawful, IsChained}
-use Rattle.tsp_windows.specs.Instance.{Instance, IsSmall, Window, distance, no_window, is_window, is_small, window_numbers, numbers_of, windows_of, instance_of}
+use Rattle.tsp_windows.specs.Instance.{Instance, IsTourInstance, Window, distance, no_window, is_window, is_small, window_numbers, numbers_of, windows_of, instance_of}
 use Rattle.tsp_windows.specs.Program.{program, program_of}
 use Rattle.tsp_windows.specs.ProgramLaws.{lawful_program, chained_program}
 
@@ -30,7 +30,7 @@ open_all [] e v = record { opens = omega arith; closes = omega arith }
 open_all (w ∷ ws) e zero = open_one w (and_parts (is_window w) (list_all is_window ws) e).0
 open_all (w ∷ ws) e (suc v) = open_all ws (and_parts (is_window w) (list_all is_window ws) e).1 v
 
-pub is_small-gives : (i : Instance) → is_small i ≡ true → IsSmall i
+pub is_small-gives : (i : Instance) → is_small i ≡ true → IsTourInstance i
 unfolding is_small
 is_small-gives i e0 =
     let e1 = (and_parts (nat_le 1 i.nodes) (nat_le i.nodes 300 && (nat_eq (length i.distances) (i.nodes * i.nodes) && (list_all (λ d. nat_le d 1000000000) i.distances && (all_below i.nodes (λ v. nat_eq (distance i v v) 0) && (nat_eq (length i.windows) i.nodes && list_all is_window i.windows))))) e0).1 in

@@ -8,7 +8,7 @@ use Rattle.node_sets.specs.Sums.{count_below}
 use Rattle.node_sets.specs.Sets.{words_for}
 use Rattle.node_sets.proofs.Below.{sum_below-removed, sum_below-none, least_amount-none, least_amount-same, least_amount-skip, least_amount-next}
 use Rattle.dp_model.specs.Prefixes.{IsSolution, gain_of, value_of}
-use Rattle.tsp_windows.specs.Instance.{Instance, IsSmall, distance, opening, closing}
+use Rattle.tsp_windows.specs.Instance.{Instance, IsTourInstance, distance, opening, closing}
 use Rattle.tsp_windows.specs.States.{TourState, from_elsewhere, leg, arrival, departure, moved, start, shown, row_for}
 use Rattle.tsp_windows.specs.Rows.{IsBounded, shown-row_for, words_enough}
 use Rattle.tsp_windows.specs.Program.{program_of}
@@ -59,7 +59,7 @@ leg-same i here t a = least_amount-none i.nodes (from_elsewhere t here) (λ p. d
     right x false e = absurd (false≢true e)
 
 -- nor is there a way to itself
-arrival-anywhere : (i : Instance) (here d : ℕ) (t : TourState) → IsSmall i → IsAt i.nodes here t → arrival i t d ≡ t.time + distance i here d
+arrival-anywhere : (i : Instance) (here d : ℕ) (t : TourState) → IsTourInstance i → IsAt i.nodes here t → arrival i t d ≡ t.time + distance i here d
 arrival-anywhere i here d t small a =
     elim (cases_eq here d) [
       | inl s ↦ (let none = ap (λ v. leg i t v) (sym s) ∙ leg-same i here t a in
@@ -186,7 +186,7 @@ pending-must n here t d a e = only (t.must d) (t.may d) (a.none d) e
     only false y e h = absurd (false≢true (sym e ∙ h))
 
 -- the last decision
-kept-last : (i : Instance) (here : ℕ) (t : TourState) (d k : ℕ) → IsSmall i → IsAt i.nodes here t → i.nodes ≤ k + 1 → IsGone i k t d → IsKept i here t (d ∷ [])
+kept-last : (i : Instance) (here : ℕ) (t : TourState) (d k : ℕ) → IsTourInstance i → IsAt i.nodes here t → i.nodes ≤ k + 1 → IsGone i k t d → IsKept i here t (d ∷ [])
 kept-last i here t d k small a l g =
     let r = returns i t d (sym (goes_home i k t d l) ∙ g.test) in
     let way = arrival-anywhere i here d t small a in
@@ -224,7 +224,7 @@ kept-more i here t d k ds a l g tail rest home =
           ∙ ap (λ x. end_time i d (max x (opening i d)) ds) (sym way) ∙ ap (λ x. end_time i d x ds) (sym (time-moved-is i t d)) ∙ rest.time;
     }
 
-pub kept-of_tour : (i : Instance) (k here : ℕ) (t : TourState) (ds : List ℕ) → IsSmall i → IsAt i.nodes here t → k < i.nodes → k + length ds ≡ i.nodes → IsTour i k t ds → IsKept i here t ds
+pub kept-of_tour : (i : Instance) (k here : ℕ) (t : TourState) (ds : List ℕ) → IsTourInstance i → IsAt i.nodes here t → k < i.nodes → k + length ds ≡ i.nodes → IsTour i k t ds → IsKept i here t ds
 kept-of_tour i k here t [] small a l e w = absurd (omega arith)
 kept-of_tour i k here t (d ∷ []) small a l e w = kept-last i here t d k small a (omega arith) w.0
 kept-of_tour i k here t (d ∷ f ∷ ds) small a l e w =
@@ -266,7 +266,7 @@ none-must (suc n) p e v l =
     off true e = absurd (omega arith)
     off false e = refl
 
-made-last : (i : Instance) (k here : ℕ) (t : TourState) (d last : ℕ) → IsSmall i → IsAt i.nodes here t → k + 1 ≡ i.nodes → (here ≡ 0 → i.nodes ≡ 1) → Lists i.nodes t.must (d ∷ []) → end_time i here t.time (d ∷ []) ≡ Some last → IsMade i k t (d ∷ []) last
+made-last : (i : Instance) (k here : ℕ) (t : TourState) (d last : ℕ) → IsTourInstance i → IsAt i.nodes here t → k + 1 ≡ i.nodes → (here ≡ 0 → i.nodes ≡ 1) → Lists i.nodes t.must (d ∷ []) → end_time i here t.time (d ∷ []) ≡ Some last → IsMade i k t (d ∷ []) last
 made-last i k here t d last small a l single h e =
     let home : d ≡ 0 = eqb-true d 0 h.home in
     let soon = late i here d t.time last [] e in
@@ -315,7 +315,7 @@ lists-rest i t d f ds h l must =
           ∙ any-none d (f ∷ ds) different t.must (and_parts (t.must d || nat_eq d 0) (list_all (λ v. t.must v || nat_eq v 0) (f ∷ ds)) h.wanted).1;
     }
 
-pub made : (i : Instance) (k here : ℕ) (t : TourState) (ds : List ℕ) (last : ℕ) → IsSmall i → IsAt i.nodes here t → k + length ds ≡ i.nodes → (here ≡ 0 → k ≡ 0) → Lists i.nodes t.must ds → end_time i here t.time ds ≡ Some last → IsMade i k t ds last
+pub made : (i : Instance) (k here : ℕ) (t : TourState) (ds : List ℕ) (last : ℕ) → IsTourInstance i → IsAt i.nodes here t → k + length ds ≡ i.nodes → (here ≡ 0 → k ≡ 0) → Lists i.nodes t.must ds → end_time i here t.time ds ≡ Some last → IsMade i k t ds last
 made i k here t [] last small a l single h e = absurd (omega (arith, h.whole))
 made i k here t (d ∷ []) last small a l single h e = made-last i k here t d last small a (omega arith) (λ z. omega (arith, single z)) h e
 made i k here t (d ∷ f ∷ ds) last small a l single h e =
@@ -422,7 +422,7 @@ root-bounded : (i : Instance) → 1 ≤ i.nodes → IsBounded i.nodes (shown (wo
 root-bounded i some = subst (IsBounded i.nodes) (sym (root-shown i some)) (start-bounded i some)
 
 -- the value of a tour from the start is the negated time of its end
-value-is : (i : Instance) (ds : List ℕ) (last : ℕ) → IsSmall i → IsTour i 0 (start i) ds → last_time i (start i) ds ≡ last → neg_ℤ (pos last) ≡ value_of (program_of i) ds
+value-is : (i : Instance) (ds : List ℕ) (last : ℕ) → IsTourInstance i → IsTour i 0 (start i) ds → last_time i (start i) ds ≡ last → neg_ℤ (pos last) ≡ value_of (program_of i) ds
 value-is i ds last small tour e =
     let same = root-shown i small.some in
     let at_root = subst (λ t. IsTour i 0 t ds) (sym same) tour in
@@ -433,13 +433,13 @@ value-is i ds last small tour e =
     sum : (a b : ℕ) (g : ℤ) → g ≡ pos a -ℤ pos b → neg_ℤ (pos b) ≡ neg_ℤ (pos a) +ℤ g
     sum a b g e = omega (arith, ints, e)
 
-solution-kept : (i : Instance) (ds : List ℕ) → IsSmall i → IsSolution (program_of i) ds → IsTour i 0 (start i) ds × IsKept i 0 (start i) ds
+solution-kept : (i : Instance) (ds : List ℕ) → IsTourInstance i → IsSolution (program_of i) ds → IsTour i 0 (start i) ds × IsKept i 0 (start i) ds
 solution-kept i ds small x =
     let tour = subst (λ t. IsTour i 0 t ds) (root-shown i small.some) (tour-of_path i 0 (row_for (words_for i.nodes) (start i)) ds (root-bounded i small.some) x.prefix) in
     (tour, kept-of_tour i 0 0 (start i) ds small (start-at i small.some) small.some (omega (arith, x.whole)) tour)
 
 -- a tour within the windows is a feasible solution with its value
-order-worth : (i : Instance) (ds : List ℕ) (last : ℕ) → IsSmall i → is_order i.nodes ds ≡ true → end_time i 0 (opening i 0) ds ≡ Some last → IsSolutionWith (program_of i) ds (neg_ℤ (pos last))
+order-worth : (i : Instance) (ds : List ℕ) (last : ℕ) → IsTourInstance i → is_order i.nodes ds ≡ true → end_time i 0 (opening i 0) ds ≡ Some last → IsSolutionWith (program_of i) ds (neg_ℤ (pos last))
 order-worth i ds last small order e =
     let lists = order-gives i ds small.some order in
     let whole : length ds ≡ i.nodes = lists.whole ∙ start-count i small.some in
@@ -452,14 +452,14 @@ order-worth i ds last small order e =
       value = value-is i ds last small m.tour m.last_is;
     }
 
-negated-gives : (i : Instance) (ds : List ℕ) (o : Option ℕ) → IsSmall i → is_order i.nodes ds ≡ true → end_time i 0 (opening i 0) ds ≡ o → SolutionGives (program_of i) ds (negated o)
+negated-gives : (i : Instance) (ds : List ℕ) (o : Option ℕ) → IsTourInstance i → is_order i.nodes ds ≡ true → end_time i 0 (opening i 0) ds ≡ o → SolutionGives (program_of i) ds (negated o)
 negated-gives i ds None small order e =
     λ x. let kept = solution-kept i ds small x in
     let both : None ≡ Some (last_time i (start i) ds) = sym e ∙ ap (λ x. end_time i 0 x ds) (sym (start-time i)) ∙ kept.1.time in cc
 negated-gives i ds (Some last) small order e = order-worth i ds last small order e
 
 -- the theorem: the own words give a value exactly where the program has a feasible solution, and the same value
-pub solution_gives : (i : Instance) (ds : List ℕ) → IsSmall i → SolutionGives (program_of i) ds (tour_value i ds)
+pub solution_gives : (i : Instance) (ds : List ℕ) → IsTourInstance i → SolutionGives (program_of i) ds (tour_value i ds)
 solution_gives i ds small =
     elim (cases_Bool (is_order i.nodes ds)) [
       | inl order ↦ subst (SolutionGives (program_of i) ds) (sym (ap (λ b. cond b (negated (end_time i 0 (opening i 0) ds)) None) order)) (negated-gives i ds (end_time i 0 (opening i 0) ds) small order refl)

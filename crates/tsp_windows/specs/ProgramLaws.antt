@@ -16,12 +16,12 @@ use Rattle.dp_model.specs.Prefixes.{IsContinuation, gain_of}
 use Rattle.dp_model.specs.Gaps.{IsStateOf, IsSoundGap, HasGap}
 use Rattle.dp_model.specs.Numbers.{AtMost, IsSmall as IsSmallNumber}
 use Rattle.dp_model.specs.Laws.{StepsAreStates, GapsAreSound, RoughBounds, SizesHold, IsLawful, IsChained}
-use Rattle.tsp_windows.specs.Instance.{Instance, IsSmall, distance, opening, closing, near, least_way}
+use Rattle.tsp_windows.specs.Instance.{Instance, IsTourInstance, distance, opening, closing, near, least_way}
 use Rattle.tsp_windows.specs.States.{TourState, positions_of, must_of, may_of, time_of, shown, row_for, arrival, departure, moved, joined, covers, is_lost, way_left, start, is_sound, is_state_row}
 use Rattle.tsp_windows.specs.Rows.{IsBounded, shown-row_for, positions_of-row_for, must_of-row_for, may_of-row_for, time_of-row_for, length-row_for, words_enough}
 use Rattle.tsp_windows.specs.Program.{program_of, rough_of, gap_of}
 use Rattle.tsp_windows.specs.Tours.{IsSound, sound-gives, sound-from, moved-sound, joined-sound, start-sound, moved-bounded, joined-bounded, start-bounded, least_amount-most, visits, returns, goes_on, goes_home}
-use Rattle.tsp_windows.specs.Walks.{IsGone, last_time, Covers, covers-gives, covers-from, Covers-self, Covers-chain, joined-covers-left, joined-covers-right, tour-covered, Costs, costs, tour-of_path, path-of_tour, gain-of_tour}
+use Rattle.tsp_windows.specs.Walks.{IsGone, last_time, CoversTour, covers-gives, covers-from, CoversTour-self, CoversTour-chain, joined-covers-left, joined-covers-right, tour-covered, Costs, costs, tour-of_path, path-of_tour, gain-of_tour}
 
 -- ---- rows that are states
 
@@ -88,7 +88,7 @@ state_row-from n t b s l =
 
 -- ---- steps are states
 
-departure-most : (i : Instance) (k : ℕ) (t : TourState) (d : ℕ) → IsSmall i → IsGone i k t d → departure i t d ≤ 1000000000000
+departure-most : (i : Instance) (k : ℕ) (t : TourState) (d : ℕ) → IsTourInstance i → IsGone i k t d → departure i t d ≤ 1000000000000
 departure-most i k t d small g =
     let late : arrival i t d ≤ closing i d = elim (cases_lt (k + 1) i.nodes) [
       | inl l ↦ (visits i t d (sym (goes_on i k t d l) ∙ g.test)).on_time
@@ -113,7 +113,7 @@ joined-time a b = omega arith
 gone : (i : Instance) (k : ℕ) (s : List ℤ) (d : ℕ) → IsAllowed (program_of i) k s d → IsGone i k (shown (words_for i.nodes) s) d
 gone i k s d a = record { layer = a.layer; choice = a.choice; test = a.test }
 
-pub steps_are_states : (i : Instance) → IsSmall i → StepsAreStates (program_of i)
+pub steps_are_states : (i : Instance) → IsTourInstance i → StepsAreStates (program_of i)
 steps_are_states i small = record {
   root = (let at = small.opens 0 in let shut = small.closes 0 in
       state_row-from i.nodes (start i) (start-bounded i small.some) (start-sound i small.some) (omega (arith, at, shut, start-time i)));
@@ -132,7 +132,7 @@ steps_are_states i small = record {
 -- ---- gaps
 
 record IsGap (n : ℕ) (a b : TourState) (g : ℤ) : Type 0 where
-  covered : Covers n a b
+  covered : CoversTour n a b
   is : g ≡ pos b.time -ℤ pos a.time
 
 gap-gives : (n : ℕ) (a b : TourState) (g : ℤ) → gap_of n a b ≡ Some g → IsGap n a b g
@@ -142,7 +142,7 @@ gap-gives n a b g e =
       | inr c ↦ absurd (let same : None ≡ Some g = sym (ap (λ x. cond x (Some (pos b.time -ℤ pos a.time)) None) c) ∙ e in cc)
     ]
 
-gap-from : (n : ℕ) (a b : TourState) → Covers n a b → gap_of n a b ≡ Some (pos b.time -ℤ pos a.time)
+gap-from : (n : ℕ) (a b : TourState) → CoversTour n a b → gap_of n a b ≡ Some (pos b.time -ℤ pos a.time)
 gap-from n a b c = ap (λ x. cond x (Some (pos b.time -ℤ pos a.time)) None) (covers-from n a b c)
 
 enough : (ta tb la lb : ℕ) (x y g : ℤ) → x ≡ pos tb -ℤ pos lb → y ≡ pos ta -ℤ pos la → g ≡ pos tb -ℤ pos ta → la ≤ lb → x ≤ℤ (y +ℤ g)
@@ -163,9 +163,9 @@ sound_gap i k a s g left right e c way =
     }
 
 own_gap : (n : ℕ) (t : TourState) → gap_of n t t ≡ Some (pos 0)
-own_gap n t = gap-from n t t (Covers-self n t) ∙ (let z : pos t.time -ℤ pos t.time ≡ pos 0 = omega (arith, ints) in ap Some z)
+own_gap n t = gap-from n t t (CoversTour-self n t) ∙ (let z : pos t.time -ℤ pos t.time ≡ pos 0 = omega (arith, ints) in ap Some z)
 
-has_gap : (i : Instance) (k : ℕ) (a s u : List ℤ) → IsStateOf (program_of i) k a → IsStateOf (program_of i) k s → Covers i.nodes (joined (shown (words_for i.nodes) a) (shown (words_for i.nodes) s)) (shown (words_for i.nodes) u) → HasGap (program_of i) k ((program_of i).merged k a s) u
+has_gap : (i : Instance) (k : ℕ) (a s u : List ℤ) → IsStateOf (program_of i) k a → IsStateOf (program_of i) k s → CoversTour i.nodes (joined (shown (words_for i.nodes) a) (shown (words_for i.nodes) s)) (shown (words_for i.nodes) u) → HasGap (program_of i) k ((program_of i).merged k a s) u
 has_gap i k a s u left right c =
     let one = state_row-gives i.nodes a left.test in
     let two = state_row-gives i.nodes s right.test in
@@ -181,7 +181,7 @@ gaps_are_sound i = record {
   own = λ k s state. own_gap i.nodes (shown (words_for i.nodes) s);
   merge_new = λ k a s left right. has_gap i k a s s left right (joined-covers-right i.nodes (shown (words_for i.nodes) a) (shown (words_for i.nodes) s));
   merge_old = λ k a s u left right other h.
-      has_gap i k a s u left right (Covers-chain i.nodes (joined (shown (words_for i.nodes) a) (shown (words_for i.nodes) s)) (shown (words_for i.nodes) a) (shown (words_for i.nodes) u)
+      has_gap i k a s u left right (CoversTour-chain i.nodes (joined (shown (words_for i.nodes) a) (shown (words_for i.nodes) s)) (shown (words_for i.nodes) a) (shown (words_for i.nodes) u)
       (joined-covers-left i.nodes (shown (words_for i.nodes) a) (shown (words_for i.nodes) s)) (gap-gives i.nodes (shown (words_for i.nodes) a) (shown (words_for i.nodes) u) h.gap h.is).covered);
 }
 
@@ -191,7 +191,7 @@ chained_program i k a b c g h p q r e f =
     let two = gap-gives i.nodes (shown (words_for i.nodes) b) (shown (words_for i.nodes) c) h f in
     record {
       gap = pos (shown (words_for i.nodes) c).time -ℤ pos (shown (words_for i.nodes) a).time;
-      is = gap-from i.nodes (shown (words_for i.nodes) a) (shown (words_for i.nodes) c) (Covers-chain i.nodes (shown (words_for i.nodes) a) (shown (words_for i.nodes) b) (shown (words_for i.nodes) c) one.covered two.covered);
+      is = gap-from i.nodes (shown (words_for i.nodes) a) (shown (words_for i.nodes) c) (CoversTour-chain i.nodes (shown (words_for i.nodes) a) (shown (words_for i.nodes) b) (shown (words_for i.nodes) c) one.covered two.covered);
       within = chain (shown (words_for i.nodes) a).time (shown (words_for i.nodes) b).time (shown (words_for i.nodes) c).time g h one.is two.is;
     }
   where
@@ -245,11 +245,11 @@ rough_bounds i = record {
 
 -- ---- sizes
 
-pub near-most : (i : Instance) (v : ℕ) → IsSmall i → near i v ≤ 1000000000
+pub near-most : (i : Instance) (v : ℕ) → IsTourInstance i → near i v ≤ 1000000000
 unfolding least_way
 near-most i v small = least_amount-most i.nodes (λ u. not (nat_eq u v)) (λ u. distance i u v) 1000000000 (λ u. small.short (u * i.nodes + v))
 
-pub way-most : (i : Instance) (t : TourState) → IsSmall i → way_left i t ≤ 301000000000
+pub way-most : (i : Instance) (t : TourState) → IsTourInstance i → way_left i t ≤ 301000000000
 way-most i t small =
     let ways = sum_below-le i.nodes t.must (near i) 1000000000 (λ v l. near-most i v small) in
     let home = near-most i 0 small in
@@ -282,7 +282,7 @@ cell_small n s row k l =
 gap_size : (a b : ℕ) (g : ℤ) → a ≤ b → b ≤ 1000000000000 → g ≡ pos b -ℤ pos a → (pos 0 ≤ℤ g) × IsSmallNumber g
 gap_size a b g p q e = small_gap g (omega (arith, ints, e)) (omega (arith, ints, e))
 
-rough_size : (i : Instance) (k : ℕ) (t : TourState) (r : ℤ) → IsSmall i → rough_of i k t ≡ Some r → IsSmallNumber r
+rough_size : (i : Instance) (k : ℕ) (t : TourState) (r : ℤ) → IsTourInstance i → rough_of i k t ≡ Some r → IsSmallNumber r
 rough_size i k t r small e =
     elim (cases_lt k i.nodes) [
       | inl l ↦ (elim (cases_Bool (is_lost i k t)) [
@@ -295,7 +295,7 @@ rough_size i k t r small e =
       | inr l ↦ (let some : Some (pos 0) ≡ Some r = sym (rough-last i k t l) ∙ e in let same : pos 0 ≡ r = cc in subst IsSmallNumber same (small_natural 0 (omega arith)))
     ]
 
-pub sizes_hold : (i : Instance) → IsSmall i → SizesHold (program_of i)
+pub sizes_hold : (i : Instance) → IsTourInstance i → SizesHold (program_of i)
 sizes_hold i small = record {
   vars = omega (arith, small.few);
   some_words = omega arith;
@@ -312,7 +312,7 @@ sizes_hold i small = record {
   rough = λ k s r state e. rough_size i k (shown (words_for i.nodes) s) r small e;
 }
 
-pub lawful_program : (i : Instance) → IsSmall i → IsLawful (program_of i)
+pub lawful_program : (i : Instance) → IsTourInstance i → IsLawful (program_of i)
 lawful_program i small = record {
   states = steps_are_states i small;
   gaps = gaps_are_sound i;

@@ -32,13 +32,13 @@ last_time i t (d ∷ ds) = last_time i (moved i t d) ds
 
 -- ---- states that cover others
 
-pub record Covers (n : ℕ) (a b : TourState) : Type 0 where
+pub record CoversTour (n : ℕ) (a b : TourState) : Type 0 where
   pub positions : (v : ℕ) → v < n → b.positions v ≡ true → a.positions v ≡ true
   pub must : (v : ℕ) → v < n → a.must v ≡ true → b.must v ≡ true
   pub pending : (v : ℕ) → v < n → is_open b v ≡ true → is_open a v ≡ true
   pub time : a.time ≤ b.time
 
-pub covers-gives : (n : ℕ) (a b : TourState) → covers n a b ≡ true → Covers n a b
+pub covers-gives : (n : ℕ) (a b : TourState) → covers n a b ≡ true → CoversTour n a b
 covers-gives n a b e =
     let rest = (and_parts (is_within n b.positions a.positions) (is_within n a.must b.must && (is_within n (is_open b) (is_open a) && nat_le a.time b.time)) e).1 in
     let last = (and_parts (is_within n a.must b.must) (is_within n (is_open b) (is_open a) && nat_le a.time b.time) rest).1 in
@@ -49,17 +49,17 @@ covers-gives n a b e =
       time = leb-true a.time b.time (and_parts (is_within n (is_open b) (is_open a)) _ last).1;
     }
 
-pub covers-from : (n : ℕ) (a b : TourState) → Covers n a b → covers n a b ≡ true
+pub covers-from : (n : ℕ) (a b : TourState) → CoversTour n a b → covers n a b ≡ true
 covers-from n a b c =
     and_from (is_within n b.positions a.positions) _ (within-from n b.positions a.positions c.positions)
     (and_from (is_within n a.must b.must) _ (within-from n a.must b.must c.must)
     (and_from (is_within n (is_open b) (is_open a)) _ (within-from n (is_open b) (is_open a) c.pending) (le-leb a.time b.time c.time)))
 
-pub Covers-self : (n : ℕ) (a : TourState) → Covers n a a
-Covers-self n a = record { positions = λ v l e. e; must = λ v l e. e; pending = λ v l e. e; time = omega arith }
+pub CoversTour-self : (n : ℕ) (a : TourState) → CoversTour n a a
+CoversTour-self n a = record { positions = λ v l e. e; must = λ v l e. e; pending = λ v l e. e; time = omega arith }
 
-pub Covers-chain : (n : ℕ) (a b c : TourState) → Covers n a b → Covers n b c → Covers n a c
-Covers-chain n a b c p q = record {
+pub CoversTour-chain : (n : ℕ) (a b c : TourState) → CoversTour n a b → CoversTour n b c → CoversTour n a c
+CoversTour-chain n a b c p q = record {
   positions = λ v l e. p.positions v l (q.positions v l e);
   must = λ v l e. q.must v l (p.must v l e);
   pending = λ v l e. p.pending v l (q.pending v l e);
@@ -77,7 +77,7 @@ open_joined false false false false (inr e) = absurd (false≢true e)
 
 -- what is joined covers a state that has no test and no time beyond those of the two
 joined-covers : (n : ℕ) (a b s : TourState) → ((test : TourState → Bool) → test s ≡ true → (test a ≡ true) ⊎ (test b ≡ true)) →
-    ((test : TourState → Bool) → (test a && test b) ≡ true → test s ≡ true) → (joined a b).time ≤ s.time → Covers n (joined a b) s
+    ((test : TourState → Bool) → (test a && test b) ≡ true → test s ≡ true) → (joined a b).time ≤ s.time → CoversTour n (joined a b) s
 unfolding joined
 joined-covers n a b s some both time = record {
   positions = λ v l e. ⊎_elim (or_left (a.positions v) (b.positions v)) (or_right (a.positions v) (b.positions v)) (some (λ t. t.positions v) e);
@@ -86,34 +86,34 @@ joined-covers n a b s some both time = record {
   time = time;
 }
 
-pub joined-covers-left : (n : ℕ) (a b : TourState) → Covers n (joined a b) a
+pub joined-covers-left : (n : ℕ) (a b : TourState) → CoversTour n (joined a b) a
 unfolding joined
 joined-covers-left n a b = joined-covers n a b a (λ test e. inl e) (λ test e. (and_parts (test a) (test b) e).0) (omega arith)
 
-pub joined-covers-right : (n : ℕ) (a b : TourState) → Covers n (joined a b) b
+pub joined-covers-right : (n : ℕ) (a b : TourState) → CoversTour n (joined a b) b
 unfolding joined
 joined-covers-right n a b = joined-covers n a b b (λ test e. inr e) (λ test e. (and_parts (test a) (test b) e).1) (omega arith)
 
-leg-within : (i : Instance) (a b : TourState) (d : ℕ) → Covers i.nodes a b → NoMore (leg i a d) (leg i b d)
+leg-within : (i : Instance) (a b : TourState) (d : ℕ) → CoversTour i.nodes a b → NoMore (leg i a d) (leg i b d)
 unfolding leg
 leg-within i a b d c =
     least_amount-wider i.nodes (from_elsewhere a d) (from_elsewhere b d) (λ p. distance i p d)
     (λ v l e. and_from (a.positions v) (not (nat_eq v d)) (c.positions v l (and_parts (b.positions v) (not (nat_eq v d)) e).0) (and_parts (b.positions v) (not (nat_eq v d)) e).1)
 
-arrival-reached : (i : Instance) (a b : TourState) (d : ℕ) → Covers i.nodes a b → is_some (leg i b d) ≡ true → arrival i a d ≤ arrival i b d
+arrival-reached : (i : Instance) (a b : TourState) (d : ℕ) → CoversTour i.nodes a b → is_some (leg i b d) ≡ true → arrival i a d ≤ arrival i b d
 arrival-reached i a b d c e = let least = NoMore-or (leg i a d) (leg i b d) (leg-within i a b d c) e in omega (arith, least, c.time)
 
-arrival-alone : (i : Instance) (a b : TourState) (d : ℕ) → Covers i.nodes a b → d ≡ 0 → i.nodes ≡ 1 → arrival i a d ≤ arrival i b d
+arrival-alone : (i : Instance) (a b : TourState) (d : ℕ) → CoversTour i.nodes a b → d ≡ 0 → i.nodes ≡ 1 → arrival i a d ≤ arrival i b d
 arrival-alone i a b d c h e =
     let left : unwrap_or (leg i a d) 0 ≡ 0 = ap (λ v. unwrap_or (leg i a v) 0) h ∙ ap (λ o. unwrap_or o 0) (leg-alone i a e) in
     omega (arith, left, c.time)
 
 -- what may be taken in the one state may be taken in each that covers it, and no later
-pub record Follows (i : Instance) (k : ℕ) (a b : TourState) (d : ℕ) : Type 0 where
+pub record TakenNoLater (i : Instance) (k : ℕ) (a b : TourState) (d : ℕ) : Type 0 where
   pub gone : IsGone i k a d
-  pub covered : Covers i.nodes (moved i a d) (moved i b d)
+  pub covered : CoversTour i.nodes (moved i a d) (moved i b d)
 
-moved-covers : (i : Instance) (a b : TourState) (d : ℕ) → Covers i.nodes a b → arrival i a d ≤ arrival i b d → Covers i.nodes (moved i a d) (moved i b d)
+moved-covers : (i : Instance) (a b : TourState) (d : ℕ) → CoversTour i.nodes a b → arrival i a d ≤ arrival i b d → CoversTour i.nodes (moved i a d) (moved i b d)
 unfolding moved
 moved-covers i a b d c l = record {
   positions = λ v m e. e;
@@ -127,7 +127,7 @@ moved-covers i a b d c l = record {
         let left = and_parts (z || w) keep (and-or_distrib_right z w keep ∙ e) in
         sym (and-or_distrib_right x y keep) ∙ and_from (x || y) keep (h left.0) left.1
 
-follows-visit : (i : Instance) (k : ℕ) (a b : TourState) (d : ℕ) → Covers i.nodes a b → IsGone i k b d → k + 1 < i.nodes → Follows i k a b d
+follows-visit : (i : Instance) (k : ℕ) (a b : TourState) (d : ℕ) → CoversTour i.nodes a b → IsGone i k b d → k + 1 < i.nodes → TakenNoLater i k a b d
 follows-visit i k a b d c g l =
     let v = visits i b d (sym (goes_on i k b d l) ∙ g.test) in
     let earlier = arrival-reached i a b d c v.reached in
@@ -145,7 +145,7 @@ follows-visit i k a b d c g l =
       covered = moved-covers i a b d c earlier;
     }
 
-follows-return : (i : Instance) (k : ℕ) (a b : TourState) (d : ℕ) → Covers i.nodes a b → IsGone i k b d → i.nodes ≤ k + 1 → Follows i k a b d
+follows-return : (i : Instance) (k : ℕ) (a b : TourState) (d : ℕ) → CoversTour i.nodes a b → IsGone i k b d → i.nodes ≤ k + 1 → TakenNoLater i k a b d
 follows-return i k a b d c g l =
     let r = returns i b d (sym (goes_home i k b d l) ∙ g.test) in
     let earlier : arrival i a d ≤ arrival i b d = elim r.reached [ inl e ↦ arrival-reached i a b d c e | inr e ↦ arrival-alone i a b d c r.home e ] in
@@ -167,12 +167,12 @@ follows-return i k a b d c g l =
     none true y h e = absurd (false≢true (sym e ∙ h refl))
     none false y h e = refl
 
-pub follows : (i : Instance) (k : ℕ) (a b : TourState) (d : ℕ) → Covers i.nodes a b → IsGone i k b d → Follows i k a b d
+pub follows : (i : Instance) (k : ℕ) (a b : TourState) (d : ℕ) → CoversTour i.nodes a b → IsGone i k b d → TakenNoLater i k a b d
 follows i k a b d c g =
     elim (cases_lt (k + 1) i.nodes) [ inl l ↦ follows-visit i k a b d c g l | inr l ↦ follows-return i k a b d c g l ]
 
 -- each tour from a state is one from each state that covers it, and ends no later
-pub tour-covered : (i : Instance) (k : ℕ) (a b : TourState) (ds : List ℕ) → Covers i.nodes a b → IsTour i k b ds → IsTour i k a ds × (last_time i a ds ≤ last_time i b ds)
+pub tour-covered : (i : Instance) (k : ℕ) (a b : TourState) (ds : List ℕ) → CoversTour i.nodes a b → IsTour i k b ds → IsTour i k a ds × (last_time i a ds ≤ last_time i b ds)
 tour-covered i k a b [] c w = (tt, c.time)
 tour-covered i k a b (d ∷ ds) c w =
     let f = follows i k a b d c w.0 in

@@ -1,4 +1,4 @@
-ghost use Rattle.std.specs.Prelude.{◌≡◌, ◌+◌, ◌*◌, ◌^◌, ◌<◌, ◌≤◌, ◌↔◌, ◌||◌, pos, nat_le, if◌then◌else◌, true, false, Some, None, IsTrue, IsNone, IfSome, is_some, length};
+ghost use Rattle.std.specs.Prelude.{◌≡◌, ℕ, ◌+◌, ◌*◌, ◌^◌, ◌<◌, ◌≤◌, ◌≤ℤ◌, ◌↔◌, ◌||◌, pos, nat_le, if◌then◌else◌, true, false, Some, None, IsTrue, IsNone, IfSome, is_some, length};
 ghost use Rattle.node_sets.specs.Sets as sets;
 ghost use Rattle.node_sets.specs.Sets.{AreWords, has};
 ghost use Rattle.node_sets.specs.Sums.{count_below};
@@ -14,7 +14,7 @@ use crate::ways::{least_leg, ways_within};
 use dp_model::{DpModel, Extended};
 use node_sets::{
     clear, contains, count, is_disjoint, is_empty, is_set, is_subset, is_union_subset, join, least,
-    union_with, words_for, write_one, write_others, write_without,
+    next_of_either, union_with, words_for, write_one, write_others, write_split,
 };
 
 /// Whether each way on from the one state is one from the other, and no later.
@@ -89,6 +89,14 @@ fn is_state_of(nodes: usize, s: &[i64]) -> bool
         return false;
     }
     time >= 0 && time <= 1_000_000_000_000
+}
+
+/// The number that a rank stands for.
+fn counted(rank: i64) -> usize
+    requires { pos 0 ≤ℤ rank }
+    ensures { (count : ℕ) → rank ≡ pos count → result ≡ count }
+{
+    rank as usize
 }
 
 impl TspWindows {
@@ -206,6 +214,39 @@ impl TspWindows {
         self.returned(s, rank, to)
     }
 
+    /// The first node from one on that must or may be visited, or the number of nodes where there is none.
+    #[inline]
+    fn next_open(&self, s: &[i64], from: usize) -> usize
+        requires state { IsTrue (is_state_row self.now.nodes s.now) }
+        requires from { from ≤ self.now.nodes }
+        ensures on { from ≤ result }
+        ensures within { result ≤ self.now.nodes }
+        ensures skipped { (v : ℕ) → from ≤ v → v < result → states.is_open (shown (sets.words_for self.now.nodes) s.now) v ≡ false }
+    {
+        let state = parts_of(self.nodes, s);
+        match next_of_either(state.must, state.may, from) {
+            Some(node) => node,
+            None => self.nodes,
+        }
+    }
+
+    /// The first node from one on to which a decision may lead, as far as the layer and the sets tell: no decision before it is
+    /// allowed. Only node 0 ends the tour.
+    #[inline]
+    fn next_node(&self, k: usize, s: &[i64], from: usize) -> usize
+        requires layer { k < self.now.nodes }
+        requires state { IsTrue (is_state_row self.now.nodes s.now) }
+        requires from { from ≤ self.now.nodes }
+        ensures on { from ≤ result }
+        ensures within { result ≤ self.now.nodes }
+        ensures skipped { (v : ℕ) → from ≤ v → v < result → states.may_go (instance_in self.now) k (shown (sets.words_for self.now.nodes) s.now) v ≡ false }
+    {
+        if self.nodes == k + 1 {
+            return if from == 0 { 0 } else { self.nodes };
+        }
+        self.next_open(s, from)
+    }
+
     /// How many nodes must be visited.
     fn left(&self, s: &[i64]) -> i64
         requires { IsTrue (is_state_row self.now.nodes s.now) }
@@ -228,17 +269,20 @@ impl TspWindows {
         }
     }
 
-    /// The sum of the least ways to the nodes that must be visited and home, or none where the state is lost.
-    fn way_left(&self, k: usize, s: &[i64]) -> Option<u64>
+    /// The sum of the least ways to the nodes that must be visited and home, or none where the state is lost. So many nodes as
+    /// the rank must be visited.
+    fn way_left(&self, k: usize, s: &[i64], rank: i64) -> Option<u64>
         requires layer { k < self.now.nodes }
         requires state { IsTrue (is_state_row self.now.nodes s.now) }
+        requires rank { rank ≡ pos (count_below self.now.nodes (shown (sets.words_for self.now.nodes) s.now).must) }
         ensures lost { IsNone result → states.is_lost (instance_in self.now) k (shown (sets.words_for self.now.nodes) s.now) ≡ true }
         ensures left { IfSome result (λ way. (states.is_lost (instance_in self.now) k (shown (sets.words_for self.now.nodes) s.now) ≡ false)
             × (way ≡ states.way_left (instance_in self.now) (shown (sets.words_for self.now.nodes) s.now))) }
         ensures small { IfSome result (λ way. way < 2 ^ 62) }
     {
         let state = parts_of(self.nodes, s);
-        if count(state.must) + k + 1 > self.nodes {
+        let wanted = counted(rank);
+        if wanted + k + 1 > self.nodes {
             return None;
         }
         let home = u64::from(self.nearest[0]);
@@ -266,6 +310,7 @@ fn write_root(out: &mut [i64], model: &TspWindows)
 }
 
 /// Writes the state behind a visit, by when the node is left.
+#[inline]
 fn write_moved(out: &mut [i64], model: &TspWindows, s: &[i64], to: usize, departure: u64)
     requires cells { length out.old ≡ 3 * sets.words_for model.now.nodes + 1 }
     requires state { IsTrue (is_state_row model.now.nodes s.now) }
@@ -279,9 +324,7 @@ fn write_moved(out: &mut [i64], model: &TspWindows, s: &[i64], to: usize, depart
     let (positions, rest) = out.split_at_mut(words);
     let (must, rest) = rest.split_at_mut(words);
     let (may, time) = rest.split_at_mut(words);
-    write_one(positions, to);
-    write_without(must, state.must, to);
-    write_without(may, state.may, to);
+    write_split(positions, must, may, state.must, state.may, to);
     time[0] = departure as i64;
 }
 
@@ -363,10 +406,14 @@ impl DpModel for TspWindows {
     }
 
     fn rough(&self, k: usize, s: &[i64]) -> Option<i64> {
+        self.rough_by_rank(k, s, self.left(s))
+    }
+
+    fn rough_by_rank(&self, k: usize, s: &[i64], rank: i64) -> Option<i64> {
         if k >= self.nodes {
             return Some(0);
         }
-        match self.way_left(k, s) {
+        match self.way_left(k, s, rank) {
             Some(way) => Some(-(way as i64)),
             None => None,
         }
@@ -389,10 +436,15 @@ impl DpModel for TspWindows {
         let to = d as usize;
         let arrival = self.reached(k, s, rank, to)?;
         let departure = arrival.max(self.windows[to].opening);
-        write_moved(out, self, s, to, departure);
         let gain = parts_of(self.nodes, s).time as i64 - departure as i64;
         let rank = self.left_behind(s, rank, to);
+        write_moved(out, self, s, to, departure);
         Some(Extended { gain, rank })
+    }
+
+    #[inline(always)]
+    fn next_choice(&self, k: usize, s: &[i64], from: u32) -> u32 {
+        self.next_node(k, s, from as usize) as u32
     }
 
     fn bucket(&self, _k: usize, s: &[i64]) -> u64 {

@@ -13,9 +13,9 @@ use Rattle.board_laws.specs.Steps.{finished_by, given_back, given_back_from, cau
 use Rattle.board_laws.specs.declared.cause.Cause.{Cause}
 use Rattle.board_laws.specs.declared.cause.Cause.TheVariants.{Memory}
 use Rattle.board_laws.proofs.Running.{run-then}
-use Rattle.worker_gate.specs.Later.{IsCauseAfter, IsLater, HasEnded, IsComplete}
+use Rattle.worker_gate.specs.Later.{IsCauseAfter, IsLater, NoRoundFollows, IsComplete}
 use Rattle.worker_gate.specs.Offered.{IsOffered}
-use Rattle.worker_gate.specs.UnderWay.{IsUnderWay}
+use Rattle.worker_gate.specs.UnderWay.{IsRoundUnderWay}
 use Rattle.worker_gate.proofs.Taking.{set_back, slot_set}
 
 cause_after-refl : (cause : Option Cause) → IsCauseAfter cause cause
@@ -39,7 +39,7 @@ later_trans dp a b c first then = record {
 }
 
 -- what is under way stays so while solutions are offered
-pub still_under_way : (dp : Dp) (b taken now : BoardState) (c : Subproblem) → IsUnderWay dp b taken c → IsOffered dp taken now → IsUnderWay dp b now c
+pub still_under_way : (dp : Dp) (b taken now : BoardState) (c : Subproblem) → IsRoundUnderWay dp b taken c → IsOffered dp taken now → IsRoundUnderWay dp b now c
 still_under_way dp b taken now c way offered = record {
   steps = way.steps ++ offered.steps;
   run = run-then dp b taken now way.steps offered.steps way.run offered.run;
@@ -53,14 +53,14 @@ still_under_way dp b taken now c way offered = record {
 }
 
 -- what is under way is out
-pub way_out : (dp : Dp) (b now : BoardState) (c : Subproblem) (way : IsUnderWay dp b now c) → slice_get b.slots 0 ≡ Some None → slot_at now 0 ≡ Some way.out
+pub way_out : (dp : Dp) (b now : BoardState) (c : Subproblem) (way : IsRoundUnderWay dp b now c) → slice_get b.slots 0 ≡ Some None → slot_at now 0 ≡ Some way.out
 way_out dp b now c way empty = ap (λ s. slot_of (slice_get s 0)) way.slots ∙ slot_set b.slots way.out empty
 
-pub way_out_is : (dp : Dp) (b now : BoardState) (c : Subproblem) → IsUnderWay dp b now c → slice_get b.slots 0 ≡ Some None → option_map (λ (o : Ticketed). o.subproblem) (slot_at now 0) ≡ Some c
+pub way_out_is : (dp : Dp) (b now : BoardState) (c : Subproblem) → IsRoundUnderWay dp b now c → slice_get b.slots 0 ≡ Some None → option_map (λ (o : Ticketed). o.subproblem) (slot_at now 0) ≡ Some c
 way_out_is dp b now c way empty = ap (option_map (λ (o : Ticketed). o.subproblem)) (way_out dp b now c way empty) ∙ ap Some way.same
 
 -- a round that finishes
-pub finished_later : (dp : Dp) (b now after : BoardState) (c : Subproblem) (cs : List Subproblem) (steps : List Step) → IsUnderWay dp b now c → slice_get b.slots 0 ≡ Some None → IsRun dp now steps after → after ≡ finished_by dp now 0 cs → IsLater dp b after
+pub finished_later : (dp : Dp) (b now after : BoardState) (c : Subproblem) (cs : List Subproblem) (steps : List Step) → IsRoundUnderWay dp b now c → slice_get b.slots 0 ≡ Some None → IsRun dp now steps after → after ≡ finished_by dp now 0 cs → IsLater dp b after
 finished_later dp b now after c cs steps way empty run step = record {
   steps = way.steps ++ steps;
   run = run-then dp b now after way.steps steps way.run run;
@@ -69,11 +69,11 @@ finished_later dp b now after c cs steps way empty run step = record {
 }
 
 -- it took one more
-pub finished_taken : (dp : Dp) (b now after : BoardState) (c : Subproblem) (cs : List Subproblem) → IsUnderWay dp b now c → after ≡ finished_by dp now 0 cs → b.taken + 1 ≤ after.taken
+pub finished_taken : (dp : Dp) (b now after : BoardState) (c : Subproblem) (cs : List Subproblem) → IsRoundUnderWay dp b now c → after ≡ finished_by dp now 0 cs → b.taken + 1 ≤ after.taken
 finished_taken dp b now after c cs way step = let same = ap (λ l. l.taken) step in let more = way.taken in omega arith
 
 -- a round that gives up
-pub given_up_later : (dp : Dp) (b now after : BoardState) (c : Subproblem) → IsUnderWay dp b now c → slice_get b.slots 0 ≡ Some None → after ≡ given_back (halted now Memory) 0 → IsLater dp b after
+pub given_up_later : (dp : Dp) (b now after : BoardState) (c : Subproblem) → IsRoundUnderWay dp b now c → slice_get b.slots 0 ≡ Some None → after ≡ given_back (halted now Memory) 0 → IsLater dp b after
 given_up_later dp b now after c way empty step =
     let halt = halted now Memory in
     let full : slot_at halt 0 ≡ Some way.out = way_out dp b now c way empty in
@@ -100,7 +100,7 @@ explored_or_not b idle nothing is =
 budget_left : (taken budget next : ℕ) → taken < budget → next ≤ 2 ^ 63 → IsTrue (nat_eq taken budget || nat_lt (2 ^ 64 - 2 ^ 29) next) → ⊥
 budget_left taken budget next less few up = grind arith
 
-pub complete : (dp : Dp) (b : BoardState) → IsGood dp b → HasEnded b → full_slots b.slots ≡ [] → (b.cause ≡ None → (b.open_ones ≡ [] → ⊥) → b.taken < tree dp) → IsComplete dp b
+pub complete : (dp : Dp) (b : BoardState) → IsGood dp b → NoRoundFollows b → full_slots b.slots ≡ [] → (b.cause ≡ None → (b.open_ones ≡ [] → ⊥) → b.taken < tree dp) → IsComplete dp b
 complete dp b good ended idle fewer enough few none =
     elim (is_explored b) as (λ e. is_explored b ≡ e → IsTrue e) [
       | true ↦ λ is. refl

@@ -16,7 +16,7 @@ use Rattle.board_laws.specs.declared.cause.Cause.{Cause}
 use Rattle.board_laws.specs.declared.taken.Taken.{Taken}
 use Rattle.board_laws.specs.declared.taken.Taken.TheVariants.{Sub, Finished}
 use Rattle.board_laws.proofs.Running.{run-one}
-use Rattle.worker_gate.specs.UnderWay.{IsUnderWay}
+use Rattle.worker_gate.specs.UnderWay.{IsRoundUnderWay}
 
 -- the state of a subproblem has as many cells as the instance has words
 pub own_cells : (dp : Dp) → IsLawful dp → (c : Subproblem) → IsOwn dp c → length c.row ≡ dp.words
@@ -67,7 +67,7 @@ own_first : (dp : Dp) (o : Ticketed) (full rest fringe : List Ticketed) → full
 own_first dp o full rest fringe e own = let all : Each (λ o. IsOwn dp o.subproblem) ((o ∷ rest) ++ fringe) = subst (λ os. Each (λ o. IsOwn dp o.subproblem) (os ++ fringe)) e own in all.0
 
 pub taken_under_way : (dp : Dp) (b now : BoardState) (c before : Subproblem) → take_gives b ≡ Sub → now ≡ after_take b 0 → c ≡ handed_out Sub b before
-    → full_slots b.slots ≡ [] → 1 ≤ length b.slots → IsBoard dp now → IsUnderWay dp b now c
+    → full_slots b.slots ≡ [] → 1 ≤ length b.slots → IsBoard dp now → IsRoundUnderWay dp b now c
 taken_under_way dp b now c before gives step copied idle some good =
     let by_cause = from_cause b b.cause (from_explored (is_explored b) (take_unless b b.cause) gives) in
     let by_open = from_open b b.open_ones by_cause.1 in

@@ -22,8 +22,8 @@ pub record IsLater (dp : Dp) (b later : BoardState) : Type 0 where
   pub cause : IsCauseAfter b.cause later.cause
 
 -- no round can follow: where something is open or out and no cause is held, the budget is taken up
-abbrev pub HasEnded : BoardState → Type 0
-HasEnded b = is_explored b ≡ false → b.cause ≡ None → IsTrue (is_budget_up b)
+abbrev pub NoRoundFollows : BoardState → Type 0
+NoRoundFollows b = is_explored b ≡ false → b.cause ≡ None → IsTrue (is_budget_up b)
 
 -- where the budget and the tickets suffice for every prefix and no cause is held, nothing is open or out
 abbrev pub IsComplete : Dp → BoardState → Type 0

@@ -12,7 +12,7 @@ use Rattle.worker_gate.specs.declared.desk.Desk.{Desk}
 
 -- the list has room for the children of the kind of diagrams of the width
 abbrev pub HoldsChildren : Dp → ℕ → CutKind → ChildrenView → Type 0
-HoldsChildren dp w kind c = cutsets.IsPreparedFor dp w kind c
+HoldsChildren dp w kind c = cutsets.IsListPreparedFor dp w kind c
 
 -- the subproblem has room for the decisions of all variables, and a row of the right size
 pub record CanHold (dp : Dp) (h : SubView) : Type 0 where
@@ -20,19 +20,19 @@ pub record CanHold (dp : Dp) (h : SubView) : Type 0 where
   pub cells : length h.subproblem.row ≡ dp.words
 
 -- the desk has room for a subproblem of the instance, and for diagrams of the width and their children of its kind
-pub record HasRoom (dp : Dp) (w : ℕ) (desk : Desk) : Type 0 where
+pub record HasDeskRoom (dp : Dp) (w : ℕ) (desk : Desk) : Type 0 where
   pub taken : CanHold dp desk.taken
   pub space : IsPreparedFor dp desk.space
   pub width : desk.space.width ≡ w
   pub cutset : HoldsChildren dp w desk.kind desk.cutset
 
 -- a desk with room for the rounds on an instance, and nothing of an earlier round on it
-pub record IsPrepared (dp : Dp) (w : ℕ) (desk : Desk) : Type 0 where
-  pub room : HasRoom dp w desk
+pub record IsPreparedDesk (dp : Dp) (w : ℕ) (desk : Desk) : Type 0 where
+  pub room : HasDeskRoom dp w desk
   pub no_fates : desk.fates.items ≡ []
 
 -- a desk for the width; a refused width exactly where it is not positive or does not fit
 abbrev pub AreDesks : Dp → ℕ → Result Desk PrepareError → Type 0
-AreDesks dp w (Ok desk) = IsPrepared dp w desk
+AreDesks dp w (Ok desk) = IsPreparedDesk dp w desk
 AreDesks dp w (Err Width) = IsWidth dp w → ⊥
 AreDesks dp w (Err OutOfMemory) = IsWidth dp w

@@ -8,7 +8,7 @@ use Rattle.board_laws.specs.Runs.{Step, IsRun}
 
 -- steps that began without a cause led to a board on which worker 0 has the subproblem out, a prefix with its own state and value, which
 -- counts as taken, and no cause is held
-pub record IsUnderWay (dp : Dp) (b now : BoardState) (c : Subproblem) : Type 0 where
+pub record IsRoundUnderWay (dp : Dp) (b now : BoardState) (c : Subproblem) : Type 0 where
   pub steps : List Step
   pub run : IsRun dp b steps now
   pub out : Ticketed

@@ -31,7 +31,7 @@ pub record AreTwo (a b : Subproblem) : Type 0 where
   pub apart : AreApart a b
   pub differ : DifferInPlace a b
 
-two-then : {X : Type 0} (R S : X → X → Type 0) → ((x y : X) → R x y → S x y) → (xs : List X) → EachTwo R xs → EachTwo S xs
+pub two-then : {X : Type 0} (R S : X → X → Type 0) → ((x y : X) → R x y → S x y) → (xs : List X) → EachTwo R xs → EachTwo S xs
 two-then R S f [] h = tt
 two-then R S f (x ∷ xs) h = (Each-then (R x) (S x) xs (f x) h.0, two-then R S f xs h.1)
 

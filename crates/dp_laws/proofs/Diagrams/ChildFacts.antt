@@ -50,7 +50,7 @@ child-for dp k node s r se re = rw (se, re) refl
 
 -- A child of an exact node is a child of the prefix.
 
-begins-by : (p x : List ℕ) → take (length p) x ≡ p → IsTrue (begins p x)
+pub begins-by : (p x : List ℕ) → take (length p) x ≡ p → IsTrue (begins p x)
 begins-by p x e =
     let whole : x ≡ p ++ drop (length p) x = sym (take-append-drop (length p) x) ∙ ap (λ l. l ++ drop (length p) x) e in
     subst (λ y. IsTrue (begins p y)) (sym whole) (begins-append p (drop (length p) x))

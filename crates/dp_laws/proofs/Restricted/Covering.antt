@@ -137,7 +137,7 @@ expanded-covers dp laws p k layer short members x one =
     let at_q = each-has (IsMember dp p (k + 1)) (expanded dp k layer) q (expanded-members dp p k layer short members) kept.1 in
     one-of-has (Matching dp x) (expanded dp k layer) q (member-matches dp laws p (k + 1) q c at_q at_c (same-dominates dp laws p (k + 1) q c at_q at_c kept.2 most) x new.2) kept.1
 
-one-cases : {X : Type 0} (P : X → Type 0) (xs ys : List X) → OneOf P (xs ++ ys) → OneOf P xs ⊎ OneOf P ys
+pub one-cases : {X : Type 0} (P : X → Type 0) (xs ys : List X) → OneOf P (xs ++ ys) → OneOf P xs ⊎ OneOf P ys
 one-cases P [] ys h = inr h
 one-cases P (x ∷ xs) ys (inl h) = inl (inl h)
 one-cases P (x ∷ xs) ys (inr h) = elim (one-cases P xs ys h) as (λ _. OneOf P (x ∷ xs) ⊎ OneOf P ys) [ inl a ↦ inl (inr a) | inr b ↦ inr b ]

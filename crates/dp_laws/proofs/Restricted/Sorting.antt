@@ -1,5 +1,5 @@
 -- Places sorted by state, of which the firsts are sorted by the reduction order.
-use Rattle.std.proofs.Common.{◌≡◌, ◌≢◌, ℕ, zero, suc, ◌<◌, nat_lt, nat_eq, ℤ, ◌<ℤ◌, ◌≤ℤ◌, int_lt, Bool, true, false, cond, ◌&&◌, ◌||◌, List, [], ◌∷◌, ◌++◌, length, map, get_or, IsPermutation, IsSortedBy, ◌⊎◌, inl, inr, refl, sym, ◌∙◌, ap, subst, arith}
+use Rattle.std.proofs.Common.{◌≡◌, ◌≢◌, ℕ, zero, suc, ◌<◌, nat_lt, nat_eq, ℤ, ◌<ℤ◌, ◌≤ℤ◌, int_lt, Bool, true, false, cond, ◌&&◌, ◌||◌, List, [], ◌∷◌, length, map, get_or, IsPermutation, IsSortedBy, ◌⊎◌, inl, inr, refl, sym, ◌∙◌, ap, subst, arith}
 use Rattle.std.proofs.lemmas.Int.{ints}
 use Rattle.std.proofs.lemmas.Bool.Decides.{nat_tests}
 use Rattle.std.proofs.lemmas.Cmp.{int_cmp_total, nat_cmp_total, on_total, then_total, back_total, lists_total, tied_itself}
@@ -330,29 +330,3 @@ sorted-expands dp k cs sorted kept moved by_state moved_again by_order =
 
 pub sorting-expands : (dp : Dp) → SortingExpands dp
 sorting-expands dp = record { by_state = comes-strict; by_order = places-strict dp; best = best-at; gives = sorted-expands dp }
-
--- The firsts of one place more.
-
-last_place : ℕ → List ℕ → ℕ
-last_place i [] = i
-last_place i (j ∷ js) = last_place j js
-
-last_place-is : (i last : ℕ) (ks front : List ℕ) → i ∷ ks ≡ front ++ last ∷ [] → last_place i ks ≡ last
-unfolding last_place
-last_place-is i last [] [] h = cc
-last_place-is i last [] (f ∷ []) h = absurd (cc)
-last_place-is i last [] (f ∷ g ∷ front) h = absurd (cc)
-last_place-is i last (k ∷ ks) [] h = absurd (cc)
-last_place-is i last (k ∷ ks) (f ∷ front) h = let rest : k ∷ ks ≡ front ++ last ∷ [] = cc in last_place-is k last ks front rest
-
-firsts_after-more : (cs : List Reached) (i j : ℕ) (ps : List ℕ)
-    → firsts_after cs i (ps ++ j ∷ []) ≡ firsts_after cs i ps ++ cond (row_same (at cs (last_place i (firsts_after cs i ps))).row (at cs j).row) [] (j ∷ [])
-unfolding last_place
-firsts_after-more cs i j [] = refl
-firsts_after-more cs i j (k ∷ ps) =
-    elim (row_same (at cs i).row (at cs k).row)
-    as (λ b. cond b (firsts_after cs i (ps ++ j ∷ [])) (k ∷ firsts_after cs k (ps ++ j ∷ []))
-    ≡ cond b (firsts_after cs i ps) (k ∷ firsts_after cs k ps) ++ cond (row_same (at cs (last_place i (cond b (firsts_after cs i ps) (k ∷ firsts_after cs k ps)))).row (at cs j).row) [] (j ∷ [])) [
-      | true ↦ firsts_after-more cs i j ps
-      | false ↦ ap (λ l. k ∷ l) (firsts_after-more cs k j ps)
-    ]

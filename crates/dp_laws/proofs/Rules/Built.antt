@@ -22,7 +22,7 @@ use Rattle.dp_laws.specs.Rules.Reducing.{merged_node, merged_layer, merge_redire
 use Rattle.dp_laws.specs.Rules.Compiling.{TwoLayers, expand, prune, merge_rest, is_wide, reduced, built}
 use Rattle.dp_laws.proofs.Rules.Linked.{AreLinked}
 use Rattle.dp_laws.proofs.Rules.Redirecting.{followed_node, AreStruck, linked-redirected, redirected-decision-of, linked-target}
-use Rattle.dp_laws.proofs.Rules.Layers.{Differ, AreNodes, nodes-mapped}
+use Rattle.dp_laws.proofs.Rules.Layers.{Differ, AreNodes, nodes-mapped, state-of}
 use Rattle.dp_laws.proofs.Rules.Expanded.{arc-of, leads-into, step-state, most-reaching, linked-expanded, new-nodes}
 use Rattle.dp_laws.proofs.Rules.Pruned.{pruned-nodes, prune-redirects, struck-node}
 use Rattle.dp_laws.proofs.Rules.Merged.{covered, merge-redirects-of, none-gone}
@@ -90,9 +90,6 @@ steps-redirected dp k above redirects h = λ x has arc listed.
 nodes-redirected : (dp : Dp) (p : List ℕ) (k : ℕ) (above : List DdNode) (redirects : List (Option Redirect)) → AreNodes dp p k above → AreNodes dp p k (with_redirected redirects above)
 nodes-redirected dp p k above redirects h = nodes-mapped dp p k above (followed_node redirects) (λ x. record { row = refl; value = refl; exact = refl; path = refl }) h
 
-states-in : (dp : Dp) (p : List ℕ) (k : ℕ) (layer : List DdNode) → AreNodes dp p k layer → k ≤ dp.vars → (x : DdNode) → Has x layer → IsStateOf dp k x.row
-states-in dp p k layer h low x has = record { layer = low; test = h.states x has }
-
 pruned-built : (dp : Dp) → IsLawful dp → IsChained dp → (t : Option ℤ) (p : List ℕ) (k : ℕ) (layer : List DdNode) → AreNodes dp p k layer → k < dp.vars → length p ≤ k → AreBuilt dp p t k (prune dp (k + 1) t (expand dp k layer))
 pruned-built dp laws chained t p k layer h low deep =
     let b = expanded-built dp laws t p k layer h low deep in
@@ -101,7 +98,7 @@ pruned-built dp laws chained t p k layer h low deep =
     let kept = pruned-nodes dp p (k + 1) t next b.next in
     record {
       linked = linked-redirected dp chained t k (with_arcs dp k next layer) next (pruned_nodes dp (k + 1) t [] 0 next) redirects b.linked (prune-redirects dp laws p (k + 1) t next b.next (omega arith)) (struck-arcs dp laws t p k layer h low b.next)
-          (states-in dp p (k + 1) next b.next (omega arith)) (states-in dp p (k + 1) (pruned_nodes dp (k + 1) t [] 0 next) kept (omega arith)) b.steps;
+          (state-of dp p (k + 1) next b.next (omega arith)) (state-of dp p (k + 1) (pruned_nodes dp (k + 1) t [] 0 next) kept (omega arith)) b.steps;
       above = nodes-redirected dp p k (with_arcs dp k next layer) redirects b.above;
       next = kept;
       steps = steps-redirected dp k (with_arcs dp k next layer) redirects b.steps;
@@ -132,7 +129,7 @@ merged-nodes dp laws p k n layer h low wide =
     let done : AreNodes dp p k (take n layer ++ one ∷ []) = record {
       states = λ x has. elim (Has-append-cases x (take n layer) (one ∷ []) has) as (λ _. IsTrue (dp.is_state k x.row)) [
         | inl front ↦ h.states x (in-front x front)
-        | inr last ↦ elim last as (λ _. IsTrue (dp.is_state k x.row)) [ inl e ↦ subst (λ (y : DdNode). IsTrue (dp.is_state k y.row)) e (covered dp laws k n layer wide (states-in dp p k layer h low)).state.test | inr none ↦ absurd none ]
+        | inr last ↦ elim last as (λ _. IsTrue (dp.is_state k x.row)) [ inl e ↦ subst (λ (y : DdNode). IsTrue (dp.is_state k y.row)) e (covered dp laws k n layer wide (state-of dp p k layer h low)).state.test | inr none ↦ absurd none ]
       ];
       reached = λ x has exact. elim (Has-append-cases x (take n layer) (one ∷ []) has) as (λ _. IsReachedBy dp p k x) [
         | inl front ↦ h.reached x (in-front x front) exact
@@ -144,13 +141,13 @@ merged-nodes dp laws p k n layer h low wide =
 
 merged-built : (dp : Dp) → IsLawful dp → IsChained dp → (t : Option ℤ) (p : List ℕ) (k n : ℕ) (two : TwoLayers) → AreBuilt dp p t k two → k < dp.vars → n + 1 < length two.next → AreBuilt dp p t k (merge_rest dp (k + 1) (n + 1) two)
 merged-built dp laws chained t p k n two b low wide =
-    let states = states-in dp p (k + 1) two.next b.next (omega arith) in
+    let states = state-of dp p (k + 1) two.next b.next (omega arith) in
     let redirects = merge_redirects dp (k + 1) (n + 1) two.next in
     let kept = merged-nodes dp laws p (k + 1) n two.next b.next (omega arith) wide in
     record {
       linked = linked-redirected dp chained t k two.above two.next (merged_layer dp (k + 1) (n + 1) two.next) redirects b.linked (merge-redirects-of dp laws (k + 1) n two.next wide states)
           (λ x has arc listed i aims gone. absurd (let to = linked-target dp t k two.above two.next b.linked x has arc listed i aims in none-gone dp laws (k + 1) n two.next wide states i to.0 to.1 gone))
-          states (states-in dp p (k + 1) (merged_layer dp (k + 1) (n + 1) two.next) kept (omega arith)) b.steps;
+          states (state-of dp p (k + 1) (merged_layer dp (k + 1) (n + 1) two.next) kept (omega arith)) b.steps;
       above = nodes-redirected dp p k two.above redirects b.above;
       next = kept;
       steps = steps-redirected dp k two.above redirects b.steps;

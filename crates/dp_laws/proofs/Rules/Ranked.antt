@@ -191,10 +191,6 @@ exact-unstruck dp p w t m layer e = (relaxed-ranked dp p w t m layer e).unstruck
 abbrev IsBefore : ChildAt → ChildAt → Type 0
 IsBefore a b = (a.depth < b.depth) ⊎ ((a.depth ≡ b.depth) × (a.place < b.place))
 
-two-of-all : {X : Type 0} (R : X → X → Type 0) (xs : List X) → ((x y : X) → Has x xs → Has y xs → R x y) → EachTwo R xs
-two-of-all R [] h = tt
-two-of-all R (x ∷ xs) h = (each-of-all (R x) xs (λ y has. h x y (inl refl) (inr has)), two-of-all R xs (λ a b ha hb. h a b (inr ha) (inr hb)))
-
 two-given : {X : Type 0} (R S : X → X → Type 0) (xs : List X) → EachTwo R xs → ((x y : X) → Has x xs → Has y xs → R x y → S x y) → EachTwo S xs
 two-given R S [] h k = tt
 two-given R S (x ∷ xs) h k = (each-of-all (S x) xs (λ y has. k x y (inl refl) (inr has) (each-has (R x) xs y h.0 has)), two-given R S xs h.1 (λ a b ha hb. k a b (inr ha) (inr hb)))

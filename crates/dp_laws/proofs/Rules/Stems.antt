@@ -1,12 +1,12 @@
 -- The kept paths of exact nodes lead through exact nodes.
-use Rattle.std.proofs.Common.{◌≡◌, ℕ, zero, suc, ◌+◌, ◌-◌, ◌<◌, ◌≤◌, ℤ, Bool, true, false, cond, List, [], ◌∷◌, ◌++◌, length, map, take, drop, slice_get, Option, Some, None, option_map, option_and_then, ◌⊎◌, inl, inr, IsTrue, refl, sym, ◌∙◌, ap, subst, arith, length-append}
+use Rattle.std.proofs.Common.{◌≡◌, ℕ, zero, suc, ◌+◌, ◌-◌, ◌<◌, ℤ, true, false, cond, List, [], ◌∷◌, ◌++◌, length, map, take, drop, slice_get, Option, Some, None, ◌⊎◌, inl, inr, IsTrue, refl, sym, ◌∙◌, ap, subst, arith, length-append}
 use Rattle.std.proofs.lemmas.List.{take-append-le, take_all}
 use Rattle.dp_model.specs.Dp.{Dp}
 use Rattle.dp_model.specs.Prefixes.{state_of}
 use Rattle.dp_model.specs.Reached.{Reached, reached}
 use Rattle.dp_model.proofs.Members.{Has, Has-map-from, Has-append-cases}
 use Rattle.dp_model.proofs.Paths.{state_of-then}
-use Rattle.dp_laws.specs.Diagrams.Nodes.{DdNode, DdLayers, node_at}
+use Rattle.dp_laws.specs.Diagrams.Nodes.{DdNode, node_at}
 use Rattle.dp_laws.specs.Diagrams.Seen.{decisions_at, suffix_from}
 use Rattle.dp_laws.specs.Rules.Redirects.{Redirect, with_redirected}
 use Rattle.dp_laws.specs.Rules.Expanding.{is_exact_row, new_layer, with_arcs}
@@ -172,10 +172,6 @@ next-stems dp first w t k layer low h x y hx hy long exact through =
 abbrev below : Dp → ℕ → ℕ → Option ℤ → ℕ → List DdNode → ℕ → List DdNode
 below dp first w t k layer zero = layer
 below dp first w t k layer (suc j) = below dp first w t (k + 1) (built dp first w t k layer).next j
-
-below-told : (dp : Dp) (first w : ℕ) (t : Option ℤ) (k : ℕ) (layer : List DdNode) (j n : ℕ) → AreTold dp k layer → k + j ≡ n → n ≤ dp.vars → AreTold dp n (below dp first w t k layer j)
-below-told dp first w t k layer zero n h e low = let same : k ≡ n = omega arith in subst (λ m. AreTold dp m layer) same h
-below-told dp first w t k layer (suc j) n h e low = below-told dp first w t (k + 1) (built dp first w t k layer).next j n (next-told dp first w t k layer (omega arith) h) (omega arith) low
 
 below-stems : (dp : Dp) (first w : ℕ) (t : Option ℤ) (k : ℕ) (layer : List DdNode) (j n : ℕ) → AreTold dp k layer → k + j ≡ n → n < dp.vars → Stem n (below dp first w t k layer j) (below dp first w t k layer (suc j))
 below-stems dp first w t k layer zero n h e low = let same : k ≡ n = omega arith in subst (λ m. Stem m layer (built dp first w t k layer).next) same (next-stems dp first w t k layer (omega arith) h)

@@ -6,13 +6,13 @@ use Rattle.dp_model.specs.Dp.{Dp}
 use Rattle.layer_build.specs.Layers.{IsWidth}
 use Rattle.layer_build.specs.declared.workspace.PrepareError.{PrepareError}
 use Rattle.layer_build.specs.declared.workspace.PrepareError.TheVariants.{Width, OutOfMemory}
-use Rattle.worker_gate.specs.Prepared.{IsPrepared}
+use Rattle.worker_gate.specs.Prepared.{IsPreparedDesk}
 use Rattle.worker_gate.specs.declared.desk.Desk.{Desk}
 
 -- a desk for each worker, of a width that is positive and fits; a refused width exactly where it is not positive or does not fit
 pub record AreCrew (dp : Dp) (w workers : ℕ) (desks : Vec Desk Global) : Type 0 where
   pub count : vec_len desks ≡ workers
-  pub prepared : All (IsPrepared dp w) desks.items
+  pub prepared : All (IsPreparedDesk dp w) desks.items
   pub fits : IsWidth dp w
 
 abbrev pub AreAllDesks : Dp → ℕ → ℕ → Result (Vec Desk Global) PrepareError → Type 0

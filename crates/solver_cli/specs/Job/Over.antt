@@ -7,7 +7,7 @@ use Rattle.board_laws.specs.Steps.{first_board}
 use Rattle.board_laws.specs.declared.settings.Settings.{Settings}
 use Rattle.solver_cli.specs.declared.job.text_job.Search.{Search}
 use Rattle.solver_cli.specs.Job.Widths.{IsSearchWidth}
-use Rattle.worker_gate.specs.Later.{IsCauseAfter, HasEnded, IsComplete}
+use Rattle.worker_gate.specs.Later.{IsCauseAfter, NoRoundFollows, IsComplete}
 
 -- a run from a first board with this width, this number of workers and this budget and without a distance led to it; nothing is out, no round can follow, and only want of
 -- memory may be held
@@ -20,6 +20,6 @@ pub record IsOver (dp : Dp) (search : Search) (b : BoardState) : Type 0 where
   pub within : settings.budget ≡ search.budget
   pub exact : settings.within ≡ pos 0
   pub idle : full_slots b.slots ≡ []
-  pub ended : HasEnded b
+  pub ended : NoRoundFollows b
   pub complete : IsComplete dp b
   pub cause : IsCauseAfter None b.cause

@@ -1,6 +1,6 @@
 ghost use Rattle.std.specs.Prelude.{◌≡◌, ◌≤◌, IfOk, vec_len};
 ghost use Rattle.std.specs.List.{All};
-ghost use Rattle.worker_gate.specs.Prepared.{IsPrepared};
+ghost use Rattle.worker_gate.specs.Prepared.{IsPreparedDesk};
 ghost use Rattle.solver_cli.specs.Job.Answers.{Solves, HasCrew};
 ghost use Rattle.solver_cli.specs.Job.Desks.{AreAllDesks};
 ghost use Rattle.solver_cli.specs.Job.Widths.{IsAskedWidth, IsSearchWidth};
@@ -89,7 +89,7 @@ fn search_on<P: Problem, G: Gate + Sync, R: Threads + Wait + Sync>(
 ) -> Result<Answer, OutOfMemory>
     requires crew { HasCrew search }
     requires desks { vec_len desks ≡ search.workers }
-    requires prepared { All (IsPrepared (P.meaning (P.numbers model)) width) desks.items }
+    requires prepared { All (IsPreparedDesk (P.meaning (P.numbers model)) width) desks.items }
     requires width { IsSearchWidth (P.meaning (P.numbers model)) search.width width }
     ensures { IfOk result (Solves (P.meaning (P.numbers model)) (P.theory.own_value (P.numbers model)) search) }
 {

@@ -9,10 +9,10 @@ ghost use Rattle.board_laws.specs.Steps.{finished_by, given_back, halted};
 ghost use Rattle.search_core.specs.Contents.{contents};
 ghost use Rattle.search_core.specs.View.{tag_of};
 ghost use Rattle.worker_gate.specs.Branched.{IsBranched};
-ghost use Rattle.worker_gate.specs.Later.{IsLater, HasEnded, IsComplete};
+ghost use Rattle.worker_gate.specs.Later.{IsLater, NoRoundFollows, IsComplete};
 ghost use Rattle.worker_gate.specs.Offered.{IsOffered};
-ghost use Rattle.worker_gate.specs.Prepared.{HasRoom, IsPrepared};
-ghost use Rattle.worker_gate.specs.UnderWay.{IsUnderWay};
+ghost use Rattle.worker_gate.specs.Prepared.{HasDeskRoom, IsPreparedDesk};
+ghost use Rattle.worker_gate.specs.UnderWay.{IsRoundUnderWay};
 
 use super::compiling::{relax, restrict};
 use crate::branched::Branched;
@@ -31,12 +31,12 @@ pub fn explore<M: DpModel>(alloc: Global, board: &mut Board<M>, desk: &mut Desk,
     requires numbers { board.old.numbers ≡ M.numbers model.now }
     requires some { 1 ≤ length board.old.board.slots }
     requires idle { full_slots board.old.board.slots ≡ [] }
-    requires prepared { IsPrepared (M.meaning (M.numbers model.now)) board.old.board.settings.width desk.old }
+    requires prepared { IsPreparedDesk (M.meaning (M.numbers model.now)) board.old.board.settings.width desk.old }
     ensures tag { tag_of board.new ≡ tag_of board.old }
     ensures later { IsLater (M.meaning (M.numbers model.now)) board.old.board board.new.board }
-    ensures ended { HasEnded board.new.board }
+    ensures ended { NoRoundFollows board.new.board }
     ensures complete { IsComplete (M.meaning (M.numbers model.now)) board.new.board }
-    ensures prepared { IsPrepared (M.meaning (M.numbers model.now)) board.old.board.settings.width desk.new }
+    ensures prepared { IsPreparedDesk (M.meaning (M.numbers model.now)) board.old.board.settings.width desk.new }
 {
     'rounds: while round(alloc, board, desk, model) {}
     // What every board keeps of its counts and tickets.
@@ -49,13 +49,13 @@ fn round<M: DpModel>(alloc: Global, board: &mut Board<M>, desk: &mut Desk, model
     requires numbers { board.old.numbers ≡ M.numbers model.now }
     requires some { 1 ≤ length board.old.board.slots }
     requires idle { full_slots board.old.board.slots ≡ [] }
-    requires prepared { IsPrepared (M.meaning (M.numbers model.now)) board.old.board.settings.width desk.old }
+    requires prepared { IsPreparedDesk (M.meaning (M.numbers model.now)) board.old.board.settings.width desk.old }
     ensures tag { tag_of board.new ≡ tag_of board.old }
     ensures later { IsLater (M.meaning (M.numbers model.now)) board.old.board board.new.board }
     ensures taken { result ≡ true → board.old.board.taken + 1 ≤ board.new.board.taken }
     ensures budget { result ≡ true → board.new.board.taken ≤ board.new.board.settings.budget }
-    ensures ended { result ≡ false → HasEnded board.new.board }
-    ensures prepared { IsPrepared (M.meaning (M.numbers model.now)) board.old.board.settings.width desk.new }
+    ensures ended { result ≡ false → NoRoundFollows board.new.board }
+    ensures prepared { IsPreparedDesk (M.meaning (M.numbers model.now)) board.old.board.settings.width desk.new }
 {
     if !take_one(board, desk, model) {
         return false;
@@ -75,12 +75,12 @@ fn take_one<M: DpModel>(board: &mut Board<M>, desk: &mut Desk, model: &M) -> boo
     requires numbers { board.old.numbers ≡ M.numbers model.now }
     requires some { 1 ≤ length board.old.board.slots }
     requires idle { full_slots board.old.board.slots ≡ [] }
-    requires prepared { IsPrepared (M.meaning (M.numbers model.now)) board.old.board.settings.width desk.old }
-    ensures taken { result ≡ true → IsUnderWay (M.meaning (M.numbers model.now)) board.old.board board.new.board desk.new.taken.subproblem }
+    requires prepared { IsPreparedDesk (M.meaning (M.numbers model.now)) board.old.board.settings.width desk.old }
+    ensures taken { result ≡ true → IsRoundUnderWay (M.meaning (M.numbers model.now)) board.old.board board.new.board desk.new.taken.subproblem }
     ensures kept { result ≡ false → board.new.board ≡ board.old.board }
-    ensures ended { result ≡ false → HasEnded board.old.board }
+    ensures ended { result ≡ false → NoRoundFollows board.old.board }
     ensures tag { tag_of board.new ≡ tag_of board.old }
-    ensures prepared { IsPrepared (M.meaning (M.numbers model.now)) board.old.board.settings.width desk.new }
+    ensures prepared { IsPreparedDesk (M.meaning (M.numbers model.now)) board.old.board.settings.width desk.new }
 {
     let answer = board.take(0, &mut desk.taken);
     // What every board keeps of what is out.
@@ -101,14 +101,14 @@ fn branch<M: DpModel>(
 ) -> Result<Branched, OutOfMemory>
     requires numbers { board.old.numbers ≡ M.numbers model.now }
     requires own { IsOwn (M.meaning (M.numbers model.now)) desk.old.taken.subproblem }
-    requires prepared { IsPrepared (M.meaning (M.numbers model.now)) board.old.board.settings.width desk.old }
+    requires prepared { IsPreparedDesk (M.meaning (M.numbers model.now)) board.old.board.settings.width desk.old }
     ensures branched { IfOk result (λ b. IsBranched (M.meaning (M.numbers model.now)) board.new.board desk.old.taken.subproblem.decisions b.threshold (contents b.children.items)) }
     ensures place { IfOk result (λ b. length b.children.items ≤ board.new.room) }
     ensures fates { IfOk result (λ b. length b.children.items ≤ vec_capacity desk.new.fates) }
     ensures offered { IsOffered (M.meaning (M.numbers model.now)) board.old.board board.new.board }
     ensures tag { tag_of board.new ≡ tag_of board.old }
     ensures taken { desk.new.taken.subproblem ≡ desk.old.taken.subproblem }
-    ensures prepared { IsPrepared (M.meaning (M.numbers model.now)) board.old.board.settings.width desk.new }
+    ensures prepared { IsPreparedDesk (M.meaning (M.numbers model.now)) board.old.board.settings.width desk.new }
 {
     let restricted = restrict(board, &mut desk.space, &desk.taken, model);
     if !restricted.reduced {
@@ -140,11 +140,11 @@ fn finish_one<M: DpModel>(board: &mut Board<M>, desk: &mut Desk, mut branched: B
     requires branched { IsBranched (M.meaning board.old.numbers) board.old.board desk.old.taken.subproblem.decisions branched.threshold (contents branched.children.items) }
     requires place { length branched.children.items ≤ board.old.room }
     requires fates { length branched.children.items ≤ vec_capacity desk.old.fates }
-    requires prepared { IsPrepared (M.meaning board.old.numbers) board.old.board.settings.width desk.old }
+    requires prepared { IsPreparedDesk (M.meaning board.old.numbers) board.old.board.settings.width desk.old }
     ensures run { IsRun (M.meaning board.old.numbers) board.old.board (Finish 0 branched.threshold (contents branched.children.items) ∷ []) board.new.board }
     ensures step { board.new.board ≡ finished_by (M.meaning board.old.numbers) board.old.board 0 (contents branched.children.items) }
     ensures tag { tag_of board.new ≡ tag_of board.old }
-    ensures prepared { IsPrepared (M.meaning board.old.numbers) board.old.board.settings.width desk.new }
+    ensures prepared { IsPreparedDesk (M.meaning board.old.numbers) board.old.board.settings.width desk.new }
 {
     board.fates(branched.children.as_slice(), &mut desk.fates);
     board.finish(

@@ -6,8 +6,8 @@ ghost use Rattle.std.specs.Thread.{IsSync};
 ghost use Rattle.board_lock.specs.Seats.{first_of, number_of};
 ghost use Rattle.board_laws.specs.Board.{full_slots};
 ghost use Rattle.search_core.specs.View.{tag_of};
-ghost use Rattle.worker_gate.specs.Later.{IsLater, HasEnded, IsComplete};
-ghost use Rattle.worker_gate.specs.Prepared.{IsPrepared};
+ghost use Rattle.worker_gate.specs.Later.{IsLater, NoRoundFollows, IsComplete};
+ghost use Rattle.worker_gate.specs.Prepared.{IsPreparedDesk};
 ghost use Rattle.worker_gate.specs.Ready.{IsReady};
 
 use super::fanning::side_by_side;
@@ -36,16 +36,16 @@ pub fn fan_out<M: DpModel, G: Gate + Sync, R: Threads + Wait + Sync>(
 )
     requires numbers { (first_of turn.now).numbers ≡ M.numbers model.now }
     requires ready { All (IsReady turn.now) seats.old }
-    requires prepared { All (IsPrepared (M.meaning (M.numbers model.now)) (first_of turn.now).board.settings.width) desks.old }
+    requires prepared { All (IsPreparedDesk (M.meaning (M.numbers model.now)) (first_of turn.now).board.settings.width) desks.old }
     requires lengths { length seats.old ≡ length desks.old }
     ensures ready { All (IsReady turn.now) seats.new }
     ensures seats { map number_of seats.new ≡ map number_of seats.old }
-    ensures prepared { All (IsPrepared (M.meaning (M.numbers model.now)) (first_of turn.now).board.settings.width) desks.new }
+    ensures prepared { All (IsPreparedDesk (M.meaning (M.numbers model.now)) (first_of turn.now).board.settings.width) desks.new }
     ensures desks { length desks.new ≡ length desks.old }
 {
     let one = |seat: &mut Seat<Board<M>>, desk: &mut Desk|
-        requires { ((first_of turn.now).numbers ≡ M.numbers model.now) × IsReady turn.now seat.now × IsPrepared (M.meaning (M.numbers model.now)) (first_of turn.now).board.settings.width desk.now }
-        ensures { IsReady turn.entry.now seat.exit.now × (seat.exit.now.number ≡ seat.entry.now.number) × IsPrepared (M.meaning (M.numbers model.entry.now)) (first_of turn.entry.now).board.settings.width desk.exit.now }
+        requires { ((first_of turn.now).numbers ≡ M.numbers model.now) × IsReady turn.now seat.now × IsPreparedDesk (M.meaning (M.numbers model.now)) (first_of turn.now).board.settings.width desk.now }
+        ensures { IsReady turn.entry.now seat.exit.now × (seat.exit.now.number ≡ seat.entry.now.number) × IsPreparedDesk (M.meaning (M.numbers model.entry.now)) (first_of turn.entry.now).board.settings.width desk.exit.now }
     { work(rt, alloc, turn, seat, desk, model, gate) };
     side_by_side(rt, &one, seats, desks);
 }
@@ -62,11 +62,11 @@ fn fan_all<M: DpModel, G: Gate + Sync, R: Threads + Wait + Sync>(
 )
     requires numbers { (first_of turn.now).numbers ≡ M.numbers model.now }
     requires ready { All (IsReady turn.now) seats.old.items }
-    requires prepared { All (IsPrepared (M.meaning (M.numbers model.now)) (first_of turn.now).board.settings.width) desks.old.items }
+    requires prepared { All (IsPreparedDesk (M.meaning (M.numbers model.now)) (first_of turn.now).board.settings.width) desks.old.items }
     requires lengths { vec_len seats.old ≡ vec_len desks.old }
     ensures ready { All (IsReady turn.now) seats.new.items }
     ensures seats { map number_of seats.new.items ≡ map number_of seats.old.items }
-    ensures prepared { All (IsPrepared (M.meaning (M.numbers model.now)) (first_of turn.now).board.settings.width) desks.new.items }
+    ensures prepared { All (IsPreparedDesk (M.meaning (M.numbers model.now)) (first_of turn.now).board.settings.width) desks.new.items }
     ensures desks { vec_len desks.new ≡ vec_len desks.old }
 {
     fan_out(
@@ -96,10 +96,10 @@ pub fn explore_together<M: DpModel, G: Gate + Sync, R: Threads + Wait + Sync>(
     requires numbers { board.numbers ≡ M.numbers model.now }
     requires idle { full_slots board.board.slots ≡ [] }
     requires workers { board.board.settings.workers ≡ vec_len desks.old }
-    requires prepared { All (IsPrepared (M.meaning (M.numbers model.now)) board.board.settings.width) desks.old.items }
+    requires prepared { All (IsPreparedDesk (M.meaning (M.numbers model.now)) board.board.settings.width) desks.old.items }
     ensures tag { IfOk result (λ b. tag_of b ≡ tag_of board) }
     ensures later { IfOk result (λ b. IsLater (M.meaning (M.numbers model.now)) board.board b.board) }
-    ensures ended { IfOk result (λ b. HasEnded b.board) }
+    ensures ended { IfOk result (λ b. NoRoundFollows b.board) }
     ensures complete { IfOk result (λ b. IsComplete (M.meaning (M.numbers model.now)) b.board) }
 {
     let mut board = work_together(rt, alloc, board, desks, model, gate)?;
@@ -121,10 +121,10 @@ fn work_together<M: DpModel, G: Gate + Sync, R: Threads + Wait + Sync>(
     requires numbers { board.numbers ≡ M.numbers model.now }
     requires idle { full_slots board.board.slots ≡ [] }
     requires workers { board.board.settings.workers ≡ vec_len desks.old }
-    requires prepared { All (IsPrepared (M.meaning (M.numbers model.now)) board.board.settings.width) desks.old.items }
+    requires prepared { All (IsPreparedDesk (M.meaning (M.numbers model.now)) board.board.settings.width) desks.old.items }
     ensures tag { IfOk result (λ b. tag_of b ≡ tag_of board) }
     ensures later { IfOk result (λ b. IsLater (M.meaning (M.numbers model.now)) board.board b.board) }
-    ensures prepared { All (IsPrepared (M.meaning (M.numbers model.now)) board.board.settings.width) desks.new.items }
+    ensures prepared { All (IsPreparedDesk (M.meaning (M.numbers model.now)) board.board.settings.width) desks.new.items }
     ensures desks { vec_len desks.new ≡ vec_len desks.old }
 {
     match open(alloc, board, desks.len() as u32) {

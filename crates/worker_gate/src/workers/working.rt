@@ -4,7 +4,7 @@ ghost use Rattle.std.specs.Prelude.{◌≡◌, ◌≤◌, true, false, None, len
 ghost use Rattle.board_lock.specs.Order.{NoLess};
 ghost use Rattle.board_lock.specs.Seats.{first_of, seen_of, out_of};
 ghost use Rattle.search_core.specs.Contents.{contents};
-ghost use Rattle.worker_gate.specs.Prepared.{IsPrepared};
+ghost use Rattle.worker_gate.specs.Prepared.{IsPreparedDesk};
 ghost use Rattle.worker_gate.specs.FinishLater.{MayFinishLater};
 ghost use Rattle.worker_gate.specs.Ready.{IsWorker, IsReady, IsOut};
 
@@ -37,10 +37,10 @@ pub fn work<M: DpModel, G: Gate + Sync, R: Wait>(
 )
     requires numbers { (first_of turn.now).numbers ≡ M.numbers model.now }
     requires ready { IsReady turn.now seat.old }
-    requires prepared { IsPrepared (M.meaning (M.numbers model.now)) (first_of turn.now).board.settings.width desk.old }
+    requires prepared { IsPreparedDesk (M.meaning (M.numbers model.now)) (first_of turn.now).board.settings.width desk.old }
     ensures ready { IsReady turn.now seat.new }
     ensures number { seat.new.number ≡ seat.old.number }
-    ensures prepared { IsPrepared (M.meaning (M.numbers model.now)) (first_of turn.now).board.settings.width desk.new }
+    ensures prepared { IsPreparedDesk (M.meaning (M.numbers model.now)) (first_of turn.now).board.settings.width desk.new }
 {
     for _ in rt.forever() {
         if !round(rt, alloc, turn, seat, desk, model, gate) {
@@ -62,10 +62,10 @@ fn round<M: DpModel, G: Gate + Sync, R: Wait>(
 ) -> bool
     requires numbers { (first_of turn.now).numbers ≡ M.numbers model.now }
     requires ready { IsReady turn.now seat.old }
-    requires prepared { IsPrepared (M.meaning (M.numbers model.now)) (first_of turn.now).board.settings.width desk.old }
+    requires prepared { IsPreparedDesk (M.meaning (M.numbers model.now)) (first_of turn.now).board.settings.width desk.old }
     ensures ready { IsReady turn.now seat.new }
     ensures number { seat.new.number ≡ seat.old.number }
-    ensures prepared { IsPrepared (M.meaning (M.numbers model.now)) (first_of turn.now).board.settings.width desk.new }
+    ensures prepared { IsPreparedDesk (M.meaning (M.numbers model.now)) (first_of turn.now).board.settings.width desk.new }
 {
     let who = seat.number();
     let asked = take_one(rt, turn, seat, &mut desk.taken, model);
@@ -98,10 +98,10 @@ fn go_on<M: DpModel, G: Gate + Sync, R: Wait>(
     requires worker { IsWorker turn.now seat.old }
     requires seen { seen_of seat.old ≡ seen }
     requires out { IsOut (M.meaning (M.numbers model.now)) (out_of seat.old) desk.old.taken.subproblem }
-    requires prepared { IsPrepared (M.meaning (M.numbers model.now)) (first_of turn.now).board.settings.width desk.old }
+    requires prepared { IsPreparedDesk (M.meaning (M.numbers model.now)) (first_of turn.now).board.settings.width desk.old }
     ensures ready { IsReady turn.now seat.new }
     ensures number { seat.new.number ≡ seat.old.number }
-    ensures prepared { IsPrepared (M.meaning (M.numbers model.now)) (first_of turn.now).board.settings.width desk.new }
+    ensures prepared { IsPreparedDesk (M.meaning (M.numbers model.now)) (first_of turn.now).board.settings.width desk.new }
 {
     let who = seat.number();
     if expand(rt, alloc, turn, seat, desk, model, gate, seen).is_err() {
@@ -128,12 +128,12 @@ fn expand<M: DpModel, G: Gate + Sync, R: Wait>(
     requires worker { IsWorker turn.now seat.old }
     requires seen { seen_of seat.old ≡ seen }
     requires out { IsOut (M.meaning (M.numbers model.now)) (out_of seat.old) desk.old.taken.subproblem }
-    requires prepared { IsPrepared (M.meaning (M.numbers model.now)) (first_of turn.now).board.settings.width desk.old }
+    requires prepared { IsPreparedDesk (M.meaning (M.numbers model.now)) (first_of turn.now).board.settings.width desk.old }
     ensures worker { IsWorker turn.now seat.new }
     ensures number { seat.new.number ≡ seat.old.number }
     ensures ok { OnOk result (out_of seat.new ≡ None) }
     ensures err { OnErr result (IsSome (out_of seat.new)) }
-    ensures prepared { IsPrepared (M.meaning (M.numbers model.now)) (first_of turn.now).board.settings.width desk.new }
+    ensures prepared { IsPreparedDesk (M.meaning (M.numbers model.now)) (first_of turn.now).board.settings.width desk.new }
 {
     let mut branched = branch(rt, alloc, turn, seat, desk, model, gate, seen)?;
     let finished = finish_one(
@@ -164,13 +164,13 @@ fn branch<M: DpModel, G: Gate + Sync, R: Wait>(
     requires worker { IsWorker turn.now seat.old }
     requires seen { seen_of seat.old ≡ seen }
     requires out { IsOut (M.meaning (M.numbers model.now)) (out_of seat.old) desk.old.taken.subproblem }
-    requires prepared { IsPrepared (M.meaning (M.numbers model.now)) (first_of turn.now).board.settings.width desk.old }
+    requires prepared { IsPreparedDesk (M.meaning (M.numbers model.now)) (first_of turn.now).board.settings.width desk.old }
     ensures worker { IsWorker turn.now seat.new }
     ensures number { seat.new.number ≡ seat.old.number }
     ensures out { out_of seat.new ≡ out_of seat.old }
     ensures branched { IfOk result (λ b. MayFinishLater (M.meaning (M.numbers model.now)) (first_of turn.now).board.settings.width (out_of seat.new) (seen_of seat.new) b.threshold (contents b.children.items)) }
     ensures fates { IfOk result (λ b. length b.children.items ≤ vec_capacity desk.new.fates) }
-    ensures prepared { IsPrepared (M.meaning (M.numbers model.now)) (first_of turn.now).board.settings.width desk.new }
+    ensures prepared { IsPreparedDesk (M.meaning (M.numbers model.now)) (first_of turn.now).board.settings.width desk.new }
 {
     let restricted = restrict_one(
         rt,

@@ -1,5 +1,5 @@
 use Rattle.std.proofs.Common.{sym, ◌∙◌, ap}
-use Rattle.bound_cover.specs.Walking.{rest_fault}
+use Rattle.bound_cover.proofs.Walking.{rest_fault}
 use Rattle.bound_cover.proofs.Turns.{turn-behind, turn-fails, turn-on, after-some, after-none, turn-ends, turn-to}
 use Rattle.bound_cover.proofs.testing.decisions_fault.Goals as goal
 use Rattle.bound_cover.proofs.testing.decisions_fault.Goals.{then-is_some-2, else-is_some-2}

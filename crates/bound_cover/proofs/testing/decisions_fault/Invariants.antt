@@ -1,5 +1,5 @@
 use Rattle.bound_cover.specs.Stored.{shown_row}
-use Rattle.bound_cover.specs.Walking.{IsWalked}
+use Rattle.bound_cover.proofs.Walking.{IsWalked}
 use Rattle.bound_cover.proofs.testing.decisions_fault.Given as goal
 
 abbrev pub invariant-decisions : goal.invariant-decisions

@@ -3,7 +3,10 @@ use Rattle.cover_text.specs.Grammar.{until}
 use Rattle.cover_text.specs.RowLines.{ends_words, state_word_at}
 use Rattle.cover_text.proofs.rows.read_words.Given as goal
 
+-- the rows before and the arcs stay
 abbrev pub invariant-loop : goal.invariant-loop
-invariant-loop l =
-    until ends_words state_word_at (l.most - l.counter) l.words.items l.tokens
-    ≡ until ends_words state_word_at l.most l.initial.words.items l.initial.tokens
+invariant-loop l = record {
+  reads : until ends_words state_word_at (l.most - l.counter) l.rows.words l.tokens ≡ until ends_words state_word_at l.most l.initial.rows.words l.initial.tokens;
+  cover : l.rows.cover ≡ l.initial.rows.cover;
+  arcs : l.rows.arcs ≡ l.initial.rows.arcs;
+}

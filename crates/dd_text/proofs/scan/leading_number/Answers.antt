@@ -9,7 +9,7 @@ returns-in-45-clause-value c =
 
 pub returns-in-45-clause-behind : goal.returns-in-45-clause-behind
 returns-in-45-clause-behind c =
-    rw (behind_minus c.args.bytes.now c.in-45.len_at_least (cc)) c.number_within.ensures.behind
+    rw (behind_minus c.args.bytes.now c.in-45.len_at_least (cc)) c.negative_within.ensures.behind
 
 pub returns-in-len1-up-3-clause-value : goal.returns-in-len1-up-3-clause-value
 returns-in-len1-up-3-clause-value c =

@@ -1,7 +1,7 @@
 use Rattle.std.proofs.Common.{◌≡◌, ◌+◌, ◌-◌, ◌<◌, ◌≤◌, Bool, [], length, refl, sym, ◌∙◌, ap, subst, arith}
 use Rattle.relaxed_dd.specs.Shown.{layers_of, layer_in}
 use Rattle.exact_cutset.specs.Seen.{ChildrenView}
-use Rattle.exact_cutset.specs.Walking.{IsWalkable, IsWalked, IsTakenNode}
+use Rattle.exact_cutset.specs.Walking.{IsWalkable, HasLooked, IsTakenNode}
 use Rattle.exact_cutset.proofs.Looked.{layer-starts, layer-ends}
 use Rattle.exact_cutset.proofs.Walked.{further}
 use Rattle.exact_cutset.proofs.frontier.take_layer.Goals as goal
@@ -16,7 +16,7 @@ nodes-init g c =
       marks = ap (λ l. length l) c.clear.ensures.items;
       rest = refl;
       subs = c.requires.subs;
-      walked = subst (IsWalked dp d out.wide c.args.depth out.places out.places) (sym c.clear.ensures.items) start;
+      walked = subst (HasLooked dp d out.wide c.args.depth out.places out.places) (sym c.clear.ensures.items) start;
       room = omega arith;
     }
 
@@ -38,7 +38,7 @@ nodes-preserved g c =
       marks = (let e = c.push_reserved.ensures.len in let m = i.marks in omega arith);
       rest = f.rest ∙ ap (λ (v : ChildrenView). record v { places = c.take_node-free.new.out.places; subs = c.take_node-free.new.out.subs }) i.rest;
       subs = f.subs;
-      walked = subst (IsWalked dp d out.wide c.args.depth out.places c.take_node-free.new.out.places) (sym pushed) f.walked;
+      walked = subst (HasLooked dp d out.wide c.args.depth out.places c.take_node-free.new.out.places) (sym pushed) f.walked;
       room = (let e = c.push_reserved.ensures.capacity in let r = i.room in omega arith);
     }
 

@@ -1,7 +1,7 @@
 use Rattle.std.proofs.Common.{subst}
 use Rattle.dp_model.specs.Laws.{IsLawful, IsChained}
 use Rattle.relaxed_dd.specs.Shown.{layers_of, width_of}
-use Rattle.exact_cutset.specs.Prepared.{IsPreparedFor}
+use Rattle.exact_cutset.specs.Prepared.{IsListPreparedFor}
 use Rattle.exact_cutset.proofs.Enough.{cut-ready, walk-ready}
 use Rattle.exact_cutset.proofs.taking.take_kind.Given as given
 use Rattle.exact_cutset.proofs.taking.take_kind.Goals as goal
@@ -17,11 +17,11 @@ take_last_exact-requires-clause-cut g c κs within =
     let dp = g.M.DpModel.meaning (g.M.DpModel.numbers c.args.model.now) in
     let d = c.args.diagram.now in
     cut-ready dp (laws_of g c.args.model.now) (chain_of g c.args.model.now) (width_of d) (layers_of d) c.requires.diagram c.args.out.now
-    (subst (λ kind. IsPreparedFor dp (width_of d) kind c.args.out.now) c.in-LastExactLayer.is c.requires.prepared)
+    (subst (λ kind. IsListPreparedFor dp (width_of d) kind c.args.out.now) c.in-LastExactLayer.is c.requires.prepared)
 
 pub take_frontier-requires-clause-walk : goal.take_frontier-requires-clause-walk
 take_frontier-requires-clause-walk g c κs within =
     let dp = g.M.DpModel.meaning (g.M.DpModel.numbers c.args.model.now) in
     let d = c.args.diagram.now in
     walk-ready dp (laws_of g c.args.model.now) (chain_of g c.args.model.now) (width_of d) (layers_of d) c.requires.diagram c.args.out.now
-    (subst (λ kind. IsPreparedFor dp (width_of d) kind c.args.out.now) c.in-Frontier.is c.requires.prepared)
+    (subst (λ kind. IsListPreparedFor dp (width_of d) kind c.args.out.now) c.in-Frontier.is c.requires.prepared)

@@ -1,4 +1,4 @@
-use Rattle.knapsack.specs.Packings.{has_copies-other_length}
+use Rattle.knapsack.specs.Laws.Packings.{has_copies-other_length}
 use Rattle.knapsack.proofs.value.total_of.Goals as goal
 
 pub returns-then-copies-items : goal.returns-then-copies-items

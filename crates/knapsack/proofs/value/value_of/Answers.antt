@@ -1,4 +1,4 @@
-use Rattle.knapsack.specs.ProgramLaws.{own_words_solve}
+use Rattle.knapsack.specs.Laws.Program.{own_words_solve}
 use Rattle.knapsack.specs.Shown.{instance_in}
 use Rattle.knapsack.proofs.value.value_of.Goals as goal
 

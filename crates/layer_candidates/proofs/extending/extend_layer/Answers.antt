@@ -3,7 +3,7 @@ use Rattle.std.proofs.lemmas.List.{length-take-le}
 use Rattle.dp_model.specs.Decisions.{below}
 use Rattle.layer_candidates.specs.Members.{member_at}
 use Rattle.layer_candidates.specs.Ways.{AreJoined}
-use Rattle.layer_candidates.specs.Extending.{HasRoom, HasExtended, AreExtended}
+use Rattle.layer_candidates.specs.Extending.{HasWayRoom, HasExtended, AreExtended}
 use Rattle.layer_candidates.proofs.Blocks.{length-row}
 use Rattle.layer_candidates.proofs.Extended.{room-less, members-start, member-each, members-more, members-all}
 use Rattle.layer_candidates.proofs.extending.extend_layer.Goals as goal
@@ -63,7 +63,7 @@ extend_member-requires-clause-room g c κs within =
     let long : length c.row-s.result.now ≡ c.args.words = ap length c.row-s.ensures ∙ length-row c.args.above.now c.args.words _ m.within in
     let few = c.members.invariant.extended.few in
     let less : (c.members.i + 1) * dp.choices c.args.k ≤ length c.args.members.now * dp.choices c.args.k = mul-le-mul_right (dp.choices c.args.k) (let t = c.members-test.true in omega arith) in
-    subst (λ n. HasRoom n (length c.members.ways.items + dp.choices c.args.k) c.members.rows (vec_capacity c.members.ways) c.members.folds c.members.next) (sym long)
+    subst (λ n. HasWayRoom n (length c.members.ways.items + dp.choices c.args.k) c.members.rows (vec_capacity c.members.ways) c.members.folds c.members.next) (sym long)
     (room-less c.args.words (length c.members.ways.items + dp.choices c.args.k) (length c.args.members.now * dp.choices c.args.k) c.args.rows.now c.members.rows _ _ c.args.folds.now c.members.folds c.args.next.now c.members.next
     c.requires.room (omega arith) c.members.auto.rows c.members.invariant.capacity c.members.auto.folds c.members.auto.next)
 

@@ -1,12 +1,27 @@
-use Rattle.std.proofs.Common.{◌+◌, length, ◌∙◌, arith}
+use Rattle.std.proofs.Common.{◌≡◌, ◌+◌, length, refl, subst, ◌∙◌, arith}
+use Rattle.dp_model.specs.Decisions.{below}
 use Rattle.dp_laws.proofs.Diagrams.Places.{length-below}
-use Rattle.layer_candidates.proofs.Extended.{room-less, extended-next}
+use Rattle.layer_candidates.specs.Extending.{HasExtended}
+use Rattle.layer_candidates.proofs.Extended.{room-less, extended-none, extended-next, extended-skipped}
 use Rattle.layer_candidates.proofs.extending.extend_member.Goals as goal
+
+pub decisions-init : goal.decisions-init
+decisions-init g c =
+    let dp = g.M.DpModel.meaning (g.M.DpModel.numbers c.args.model.now) in
+    let a = c.args in let first = c.next_choice-decision in
+    let within = first.ensures.within in
+    let choices = c.choices-choices.ensures in
+    record {
+      extended = extended-skipped dp a.k a.parent.step a.s.now a.parent.value (length a.s.now) a.live 0 first.result a.rows.now a.rows.now a.ways.now.items a.ways.now.items a.folds.now a.heads.now a.next.now
+          first.ensures.on first.ensures.skipped (extended-none dp a.k a.parent.step a.s.now a.parent.value (length a.s.now) a.live a.rows.now a.ways.now.items a.folds.now a.heads.now a.next.now c.requires.joined);
+      within = omega arith;
+      capacity = refl;
+    }
 
 pub extend_by-requires-clause-room : goal.extend_by-requires-clause-room
 extend_by-requires-clause-room g c κs within =
     let less = c.decisions-test.true in
-    let end = c.choices-decision-end.ensures in
+    let choices = c.choices-choices.ensures in
     let h = c.decisions.invariant.extended in
     let few = h.few in
     let count = length-below c.decisions.decision in
@@ -16,9 +31,24 @@ extend_by-requires-clause-room g c κs within =
 pub decisions-preserved : goal.decisions-preserved
 decisions-preserved g c =
     let dp = g.M.DpModel.meaning (g.M.DpModel.numbers c.args.model.now) in
-    let a = c.args in let l = c.decisions in let e = c.extend_by in
+    let a = c.args in let l = c.decisions in let e = c.extend_by in let after = c.next_choice-decision-in-decisions in
+    let within = after.ensures.within in
+    let choices = c.choices-choices.ensures in
     record {
-      extended = extended-next dp a.k a.parent.step a.s.now a.parent.value (length a.s.now) a.live l.decision a.rows.now l.rows e.new.rows a.ways.now.items l.ways.items e.new.ways.items l.folds l.heads l.next e.new.folds e.new.heads e.new.next
-          l.invariant.extended e.ensures.extended;
+      extended = extended-skipped dp a.k a.parent.step a.s.now a.parent.value (length a.s.now) a.live (l.decision + 1) after.result a.rows.now e.new.rows a.ways.now.items e.new.ways.items e.new.folds e.new.heads e.new.next
+          after.ensures.on after.ensures.skipped
+          (extended-next dp a.k a.parent.step a.s.now a.parent.value (length a.s.now) a.live l.decision a.rows.now l.rows e.new.rows a.ways.now.items l.ways.items e.new.ways.items l.folds l.heads l.next e.new.folds e.new.heads e.new.next
+          l.invariant.extended e.ensures.extended);
+      within = omega arith;
       capacity = e.ensures.capacity ∙ l.invariant.capacity;
     }
+
+pub returns-clause-extended : goal.returns-clause-extended
+returns-clause-extended g c =
+    let dp = g.M.DpModel.meaning (g.M.DpModel.numbers c.args.model.now) in
+    let a = c.args in let l = c.decisions in
+    let past = c.decisions-test.false in
+    let within = l.invariant.within in
+    let choices = c.choices-choices.ensures in
+    let all : l.decision ≡ dp.choices a.k = omega arith in
+    subst (λ n. HasExtended dp a.k a.parent.step a.s.now a.parent.value (below n) (length a.s.now) a.live a.rows.now a.ways.now.items l.rows l.ways.items l.folds l.heads l.next) all l.invariant.extended

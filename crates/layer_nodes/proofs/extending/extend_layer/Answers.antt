@@ -2,7 +2,7 @@ use Rattle.std.proofs.Common.{rules, ◌≡◌, ℕ, ◌+◌, ◌*◌, ◌≤◌
 use Rattle.dp_model.specs.Decisions.{below}
 use Rattle.layer_candidates.specs.declared.member.Member.{Member}
 use Rattle.layer_candidates.specs.Ways.{IsNear, AreJoined}
-use Rattle.layer_candidates.specs.Extending.{HasRoom, HasExtended}
+use Rattle.layer_candidates.specs.Extending.{HasWayRoom, HasExtended}
 use Rattle.layer_candidates.proofs.Blocks.{length-row}
 use Rattle.layer_candidates.proofs.Extended.{room-less, members-all}
 use Rattle.layer_nodes.specs.Expanding.{members_from, node_in, trials_at, trials_by, trials_of, AreTried}
@@ -60,7 +60,7 @@ try_node-requires-clause-room g c κs within =
     let long : length c.row-s.result.now ≡ c.args.words = ap length c.row-s.ensures ∙ length-row c.args.cells.now c.args.words _ m.within in
     let few = c.nodes.invariant.extended.few in
     let less : (c.nodes.i + 1) * dp.choices c.args.k ≤ length c.args.nodes.now * dp.choices c.args.k = mul-le-mul_right (dp.choices c.args.k) (let t = c.nodes-test.true in omega arith) in
-    subst (λ n. HasRoom n (length c.nodes.ways.items + dp.choices c.args.k) c.nodes.rows (vec_capacity c.nodes.ways) c.nodes.folds c.nodes.next) (sym long)
+    subst (λ n. HasWayRoom n (length c.nodes.ways.items + dp.choices c.args.k) c.nodes.rows (vec_capacity c.nodes.ways) c.nodes.folds c.nodes.next) (sym long)
     (room-less c.args.words (length c.nodes.ways.items + dp.choices c.args.k) (length c.args.nodes.now * dp.choices c.args.k) c.args.rows.now c.nodes.rows _ _ c.args.folds.now c.nodes.folds c.args.next.now c.nodes.next
     c.requires.room (omega arith) c.nodes.auto.rows c.nodes.invariant.capacity c.nodes.auto.folds c.nodes.auto.next)
 

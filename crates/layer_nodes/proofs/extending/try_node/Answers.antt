@@ -1,8 +1,10 @@
-use Rattle.std.proofs.Common.{◌+◌, ◌++◌, [], ◌∷◌, length, append_assoc, sym, ap, subst, ◌∙◌, arith}
+use Rattle.std.proofs.Common.{◌≡◌, ◌+◌, ◌++◌, [], ◌∷◌, length, map, append_assoc, refl, sym, ap, subst, ◌∙◌, arith}
+use Rattle.std.proofs.lemmas.List.{append-nil}
 use Rattle.dp_model.specs.Decisions.{below}
 use Rattle.dp_laws.proofs.Diagrams.Places.{length-below}
-use Rattle.layer_candidates.proofs.Extended.{room-less, extended-next}
-use Rattle.layer_nodes.specs.Expanding.{trials_by, AreTried}
+use Rattle.layer_candidates.specs.Extending.{HasExtended}
+use Rattle.layer_candidates.proofs.Extended.{room-less, extended-none, extended-next, allowed-skipped, extended-skipped}
+use Rattle.layer_nodes.specs.Expanding.{trial, trials_by, AreTried}
 use Rattle.layer_nodes.proofs.Tried.{trials-next}
 use Rattle.layer_nodes.proofs.extending.try_node.Goals as goal
 
@@ -10,7 +12,7 @@ pub try_by-requires-clause-room : goal.try_by-requires-clause-room
 try_by-requires-clause-room g c κs within =
     let h = c.decisions.invariant.extended in
     let less = c.decisions-test.true in
-    let end = c.choices-decision-end.ensures in
+    let choices = c.choices-choices.ensures in
     let few = h.few in
     let count = length-below c.decisions.decision in
     room-less (length c.args.s.now) (length c.decisions.ways.items + 1) (length c.args.ways.now.items + _) c.args.rows.now c.decisions.rows _ _ c.args.folds.now c.decisions.folds c.args.next.now c.decisions.next
@@ -22,7 +24,7 @@ try_by-requires-clause-joined g c κs within = c.decisions.invariant.extended.jo
 pub try_by-requires-clause-marks_room : goal.try_by-requires-clause-marks_room
 try_by-requires-clause-marks_room g c κs within =
     let less = c.decisions-test.true in
-    let end = c.choices-decision-end.ensures in
+    let choices = c.choices-choices.ensures in
     let few = c.decisions.invariant.extended.few in
     let count = length-below c.decisions.decision in
     let same = c.decisions.auto.marks in
@@ -32,27 +34,72 @@ try_by-requires-clause-marks_room g c κs within =
 pub try_by-requires-clause-arcs_room : goal.try_by-requires-clause-arcs_room
 try_by-requires-clause-arcs_room g c κs within =
     let less = c.decisions-test.true in
-    let end = c.choices-decision-end.ensures in
+    let choices = c.choices-choices.ensures in
     let few = c.decisions.invariant.arcs_few in
     let same = c.decisions.invariant.arcs_capacity in
     let room = c.requires.arcs_room in
     omega arith
 
+pub decisions-init : goal.decisions-init
+decisions-init g c =
+    let dp = g.M.DpModel.meaning (g.M.DpModel.numbers c.args.model.now) in
+    let a = c.args in let first = c.next_choice-decision in
+    let within = first.ensures.within in
+    let choices = c.choices-choices.ensures in
+    record {
+      extended = extended-skipped dp a.k a.parent.step a.s.now a.parent.value (length a.s.now) a.live 0 first.result a.rows.now a.rows.now a.ways.now.items a.ways.now.items a.folds.now a.heads.now a.next.now
+          first.ensures.on first.ensures.skipped (extended-none dp a.k a.parent.step a.s.now a.parent.value (length a.s.now) a.live a.rows.now a.ways.now.items a.folds.now a.heads.now a.next.now c.requires.joined);
+      tried = λ ts was. subst (λ us. AreTried dp a.k a.rows.now (length a.s.now) (length a.ways.now.items) us a.marks.now a.arcs.now.items)
+          (sym (append-nil ts) ∙ ap (λ ds. ts ++ map (trial a.s.now a.exact) ds) (sym (allowed-skipped dp a.k a.s.now 0 first.result first.ensures.on first.ensures.skipped))) was;
+      within = omega arith;
+      capacity = refl;
+      arcs_few = omega arith;
+      arcs_capacity = refl;
+    }
+
 pub decisions-preserved : goal.decisions-preserved
 decisions-preserved g c =
     let dp = g.M.DpModel.meaning (g.M.DpModel.numbers c.args.model.now) in
-    let a = c.args in let l = c.decisions in let e = c.try_by in
+    let a = c.args in let l = c.decisions in let e = c.try_by in let after = c.next_choice-decision-in-decisions in
     let n = l.decision in
     let inv = l.invariant in
     let more = e.ensures.arcs_few in
+    let on = after.ensures.on in
+    let within = after.ensures.within in
+    let choices = c.choices-choices.ensures in
     let few = inv.arcs_few in
     record {
-      extended = extended-next dp a.k a.parent.step a.s.now a.parent.value (length a.s.now) a.live n a.rows.now l.rows e.new.rows a.ways.now.items l.ways.items e.new.ways.items l.folds l.heads l.next e.new.folds e.new.heads e.new.next
-          inv.extended e.ensures.extended;
+      extended = extended-skipped dp a.k a.parent.step a.s.now a.parent.value (length a.s.now) a.live (n + 1) after.result a.rows.now e.new.rows a.ways.now.items e.new.ways.items e.new.folds e.new.heads e.new.next
+          after.ensures.on after.ensures.skipped
+          (extended-next dp a.k a.parent.step a.s.now a.parent.value (length a.s.now) a.live n a.rows.now l.rows e.new.rows a.ways.now.items l.ways.items e.new.ways.items l.folds l.heads l.next e.new.folds e.new.heads e.new.next
+          inv.extended e.ensures.extended);
       tried = λ ts was. subst (λ us. AreTried dp a.k e.new.rows (length a.s.now) (length e.new.ways.items) us e.new.marks e.new.arcs.items)
-          (append_assoc ts (trials_by dp a.k a.s.now a.exact (below n)) (trials_by dp a.k a.s.now a.exact (n ∷ [])) ∙ ap (λ us. ts ++ us) (sym (trials-next dp a.k a.s.now a.exact n)))
+          (append_assoc ts (trials_by dp a.k a.s.now a.exact (below n)) (trials_by dp a.k a.s.now a.exact (n ∷ []))
+          ∙ (ap (λ us. ts ++ us) (sym (trials-next dp a.k a.s.now a.exact n))
+          ∙ ap (λ ds. ts ++ map (trial a.s.now a.exact) ds) (sym (allowed-skipped dp a.k a.s.now (n + 1) after.result after.ensures.on after.ensures.skipped))))
           (e.ensures.tried (ts ++ trials_by dp a.k a.s.now a.exact (below n)) (inv.tried ts was));
+      within = omega arith;
       capacity = e.ensures.capacity ∙ inv.capacity;
       arcs_few = omega arith;
       arcs_capacity = e.ensures.arcs_capacity ∙ inv.arcs_capacity;
     }
+
+pub returns-clause-extended : goal.returns-clause-extended
+returns-clause-extended g c =
+    let dp = g.M.DpModel.meaning (g.M.DpModel.numbers c.args.model.now) in
+    let a = c.args in let l = c.decisions in
+    let past = c.decisions-test.false in
+    let within = l.invariant.within in
+    let choices = c.choices-choices.ensures in
+    let all : l.decision ≡ dp.choices a.k = omega arith in
+    subst (λ n. HasExtended dp a.k a.parent.step a.s.now a.parent.value (below n) (length a.s.now) a.live a.rows.now a.ways.now.items l.rows l.ways.items l.folds l.heads l.next) all l.invariant.extended
+
+pub returns-clause-tried : goal.returns-clause-tried
+returns-clause-tried g c ts was =
+    let dp = g.M.DpModel.meaning (g.M.DpModel.numbers c.args.model.now) in
+    let a = c.args in let l = c.decisions in
+    let past = c.decisions-test.false in
+    let within = l.invariant.within in
+    let choices = c.choices-choices.ensures in
+    let all : l.decision ≡ dp.choices a.k = omega arith in
+    subst (λ n. AreTried dp a.k l.rows (length a.s.now) (length l.ways.items) (ts ++ trials_by dp a.k a.s.now a.exact (below n)) l.marks l.arcs.items) all (l.invariant.tried ts was)

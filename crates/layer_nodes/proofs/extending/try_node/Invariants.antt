@@ -1,4 +1,4 @@
-use Rattle.std.proofs.Common.{◌≡◌, ◌+◌, ◌≤◌, ◌++◌, List, length, vec_capacity}
+use Rattle.std.proofs.Common.{◌≡◌, ◌+◌, ◌-◌, ◌≤◌, ◌++◌, List, length, vec_capacity}
 use Rattle.dp_model.specs.Decisions.{below}
 use Rattle.layer_candidates.specs.Extending.{HasExtended}
 use Rattle.layer_nodes.specs.Expanding.{Trial, trials_by, AreTried}
@@ -9,7 +9,11 @@ invariant-decisions g l = record {
   extended : HasExtended (g.M.DpModel.meaning (g.M.DpModel.numbers l.model)) l.k l.parent.step l.s l.parent.value (below l.decision) (length l.s) l.live l.fn.rows l.fn.ways.items l.rows l.ways.items l.folds l.heads l.next;
   tried : (ts : List Trial) → AreTried (g.M.DpModel.meaning (g.M.DpModel.numbers l.model)) l.k l.fn.rows (length l.s) (length l.fn.ways.items) ts l.fn.marks l.fn.arcs.items
       → AreTried (g.M.DpModel.meaning (g.M.DpModel.numbers l.model)) l.k l.rows (length l.s) (length l.ways.items) (ts ++ trials_by (g.M.DpModel.meaning (g.M.DpModel.numbers l.model)) l.k l.s l.exact (below l.decision)) l.marks l.arcs.items;
+  within : l.decision ≤ l.choices;
   capacity : vec_capacity l.ways ≡ vec_capacity l.fn.ways;
   arcs_few : length l.arcs.items ≤ length l.fn.arcs.items + l.decision;
   arcs_capacity : vec_capacity l.arcs ≡ vec_capacity l.fn.arcs;
 }
+
+abbrev pub decreases-decisions : goal.decreases-decisions
+decreases-decisions g l = l.choices - l.decision

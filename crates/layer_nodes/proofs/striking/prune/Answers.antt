@@ -17,7 +17,7 @@ nodes-init g c =
     let dp = g.M.DpModel.meaning (g.M.DpModel.numbers c.args.model.now) in
     let a = c.args in
     record {
-      pruned = pruned-by dp a.k a.threshold a.rows.now a.words a.nodes.now _ _ _ _ _ _ _ _ 0 (pruned-none dp a.k a.threshold a.rows.now a.words a.nodes.now) c.clear.ensures.items refl c.clear-2.ensures.items refl;
+      pruned = pruned-by dp a.k a.strikes a.rows.now a.words a.nodes.now _ _ _ _ _ _ _ _ 0 (pruned-none dp a.k a.strikes a.rows.now a.words a.nodes.now) c.clear.ensures.items refl c.clear-2.ensures.items refl;
       leaders_capacity = c.clear.ensures.capacity;
       redirects_capacity = c.clear-2.ensures.capacity;
     }
@@ -39,19 +39,19 @@ nodes-preserved g c =
     let l = c.nodes in
     let h = l.invariant.pruned in
     let more = c.nodes-test.true in
-    let out = c.taken_out-out.ensures.out ∙ ap (λ ls. taken_out dp a.k a.threshold (leaders_of a.rows.now a.words ls) (bare a.rows.now a.words (get_or l.nodes l.i none))) c.as_slice.ensures.value in
+    let out = c.taken_out-out.ensures.out ∙ ap (λ ls. taken_out dp a.k a.strikes (leaders_of a.rows.now a.words ls) (bare a.rows.now a.words (get_or l.nodes l.i none))) c.as_slice.ensures.value in
     elim c.match-out.branch [
       | in-Some w ↦ record {
-        pruned = pruned-by dp a.k a.threshold a.rows.now a.words a.nodes.now _ _ _ _ _ _ _ _ (l.i + 1)
-            (pruned-out dp a.k a.threshold a.rows.now a.words a.nodes.now l.leaders.items l.nodes l.redirects.items l.stay l.i none h more w.in-Some.redirect (sym out ∙ w.in-Some.is)
+        pruned = pruned-by dp a.k a.strikes a.rows.now a.words a.nodes.now _ _ _ _ _ _ _ _ (l.i + 1)
+            (pruned-out dp a.k a.strikes a.rows.now a.words a.nodes.now l.leaders.items l.nodes l.redirects.items l.stay l.i none h more w.in-Some.redirect (sym out ∙ w.in-Some.is)
             (subst (λ o. IfSome o (λ r. IsShort r)) w.in-Some.is c.taken_out-out.ensures.short))
             (ap (λ (v : Vec LeaderAt Global). v.items) w.leaders-is) w.nodes-is (ap (λ (v : Vec _ Global). v.items) w.redirects-is ∙ w.push_reserved.ensures.items) w.stay-is;
         leaders_capacity = ap vec_capacity w.leaders-is ∙ l.invariant.leaders_capacity;
         redirects_capacity = ap vec_capacity w.redirects-is ∙ (w.push_reserved.ensures.capacity ∙ l.invariant.redirects_capacity);
       }
       | in-None w ↦ record {
-        pruned = pruned-by dp a.k a.threshold a.rows.now a.words a.nodes.now _ _ _ _ _ _ _ _ (l.i + 1)
-            (pruned-stays dp a.k a.threshold a.rows.now a.words a.nodes.now l.leaders.items l.nodes l.redirects.items l.stay l.i none h more (sym out ∙ w.in-None.is) c.requires.nodes)
+        pruned = pruned-by dp a.k a.strikes a.rows.now a.words a.nodes.now _ _ _ _ _ _ _ _ (l.i + 1)
+            (pruned-stays dp a.k a.strikes a.rows.now a.words a.nodes.now l.leaders.items l.nodes l.redirects.items l.stay l.i none h more (sym out ∙ w.in-None.is) c.requires.nodes)
             (ap (λ (v : Vec LeaderAt Global). v.items) w.leaders-is ∙ w.keep_at.ensures.leaders) (w.nodes-is ∙ w.keep_at.ensures.nodes) (ap (λ (v : Vec _ Global). v.items) w.redirects-is ∙ w.keep_at.ensures.redirects) w.stay-is;
         leaders_capacity = ap vec_capacity w.leaders-is ∙ (w.keep_at.ensures.leaders_capacity ∙ l.invariant.leaders_capacity);
         redirects_capacity = ap vec_capacity w.redirects-is ∙ (w.keep_at.ensures.redirects_capacity ∙ l.invariant.redirects_capacity);

@@ -4,7 +4,7 @@ use Rattle.layer_nodes.proofs.striking.prune.Given as goal
 
 abbrev pub invariant-nodes : goal.invariant-nodes
 invariant-nodes g l = record {
-  pruned : ArePruned (g.M.DpModel.meaning (g.M.DpModel.numbers l.model)) l.k l.threshold l.rows l.words l.fn.nodes l.leaders.items l.nodes l.redirects.items l.stay l.i;
+  pruned : ArePruned (g.M.DpModel.meaning (g.M.DpModel.numbers l.model)) l.k l.strikes l.rows l.words l.fn.nodes l.leaders.items l.nodes l.redirects.items l.stay l.i;
   leaders_capacity : vec_capacity l.leaders ≡ vec_capacity l.fn.leaders;
   redirects_capacity : vec_capacity l.redirects ≡ vec_capacity l.fn.redirects;
 }

@@ -3,7 +3,7 @@ use Rattle.std.proofs.lemmas.Int.{ints, clamps}
 use Rattle.benefit_rows.specs.Benefits.{above_zero, below_zero, size_of, rank_of}
 use Rattle.benefit_rows.proofs.Steps.{read_by_size}
 use Rattle.max_cut.specs.Program.{pulls_of, settled_of}
-use Rattle.max_cut.specs.PullLaws.{pulls_of_T, pulls_of_S, gain_of_T, gain_of_S, settled_of-positive, settled_of-most, rank_of-pulls}
+use Rattle.max_cut.specs.Laws.Pulls.{pulls_of_T, pulls_of_S, gain_of_T, gain_of_S, settled_of-positive, settled_of-most, rank_of-pulls}
 use Rattle.max_cut.proofs.layers.gain_by_side.Goals as goal
 
 -- what is settled is of no great size

@@ -1,5 +1,5 @@
 use Rattle.std.proofs.Common.{arith}
-use Rattle.max_cut.specs.GraphLaws.{pairs_of-most}
+use Rattle.max_cut.specs.Laws.Graph.{pairs_of-most}
 use Rattle.max_cut.proofs.Places.{pair_within}
 use Rattle.max_cut.proofs.layers.place_of_pair.Goals as goal
 

@@ -1,6 +1,6 @@
 use Rattle.std.proofs.Common.{◌+◌, length, arith, ap, sym, ◌-◌}
 use Rattle.std.proofs.lemmas.List.{length-drop, length-take-le}
-use Rattle.max_cut.specs.GraphLaws.{row_within}
+use Rattle.max_cut.specs.Laws.Graph.{row_within}
 use Rattle.max_cut.proofs.layers.row_of_pairs.Goals as goal
 
 pub tail-rest-requires : goal.tail-rest-requires

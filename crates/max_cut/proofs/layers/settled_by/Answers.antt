@@ -4,7 +4,7 @@ use Rattle.std.proofs.lemmas.List.{drop_all}
 use Rattle.benefit_rows.specs.Benefits.{gap_of}
 use Rattle.benefit_rows.specs.BenefitLaws.{gap_of-positive, gap_of-most}
 use Rattle.benefit_rows.proofs.Steps.{GapMore, gap_more, read_at, read_by_size}
-use Rattle.max_cut.specs.PullLaws.{length-pulls, settled_of-is_gap}
+use Rattle.max_cut.specs.Laws.Pulls.{length-pulls, settled_of-is_gap}
 use Rattle.benefit_rows.specs.BenefitLaws.{length-sums_of}
 use Rattle.max_cut.specs.Program.{pulls_of}
 use Rattle.benefit_rows.specs.Benefits.{sums_of}

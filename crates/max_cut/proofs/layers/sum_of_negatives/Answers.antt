@@ -3,7 +3,7 @@ use Rattle.std.specs.Int.{int_min}
 use Rattle.std.proofs.lemmas.Int.{ints, clamps}
 use Rattle.benefit_rows.specs.Benefits.{rank_of}
 use Rattle.max_cut.specs.Graph.{negatives_of}
-use Rattle.max_cut.specs.GraphLaws.{negatives_of-bounds}
+use Rattle.max_cut.specs.Laws.Graph.{negatives_of-bounds}
 use Rattle.benefit_rows.proofs.Steps.{read_at, size_of-at}
 use Rattle.max_cut.proofs.Passes.{negatives_of-drop_more}
 use Rattle.max_cut.proofs.layers.sum_of_negatives.Goals as goal

@@ -3,7 +3,7 @@ use Rattle.std.proofs.lemmas.Int.{ints}
 use Rattle.std.proofs.lemmas.List.{drop_all}
 use Rattle.benefit_rows.specs.Benefits.{rank_of}
 use Rattle.benefit_rows.proofs.Steps.{RankMore, rank_more, read_by_size}
-use Rattle.max_cut.specs.PullLaws.{length-pulls, rank_of-pulls}
+use Rattle.max_cut.specs.Laws.Pulls.{length-pulls, rank_of-pulls}
 use Rattle.benefit_rows.specs.BenefitLaws.{length-sums_of}
 use Rattle.max_cut.specs.Program.{pulls_of}
 use Rattle.benefit_rows.specs.Benefits.{sums_of}

@@ -4,7 +4,7 @@ use Rattle.std.proofs.lemmas.List.{drop_all}
 use Rattle.benefit_rows.specs.Benefits.{size_of}
 use Rattle.max_cut.specs.Graph.{Graph}
 use Rattle.max_cut.specs.Program.{is_within, limits_of, words_of}
-use Rattle.max_cut.specs.StateLaws.{length-limits_of}
+use Rattle.max_cut.specs.Laws.States.{length-limits_of}
 use Rattle.max_cut.proofs.LimitsAt.{is_within-drop_more}
 use Rattle.max_cut.proofs.limits.is_within_limits.Goals as goal
 

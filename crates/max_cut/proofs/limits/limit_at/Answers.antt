@@ -2,7 +2,7 @@ use Rattle.std.proofs.Common.{◌≡◌, arith}
 use Rattle.std.proofs.lemmas.Int.{ints}
 use Rattle.max_cut.specs.Graph.{Graph}
 use Rattle.max_cut.specs.Program.{words_of}
-use Rattle.max_cut.specs.StateLaws.{words_of-some}
+use Rattle.max_cut.specs.Laws.States.{words_of-some}
 use Rattle.max_cut.proofs.LimitsAt.{limit_more}
 use Rattle.max_cut.proofs.limits.limit_at.Goals as goal
 

@@ -5,7 +5,7 @@ use Rattle.benefit_rows.specs.Benefits.{rank_of}
 use Rattle.benefit_rows.specs.BenefitLaws.{rank_of-positive}
 use Rattle.std.proofs.Common.{◌⊎◌, inl, inr}
 use Rattle.max_cut.specs.Graph.{Graph, IsGraph, row_of, weights_from}
-use Rattle.max_cut.specs.GraphLaws.{rank_of-most, rank_of-split, rank_of-weights_from}
+use Rattle.max_cut.specs.Laws.Graph.{rank_of-most, rank_of-split, rank_of-weights_from}
 use Rattle.max_cut.proofs.rests.sizes_of_rests.Goals as goal
 
 pub rank-left-requires : goal.rank-left-requires

@@ -1,6 +1,6 @@
 use Rattle.std.proofs.Common.{arith}
 use Rattle.std.proofs.lemmas.Int.{ints}
-use Rattle.max_cut.specs.GraphLaws.{rank_of-most}
+use Rattle.max_cut.specs.Laws.Graph.{rank_of-most}
 use Rattle.max_cut.specs.Shown.{instance_in}
 use Rattle.max_cut.proofs.value.cut_weight.Goals as goal
 

@@ -1,4 +1,4 @@
-use Rattle.max_cut.specs.CutLaws.{own_words_solve}
+use Rattle.max_cut.specs.Laws.Cuts.{own_words_solve}
 use Rattle.max_cut.specs.Shown.{instance_in}
 use Rattle.max_cut.proofs.value.value_of.Goals as goal
 

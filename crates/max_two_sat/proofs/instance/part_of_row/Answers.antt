@@ -1,5 +1,6 @@
 use Rattle.std.proofs.Common.{arith, ◌≡◌, suc, take, drop, ap}
-use Rattle.max_two_sat.specs.Table.{entries_before, entries_before-more, entries_before-most, pair_count-most}
+use Rattle.max_two_sat.specs.Table.{entries_before}
+use Rattle.max_two_sat.proofs.Table.{entries_before-more, entries_before-most, pair_count-most}
 use Rattle.max_two_sat.proofs.instance.part_of_row.Goals as goal
 
 pub overflow_add-end : goal.overflow_add-end

@@ -1,5 +1,5 @@
 use Rattle.std.proofs.Common.{sym, ◌∙◌}
-use Rattle.max_two_sat.specs.Table.{row_at-is}
+use Rattle.max_two_sat.proofs.Table.{row_at-is}
 use Rattle.max_two_sat.proofs.instance.row_of.Goals as goal
 
 pub returns : goal.returns

@@ -1,5 +1,5 @@
 use Rattle.std.proofs.Common.{arith}
-use Rattle.max_two_sat.specs.Table.{entries_before-is}
+use Rattle.max_two_sat.proofs.Table.{entries_before-is}
 use Rattle.max_two_sat.proofs.instance.start_of_row.Goals as goal
 
 pub returns : goal.returns

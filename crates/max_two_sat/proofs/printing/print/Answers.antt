@@ -1,7 +1,7 @@
 use Rattle.std.proofs.Common.{◌∙◌, ap, arith, length, List, ℕ}
 use Rattle.dd_text.specs.Text.{text_start}
 use Rattle.dd_text.specs.declared.comment.Comment.TheVariants.{LetterC}
-use Rattle.max_two_sat.specs.Model.{instance_in}
+use Rattle.max_two_sat.specs.Shown.{instance_in}
 use Rattle.max_two_sat.specs.Texts.{instance_at}
 use Rattle.max_two_sat.proofs.ReadsBack.{reads_back}
 use Rattle.max_two_sat.proofs.TextLengths.{text_short}

@@ -1,8 +1,8 @@
 use Rattle.std.proofs.Common.{arith, ◌≡◌, to_z, of_z, w64}
 use Rattle.std.proofs.lemmas.Int.{ints}
 use Rattle.max_two_sat.specs.Instance.{Instance}
-use Rattle.max_two_sat.specs.Model.{instance_in}
-use Rattle.max_two_sat.specs.Totals.{units_total-positive, pairs_total-positive}
+use Rattle.max_two_sat.specs.Shown.{instance_in}
+use Rattle.max_two_sat.specs.Laws.Totals.{units_total-positive, pairs_total-positive}
 use Rattle.max_two_sat.proofs.PrintedLines.{text-printed}
 use Rattle.max_two_sat.proofs.printing.printed.Goals as goal
 

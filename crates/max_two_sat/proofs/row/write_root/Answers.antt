@@ -1,7 +1,7 @@
 use Rattle.std.proofs.Common.{arith, ◌≡◌, length, eqb-true, ◌∙◌, sym}
 use Rattle.std.proofs.lemmas.Int.{ints}
 use Rattle.max_two_sat.specs.Instance.{no_unit}
-use Rattle.max_two_sat.specs.Rows.{words_of-some}
+use Rattle.max_two_sat.specs.Laws.Rows.{words_of-some}
 use Rattle.max_two_sat.proofs.Cells.{unit-at, unit_total-at}
 use Rattle.max_two_sat.proofs.Writing.{root-written, root-done, root_of-none}
 use Rattle.max_two_sat.proofs.row.write_root.Goals as goal

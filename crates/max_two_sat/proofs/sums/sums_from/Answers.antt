@@ -1,6 +1,6 @@
 use Rattle.std.proofs.Common.{arith, to_z, w64, refl}
 use Rattle.std.proofs.lemmas.Int.{ints}
-use Rattle.max_two_sat.specs.Totals.{pairs_total-positive, rows_total-rows_of}
+use Rattle.max_two_sat.specs.Laws.Totals.{pairs_total-positive, rows_total-rows_of}
 use Rattle.max_two_sat.proofs.Summing.{left-falls, sums-more, sums-done}
 use Rattle.max_two_sat.proofs.Weighing.{row-there}
 use Rattle.max_two_sat.proofs.sums.sums_from.Goals as goal

@@ -1,4 +1,4 @@
-use Rattle.max_two_sat.specs.Model.{instance_in}
+use Rattle.max_two_sat.specs.Shown.{instance_in}
 use Rattle.max_two_sat.proofs.Layers.{units-most}
 use Rattle.max_two_sat.proofs.Weighing.{value-none, value-is}
 use Rattle.max_two_sat.proofs.value.value_of.Goals as goal

@@ -6,8 +6,8 @@ use Rattle.shared_fringe.proofs.finding.slot_of_same.Given as goal
 abbrev pub invariant-loop-at : goal.invariant-loop-at
 invariant-loop-at l = record {
   within : l.at ≤ length l.index.nodes;
-  fold : (i : ℕ) → l.at ≡ i + 1 → fold_at l.index.nodes i ≡ l.own;
-  none : (j : ℕ) → l.at ≤ j → j < length l.index.nodes → fold_at l.index.nodes j ≡ l.own → is_same_in l.depth l.row (in_slot l.slots (slot_at l.index.nodes j)) ≡ false;
+  fold : (i : ℕ) → l.at ≡ i + 1 → fold_at l.index.nodes i ≡ l.fold;
+  none : (j : ℕ) → l.at ≤ j → j < length l.index.nodes → fold_at l.index.nodes j ≡ l.fold → is_same_in l.depth l.row (in_slot l.slots (slot_at l.index.nodes j)) ≡ false;
 }
 
 abbrev pub decreases-loop-at : goal.decreases-loop-at

@@ -19,7 +19,7 @@ returns-clause-stored c =
     (c.push_empty.ensures.len ∙ ap (λ (l : List (Option Ticketed)). length l + c.max-more.result) kept)
     (ap (λ (v : RegionView). v.rows) grown) (ap (λ (v : RegionView). v.words) grown) (ap (λ (v : RegionView). v.spare) grown)
     (subst (λ (l : List (Option Ticketed)). AreEntered l c.in_ok-index.index.nodes) (c.as_slice.ensures.value ∙ kept) c.in_ok-index.ensures.entered)
-    (let a = c.in_ok-index.ensures.room in let x = c.saturating_add.ensures in let y = c.saturating_add-2.ensures in let z = c.saturating_mul-room.ensures in let w = c.in_ok-reserve.ensures.ok in let v = c.reserve.new.self.small in let m = c.rows-rows.ensures.most in let len = s.slots.ok.0 in omega arith)
+    (let a = c.in_ok-index.ensures.room in let x = c.saturating_add-slots.ensures in let y = c.saturating_add-room.ensures in let w = c.in_ok-reserve.ensures.ok in let v = c.reserve.new.self.small in let m = c.rows-rows.ensures.most in let len = s.slots.ok.0 in omega arith)
 
 pub returns-clause-opened : goal.returns-clause-opened
 returns-clause-opened c = c.push_empty.ensures.opened ∙ ap opened c.in_ok-reserve.ensures.items

@@ -12,6 +12,6 @@ returns-in_err-slot c =
 pub returns : goal.returns
 returns c =
     let slots = c.args.store.now.slots.items in
-    has_same c.args.store.now.words slots c.args.depth c.args.row.now c.in_ok-slot.slot c.in-Some.one.now _ _ c.requires.held (search rules)
+    has_same c.args.store.now.words slots c.args.depth c.args.row.now c.in_ok-slot.slot c.in-Some.one.now _ _ c.requires.stored.held (search rules)
     (subst (λ (l : List (Option Ticketed)). is_same_in c.args.depth c.args.row.now (in_slot l c.in_ok-slot.slot) ≡ true) c.as_slice-slots.ensures.value c.in_ok-slot.ensures)
     c.same_of.ensures.ticket c.same_of.ensures.value

@@ -1,7 +1,7 @@
 use Rattle.std.proofs.Common.{◌≡◌, ℕ, List, Option, None, ◌∙◌, ap, subst}
 use Rattle.shared_fringe.specs.declared.store.Store.{Store}
 use Rattle.shared_fringe.specs.Tickets.{Ticketed}
-use Rattle.shared_fringe.specs.Slots.{IsBest, in_slot, opened}
+use Rattle.shared_fringe.specs.Slots.{IsFirstSlot, in_slot, opened}
 use Rattle.shared_fringe.proofs.Pops.{none_first, none_after, best_taken, best_after}
 use Rattle.shared_fringe.proofs.store.take_first.Goals as goal
 
@@ -16,11 +16,11 @@ returns-in_err-slot-clause-listed c =
 pub returns-clause-first : goal.returns-clause-first
 returns-clause-first c =
     let s = c.args.store.now in
-    best_taken s.slots.items c.in_ok-slot.slot c.clear_slot-one.result c.requires.stored.held.apart (subst (λ (l : List (Option Ticketed)). IsBest l c.in_ok-slot.slot) c.as_slice.ensures.value c.in_ok-slot.ensures.best) c.clear_slot-one.ensures.one
+    best_taken s.slots.items c.in_ok-slot.slot c.clear_slot-one.result c.requires.stored.held.apart (subst (λ (l : List (Option Ticketed)). IsFirstSlot l c.in_ok-slot.slot) c.as_slice.ensures.value c.in_ok-slot.ensures.best) c.clear_slot-one.ensures.one
 
 pub returns-clause-listed : goal.returns-clause-listed
 returns-clause-listed c =
     let s = c.args.store.now in
     ap (λ (t : Store). opened t.slots.items) c.trim_ranks.ensures.kept
     ∙ best_after s.slots.items c.clear_slot-one.new.store.slots.items c.in_ok-slot.slot c.clear_slot-one.result c.requires.stored.held.apart
-    (subst (λ (l : List (Option Ticketed)). IsBest l c.in_ok-slot.slot) c.as_slice.ensures.value c.in_ok-slot.ensures.best) c.clear_slot-one.ensures.one c.clear_slot-one.ensures.slots
+    (subst (λ (l : List (Option Ticketed)). IsFirstSlot l c.in_ok-slot.slot) c.as_slice.ensures.value c.in_ok-slot.ensures.best) c.clear_slot-one.ensures.one c.clear_slot-one.ensures.slots

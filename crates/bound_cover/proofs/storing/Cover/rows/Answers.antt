@@ -1,4 +1,4 @@
-use Rattle.std.proofs.Common.{◌∙◌, ◌≡◌, ◌<◌, length, subst, arith}
+use Rattle.std.proofs.Common.{◌∙◌, ◌≡◌, length, subst, arith}
 use Rattle.bound_cover.specs.Exploring.{layer_of}
 use Rattle.bound_cover.specs.Stored.{AreShort}
 use Rattle.bound_cover.proofs.Blocks.{short_at}

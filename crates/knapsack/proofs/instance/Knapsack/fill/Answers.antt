@@ -1,6 +1,6 @@
 use Rattle.std.proofs.Common.{◌≡◌, ◌<◌, length, arith, ap, ◌∙◌}
-use Rattle.knapsack.specs.Sizes.{rough_small}
-use Rattle.knapsack.specs.Limits.{is_small-is}
+use Rattle.knapsack.specs.Laws.Sizes.{rough_small}
+use Rattle.knapsack.specs.Laws.Limits.{is_small-is}
 use Rattle.knapsack.specs.Placed.{kept_from}
 use Rattle.knapsack.specs.Program.{left}
 use Rattle.knapsack.proofs.Placing.{placed_are_small, filled_is, length-placed_from}

@@ -58,7 +58,7 @@ invariant_of-self g c =
     let place = above-within i h in
     let above = lent i.stack.layers.items at (place_above i.stack.vars i.stack.first i.stack.last) old _ c.index_mut.ensures.value c.place_above-at.ensures place in
     let is : HasChanged i at old _ x n r = record { place = c.place_above-at.ensures; lent = c.index_mut.ensures.value; above = above; rest = e.rest; rooms = e.next_rooms; redirects_stay = e.redirects } in
-    let seen = struck-layers dp i h u c.args.threshold at old _ x n r i.first_reduced is e.above e.next in
+    let seen = struck-layers dp i h u.one c.args.threshold at old _ x n r i.first_reduced is e.above e.next in
     changed-space i h at old _ x n r i.first_reduced is (subst (HaveDepths i.stack.first) (sym seen) (prune-depths dp i.stack.last c.args.threshold i.stack.first _ h.depths))
 
 pub returns-clause-layers : goal.returns-clause-layers
@@ -72,7 +72,7 @@ returns-clause-layers g c =
     let place = above-within i h in
     let above = lent i.stack.layers.items at (place_above i.stack.vars i.stack.first i.stack.last) old _ c.index_mut.ensures.value c.place_above-at.ensures place in
     let is : HasChanged i at old _ x n r = record { place = c.place_above-at.ensures; lent = c.index_mut.ensures.value; above = above; rest = e.rest; rooms = e.next_rooms; redirects_stay = e.redirects } in
-    let seen = struck-layers dp i h u c.args.threshold at old _ x n r i.first_reduced is e.above e.next in
+    let seen = struck-layers dp i h u.one c.args.threshold at old _ x n r i.first_reduced is e.above e.next in
     let whole = changed-seen i at old _ x n r i.first_reduced is (on_last_two (prune dp i.stack.last c.args.threshold) (the_view i).layers) seen in
     let here : the_view (changed i at x n r i.first_reduced) ≡ record (the_view i) { layers = on_last_two (prune dp (last_depth (the_view i)) c.args.threshold) (the_view i).layers; ranks = map (λ (node : NodeView). node.rank) n.nodes } =
     whole ∙ ap (λ (k : ℕ). record (the_view i) { layers = on_last_two (prune dp k c.args.threshold) (the_view i).layers; ranks = map (λ (node : NodeView). node.rank) n.nodes }) (sym (deep i h)) in
@@ -89,7 +89,7 @@ returns-clause-under_way g c =
     let place = above-within i h in
     let above = lent i.stack.layers.items at (place_above i.stack.vars i.stack.first i.stack.last) old _ c.index_mut.ensures.value c.place_above-at.ensures place in
     let is : HasChanged i at old _ x n r = record { place = c.place_above-at.ensures; lent = c.index_mut.ensures.value; above = above; rest = e.rest; rooms = e.next_rooms; redirects_stay = e.redirects } in
-    let seen = struck-layers dp i h u c.args.threshold at old _ x n r i.first_reduced is e.above e.next in
+    let seen = struck-layers dp i h u.one c.args.threshold at old _ x n r i.first_reduced is e.above e.next in
     let whole = changed-seen i at old _ x n r i.first_reduced is (on_last_two (prune dp i.stack.last c.args.threshold) (the_view i).layers) seen in
     let here : the_view (changed i at x n r i.first_reduced) ≡ record (the_view i) { layers = on_last_two (prune dp (last_depth (the_view i)) c.args.threshold) (the_view i).layers; ranks = map (λ (node : NodeView). node.rank) n.nodes } =
     whole ∙ ap (λ (k : ℕ). record (the_view i) { layers = on_last_two (prune dp k c.args.threshold) (the_view i).layers; ranks = map (λ (node : NodeView). node.rank) n.nodes }) (sym (deep i h)) in

@@ -1,7 +1,7 @@
 use Rattle.std.proofs.Common.{arith}
 use Rattle.std.proofs.lemmas.Int.{ints}
 use Rattle.max_cut.specs.Graph.{Graph}
-use Rattle.max_cut.specs.GraphLaws.{rank_of-most}
+use Rattle.max_cut.specs.Laws.Graph.{rank_of-most}
 use Rattle.max_cut.proofs.instance.MaxCut.prepared.Goals as goal
 
 pub sum_of_negatives-negatives-requires : goal.sum_of_negatives-negatives-requires

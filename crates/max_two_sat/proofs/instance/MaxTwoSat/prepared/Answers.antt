@@ -4,7 +4,7 @@ use Rattle.max_two_sat.specs.declared.draft.Draft.{Draft}
 use Rattle.max_two_sat.specs.Drafted.{gathered_in}
 use Rattle.max_two_sat.specs.Instance.{pairs_total}
 use Rattle.max_two_sat.specs.Room.{IsGathered}
-use Rattle.max_two_sat.specs.Totals.{units_total-positive}
+use Rattle.max_two_sat.specs.Laws.Totals.{units_total-positive}
 use Rattle.max_two_sat.proofs.instance.MaxTwoSat.prepared.Goals as goal
 
 pairs-most : (d : Draft) → IsGathered (gathered_in d) → pairs_total d.pairs.items ≤ℤ pos (2 ^ 48)

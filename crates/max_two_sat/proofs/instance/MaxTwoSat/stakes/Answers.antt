@@ -2,7 +2,7 @@ use Rattle.std.proofs.Common.{length, arith, ap, sym, ◌∙◌, refl}
 use Rattle.max_two_sat.specs.Instance.{row_at, rows_of}
 use Rattle.max_two_sat.specs.Program.{words_of}
 use Rattle.max_two_sat.specs.Shifts.{stakes_of}
-use Rattle.max_two_sat.specs.Model.{instance_in}
+use Rattle.max_two_sat.specs.Shown.{instance_in}
 use Rattle.max_two_sat.proofs.Layers.{row-has}
 use Rattle.max_two_sat.proofs.Shifting.{stakes-at, stakes-length, stakes-read, other-decision}
 use Rattle.max_two_sat.proofs.instance.MaxTwoSat.stakes.Goals as goal

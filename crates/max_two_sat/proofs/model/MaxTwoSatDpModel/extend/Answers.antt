@@ -1,12 +1,12 @@
 use Rattle.std.proofs.Common.{◌+◌, ◌+ℤ◌, ◌++◌, pos, ℕ, ℤ, List, get_or, ◌<◌, ◌≤◌, arith, length, replicate, drop, w64, ap, sym, ◌∙◌}
 use Rattle.std.proofs.lemmas.Int.{to_z-of_z}
 use Rattle.benefit_rows.specs.Benefits.{gain_of, rank_of, sums_of}
-use Rattle.max_two_sat.specs.InstanceNumbers.{instance_of-numbers_of}
-use Rattle.max_two_sat.specs.Model.{instance_in}
+use Rattle.max_two_sat.specs.Laws.Numbers.{instance_of-numbers_of}
+use Rattle.max_two_sat.specs.Shown.{instance_in}
 use Rattle.max_two_sat.specs.Instance.{row_at, rows_of}
 use Rattle.max_two_sat.specs.Shifts.{half_lost, shifts_of, stakes_of}
 use Rattle.max_two_sat.specs.declared.weights.PairWeights.{PairWeights}
-use Rattle.max_two_sat.specs.SizeLaws.{rank_of-state}
+use Rattle.max_two_sat.specs.Laws.Sizes.{rank_of-state}
 use Rattle.max_two_sat.proofs.Layers.{always-allowed, same-allowed, none-before, row-fits, same-cells, same-test}
 use Rattle.max_two_sat.proofs.Shifting.{shifts-fit, shared-half, stakes-read, rank-stepped, row_gain-cut}
 use Rattle.max_two_sat.proofs.Writing.{step-shifts}

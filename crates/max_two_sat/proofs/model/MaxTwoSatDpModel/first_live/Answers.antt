@@ -1,4 +1,4 @@
-use Rattle.max_two_sat.specs.Model.{instance_in}
+use Rattle.max_two_sat.specs.Shown.{instance_in}
 use Rattle.max_two_sat.proofs.Layers.{same-state, none-before}
 use Rattle.max_two_sat.proofs.model.MaxTwoSatDpModel.first_live.Goals as goal
 

@@ -1,7 +1,7 @@
 use Rattle.std.proofs.Common.{◌∙◌, w64}
 use Rattle.std.proofs.lemmas.Int.{to_z-of_z}
-use Rattle.max_two_sat.specs.InstanceNumbers.{instance_of-numbers_of}
-use Rattle.max_two_sat.specs.Model.{instance_in}
+use Rattle.max_two_sat.specs.Laws.Numbers.{instance_of-numbers_of}
+use Rattle.max_two_sat.specs.Shown.{instance_in}
 use Rattle.max_two_sat.proofs.Layers.{row-fits, same-allowed}
 use Rattle.max_two_sat.proofs.model.MaxTwoSatDpModel.gain.Goals as goal
 

@@ -1,6 +1,6 @@
 use Rattle.std.proofs.Common.{arith, ap, Some, ◌∙◌, w64}
 use Rattle.std.proofs.lemmas.Int.{ints, to_z-of_z}
-use Rattle.max_two_sat.specs.Model.{instance_in}
+use Rattle.max_two_sat.specs.Shown.{instance_in}
 use Rattle.max_two_sat.proofs.Layers.{layer-has, same-state}
 use Rattle.max_two_sat.proofs.Writing.{tail-is}
 use Rattle.max_two_sat.proofs.model.MaxTwoSatDpModel.gap.Goals as goal

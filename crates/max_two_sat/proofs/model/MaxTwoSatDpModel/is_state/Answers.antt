@@ -1,8 +1,8 @@
 use Rattle.std.proofs.Common.{arith, ◌≡◌, ◌≤◌, length}
 use Rattle.std.proofs.lemmas.List.{length-drop}
 use Rattle.max_two_sat.specs.Instance.{Instance}
-use Rattle.max_two_sat.specs.Model.{instance_in}
-use Rattle.max_two_sat.specs.InstanceNumbers.{instance_of-numbers_of}
+use Rattle.max_two_sat.specs.Shown.{instance_in}
+use Rattle.max_two_sat.specs.Laws.Numbers.{instance_of-numbers_of}
 use Rattle.max_two_sat.specs.Program.{words_of}
 use Rattle.max_two_sat.proofs.LayerLimits.{without-tautologies}
 use Rattle.max_two_sat.proofs.Layers.{words-over, state-then, state-else}

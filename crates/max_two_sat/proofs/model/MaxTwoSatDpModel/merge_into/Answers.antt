@@ -1,7 +1,7 @@
 use Rattle.std.proofs.Common.{length, arith}
 use Rattle.std.proofs.lemmas.List.{length-drop}
 use Rattle.benefit_rows.proofs.Merging.{merged_written}
-use Rattle.max_two_sat.specs.Model.{instance_in}
+use Rattle.max_two_sat.specs.Shown.{instance_in}
 use Rattle.max_two_sat.proofs.Layers.{layer-has, none-before, same-state, words-over}
 use Rattle.max_two_sat.proofs.Writing.{tail-is}
 use Rattle.max_two_sat.proofs.model.MaxTwoSatDpModel.merge_into.Goals as goal

@@ -1,7 +1,7 @@
 use Rattle.std.proofs.Common.{arith, w64, sym, ◌∙◌}
 use Rattle.std.proofs.lemmas.Int.{ints, to_z-of_z}
-use Rattle.max_two_sat.specs.Model.{instance_in}
-use Rattle.max_two_sat.specs.SizeLaws.{rank_of-state}
+use Rattle.max_two_sat.specs.Shown.{instance_in}
+use Rattle.max_two_sat.specs.Laws.Sizes.{rank_of-state}
 use Rattle.max_two_sat.proofs.Layers.{layer-has, same-state}
 use Rattle.max_two_sat.proofs.Writing.{tail-is}
 use Rattle.max_two_sat.proofs.model.MaxTwoSatDpModel.rank.Goals as goal

@@ -1,6 +1,6 @@
 use Rattle.std.proofs.Common.{◌∙◌, ap}
-use Rattle.max_two_sat.specs.Model.{instance_in}
-use Rattle.max_two_sat.specs.InstanceNumbers.{instance_of-numbers_of}
+use Rattle.max_two_sat.specs.Shown.{instance_in}
+use Rattle.max_two_sat.specs.Laws.Numbers.{instance_of-numbers_of}
 use Rattle.max_two_sat.specs.Program.{root_of}
 use Rattle.max_two_sat.proofs.Layers.{units-most}
 use Rattle.max_two_sat.proofs.model.MaxTwoSatDpModel.root.Goals as goal

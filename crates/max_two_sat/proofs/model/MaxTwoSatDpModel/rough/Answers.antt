@@ -1,7 +1,7 @@
 use Rattle.std.proofs.Common.{arith, ap, Some}
 use Rattle.std.proofs.lemmas.Int.{ints}
-use Rattle.max_two_sat.specs.Model.{instance_in}
-use Rattle.max_two_sat.specs.InstanceNumbers.{instance_of-numbers_of}
+use Rattle.max_two_sat.specs.Shown.{instance_in}
+use Rattle.max_two_sat.specs.Laws.Numbers.{instance_of-numbers_of}
 use Rattle.max_two_sat.proofs.Layers.{layer-has, same-state, later-count, rough-adds}
 use Rattle.max_two_sat.proofs.Writing.{tail-is}
 use Rattle.max_two_sat.proofs.model.MaxTwoSatDpModel.rough.Goals as goal

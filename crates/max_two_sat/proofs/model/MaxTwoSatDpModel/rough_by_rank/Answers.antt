@@ -1,9 +1,9 @@
 use Rattle.std.proofs.Common.{◌≡◌, drop, arith, ap, ◌∙◌, Some}
 use Rattle.std.proofs.lemmas.Int.{ints}
 use Rattle.benefit_rows.specs.Benefits.{rank_of}
-use Rattle.max_two_sat.specs.Model.{instance_in}
-use Rattle.max_two_sat.specs.InstanceNumbers.{instance_of-numbers_of}
-use Rattle.max_two_sat.specs.SizeLaws.{rank_of-state}
+use Rattle.max_two_sat.specs.Shown.{instance_in}
+use Rattle.max_two_sat.specs.Laws.Numbers.{instance_of-numbers_of}
+use Rattle.max_two_sat.specs.Laws.Sizes.{rank_of-state}
 use Rattle.max_two_sat.proofs.Layers.{same-state, later-count, rough-adds}
 use Rattle.max_two_sat.proofs.model.MaxTwoSatDpModel.rough_by_rank.Goals as goal
 

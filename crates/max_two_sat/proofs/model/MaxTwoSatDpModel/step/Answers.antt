@@ -1,7 +1,7 @@
 use Rattle.std.proofs.Common.{◌+◌, ◌++◌, pos, length, replicate, drop, arith, ap, refl, ◌∙◌}
 use Rattle.benefit_rows.specs.Benefits.{sums_of}
-use Rattle.max_two_sat.specs.InstanceNumbers.{instance_of-numbers_of}
-use Rattle.max_two_sat.specs.Model.{instance_in}
+use Rattle.max_two_sat.specs.Laws.Numbers.{instance_of-numbers_of}
+use Rattle.max_two_sat.specs.Shown.{instance_in}
 use Rattle.max_two_sat.specs.Instance.{row_at, rows_of}
 use Rattle.max_two_sat.proofs.Layers.{none-before, row-fits, same-allowed, same-cells, same-test}
 use Rattle.max_two_sat.proofs.Shifting.{shifts-fit}

@@ -1,5 +1,5 @@
 use Rattle.std.proofs.Common.{◌≡◌, pos, refl, subst}
-use Rattle.bound_cover.specs.Proved.{IsProved}
+use Rattle.bound_cover.specs.Proved.{IsReportedBest}
 use Rattle.bound_cover.specs.Verdicts.{verdict}
 use Rattle.cover_text.specs.Texts.{text_in}
 use Rattle.problems.specs.Theory.{Agrees}
@@ -18,5 +18,5 @@ returns g c =
     let same = c.as_slice-assignment.ensures.value in
     record {
       exact = subst (λ x. c.check.result ≡ verdict dp held.best (pos 0) x held.cover) same c.check.ensures.verdict;
-      sound = λ e. true-report dp own (agrees_of g c.args.model.now) held.best held.assignment (subst (λ x. IsProved dp x held.best) same (c.check.ensures.sound e refl));
+      sound = λ e. true-report dp own (agrees_of g c.args.model.now) held.best held.assignment (subst (λ x. IsReportedBest dp x held.best) same (c.check.ensures.sound e refl));
     }

@@ -1,13 +1,13 @@
 use Rattle.std.proofs.Common.{List, arith, subst, sym}
 use Rattle.std.proofs.lemmas.List.Elements.{All-push}
 use Rattle.std.specs.List.{All}
-use Rattle.worker_gate.specs.Prepared.{IsPrepared}
+use Rattle.worker_gate.specs.Prepared.{IsPreparedDesk}
 use Rattle.worker_gate.specs.declared.desk.Desk.{Desk}
 use Rattle.solver_cli.proofs.job.solving.desks_for.Goals as goal
 
 pub loop-made-preserved : goal.loop-made-preserved
 loop-made-preserved g c =
-    let D : Desk → Type 0 = IsPrepared (g.M.DpModel.meaning (g.M.DpModel.numbers c.args.model.now)) c.args.width in
+    let D : Desk → Type 0 = IsPreparedDesk (g.M.DpModel.meaning (g.M.DpModel.numbers c.args.model.now)) c.args.width in
     let i = c.loop-made.invariant in
     let e = c.push_reserved-in-loop-made.ensures in (
       omega (arith, i.0, e.len),

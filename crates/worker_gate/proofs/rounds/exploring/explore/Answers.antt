@@ -3,8 +3,8 @@ use Rattle.dp_model.specs.Counts.{tree}
 use Rattle.board_laws.specs.Board.{full_slots}
 use Rattle.board_laws.specs.GoodBoard.{IsGood}
 use Rattle.search_core.specs.View.{Tag}
-use Rattle.worker_gate.specs.Later.{HasEnded}
-use Rattle.worker_gate.specs.Prepared.{IsPrepared}
+use Rattle.worker_gate.specs.Later.{NoRoundFollows}
+use Rattle.worker_gate.specs.Prepared.{IsPreparedDesk}
 use Rattle.worker_gate.proofs.LaterBoards.{later_refl, later_trans, complete}
 use Rattle.worker_gate.proofs.rounds.exploring.explore.Goals as goal
 
@@ -22,7 +22,7 @@ round-requires-clause-idle g c κs within = ap full_slots c.rounds.invariant.lat
 
 pub round-requires-clause-prepared : goal.round-requires-clause-prepared
 round-requires-clause-prepared g c κs within =
-    subst (λ w. IsPrepared (g.M.DpModel.meaning (g.M.DpModel.numbers c.args.model.now)) w c.rounds.desk) (sym (ap (λ (t : Tag). t.settings.width) c.rounds.invariant.tag)) c.rounds.invariant.prepared
+    subst (λ w. IsPreparedDesk (g.M.DpModel.meaning (g.M.DpModel.numbers c.args.model.now)) w c.rounds.desk) (sym (ap (λ (t : Tag). t.settings.width) c.rounds.invariant.tag)) c.rounds.invariant.prepared
 
 falls : (before : ℕ) {after budget same : ℕ} → same ≡ budget → before + 1 ≤ after → after ≤ same → same - after < budget - before
 falls n e a b = omega arith
@@ -34,7 +34,7 @@ pub rounds-preserved : goal.rounds-preserved
 rounds-preserved g c = record {
   tag = c.round.ensures.tag ∙ c.rounds.invariant.tag;
   later = later_trans _ _ _ _ c.rounds.invariant.later c.round.ensures.later;
-  prepared = subst (λ w. IsPrepared (g.M.DpModel.meaning (g.M.DpModel.numbers c.args.model.now)) w c.round.new.desk) (ap (λ (t : Tag). t.settings.width) c.rounds.invariant.tag) c.round.ensures.prepared;
+  prepared = subst (λ w. IsPreparedDesk (g.M.DpModel.meaning (g.M.DpModel.numbers c.args.model.now)) w c.round.new.desk) (ap (λ (t : Tag). t.settings.width) c.rounds.invariant.tag) c.round.ensures.prepared;
 }
 
 pub returns-clause-tag : goal.returns-clause-tag
@@ -49,7 +49,7 @@ returns-clause-complete g c =
     let idle : full_slots c.round.new.board.board.slots ≡ [] = ap full_slots later.slots ∙ c.requires.idle in
     let numbers = ap (λ (t : Tag). t.numbers) (c.round.ensures.tag ∙ c.rounds.invariant.tag) ∙ c.requires.numbers in
     let good = subst (λ ns. IsGood (g.M.DpModel.meaning ns) c.round.new.board.board) numbers c.incumbent_value.ensures.good in
-    let ended : HasEnded c.round.new.board.board = c.round.ensures.ended c.rounds-test.false in
+    let ended : NoRoundFollows c.round.new.board.board = c.round.ensures.ended c.rounds-test.false in
     let fewer : c.round.new.board.board.cause ≡ None → (c.round.new.board.board.open_ones ≡ [] → ⊥) → c.round.new.board.board.taken < tree (g.M.DpModel.meaning (g.M.DpModel.numbers c.args.model.now)) =
     λ none some. subst (λ ns. c.round.new.board.board.taken < tree (g.M.DpModel.meaning ns)) numbers (subst (λ t. t < tree (g.M.DpModel.meaning c.round.new.board.numbers)) c.taken.ensures.taken (c.taken.ensures.fewer none some)) in
     complete (g.M.DpModel.meaning (g.M.DpModel.numbers c.args.model.now)) c.round.new.board.board good ended idle fewer

@@ -1,6 +1,6 @@
 use Rattle.std.proofs.Common.{◌≡◌, ◌<◌, length, arith, subst, sym, ap}
 use Rattle.search_core.specs.View.{Tag}
-use Rattle.worker_gate.specs.Prepared.{IsPrepared}
+use Rattle.worker_gate.specs.Prepared.{IsPreparedDesk}
 use Rattle.worker_gate.proofs.Histories.{later-then}
 use Rattle.worker_gate.proofs.workers.together.explore_together.Goals as goal
 
@@ -14,7 +14,7 @@ explore-requires-clause-prepared g c κs within =
     let workers : c.in_ok-board.board.board.settings.workers ≡ first.workers = ap (λ (t : Tag). t.settings.workers) tag in
     let desks = c.work_together.new.desks in
     let lt : 0 < length desks.items = omega (arith, c.incumbent_value.ensures.kept.settings.some_workers, workers, c.requires.workers, c.work_together.ensures.desks, desks.ok.0) in
-    subst (λ w. IsPrepared dp w desk) (sym width) (subst (IsPrepared dp first.width) (sym c.index_mut.ensures.value) (c.work_together.ensures.prepared 0 desk lt))
+    subst (λ w. IsPreparedDesk dp w desk) (sym width) (subst (IsPreparedDesk dp first.width) (sym c.index_mut.ensures.value) (c.work_together.ensures.prepared 0 desk lt))
 
 pub returns-clause-later : goal.returns-clause-later
 returns-clause-later g c = later-then _ _ c.in_ok-board.board.board _ c.in_ok-board.ensures.later c.explore.ensures.later

@@ -2,7 +2,7 @@ use Rattle.std.proofs.Common.{rules, ◌≡◌, subst, sym, ap, ◌∙◌}
 use Rattle.board_lock.specs.Seats.{first_of, number_of}
 use Rattle.board_lock.specs.declared.turn.Seat.{Seat}
 use Rattle.search_core.specs.View.{BoardView}
-use Rattle.worker_gate.specs.Prepared.{IsPrepared}
+use Rattle.worker_gate.specs.Prepared.{IsPreparedDesk}
 use Rattle.worker_gate.specs.declared.desk.Desk.{Desk}
 use Rattle.worker_gate.specs.Ready.{IsReady}
 use Rattle.worker_gate.proofs.Calls.{may_call, have_left, all_right, pairs_map, desks_left, left_long}
@@ -11,7 +11,7 @@ use Rattle.worker_gate.proofs.workers.together.fan_out.Goals as goal
 pub side_by_side-requires-after_bounds : goal.side_by_side-requires-after_bounds
 side_by_side-requires-after_bounds g c κs within =
     let t = c.args.turn.now in
-    let D : Desk → Type 0 = IsPrepared (g.M.DpModel.meaning (g.M.DpModel.numbers c.args.model.now)) (first_of t).board.settings.width in
+    let D : Desk → Type 0 = IsPreparedDesk (g.M.DpModel.meaning (g.M.DpModel.numbers c.args.model.now)) (first_of t).board.settings.width in
     may_call _ _ (IsReady t) D (λ s k h d p q ep eq. ((c.requires.numbers, subst (IsReady t) (sym ep) h, subst D (sym eq) d), (search rules, search rules, search rules, search rules)))
     c.args.seats.now c.args.desks.now c.requires.lengths c.requires.ready c.requires.prepared
 
@@ -31,7 +31,7 @@ returns-clause-seats g c =
 
 pub returns-clause-prepared : goal.returns-clause-prepared
 returns-clause-prepared g c =
-    let D : Desk → Type 0 = IsPrepared (g.M.DpModel.meaning (g.M.DpModel.numbers c.args.model.now)) (first_of c.args.turn.now).board.settings.width in
+    let D : Desk → Type 0 = IsPreparedDesk (g.M.DpModel.meaning (g.M.DpModel.numbers c.args.model.now)) (first_of c.args.turn.now).board.settings.width in
     desks_left _ _ D (λ s t k l x. subst D x.desk_left x.call.2) c.args.seats.now c.side_by_side.new.seats c.args.desks.now c.side_by_side.new.desks c.side_by_side.ensures
 
 pub returns-clause-desks : goal.returns-clause-desks

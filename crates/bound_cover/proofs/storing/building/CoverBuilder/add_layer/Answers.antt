@@ -1,0 +1,10 @@
+use Rattle.std.proofs.Common.{◌∙◌, ap}
+use Rattle.bound_cover.specs.Building.{with_layer}
+use Rattle.bound_cover.proofs.Building.{layer-built, layer-kept}
+use Rattle.bound_cover.proofs.storing.building.CoverBuilder.add_layer.Goals as goal
+
+pub invariant_of-self-2 : goal.invariant_of-self-2
+invariant_of-self-2 c = rw (c.push_reserved.ensures.items, c.reserve.ensures.items, c.len.ensures, c.self.inside.heads.ok.0) (layer-kept c.self.inside.starts.items c.self.inside.heads.items c.self.inside.words.items c.self.inside.arcs.items c.self.inside.words_from c.self.inside.arcs_from c.self.invariant)
+
+pub returns-clause-ok : goal.returns-clause-ok
+returns-clause-ok c = rw (c.push_reserved.ensures.items, c.reserve.ensures.items, c.len.ensures, c.self.inside.heads.ok.0) (layer-built c.self.inside.starts.items c.self.inside.heads.items c.self.inside.words.items c.self.inside.arcs.items c.self.inside.words_from c.self.inside.arcs_from c.self.invariant ∙ ap with_layer c.self.view_is)

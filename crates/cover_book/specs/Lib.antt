@@ -1,0 +1,6 @@
+pub mod Diagrams
+pub mod Nodes
+pub mod Adding
+pub mod Waits
+pub mod Steps
+pub mod UnderWay
