@@ -79,6 +79,7 @@ fn count_of(starts: &[usize], rows: usize, layer: usize) -> usize
 }
 
 /// The head of a row with this bound, whose words and arcs end there.
+#[inline]
 fn head_of(bound: Option<i64>, has_arcs: bool, words_to: usize, arcs_to: usize) -> Head
     ensures { (words_from arcs_from : ℕ) → span_of words_from arcs_from result ≡ record { bound = bound; words_from = words_from; words_to = words_to; has_arcs = has_arcs; arcs_from = arcs_from; arcs_to = arcs_to } }
 {
@@ -135,6 +136,7 @@ fn head_before(heads: &[Head], place: usize) -> Head
 
 /// The span of the head at a place.
 #[tactic(auto, using(crate::proofs::Spans::span_steps))]
+#[inline]
 fn span_behind(heads: &[Head], place: usize, head: Head) -> Span
     requires { slice_get heads.now place ≡ Some head }
     ensures { slice_get (spans heads.now) place ≡ Some result }

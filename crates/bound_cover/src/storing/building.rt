@@ -92,7 +92,7 @@ impl CoverBuilder {
     ///
     /// There is a layer, and the last one has fewer than `2^32 - 1` rows. It fails only for want of memory, and then changes
     /// nothing. Without an arc part the arcs that were added are left out.
-    #[inline]
+    #[inline(always)]
     pub fn end_row(&mut self, bound: Option<i64>, has_arcs: bool) -> Result<(), OutOfMemory>
         requires layer { 0 < length self.old.cover }
         requires few { length (last_layer self.old.cover) < 2 ^ 32 - 1 }
