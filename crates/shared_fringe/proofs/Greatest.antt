@@ -5,7 +5,7 @@ use Rattle.dp_model.specs.Numbers.{greatest}
 use Rattle.shared_fringe.specs.Bounds.{raised}
 use Rattle.shared_fringe.specs.Tickets.{Ticketed, by_ticket}
 use Rattle.shared_fringe.proofs.Bounds.{raised_by, raised_greatest}
-use Rattle.shared_fringe.specs.Slots.{in_slot, opened, raised_one}
+use Rattle.shared_fringe.specs.Slots.{opened, raised_one}
 
 -- the greatest bound, from the first slot on
 abbrev pub raised_slots : Option ℤ → List (Option Ticketed) → Option ℤ

@@ -1,12 +1,11 @@
 -- What a push finds and leaves.
-use Rattle.std.proofs.Common.{◌≡◌, ◌≢◌, ℕ, ◌<◌, ℤ, List, Bool, true, false, cond, not, nat_eq, int_le, Option, Some, None, inl, inr, refl, sym, ◌∙◌, ap, ap₂, subst}
+use Rattle.std.proofs.Common.{◌≡◌, ◌≢◌, ℕ, ◌<◌, ℤ, List, Bool, true, false, cond, not, nat_eq, int_le, Option, Some, None, inl, inr, refl, sym, ◌∙◌, ap₂, subst}
 use Rattle.std.proofs.lemmas.Bool.{cases_eq}
 use Rattle.dp_model.specs.Lists.{Each}
 use Rattle.dp_model.proofs.Members.{each-has}
 use Rattle.shared_fringe.specs.Fringe.{is_same, same_open}
-use Rattle.shared_fringe.specs.Pushing.{push_beside, push_gives, pushed_beside, after_push}
+use Rattle.shared_fringe.specs.Pushing.{pushed_beside, after_push}
 use Rattle.shared_fringe.specs.Tickets.{Ticketed, by_ticket, without}
-use Rattle.shared_fringe.specs.declared.fate.FringeFate.TheVariants.{Kept, Replaced, Entered}
 use Rattle.shared_fringe.proofs.Rows.{same-depth, same-row}
 use Rattle.shared_fringe.specs.Slots.{IsOpen, IsSet, in_slot, is_same_in, opened}
 use Rattle.shared_fringe.specs.Stored.{HasSame, HasNone}

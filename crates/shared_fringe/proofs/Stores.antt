@@ -15,7 +15,7 @@ use Rattle.shared_fringe.specs.Stored.{IsStored}
 use Rattle.shared_fringe.proofs.Entries.{entered_more, entered_here}
 use Rattle.shared_fringe.proofs.Filters.{Contains-cons}
 use Rattle.shared_fringe.proofs.Keys.{key_free, set_of}
-use Rattle.shared_fringe.proofs.Openeds.{was, filled, cleared, apart_filled, apart_cleared}
+use Rattle.shared_fringe.proofs.Openeds.{was, filled, apart_filled}
 
 open_filled : (words : ℕ) (old new : List (Option Ticketed)) (s : ℕ) (o : Ticketed) → IsSet old new s (Some o) → IsOpen words old
     → ((t : ℕ) (p : Ticketed) → in_slot old t ≡ Some p → p.ticket ≢ o.ticket)

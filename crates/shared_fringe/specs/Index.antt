@@ -14,17 +14,17 @@ pub record IndexView : Type 0 where
 abbrev pub Heads : Type 0
 Heads = IndexMap ℕ ℕ (BuildHasherDefault FoldHasher)
 
-abbrev pub entry_at : List Node → ℕ → Node
-entry_at nodes i = slice_index_or nodes i (record { fold = 0; slot = 0; next = 0 })
+abbrev pub indexed_at : List Node → ℕ → Node
+indexed_at nodes i = slice_index_or nodes i (record { fold = 0; slot = 0; next = 0 })
 
 abbrev pub entry_fold : List Node → ℕ → ℕ
-entry_fold nodes i = (entry_at nodes i).fold
+entry_fold nodes i = (indexed_at nodes i).fold
 
 abbrev pub entry_slot : List Node → ℕ → ℕ
-entry_slot nodes i = (entry_at nodes i).slot
+entry_slot nodes i = (indexed_at nodes i).slot
 
 abbrev pub entry_next : List Node → ℕ → ℕ
-entry_next nodes i = (entry_at nodes i).next
+entry_next nodes i = (indexed_at nodes i).next
 
 abbrev pub head_at : Heads → ℕ → ℕ
 head_at heads fold = unwrap_or (get nat_eq heads fold) 0
@@ -47,6 +47,6 @@ pub record HasHeadRoom (heads : Heads) (nodes : List Node) (room : ℕ) : Type 0
 -- the new entries are the old ones and one more
 pub record HasEntered (old new : List Node) (fold slot : ℕ) : Type 0 where
   pub len : length new ≡ length old + 1
-  pub kept : (j : ℕ) → j < length old → entry_at new j ≡ entry_at old j
+  pub kept : (j : ℕ) → j < length old → indexed_at new j ≡ indexed_at old j
   pub fold_is : entry_fold new (length old) ≡ fold
   pub slot_is : entry_slot new (length old) ≡ slot

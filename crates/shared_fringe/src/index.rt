@@ -2,7 +2,7 @@
 
 ghost use Rattle.std.specs.Prelude.{◌≡◌, ◌≢◌, ◌↔◌, ℕ, ◌+◌, ◌<◌, ◌≤◌, [], length, nat_eq, None, IfOk, IsTrue};
 ghost use Rattle.indexmap.specs.IndexMap.{get, index_map_len, spare};
-ghost use Rattle.shared_fringe.specs.Index.{entry_fold, head_at, entry_at, HasEntered};
+ghost use Rattle.shared_fringe.specs.Index.{entry_fold, head_at, indexed_at, HasEntered};
 
 use indexmap::IndexMap;
 use std::alloc::{AllocError, Global};
@@ -88,7 +88,7 @@ impl Index {
     /// The entry at a place.
     pub fn node(&self, place: usize) -> Node
         requires { place < length self.now.nodes }
-        ensures node { result ≡ entry_at self.now.nodes place }
+        ensures node { result ≡ indexed_at self.now.nodes place }
         ensures within { result.next ≤ place }
         ensures at { (i : ℕ) → result.next ≡ i + 1 → entry_fold self.now.nodes i ≡ result.fold }
         ensures between { (j : ℕ) → result.next ≤ j → j < place → entry_fold self.now.nodes j ≢ result.fold }
