@@ -1,6 +1,6 @@
 //! Nodes that are struck, or that a leader dominates, are taken out of a layer.
 
-ghost use Rattle.std.specs.Prelude.{◌≡◌, ℕ, ◌≤◌, ◌<◌, ◌^◌, ◌∷◌, [], ◌++◌, List, IfSome, length, pos, set, slice_get, Some, None, vec_capacity};
+ghost use Rattle.std.specs.Prelude.{◌≡◌, ℕ, ◌≤◌, ◌<◌, ◌^◌, ◌∷◌, [], ◌++◌, List, IfSome, IsFalse, length, pos, set, slice_get, Some, None, vec_capacity};
 ghost use Rattle.dp_model.specs.Lists.{Each};
 ghost use Rattle.dp_laws.specs.Rules.Redirects.{with_redirected};
 ghost use Rattle.dp_laws.specs.Rules.Pruning.{is_struck, pruned_nodes, prune_redirects};
@@ -8,8 +8,9 @@ ghost use Rattle.layer_nodes.specs.Leading.{IsNodeIn, IsLeaderIn, leaders_of, le
 ghost use Rattle.layer_nodes.specs.Nodes.{shown_layer, shown_below};
 ghost use Rattle.layer_nodes.specs.Redirecting.{IsShort};
 ghost use Rattle.layer_nodes.specs.Steps.{AreAmong, IsNodeOf, MayBeLengthened, KeepsNodes, KeepsRoom};
-ghost use Rattle.layer_nodes.specs.Striking.{threshold_of, asking, unstruck, taken_out, HasPruned};
+ghost use Rattle.layer_nodes.specs.Striking.{threshold_of, AreInexact, asking, unstruck, taken_out, HasPruned};
 
+use crate::keeping::keep_layer_targets;
 use crate::layer::Layer;
 use crate::leading::{at_leader, lead};
 use crate::node::Node;
@@ -143,6 +144,18 @@ fn prune<M: DpModel>(
     stay
 }
 
+/// Whether a node of the layer is exact.
+fn has_exact(layer: &Layer) -> bool
+    ensures { IsFalse result → AreInexact layer.now.nodes }
+{
+    'nodes: for i in 0..layer.len() {
+        if layer.exact(i) {
+            return true;
+        }
+    }
+    false
+}
+
 /// Takes out the nodes of the next layer, at depth `k`, that are struck, or that one of the first 16 exact ones that stay
 /// dominates; the arcs of the nodes above follow.
 fn take_out<M: DpModel>(
@@ -220,5 +233,10 @@ pub fn drop_dominated<M: DpModel>(
     ensures next_rooms { KeepsRoom next.old next.new }
     ensures redirects { redirects.new ≡ redirects.old }
 {
-    take_out(model, k, Strikes::Nothing, above, next, redirects);
+    // Only an exact node leads.
+    if has_exact(next) {
+        take_out(model, k, Strikes::Nothing, above, next, redirects);
+    } else {
+        keep_layer_targets(above, next.len());
+    }
 }
