@@ -101,15 +101,15 @@ sum_more from to before left sizes got small large so_far low more =
 
 -- after one more block
 pub after_block : (from to : List ℤ) (block : ℕ) (sizes got : ℤ) → rank_of from ≤ℤ pos (2 ^ 60) → rank_of to ≤ℤ pos (2 ^ 60)
-    → (sizes +ℤ rank_of (drop (4 * block) (differences from to)) ≡ rank_of (differences from to)) × (pos 0 ≤ℤ sizes)
-    → got ≡ rank_of (differences (take 4 (drop (4 * block) from)) (take 4 (drop (4 * block) to)))
-    → SumMore from to sizes got (drop (4 * (block + 1)) (differences from to))
+    → (sizes +ℤ rank_of (drop (8 * block) (differences from to)) ≡ rank_of (differences from to)) × (pos 0 ≤ℤ sizes)
+    → got ≡ rank_of (differences (take 8 (drop (8 * block) from)) (take 8 (drop (8 * block) to)))
+    → SumMore from to sizes got (drop (8 * (block + 1)) (differences from to))
 after_block from to block sizes got small large so_far is =
-    let more = block_more from to (4 * block) 4 got is in
-    let at : 4 * block + 4 ≡ 4 * (block + 1) = omega arith in
+    let more = block_more from to (8 * block) 8 got is in
+    let at : 8 * block + 8 ≡ 8 * (block + 1) = omega arith in
     let next = ap (λ n. rank_of (drop n (differences from to))) at in
-    let low = rank_of-positive (differences (take 4 (drop (4 * block) from)) (take 4 (drop (4 * block) to))) in
-    sum_more from to (drop (4 * block) (differences from to)) _ sizes got small large so_far (omega (arith, ints)) (omega (arith, ints))
+    let low = rank_of-positive (differences (take 8 (drop (8 * block) from)) (take 8 (drop (8 * block) to))) in
+    sum_more from to (drop (8 * block) (differences from to)) _ sizes got small large so_far (omega (arith, ints)) (omega (arith, ints))
 
 -- after what follows the blocks
 pub after_rest : (from to : List ℤ) (i : ℕ) (sizes got : ℤ) → rank_of from ≤ℤ pos (2 ^ 60) → rank_of to ≤ℤ pos (2 ^ 60)

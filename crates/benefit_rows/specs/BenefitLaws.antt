@@ -3,7 +3,7 @@ use Rattle.std.specs.Prelude.{◌≡◌, ℕ, zero, suc, ℤ, pos, ◌+ℤ◌, �
 use Rattle.std.proofs.Common.{arith, ap, sym, ◌∙◌}
 use Rattle.std.proofs.lemmas.Int.{ints, clamps}
 use Rattle.std.proofs.lemmas.List.{take-append-drop}
-use Rattle.benefit_rows.specs.Benefits.{size_of, gain_of, gains_of, rank_of, gap_between, gap_of, benefit_merged, merged_of, differences, sums_of}
+use Rattle.benefit_rows.specs.Benefits.{size_of, choice_gain, gains_of, rank_of, gap_between, gap_of, benefit_merged, merged_of, differences, sums_of}
 
 -- One benefit.
 
@@ -20,13 +20,13 @@ size_of-sub y z = omega (arith, ints, clamps)
 pub size_of-bounds : (z : ℤ) → (z ≤ℤ size_of z) × ((pos 0 -ℤ size_of z) ≤ℤ z)
 size_of-bounds z = (omega (arith, ints, clamps), omega (arith, ints, clamps))
 
-pub gain_of-positive : (z : ℤ) (d : ℕ) → pos 0 ≤ℤ gain_of z d
-gain_of-positive z zero = omega (arith, ints, clamps)
-gain_of-positive z (suc d) = omega (arith, ints, clamps)
+pub choice_gain-positive : (z : ℤ) (d : ℕ) → pos 0 ≤ℤ choice_gain z d
+choice_gain-positive z zero = omega (arith, ints, clamps)
+choice_gain-positive z (suc d) = omega (arith, ints, clamps)
 
-pub gain_of-most : (z : ℤ) (d : ℕ) → gain_of z d ≤ℤ size_of z
-gain_of-most z zero = omega (arith, ints, clamps)
-gain_of-most z (suc d) = omega (arith, ints, clamps)
+pub choice_gain-most : (z : ℤ) (d : ℕ) → choice_gain z d ≤ℤ size_of z
+choice_gain-most z zero = omega (arith, ints, clamps)
+choice_gain-most z (suc d) = omega (arith, ints, clamps)
 
 pub gap_between-self : (z : ℤ) → gap_between z z ≡ pos 0
 gap_between-self z = omega (arith, ints, clamps)
@@ -40,7 +40,7 @@ gap_between-most a s = omega (arith, ints, clamps)
 pub gap_between-chain : (a b c : ℤ) → gap_between a c ≤ℤ (gap_between a b +ℤ gap_between b c)
 gap_between-chain a b c = omega (arith, ints, clamps)
 
-pub gap_between-bounds : (a s : ℤ) (d : ℕ) → gain_of s d ≤ℤ (gain_of a d +ℤ gap_between a s)
+pub gap_between-bounds : (a s : ℤ) (d : ℕ) → choice_gain s d ≤ℤ (choice_gain a d +ℤ gap_between a s)
 gap_between-bounds a s zero = omega (arith, ints, clamps)
 gap_between-bounds a s (suc d) = omega (arith, ints, clamps)
 
@@ -73,7 +73,7 @@ rank_of-drop (suc k) (s ∷ ss) = omega (arith, ints, size_of-positive s, rank_o
 pub gains_of-most : (ss : List ℤ) (ds : List ℕ) → gains_of ss ds ≤ℤ rank_of ss
 gains_of-most [] ds = omega (arith, ints)
 gains_of-most (s ∷ ss) [] = rank_of-positive (s ∷ ss)
-gains_of-most (s ∷ ss) (d ∷ ds) = omega (arith, ints, gain_of-most s d, gains_of-most ss ds)
+gains_of-most (s ∷ ss) (d ∷ ds) = omega (arith, ints, choice_gain-most s d, gains_of-most ss ds)
 
 -- a row has no gap to itself
 pub gap_of-self : (ss : List ℤ) → gap_of ss ss ≡ pos 0

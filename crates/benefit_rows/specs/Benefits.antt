@@ -15,15 +15,15 @@ abbrev pub size_of : ℤ → ℤ
 size_of z = above_zero z +ℤ below_zero z
 
 -- what a choice gains from a benefit: what is above zero by yes, what is below zero by no (0)
-abbrev pub gain_of : ℤ → ℕ → ℤ
-gain_of z zero = below_zero z
-gain_of z (suc _) = above_zero z
+abbrev pub choice_gain : ℤ → ℕ → ℤ
+choice_gain z zero = below_zero z
+choice_gain z (suc _) = above_zero z
 
 -- what the choices gain from a row of benefits
 abbrev pub gains_of : List ℤ → List ℕ → ℤ
 gains_of [] ds = pos 0
 gains_of (z ∷ zs) [] = pos 0
-gains_of (z ∷ zs) (d ∷ ds) = gain_of z d +ℤ gains_of zs ds
+gains_of (z ∷ zs) (d ∷ ds) = choice_gain z d +ℤ gains_of zs ds
 
 -- the sum of the sizes
 abbrev pub rank_of : List ℤ → ℤ

@@ -4,7 +4,7 @@ ghost use Rattle.std.specs.Prelude.{◌≡◌, ◌^◌, ◌+◌, ◌*◌, ◌≤
 ghost use Rattle.benefit_rows.specs.Benefits.{above_zero, below_zero, benefit_merged, differences, gap_between, gap_of, merged_of, rank_of, size_of, sums_of, where_at_most};
 
 // How many differences are added up before their sum is tested.
-const BLOCK: usize = 4;
+const BLOCK: usize = 8;
 
 /// How far a benefit is above zero: what it gains by yes.
 pub fn above_zero(benefit: i64) -> i64
@@ -107,16 +107,16 @@ fn distance_within(from: &[i64], to: &[i64], most: i64) -> Option<i64>
 
 /// Four benefits of a row.
 fn block_of(row: &[i64], block: usize) -> &[i64]
-    requires { 4 * (block + 1) ≤ length row.now }
-    ensures { result.now ≡ take 4 (drop (4 * block) row.now) }
+    requires { 8 * (block + 1) ≤ length row.now }
+    ensures { result.now ≡ take 8 (drop (8 * block) row.now) }
 {
     &row[BLOCK * block..BLOCK * block + BLOCK]
 }
 
 /// What follows so many blocks of a row.
 fn rest_after(row: &[i64], blocks: usize) -> &[i64]
-    requires { 4 * blocks ≤ length row.now }
-    ensures { result.now ≡ drop (4 * blocks) row.now }
+    requires { 8 * blocks ≤ length row.now }
+    ensures { result.now ≡ drop (8 * blocks) row.now }
 {
     &row[BLOCK * blocks..]
 }

@@ -7,7 +7,7 @@ use Rattle.std.specs.Prelude.{Result, Ok, Err, is_ok, IsOk}
 use Rattle.dp_model.specs.Lists.{Each}
 use Rattle.dp_model.proofs.Members.{Each-append, Each-then}
 use Rattle.bound_cover.specs.declared.cover.CoverArc.{CoverArc}
-use Rattle.bound_cover.specs.declared.storing.Head.{Head}
+use Rattle.bound_cover.specs.declared.storing.Span.{Span}
 use Rattle.bound_cover.specs.Covers.{CoverRow}
 use Rattle.bound_cover.specs.Exploring.{layer_of}
 use Rattle.bound_cover.specs.Stored.{row_of, layers_of, IsWithin, RiseTo, AreShort, IsStored, last_layer, with_row}
@@ -70,7 +70,7 @@ layers-row (start ∷ next ∷ starts) rows row h =
     ∙ (ap (λ ls. slice_range rows start next ∷ ls) (layers-row (next ∷ starts) rows row h.1) ∙ sym (with-row-behind (slice_range rows start next) (layers_of (next ∷ starts) rows) row some))
 
 -- the rows that are there show the same
-rows-same : (words new_words : List ℤ) (arcs new_arcs : List CoverArc) (heads : List Head) → Each (IsWithin (length words) (length arcs)) heads → map (row_of (words ++ new_words) (arcs ++ new_arcs)) heads ≡ map (row_of words arcs) heads
+rows-same : (words new_words : List ℤ) (arcs new_arcs : List CoverArc) (heads : List Span) → Each (IsWithin (length words) (length arcs)) heads → map (row_of (words ++ new_words) (arcs ++ new_arcs)) heads ≡ map (row_of words arcs) heads
 rows-same words new_words arcs new_arcs [] h = refl
 rows-same words new_words arcs new_arcs (head ∷ heads) h =
     let w = range-front words new_words head.words_from head.words_to h.0.words_rise h.0.words_end in
@@ -81,14 +81,14 @@ rows-same words new_words arcs new_arcs (head ∷ heads) h =
     ap (λ r. r ∷ map (row_of (words ++ new_words) (arcs ++ new_arcs)) heads) first ∙ ap (λ rs. row_of words arcs head ∷ rs) (rows-same words new_words arcs new_arcs heads h.1)
 
 -- the head of a row whose words and arcs were put behind all others
-abbrev pub head_behind : Option ℤ → Bool → ℕ → ℕ → ℕ → ℕ → Head
+abbrev pub head_behind : Option ℤ → Bool → ℕ → ℕ → ℕ → ℕ → Span
 head_behind bound has_arcs words words_to arcs arcs_to = record { bound = bound; words_from = words; words_to = words_to; has_arcs = has_arcs; arcs_from = arcs; arcs_to = arcs_to }
 
 pub map-behind : {X Y : Type 0} (f : X → Y) (xs : List X) (x : X) → map f (xs ++ x ∷ []) ≡ map f xs ++ f x ∷ []
 map-behind f [] x = refl
 map-behind f (y ∷ xs) x = ap (λ l. f y ∷ l) (map-behind f xs x)
 
-pub row-added : (starts : List ℕ) (heads : List Head) (words new_words : List ℤ) (arcs new_arcs : List CoverArc) (bound : Option ℤ) (has_arcs : Bool) → IsStored starts heads (length words) (length arcs)
+pub row-added : (starts : List ℕ) (heads : List Span) (words new_words : List ℤ) (arcs new_arcs : List CoverArc) (bound : Option ℤ) (has_arcs : Bool) → IsStored starts heads (length words) (length arcs)
     → layers_of starts (map (row_of (words ++ new_words) (arcs ++ new_arcs)) (heads ++ head_behind bound has_arcs (length words) (length words + length new_words) (length arcs) (length arcs + length new_arcs) ∷ []))
     ≡ with_row (layers_of starts (map (row_of words arcs) heads)) (record { bound = bound; words = new_words; arcs = cond has_arcs (Some new_arcs) None })
 row-added starts heads words new_words arcs new_arcs bound has_arcs h =
@@ -103,7 +103,7 @@ row-added starts heads words new_words arcs new_arcs bound has_arcs h =
     ap (layers_of starts) (map-behind show heads head ∙ (ap (λ l. l ++ show head ∷ []) old ∙ ap (λ r. map (row_of words arcs) heads ++ r ∷ []) shown))
     ∙ layers-row starts (map (row_of words arcs) heads) new rises
 
-pub row-stored : (starts : List ℕ) (heads : List Head) (words arcs new_words new_arcs : ℕ) (bound : Option ℤ) (has_arcs : Bool) → IsStored starts heads words arcs
+pub row-stored : (starts : List ℕ) (heads : List Span) (words arcs new_words new_arcs : ℕ) (bound : Option ℤ) (has_arcs : Bool) → IsStored starts heads words arcs
     → IsStored starts (heads ++ head_behind bound has_arcs words (words + new_words) arcs (arcs + new_arcs) ∷ []) (words + new_words) (arcs + new_arcs)
 row-stored starts heads words arcs new_words new_arcs bound has_arcs h = record {
   starts_rise = rises-to starts (length heads) (length (heads ++ head_behind bound has_arcs words (words + new_words) arcs (arcs + new_arcs) ∷ [])) h.starts_rise (let long = length-append heads (head_behind bound has_arcs words (words + new_words) arcs (arcs + new_arcs) ∷ []) in omega arith);
@@ -112,7 +112,7 @@ row-stored starts heads words arcs new_words new_arcs bound has_arcs h = record 
       (record { words_rise = omega arith; words_end = omega arith; arcs_rise = omega arith; arcs_end = omega arith }, tt);
 }
 
-pub layer-stored : (starts : List ℕ) (heads : List Head) (words arcs : ℕ) → IsStored starts heads words arcs → IsStored (starts ++ length heads ∷ []) heads words arcs
+pub layer-stored : (starts : List ℕ) (heads : List Span) (words arcs : ℕ) → IsStored starts heads words arcs → IsStored (starts ++ length heads ∷ []) heads words arcs
 layer-stored starts heads words arcs h = record { starts_rise = rises-more starts (length heads) h.starts_rise; within = h.within }
 
 -- what is put where there is room
@@ -121,7 +121,7 @@ pub extended : {X E : Type 0} (r : Result (Unit {0}) E) (len capacity now : ℕ)
 extended (Ok x) len capacity now old more items may fits is count = (is, count)
 extended (Err e) len capacity now old more items may fits is count = let no : false ≡ true = may fits in absurd (cc)
 
-pub layer-added : (starts : List ℕ) (heads : List Head) (words : List ℤ) (arcs : List CoverArc) → layers_of (starts ++ length heads ∷ []) (map (row_of words arcs) heads) ≡ layers_of starts (map (row_of words arcs) heads) ++ [] ∷ []
+pub layer-added : (starts : List ℕ) (heads : List Span) (words : List ℤ) (arcs : List CoverArc) → layers_of (starts ++ length heads ∷ []) (map (row_of words arcs) heads) ≡ layers_of starts (map (row_of words arcs) heads) ++ [] ∷ []
 layer-added starts heads words arcs =
     let long = length-map heads (row_of words arcs) in
     subst (λ n. layers_of (starts ++ n ∷ []) (map (row_of words arcs) heads) ≡ layers_of starts (map (row_of words arcs) heads) ++ [] ∷ []) long (layers-more starts (map (row_of words arcs) heads))

@@ -1,25 +1,25 @@
 -- What a cover that grows shows after a word, an arc or a row is added.
-use Rattle.std.proofs.Common.{◌≡◌, ℕ, ◌+◌, ◌-◌, ◌^◌, ◌<◌, ◌≤◌, ℤ, Bool, cond, List, [], ◌∷◌, ◌++◌, length, map, drop, Option, Some, None, refl, sym, ◌∙◌, ap, subst, arith, length-append, length-drop}
-use Rattle.std.proofs.lemmas.List.{drop_all, take_all, drop-append-le, length-map}
+use Rattle.std.proofs.Common.{◌≡◌, ℕ, ◌+◌, ◌-◌, ◌^◌, ◌<◌, ◌≤◌, ℤ, Bool, cond, List, [], ◌∷◌, ◌++◌, length, map, take, drop, Option, Some, None, refl, sym, ◌∙◌, ap, subst, arith, length-append, length-drop}
+use Rattle.std.proofs.lemmas.List.{drop_all, take_all, drop-append-le, length-map, length-take-le, take-append-drop}
 use Rattle.std.specs.List.{slice_range}
 use Rattle.dp_model.specs.Lists.{Each}
 use Rattle.dp_model.proofs.Members.{Each-then}
 use Rattle.bound_cover.specs.declared.cover.CoverArc.{CoverArc}
-use Rattle.bound_cover.specs.declared.storing.Head.{Head}
+use Rattle.bound_cover.specs.declared.storing.Span.{Span}
 use Rattle.bound_cover.specs.Covers.{CoverRow}
 use Rattle.bound_cover.specs.Stored.{row_of, layers_of, last_layer, IsWithin, RiseTo, AreShort, IsStored, with_row}
 use Rattle.bound_cover.specs.Building.{built, IsBuilt, with_word, with_arc, with_layer, open_row, with_open_row}
 use Rattle.bound_cover.proofs.Blocks.{head_behind, layer-added, layer-stored, layers-row, length-layers, map-behind, range-front, row-stored, short-layer, short-row}
 
 -- blocks that grow hold what they held
-stored-wider : (starts : List ℕ) (heads : List Head) (words arcs more_words more_arcs : ℕ) → IsStored starts heads words arcs → words ≤ more_words → arcs ≤ more_arcs → IsStored starts heads more_words more_arcs
+stored-wider : (starts : List ℕ) (heads : List Span) (words arcs more_words more_arcs : ℕ) → IsStored starts heads words arcs → words ≤ more_words → arcs ≤ more_arcs → IsStored starts heads more_words more_arcs
 stored-wider starts heads words arcs more_words more_arcs h w a = record {
   starts_rise = h.starts_rise;
   within = Each-then (IsWithin words arcs) (IsWithin more_words more_arcs) heads (λ x i. (let p = i.words_end in let q = i.arcs_end in record { words_rise = i.words_rise; words_end = omega arith; arcs_rise = i.arcs_rise; arcs_end = omega arith })) h.within;
 }
 
 -- a word behind those of all rows is in none of them
-words-kept : (words more : List ℤ) (arcs : List CoverArc) (heads : List Head) (w a : ℕ) → w ≤ length words → Each (IsWithin w a) heads → map (row_of (words ++ more) arcs) heads ≡ map (row_of words arcs) heads
+words-kept : (words more : List ℤ) (arcs : List CoverArc) (heads : List Span) (w a : ℕ) → w ≤ length words → Each (IsWithin w a) heads → map (row_of (words ++ more) arcs) heads ≡ map (row_of words arcs) heads
 words-kept words more arcs [] w a low h = refl
 words-kept words more arcs (head ∷ heads) w a low h =
     let end = h.0.words_end in
@@ -28,7 +28,7 @@ words-kept words more arcs (head ∷ heads) w a low h =
     ap (λ r. r ∷ map (row_of (words ++ more) arcs) heads) first ∙ ap (λ rs. row_of words arcs head ∷ rs) (words-kept words more arcs heads w a low h.1)
 
 -- nor is an arc
-arcs-kept : (words : List ℤ) (arcs more : List CoverArc) (heads : List Head) (w a : ℕ) → a ≤ length arcs → Each (IsWithin w a) heads → map (row_of words (arcs ++ more)) heads ≡ map (row_of words arcs) heads
+arcs-kept : (words : List ℤ) (arcs more : List CoverArc) (heads : List Span) (w a : ℕ) → a ≤ length arcs → Each (IsWithin w a) heads → map (row_of words (arcs ++ more)) heads ≡ map (row_of words arcs) heads
 arcs-kept words arcs more [] w a low h = refl
 arcs-kept words arcs more (head ∷ heads) w a low h =
     let end = h.0.arcs_end in
@@ -39,7 +39,7 @@ arcs-kept words arcs more (head ∷ heads) w a low h =
 to-the-end : {X : Type 0} (from : ℕ) (xs : List X) → slice_range xs from (length xs) ≡ drop from xs
 to-the-end from xs = take_all (length xs - from) (drop from xs) (let long = length-drop from xs in omega arith)
 
-row-ended : (starts : List ℕ) (heads : List Head) (words : List ℤ) (arcs : List CoverArc) (w a : ℕ) (bound : Option ℤ) (has_arcs : Bool) → IsStored starts heads w a
+row-ended : (starts : List ℕ) (heads : List Span) (words : List ℤ) (arcs : List CoverArc) (w a : ℕ) (bound : Option ℤ) (has_arcs : Bool) → IsStored starts heads w a
     → layers_of starts (map (row_of words arcs) (heads ++ head_behind bound has_arcs w (length words) a (length arcs) ∷ []))
     ≡ with_row (layers_of starts (map (row_of words arcs) heads)) (record { bound = bound; words = drop w words; arcs = cond has_arcs (Some (drop a arcs)) None })
 row-ended starts heads words arcs w a bound has_arcs h =
@@ -52,7 +52,7 @@ row-ended starts heads words arcs w a bound has_arcs h =
     let rises = subst (λ n. RiseTo starts n) (sym (length-map heads show)) h.starts_rise in
     ap (layers_of starts) (map-behind show heads head ∙ ap (λ r. map show heads ++ r ∷ []) shown) ∙ layers-row starts (map show heads) new rises
 
-module _ (starts : List ℕ) (heads : List Head) (words : List ℤ) (arcs : List CoverArc) (w a : ℕ) (is : IsBuilt starts heads words arcs w a) where
+module _ (starts : List ℕ) (heads : List Span) (words : List ℤ) (arcs : List CoverArc) (w a : ℕ) (is : IsBuilt starts heads words arcs w a) where
   -- a further word
   pub word-built : (word : ℤ) → built starts heads (words ++ word ∷ []) arcs w a ≡ with_word (built starts heads words arcs w a) word
   word-built word =
@@ -113,5 +113,14 @@ module _ (starts : List ℕ) (heads : List Head) (words : List ℤ) (arcs : List
   layers-built = sym (length-layers starts (map (row_of words arcs) heads))
 
 -- the cover alone
-pub cover-stored : (starts : List ℕ) (heads : List Head) (words : List ℤ) (arcs : List CoverArc) (w a : ℕ) → IsBuilt starts heads words arcs w a → IsStored starts heads (length words) (length arcs)
+pub cover-stored : (starts : List ℕ) (heads : List Span) (words : List ℤ) (arcs : List CoverArc) (w a : ℕ) → IsBuilt starts heads words arcs w a → IsStored starts heads (length words) (length arcs)
 cover-stored starts heads words arcs w a is = stored-wider starts heads w a (length words) (length arcs) is.stored is.words_end is.arcs_end
+
+-- without what was added to the open row it shows the same
+pub cover-cut : (starts : List ℕ) (heads : List Span) (words : List ℤ) (arcs : List CoverArc) (w a : ℕ) → IsBuilt starts heads words arcs w a
+    → map (row_of (take w words) (take a arcs)) heads ≡ map (row_of words arcs) heads
+cover-cut starts heads words arcs w a is =
+    let w_long : length (take w words) ≡ w = length-take-le w words is.words_end in
+    let a_long : length (take a arcs) ≡ a = length-take-le a arcs is.arcs_end in
+    sym (subst (λ (l : List ℤ). map (row_of l arcs) heads ≡ map (row_of (take w words) arcs) heads) (take-append-drop w words) (words-kept (take w words) (drop w words) arcs heads w a (omega arith) is.stored.within)
+    ∙ subst (λ (l : List CoverArc). map (row_of (take w words) l) heads ≡ map (row_of (take w words) (take a arcs)) heads) (take-append-drop a arcs) (arcs-kept (take w words) (take a arcs) (drop a arcs) heads w a (omega arith) is.stored.within))

@@ -8,7 +8,7 @@ use Rattle.dp_model.proofs.Members.{each-has}
 use Rattle.dp_laws.proofs.Diagrams.Places.{Has-at}
 use Rattle.bound_cover.proofs.Blocks.{starts-within}
 use Rattle.bound_cover.specs.declared.cover.CoverArc.{CoverArc}
-use Rattle.bound_cover.specs.declared.storing.Head.{Head}
+use Rattle.bound_cover.specs.declared.storing.Span.{Span}
 use Rattle.bound_cover.specs.Covers.{CoverRow}
 use Rattle.bound_cover.specs.Exploring.{layer_of}
 use Rattle.bound_cover.specs.Stored.{row_of, layers_of, IsWithin, RiseTo, place_from, place_at, count_at}
@@ -61,7 +61,7 @@ row-at (start ∷ next ∷ starts) rows (suc layer) row h =
     ap (λ n. option_and_then (slice_get rows) (option_and_then (place_from row (unwrap_or (slice_get (start ∷ next ∷ starts) n) (length rows))) (slice_get (next ∷ starts) layer))) e ∙ row-at (next ∷ starts) rows layer row h.1
 
 -- as the code finds it
-pub row-found : (cover : List (List CoverRow)) (starts : List ℕ) (heads : List Head) (words : List ℤ) (arcs : List CoverArc) (layer row : ℕ) (place : Option ℕ) → layers_of starts (map (row_of words arcs) heads) ≡ cover → RiseTo starts (length heads)
+pub row-found : (cover : List (List CoverRow)) (starts : List ℕ) (heads : List Span) (words : List ℤ) (arcs : List CoverArc) (layer row : ℕ) (place : Option ℕ) → layers_of starts (map (row_of words arcs) heads) ≡ cover → RiseTo starts (length heads)
     → place ≡ place_at starts (length heads) layer row → option_and_then (λ i. option_map (row_of words arcs) (slice_get heads i)) place ≡ slice_get (layer_of cover layer) row
 row-found cover starts heads words arcs layer row place is rises at =
     let rows = map (row_of words arcs) heads in
@@ -75,13 +75,13 @@ row-found cover starts heads words arcs layer row place is rises at =
 
 -- what the code answers
 
-pub row-none : (cover : List (List CoverRow)) (starts s : List ℕ) (heads : List Head) (words : List ℤ) (arcs : List CoverArc) (layer row n : ℕ) (place : Option ℕ) → layers_of starts (map (row_of words arcs) heads) ≡ cover → RiseTo starts (length heads)
+pub row-none : (cover : List (List CoverRow)) (starts s : List ℕ) (heads : List Span) (words : List ℤ) (arcs : List CoverArc) (layer row n : ℕ) (place : Option ℕ) → layers_of starts (map (row_of words arcs) heads) ≡ cover → RiseTo starts (length heads)
     → s ≡ starts → n ≡ length heads → place ≡ place_at s n layer row → place ≡ None → None ≡ slice_get (layer_of cover layer) row
 row-none cover starts s heads words arcs layer row n place is rises same many at none =
     let found = row-found cover starts heads words arcs layer row place is rises (at ∙ (ap (λ l. place_at l n layer row) same ∙ ap (λ m. place_at starts m layer row) many)) in
     ap (option_and_then (λ i. option_map (row_of words arcs) (slice_get heads i))) (sym none) ∙ found
 
-pub row-some : (cover : List (List CoverRow)) (starts s : List ℕ) (heads hs : List Head) (words : List ℤ) (arcs : List CoverArc) (layer row n i : ℕ) (place : Option ℕ) (o : Option Head) → layers_of starts (map (row_of words arcs) heads) ≡ cover → RiseTo starts (length heads)
+pub row-some : (cover : List (List CoverRow)) (starts s : List ℕ) (heads hs : List Span) (words : List ℤ) (arcs : List CoverArc) (layer row n i : ℕ) (place : Option ℕ) (o : Option Span) → layers_of starts (map (row_of words arcs) heads) ≡ cover → RiseTo starts (length heads)
     → s ≡ starts → n ≡ length heads → place ≡ place_at s n layer row → place ≡ Some i → hs ≡ heads → o ≡ slice_get hs i → option_map (row_of words arcs) o ≡ slice_get (layer_of cover layer) row
 row-some cover starts s heads hs words arcs layer row n i place o is rises same many at some those got =
     let found = row-found cover starts heads words arcs layer row place is rises (at ∙ (ap (λ l. place_at l n layer row) same ∙ ap (λ m. place_at starts m layer row) many)) in
@@ -102,7 +102,7 @@ count-of (start ∷ next ∷ starts) rows (suc layer) h =
     let e : suc layer + 1 ≡ suc (layer + 1) = omega arith in
     ap (λ n. unwrap_or (option_map (λ s. unwrap_or (slice_get (start ∷ next ∷ starts) n) (length rows) - s) (slice_get (next ∷ starts) layer)) 0) e ∙ count-of (next ∷ starts) rows layer h.1
 
-pub count-is : (cover : List (List CoverRow)) (starts s : List ℕ) (heads : List Head) (words : List ℤ) (arcs : List CoverArc) (layer n result : ℕ) → layers_of starts (map (row_of words arcs) heads) ≡ cover → RiseTo starts (length heads)
+pub count-is : (cover : List (List CoverRow)) (starts s : List ℕ) (heads : List Span) (words : List ℤ) (arcs : List CoverArc) (layer n result : ℕ) → layers_of starts (map (row_of words arcs) heads) ≡ cover → RiseTo starts (length heads)
     → s ≡ starts → n ≡ length heads → result ≡ count_at s n layer → result ≡ length (layer_of cover layer)
 count-is cover starts s heads words arcs layer n result is rises same many at =
     let rows = map (row_of words arcs) heads in

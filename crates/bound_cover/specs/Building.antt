@@ -1,7 +1,7 @@
 -- A cover that grows row by row: the rows so far, and a row that is open.
 use Rattle.std.specs.Prelude.{ℕ, ◌≤◌, ℤ, Bool, cond, List, [], ◌∷◌, ◌++◌, length, map, drop, Option, Some, None}
 use Rattle.bound_cover.specs.declared.cover.CoverArc.{CoverArc}
-use Rattle.bound_cover.specs.declared.storing.Head.{Head}
+use Rattle.bound_cover.specs.declared.storing.Span.{Span}
 use Rattle.bound_cover.specs.Covers.{CoverRow}
 use Rattle.bound_cover.specs.Stored.{row_of, layers_of, AreShort, IsStored, with_row}
 
@@ -32,7 +32,7 @@ abbrev pub with_open_row : BuilderView → Option ℤ → Bool → BuilderView
 with_open_row b bound has_arcs = record { cover = with_row b.cover (open_row b bound has_arcs); words = []; arcs = [] }
 
 -- what the blocks show, where the open row begins at these words and arcs
-abbrev pub built : List ℕ → List Head → List ℤ → List CoverArc → ℕ → ℕ → BuilderView
+abbrev pub built : List ℕ → List Span → List ℤ → List CoverArc → ℕ → ℕ → BuilderView
 built starts heads words arcs words_from arcs_from = record {
   cover = layers_of starts (map (row_of words arcs) heads);
   words = drop words_from words;
@@ -40,7 +40,7 @@ built starts heads words arcs words_from arcs_from = record {
 }
 
 -- all rows lie before the open one, and no layer is too long
-pub record IsBuilt (starts : List ℕ) (heads : List Head) (words : List ℤ) (arcs : List CoverArc) (words_from arcs_from : ℕ) : Type 0 where
+pub record IsBuilt (starts : List ℕ) (heads : List Span) (words : List ℤ) (arcs : List CoverArc) (words_from arcs_from : ℕ) : Type 0 where
   pub stored : IsStored starts heads words_from arcs_from
   pub short : AreShort (layers_of starts (map (row_of words arcs) heads))
   pub words_end : words_from ≤ length words

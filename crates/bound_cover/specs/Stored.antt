@@ -1,9 +1,10 @@
 -- How a cover lies in memory: heads of rows one after another, and their words and arcs in two blocks.
-use Rattle.std.specs.Prelude.{ℕ, ◌+◌, ◌-◌, ◌^◌, ◌<◌, ◌≤◌, nat_lt, unwrap_or, option_and_then, option_map, slice_get, ℤ, cond, List, [], ◌∷◌, ◌++◌, length, drop, Option, Some, None}
+use Rattle.std.specs.Prelude.{◌≡◌, ℕ, ◌+◌, ◌-◌, ◌^◌, ◌<◌, ◌≤◌, nat_lt, unwrap_or, option_and_then, option_map, slice_get, ℤ, cond, List, [], ◌∷◌, ◌++◌, length, drop, Option, Some, None}
 use Rattle.std.specs.List.{slice_range}
 use Rattle.dp_model.specs.Lists.{Each}
 use Rattle.bound_cover.specs.declared.cover.CoverArc.{CoverArc}
 use Rattle.bound_cover.specs.declared.storing.Head.{Head}
+use Rattle.bound_cover.specs.declared.storing.Span.{Span}
 use Rattle.bound_cover.specs.declared.storing.RowRef.{RowRef}
 use Rattle.dp_model.specs.Dp.{Dp}
 use Rattle.bound_cover.specs.declared.cover.Why.{Why}
@@ -11,12 +12,45 @@ use Rattle.bound_cover.specs.declared.cover.Why.TheVariants.{Target}
 use Rattle.bound_cover.specs.Covers.{CoverRow}
 use Rattle.bound_cover.specs.Tests.{is_state_row, gap_fault}
 
--- the row of a head
-abbrev pub row_of : List ℤ → List CoverArc → Head → CoverRow
-row_of words arcs head = record {
-  bound = head.bound;
-  words = slice_range words head.words_from head.words_to;
-  arcs = cond head.has_arcs (Some (slice_range arcs head.arcs_from head.arcs_to)) None;
+-- the span of a head whose words and arcs begin here
+abbrev pub span_of : ℕ → ℕ → Head → Span
+span_of words_from arcs_from head = record {
+  bound = cond head.is_bounded (Some head.bound) None;
+  words_from = words_from;
+  words_to = head.words_to;
+  has_arcs = head.has_arcs;
+  arcs_from = arcs_from;
+  arcs_to = head.arcs_to;
+}
+
+-- the spans of heads, of which each begins where the one before ends
+abbrev pub spans_from : ℕ → ℕ → List Head → List Span
+spans_from words_from arcs_from [] = []
+spans_from words_from arcs_from (head ∷ heads) = span_of words_from arcs_from head ∷ spans_from head.words_to head.arcs_to heads
+
+abbrev pub spans : List Head → List Span
+spans heads = spans_from 0 0 heads
+
+-- where the words of all heads end, and where their arcs do
+abbrev pub end_of_words : ℕ → List Head → ℕ
+end_of_words from [] = from
+end_of_words from (head ∷ heads) = end_of_words head.words_to heads
+
+abbrev pub end_of_arcs : ℕ → List Head → ℕ
+end_of_arcs from [] = from
+end_of_arcs from (head ∷ heads) = end_of_arcs head.arcs_to heads
+
+-- a further row begins there
+pub record BeginsAt (words arcs : ℕ) (heads : List Head) : Type 0 where
+  pub words_at : end_of_words 0 heads ≡ words
+  pub arcs_at : end_of_arcs 0 heads ≡ arcs
+
+-- the row of a span
+abbrev pub row_of : List ℤ → List CoverArc → Span → CoverRow
+row_of words arcs span = record {
+  bound = span.bound;
+  words = slice_range words span.words_from span.words_to;
+  arcs = cond span.has_arcs (Some (slice_range arcs span.arcs_from span.arcs_to)) None;
 }
 
 -- the layers, of which each begins at its start and ends where the next one begins
@@ -25,12 +59,12 @@ layers_of [] rows = []
 layers_of (start ∷ []) rows = drop start rows ∷ []
 layers_of (start ∷ next ∷ starts) rows = slice_range rows start next ∷ layers_of (next ∷ starts) rows
 
--- the head's words and arcs lie within the blocks
-pub record IsWithin (words arcs : ℕ) (head : Head) : Type 0 where
-  pub words_rise : head.words_from ≤ head.words_to
-  pub words_end : head.words_to ≤ words
-  pub arcs_rise : head.arcs_from ≤ head.arcs_to
-  pub arcs_end : head.arcs_to ≤ arcs
+-- the span's words and arcs lie within the blocks
+pub record IsWithin (words arcs : ℕ) (span : Span) : Type 0 where
+  pub words_rise : span.words_from ≤ span.words_to
+  pub words_end : span.words_to ≤ words
+  pub arcs_rise : span.arcs_from ≤ span.arcs_to
+  pub arcs_end : span.arcs_to ≤ arcs
 
 -- the starts rise up to the number of rows
 abbrev pub RiseTo : List ℕ → ℕ → Type 0
@@ -48,8 +82,8 @@ last_layer [] = []
 last_layer (layer ∷ []) = layer
 last_layer (layer ∷ next ∷ layers) = last_layer (next ∷ layers)
 
--- the starts rise to the number of rows, and each head's words and arcs lie within the blocks
-pub record IsStored (starts : List ℕ) (heads : List Head) (words arcs : ℕ) : Type 0 where
+-- the starts rise to the number of rows, and each span's words and arcs lie within the blocks
+pub record IsStored (starts : List ℕ) (heads : List Span) (words arcs : ℕ) : Type 0 where
   pub starts_rise : RiseTo starts (length heads)
   pub within : Each (IsWithin words arcs) heads
 

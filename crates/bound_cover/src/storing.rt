@@ -1,8 +1,8 @@
 //! Covers in memory: heads of rows one after another, and their words and arcs in two blocks.
 
-ghost use Rattle.std.specs.Prelude.{◌≡◌, ℕ, ◌<◌, ◌-◌, ◌^◌, cond, List, [], ◌∷◌, ◌++◌, length, slice_get, Option, Some, None, option_map, OnOk, OnErr};
+ghost use Rattle.std.specs.Prelude.{◌≡◌, ℕ, ◌<◌, ◌≤◌, ◌-◌, ◌^◌, cond, List, [], ◌∷◌, ◌++◌, length, slice_get, Option, Some, None, option_map, OnOk, OnErr};
 ghost use Rattle.bound_cover.specs.Covers.{CoverRow};
-ghost use Rattle.bound_cover.specs.Stored.{with_row, shown_row, row_of, place_at, count_at, last_layer, AreShort, IsWithin};
+ghost use Rattle.bound_cover.specs.Stored.{with_row, shown_row, span_of, spans, row_of, place_at, count_at, last_layer, AreShort, IsWithin};
 ghost use Rattle.bound_cover.specs.Exploring.{layer_of};
 
 mod building;
@@ -13,9 +13,20 @@ use dp_model::OutOfMemory;
 use std::alloc::Global;
 use std::marker::Model;
 
-/// A row's bound, and where its words and its arcs lie.
+/// What is kept of a row: its bound, and where its words and its arcs end. They begin where those of the row before end.
 #[derive(Clone, Copy, Debug)]
 pub struct Head {
+    // It counts where the row is bounded.
+    bound: i64,
+    words_to: usize,
+    arcs_to: usize,
+    is_bounded: bool,
+    has_arcs: bool,
+}
+
+/// A row's bound, and where its words and its arcs lie.
+#[derive(Clone, Copy, Debug)]
+pub struct Span {
     bound: Option<i64>,
     words_from: usize,
     words_to: usize,
@@ -67,6 +78,43 @@ fn count_of(starts: &[usize], rows: usize, layer: usize) -> usize
     if start <= end { end - start } else { 0 }
 }
 
+/// The head of a row with this bound, whose words and arcs end there.
+#[inline]
+fn head_of(bound: Option<i64>, has_arcs: bool, words_to: usize, arcs_to: usize) -> Head
+    ensures { (words_from arcs_from : ℕ) → span_of words_from arcs_from result ≡ record { bound = bound; words_from = words_from; words_to = words_to; has_arcs = has_arcs; arcs_from = arcs_from; arcs_to = arcs_to } }
+{
+    let (is_bounded, bound) = match bound {
+        Some(bound) => (true, bound),
+        None => (false, 0),
+    };
+    Head {
+        bound,
+        words_to,
+        arcs_to,
+        is_bounded,
+        has_arcs,
+    }
+}
+
+/// The span of a head whose words and arcs begin here.
+fn span_of(words_from: usize, arcs_from: usize, head: Head) -> Span
+    ensures { result ≡ span_of words_from arcs_from head }
+{
+    let bound = if head.is_bounded {
+        Some(head.bound)
+    } else {
+        None
+    };
+    Span {
+        bound,
+        words_from,
+        words_to: head.words_to,
+        has_arcs: head.has_arcs,
+        arcs_from,
+        arcs_to: head.arcs_to,
+    }
+}
+
 /// The head at a place, or `None` where there is none.
 fn head_at(heads: &[Head], place: usize) -> Option<Head>
     ensures { result ≡ slice_get heads.now place }
@@ -77,16 +125,50 @@ fn head_at(heads: &[Head], place: usize) -> Option<Head>
     }
 }
 
-/// The row of a head.
-fn view_of<'c>(head: Head, words: &'c [i64], arcs: &'c [CoverArc]) -> RowRef<'c>
-    requires { IsWithin (length words.now) (length arcs.now) head }
-    ensures { shown_row result ≡ row_of words.now arcs.now head }
+/// The head before a place.
+fn head_before(heads: &[Head], place: usize) -> Head
+    requires some { 0 < place }
+    requires there { place ≤ length heads.now }
+    ensures { slice_get heads.now (place - 1) ≡ Some result }
+{
+    heads[place - 1]
+}
+
+/// The span of the head at a place.
+#[tactic(auto, using(crate::proofs::Spans::span_steps))]
+#[inline]
+fn span_behind(heads: &[Head], place: usize, head: Head) -> Span
+    requires { slice_get heads.now place ≡ Some head }
+    ensures { slice_get (spans heads.now) place ≡ Some result }
+{
+    if place == 0 {
+        return span_of(0, 0, head);
+    }
+    let before = head_before(heads, place);
+    span_of(before.words_to, before.arcs_to, head)
+}
+
+/// The span at a place, or `None` where there is none.
+#[tactic(auto, using(crate::proofs::Spans::span_steps))]
+fn span_at(heads: &[Head], place: usize) -> Option<Span>
+    ensures { result ≡ slice_get (spans heads.now) place }
+{
+    match head_at(heads, place) {
+        None => None,
+        Some(head) => Some(span_behind(heads, place, head)),
+    }
+}
+
+/// The row of a span.
+fn view_of<'c>(span: Span, words: &'c [i64], arcs: &'c [CoverArc]) -> RowRef<'c>
+    requires { IsWithin (length words.now) (length arcs.now) span }
+    ensures { shown_row result ≡ row_of words.now arcs.now span }
 {
     RowRef {
-        bound: head.bound,
-        words: &words[head.words_from..head.words_to],
-        has_arcs: head.has_arcs,
-        arcs: &arcs[head.arcs_from..head.arcs_to],
+        bound: span.bound,
+        words: &words[span.words_from..span.words_to],
+        has_arcs: span.has_arcs,
+        arcs: &arcs[span.arcs_from..span.arcs_to],
     }
 }
 
@@ -102,14 +184,15 @@ pub struct Cover {
 impl Model for Cover {
     ghost use Rattle.std.specs.Prelude.{List, map, vec_len};
     ghost use Rattle.bound_cover.specs.Covers.{CoverRow};
-    ghost use Rattle.bound_cover.specs.Stored.{row_of, layers_of, AreShort, IsStored};
+    ghost use Rattle.bound_cover.specs.Stored.{row_of, spans, layers_of, AreShort, IsStored, BeginsAt};
 
     ghost Value = { List (List CoverRow) };
 
-    ghost view = { λ c. layers_of c.starts.items (map (row_of c.words.items c.arcs.items) c.heads.items) };
+    ghost view = { λ c. layers_of c.starts.items (map (row_of c.words.items c.arcs.items) (spans c.heads.items)) };
 
-    ghost invariant = { λ c. IsStored c.starts.items c.heads.items (vec_len c.words) (vec_len c.arcs)
-        × AreShort (layers_of c.starts.items (map (row_of c.words.items c.arcs.items) c.heads.items)) };
+    ghost invariant = { λ c. IsStored c.starts.items (spans c.heads.items) (vec_len c.words) (vec_len c.arcs)
+        × AreShort (layers_of c.starts.items (map (row_of c.words.items c.arcs.items) (spans c.heads.items)))
+        × BeginsAt (vec_len c.words) (vec_len c.arcs) c.heads.items };
 }
 
 impl Cover {
@@ -139,9 +222,9 @@ impl Cover {
     {
         match place_of(self.starts.as_slice(), self.heads.len(), layer, place) {
             None => None,
-            Some(place) => match head_at(self.heads.as_slice(), place) {
+            Some(place) => match span_at(self.heads.as_slice(), place) {
                 None => None,
-                Some(head) => Some(view_of(head, self.words.as_slice(), self.arcs.as_slice())),
+                Some(span) => Some(view_of(span, self.words.as_slice(), self.arcs.as_slice())),
             },
         }
     }
@@ -235,18 +318,9 @@ impl Cover {
         self.heads.reserve(1)?;
         self.words.reserve(words.len())?;
         self.arcs.reserve(arcs.len())?;
-        let words_from = self.words.len();
-        let arcs_from = self.arcs.len();
         let _ = self.words.extend_from_slice(words);
         let _ = self.arcs.extend_from_slice(arcs);
-        self.heads.push_reserved(Head {
-            bound,
-            words_from,
-            words_to: self.words.len(),
-            has_arcs,
-            arcs_from,
-            arcs_to: self.arcs.len(),
-        });
+        self.heads.push_reserved(head_of(bound, has_arcs, self.words.len(), self.arcs.len()));
         Ok(())
     }
 }

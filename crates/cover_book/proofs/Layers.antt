@@ -6,7 +6,7 @@ use Rattle.dp_laws.specs.Diagrams.Nodes.{DdNode, DdLayers, node_at}
 use Rattle.bound_cover.specs.declared.cover.CoverArc.{CoverArc}
 use Rattle.bound_cover.specs.Covers.{CoverRow}
 use Rattle.bound_cover.specs.Exploring.{layer_of, with_arcs_at, leads_above, all_wait}
-use Rattle.cover_book.specs.Diagrams.{layer_in}
+use Rattle.relaxed_dd.specs.Shown.{layer_in}
 use Rattle.cover_book.specs.Nodes.{with_arcs}
 
 -- layers that are the same at each place are the same

@@ -5,3 +5,5 @@ pub mod Owning
 pub mod Waits
 pub mod Written
 pub mod Stepping
+pub mod Widths
+pub mod Compiled

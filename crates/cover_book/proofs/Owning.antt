@@ -1,5 +1,5 @@
 -- The nodes of a last exact layer stand for prefixes.
-use Rattle.std.proofs.Common.{◌≡◌, ℕ, ◌+◌, ◌-◌, ◌<◌, ◌≤◌, ℤ, true, false, cond, List, [], length, slice_get, Option, Some, None, ◌∷◌, IsSome, option_and_then, unwrap_or, IsTrue, refl, sym, ◌∙◌, ap, subst, arith}
+use Rattle.std.proofs.Common.{◌≡◌, ℕ, ◌-◌, ◌<◌, ◌≤◌, ℤ, true, false, cond, List, [], length, slice_get, Option, Some, None, ◌∷◌, IsSome, option_and_then, refl, sym, ◌∙◌, ap, subst, arith}
 use Rattle.dp_model.specs.Dp.{Dp}
 use Rattle.dp_model.proofs.Members.{Has}
 use Rattle.dp_laws.specs.Diagrams.Nodes.{DdNode, DdLayers, node_at}
@@ -7,14 +7,14 @@ use Rattle.dp_laws.specs.Diagrams.Seen.{IsDiagram, exact_layers}
 use Rattle.dp_laws.proofs.Diagrams.Places.{Has-at}
 use Rattle.dp_laws.proofs.Diagrams.Starts.{reducible, starts}
 use Rattle.dp_laws.proofs.Diagrams.LastExact.{all-exact}
-use Rattle.cover_book.specs.Diagrams.{layer_in, last_of}
+use Rattle.relaxed_dd.specs.Shown.{layer_in, last_of}
 use Rattle.bound_cover.specs.Exploring.{layer_of, all_wait}
 use Rattle.bound_cover.proofs.Placing.{layer-is-at, reached-at}
 use Rattle.cover_book.proofs.Layers.{there, node-here}
 use Rattle.cover_book.specs.declared.waiting.WaitingRow.{WaitingRow}
 use Rattle.cover_book.specs.Adding.{IsCutWithin, last_needed}
-use Rattle.cover_book.specs.Waits.{IsOwnAt, AreOwnAt}
-use Rattle.cover_book.specs.Steps.{HasOwnCut, CutIsOwn, CanPut, IsDiagramAt}
+use Rattle.cover_book.specs.Waits.{IsOwnAt}
+use Rattle.cover_book.specs.Steps.{CutIsOwn, CanPut, IsDiagramAt}
 use Rattle.cover_book.proofs.Putting.{layer-here}
 
 module _ (dp : Dp) (p : List ℕ) (w : ℕ) (t : Option ℤ) (d : DdLayers) (short : length p < dp.vars) (h : IsDiagram dp p w t d) where

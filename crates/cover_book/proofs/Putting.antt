@@ -1,14 +1,13 @@
 -- A diagram stands in a cover: its layers are those of an exploration's step.
-use Rattle.std.proofs.Common.{◌≡◌, ℕ, zero, suc, ◌+◌, ◌-◌, ◌<◌, ◌≤◌, nat_lt, nat_eq, ℤ, Bool, true, false, cond, ◌&&◌, List, [], ◌∷◌, ◌++◌, length, map, take, set, get_or, slice_get, Option, Some, None, option_map, option_and_then, unwrap_or, ◌⊎◌, inl, inr, refl, sym, ◌∙◌, ap, ap₂, subst, arith}
+use Rattle.std.proofs.Common.{◌≡◌, ℕ, zero, suc, ◌+◌, ◌-◌, ◌<◌, ◌≤◌, nat_lt, ℤ, Bool, true, false, cond, ◌&&◌, List, [], ◌∷◌, ◌++◌, length, map, take, set, get_or, slice_get, Option, Some, None, option_map, option_and_then, unwrap_or, ◌⊎◌, inl, inr, refl, sym, ◌∙◌, ap, ap₂, subst, arith}
 use Rattle.std.proofs.lemmas.List.{length-set}
 use Rattle.std.proofs.lemmas.Option.{none-some, same_Some}
 use Rattle.dp_model.specs.Dp.{Dp}
-use Rattle.dp_laws.specs.declared.arc.DdArc.{DdArc}
 use Rattle.dp_laws.specs.Diagrams.Nodes.{DdNode, DdLayers, node_at}
-use Rattle.cover_book.specs.Diagrams.{layer_in, last_of}
+use Rattle.relaxed_dd.specs.Shown.{layer_in, last_of}
 use Rattle.bound_cover.specs.declared.cover.CoverArc.{CoverArc}
 use Rattle.bound_cover.specs.Covers.{CoverRow}
-use Rattle.bound_cover.specs.Exploring.{layer_of, moved, row_for, all_wait, with_arcs_at, arcs_of_first, needed_layers, Waiting, explored_layer, explored}
+use Rattle.bound_cover.specs.Exploring.{layer_of, moved, row_for, all_wait, with_arcs_at, arcs_of_first, needed_layers, Waiting, explored}
 use Rattle.bound_cover.proofs.Placing.{layer-beyond, explored-long}
 use Rattle.bound_cover.proofs.Steps.{above-own, own, below-own}
 use Rattle.cover_book.specs.Nodes.{arcs_in}

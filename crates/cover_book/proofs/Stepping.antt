@@ -1,5 +1,5 @@
 -- An exploration goes on: the row that waited is explored, and the others wait.
-use Rattle.std.proofs.Common.{◌≡◌, ℕ, zero, suc, ◌+◌, ◌-◌, ◌<◌, ◌≤◌, ℤ, List, [], ◌∷◌, ◌++◌, length, map, drop, slice_get, Option, Some, None, option_map, refl, sym, ◌∙◌, ap, subst, arith}
+use Rattle.std.proofs.Common.{◌≡◌, ℕ, zero, suc, ◌+◌, ◌-◌, ◌<◌, ◌≤◌, ℤ, List, [], ◌∷◌, ◌++◌, length, drop, slice_get, Option, Some, None, option_map, refl, sym, ◌∙◌, ap, subst, arith}
 use Rattle.std.proofs.lemmas.List.{drop_all, length-map, length-append, length-replicate}
 use Rattle.std.proofs.lemmas.Option.{slice_get-map, none-some, same_Some}
 use Rattle.dp_model.specs.Dp.{Dp}
@@ -9,7 +9,7 @@ use Rattle.dp_model.specs.Subproblem.{Subproblem, IsOwn}
 use Rattle.dp_model.proofs.Solutions.{best-is_best}
 use Rattle.dp_laws.specs.Diagrams.Nodes.{DdLayers}
 use Rattle.bound_cover.specs.Covers.{CoverRow}
-use Rattle.bound_cover.specs.Exploring.{HoldsAll, layer_of, Waiting, waiting_in, waiting_after, explored, start_cover, start_waiting}
+use Rattle.bound_cover.specs.Exploring.{HoldsAll, layer_of, Waiting, waiting_in, waiting_after, start_cover, start_waiting}
 use Rattle.bound_cover.specs.DraftRows.{IsDraft}
 use Rattle.bound_cover.specs.Clamping.{clamped_layers, AreWritable, IsReachable}
 use Rattle.bound_cover.specs.Verdicts.{checked_rows}
@@ -20,7 +20,7 @@ use Rattle.bound_cover.proofs.Placing.{explored-long}
 use Rattle.cover_book.specs.declared.waiting.WaitingRow.{WaitingRow}
 use Rattle.cover_book.specs.Adding.{with_root_arcs, AreAdded, last_needed}
 use Rattle.cover_book.specs.Waits.{waiting_row, waiting_of, AreOwn}
-use Rattle.cover_book.specs.Steps.{waits_after, IsDiagramAt, IsPutIn, IsPutAt}
+use Rattle.cover_book.specs.Steps.{waits_after, IsDiagramAt, IsPutAt}
 use Rattle.cover_book.specs.UnderWay.{IsOnTheWay}
 use Rattle.cover_book.proofs.Putting.{layer-here, put}
 use Rattle.cover_book.proofs.Owning.{cut-within}

@@ -1,8 +1,8 @@
 -- A diagram is put into a cover under way.
 use Rattle.std.specs.Prelude.{◌≡◌, ℕ, ◌+◌, ◌-◌, ◌≤◌, nat_lt, ◌&&◌, ℤ, cond, List, ◌++◌, length, map, set, Option, Some, None}
 use Rattle.dp_model.specs.Dp.{Dp}
-use Rattle.dp_laws.specs.Diagrams.Nodes.{DdNode, DdLayers, node_at}
-use Rattle.cover_book.specs.Diagrams.{layer_in, last_of}
+use Rattle.dp_laws.specs.Diagrams.Nodes.{DdLayers, node_at}
+use Rattle.relaxed_dd.specs.Shown.{layer_in, last_of}
 use Rattle.bound_cover.specs.Covers.{CoverRow}
 use Rattle.bound_cover.specs.Exploring.{layer_of, moved, row_for, all_wait, with_arcs_at}
 use Rattle.cover_book.specs.Nodes.{arcs_in}

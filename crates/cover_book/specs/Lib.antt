@@ -1,4 +1,3 @@
-pub mod Diagrams
 pub mod Nodes
 pub mod Adding
 pub mod Waits

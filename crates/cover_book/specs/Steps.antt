@@ -1,14 +1,14 @@
 -- Steps of an exploration in memory.
-use Rattle.std.specs.Prelude.{◌≡◌, ℕ, ◌+◌, ◌-◌, ◌<◌, ◌≤◌, ℤ, List, [], ◌++◌, length, slice_get, IsSome, Option, Some, None}
+use Rattle.std.specs.Prelude.{◌≡◌, ℕ, ◌-◌, ◌<◌, ◌≤◌, ℤ, List, [], ◌++◌, length, IsSome, Option, Some, None}
 use Rattle.dp_model.specs.Dp.{Dp}
 use Rattle.dp_laws.specs.Diagrams.Nodes.{DdLayers, node_at}
 use Rattle.dp_laws.specs.Diagrams.Seen.{IsDiagram}
-use Rattle.cover_book.specs.Diagrams.{layer_in, last_of}
+use Rattle.relaxed_dd.specs.Shown.{layer_in, last_of}
 use Rattle.bound_cover.specs.Covers.{CoverRow}
 use Rattle.bound_cover.specs.Exploring.{layer_of, Waiting, waiting_in, waiting_after, explored}
 use Rattle.cover_book.specs.declared.waiting.WaitingRow.{WaitingRow}
 use Rattle.cover_book.specs.Adding.{last_needed, IsCutWithin}
-use Rattle.cover_book.specs.Waits.{waiting_row, waiting_of, AreOwnAt}
+use Rattle.cover_book.specs.Waits.{waiting_row, AreOwnAt}
 
 -- the rows that wait after a diagram is put in, of its last exact layer
 abbrev pub waits_after : Option ℤ → DdLayers → List (List CoverRow) → Option ℕ → List Waiting
@@ -27,14 +27,14 @@ CutIsOwn dp d None = Unit {0}
 CutIsOwn dp d (Some depth) = HasOwnCut dp d depth
 
 -- a diagram of the row's prefix, with the claim as threshold
-pub record IsDiagramOf (dp : Dp) (claim : Option ℤ) (row : WaitingRow) (d : DdLayers) : Type 0 where
+pub record IsDiagramFor (dp : Dp) (claim : Option ℤ) (row : WaitingRow) (d : DdLayers) : Type 0 where
   pub width : ℕ
   pub shorter : length row.sub.subproblem.decisions < dp.vars
   pub diagram : IsDiagram dp row.sub.subproblem.decisions width claim d
 
 abbrev pub IsDiagramAt : Dp → Option ℤ → Option WaitingRow → DdLayers → Type 0
 IsDiagramAt dp claim None d = ⊥
-IsDiagramAt dp claim (Some row) d = IsDiagramOf dp claim row d
+IsDiagramAt dp claim (Some row) d = IsDiagramFor dp claim row d
 
 -- the diagram can be put into a cover of the program
 pub record CanPut (dp : Dp) (claim : Option ℤ) (d : DdLayers) : Type 0 where

@@ -1,10 +1,10 @@
 -- Rows that wait, in memory.
-use Rattle.std.specs.Prelude.{◌≡◌, ℕ, ◌<◌, ℤ, pos, true, List, map, length, slice_get, Option, Some, None}
+use Rattle.std.specs.Prelude.{◌≡◌, ℕ, ◌<◌, pos, true, List, map, length, Option, Some, None}
 use Rattle.dp_model.specs.Dp.{Dp}
 use Rattle.dp_model.specs.Lists.{Each}
 use Rattle.dp_model.specs.Subproblem.{Subproblem, IsOwn}
 use Rattle.dp_laws.specs.Diagrams.Nodes.{DdNode, DdLayers, node_at}
-use Rattle.cover_book.specs.Diagrams.{layer_in}
+use Rattle.relaxed_dd.specs.Shown.{layer_in}
 use Rattle.bound_cover.specs.Exploring.{Waiting}
 use Rattle.cover_book.specs.declared.waiting.WaitingRow.{WaitingRow}
 

@@ -2,7 +2,7 @@
 
 ghost use Rattle.std.specs.Prelude.{◌≡◌, ◌+◌, ◌-◌, ◌^◌, ◌<◌, ◌≤◌, ◌++◌, Some, IsSome, IfOk, OnOk, length, map};
 ghost use Rattle.dp_laws.specs.Diagrams.Nodes.{node_at};
-ghost use Rattle.cover_book.specs.Diagrams.{layer_in, last_of};
+ghost use Rattle.relaxed_dd.specs.Shown.{layer_in, last_of};
 ghost use Rattle.bound_cover.specs.Exploring.{layer_of, row_for, all_wait};
 ghost use Rattle.cover_book.specs.Adding.{with_root_arcs, AreAdded, last_needed, IsCutWithin};
 

@@ -2,9 +2,10 @@
 
 ghost use Rattle.std.specs.Prelude.{◌≡◌, ◌≤◌, true, Some, IsSome, length, slice_get, option_map, option_and_then};
 ghost use Rattle.dp_laws.specs.Diagrams.Nodes.{DdLayers, node_at};
-ghost use Rattle.cover_book.specs.Diagrams.{layer_in, last_of};
+ghost use Rattle.relaxed_dd.specs.Shown.{layer_in, last_of};
 
 use dp_laws::DdArc;
+use relaxed_dd::Diagram;
 
 /// A relaxed diagram as its readers show it. Its layers stand by depth, from that of the prefix to the last one, and the nodes of
 /// a layer by their places.
@@ -66,4 +67,50 @@ pub trait ShownDiagram {
         requires exact { option_map (λ n. n.exact) (node_at (layers self.now) depth node) ≡ Some true }
         requires cells { length out.old ≡ depth }
         ensures { option_map (λ n. n.path) (node_at (layers self.now) depth node) ≡ Some out.new };
+}
+
+impl<'w> ShownDiagram for Diagram<'w> {
+    ghost use Rattle.relaxed_dd.specs.Shown.{layers_of};
+
+    ghost layers = { λ d. layers_of d };
+
+    fn first_depth(&self) -> usize {
+        Diagram::first_depth(self)
+    }
+
+    fn last_depth(&self) -> usize {
+        Diagram::last_depth(self)
+    }
+
+    fn first_reduced(&self) -> Option<usize> {
+        Diagram::first_reduced(self)
+    }
+
+    fn nodes(&self, depth: usize) -> usize {
+        Diagram::nodes(self, depth)
+    }
+
+    fn row(&self, depth: usize, node: usize) -> &[i64] {
+        Diagram::row(self, depth, node)
+    }
+
+    fn value(&self, depth: usize, node: usize) -> i64 {
+        Diagram::value(self, depth, node)
+    }
+
+    fn suffix(&self, depth: usize, node: usize) -> Option<i64> {
+        Diagram::suffix(self, depth, node)
+    }
+
+    fn arcs(&self, depth: usize, node: usize) -> usize {
+        Diagram::arcs(self, depth, node)
+    }
+
+    fn arc(&self, depth: usize, node: usize, i: usize) -> DdArc {
+        Diagram::arc(self, depth, node, i)
+    }
+
+    fn path(&self, depth: usize, node: usize, out: &mut [u32]) {
+        Diagram::path(self, depth, node, out)
+    }
 }

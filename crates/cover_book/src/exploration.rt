@@ -1,6 +1,6 @@
 //! Explorations whose diagrams the caller compiles.
 
-ghost use Rattle.std.specs.Prelude.{◌≡◌, ◌≤◌, None, IfOk, IfSome, OnOk, length, slice_get, option_map};
+ghost use Rattle.std.specs.Prelude.{◌≡◌, ◌+◌, ◌^◌, ◌<◌, ◌≤◌, None, IfOk, IfSome, OnOk, length, slice_get, option_map};
 ghost use Rattle.dp_model.specs.Best.{best};
 ghost use Rattle.dp_model.specs.Subproblem.{IsOwn};
 ghost use Rattle.bound_cover.specs.Clamping.{AreWritable, IsReachable};
@@ -74,6 +74,8 @@ impl Exploration {
         requires diagram { IsDiagramAt (M.meaning (M.numbers model.now)) self.old.claim (slice_get self.old.waiting.items self.old.next) (D.layers diagram.now) }
         ensures under_way { OnOk result (IsUnderWay (M.meaning (M.numbers model.now)) self.new) }
         ensures claim { self.new.claim ≡ self.old.claim }
+        ensures counted { OnOk result (self.new.next ≡ self.old.next + 1) }
+        ensures few { OnOk result (self.new.next < 2 ^ 64) }
     {
         put_in(
             alloc,

@@ -1,10 +1,10 @@
 //! The cover of a solved instance, made of relaxed diagrams.
 //!
-//! It stands on `bound_cover`. An `Exploration` is a cover under way: one row for the root at first, which waits. Each row that waits
+//! It stands on `bound_cover`, and on `relaxed_dd` for diagrams. An `Exploration` is a cover under way: one row for the root at first, which waits. Each row that waits
 //! stands for a prefix. The caller compiles the relaxed diagram of this prefix, with the claim as threshold, and puts it in: the row gets
 //! the arcs of the diagram's root, and each further node gets a row, of which those of the last exact layer wait that lead above the
 //! claim. Once no row waits, `finish` writes the cover. Where no feasible solution exceeds the claim, the checker's `check_rows` then
-//! answers `None`, so that the checker accepts the cover with every best solution.
+//! answers `None`, so that the checker accepts the cover with every best solution. `explore_whole` makes such a cover from nothing.
 #![tactic(auto)]
 
 mod adding;
@@ -15,7 +15,9 @@ mod exploration;
 mod exploring;
 mod rows;
 mod waiting;
+mod whole;
 mod writing;
 
 pub use diagrams::ShownDiagram;
 pub use exploration::Exploration;
+pub use whole::explore_whole;

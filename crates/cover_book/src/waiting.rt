@@ -2,7 +2,7 @@
 
 ghost use Rattle.std.specs.Prelude.{◌≡◌, ◌+◌, ◌<◌, ◌≤◌, ◌++◌, ◌∷◌, [], true, slice_get, Some, IfOk, OnOk, length, option_map};
 ghost use Rattle.dp_laws.specs.Diagrams.Nodes.{node_at};
-ghost use Rattle.cover_book.specs.Diagrams.{layer_in, last_of};
+ghost use Rattle.relaxed_dd.specs.Shown.{layer_in, last_of};
 ghost use Rattle.bound_cover.specs.Exploring.{waiting_in};
 ghost use Rattle.cover_book.specs.Waits.{sub_of, waiting_of, AreOwn, AreOwnAt};
 

@@ -1,8 +1,10 @@
-//! Tests of the checker of covers over a real problem, and of the text of a cover.
+//! Tests of the checker of covers over a real problem, of the text of a cover, and of covers that are made by an exploration.
 //!
-//! It stands on `bound_cover` and `cover_text`, on the knapsack as the problem, and on what reads it.
+//! It stands on `bound_cover`, `cover_text` and `cover_book`, on the knapsack and on tours as the problems, and on what reads them.
 #![tactic(auto)]
 
+#[cfg(test)]
+mod exploring;
 #[cfg(test)]
 mod tests;
 #[cfg(test)]

@@ -6,3 +6,6 @@ pub mod PrintedTokens
 pub mod PrintedRows
 pub mod PrintedLengths
 pub mod RoundTrip
+pub mod PrintedHeads
+pub mod OutputsRead
+pub mod PassingWritten

@@ -6,3 +6,4 @@ pub mod Instances
 pub mod Texts
 pub mod Printed
 pub mod Written
+pub mod Outputs

@@ -1,8 +1,12 @@
 -- Covers that a text can hold, and that they are read back.
 use Rattle.std.specs.Prelude.{◌≡◌, ℕ, ◌<◌, ◌-◌, ◌^◌, ℤ, pos, neg_ℤ, ◌≤ℤ◌, List, length, Option, Some, None, Ok}
-use Rattle.bound_cover.specs.Clamping.{IsWritable}
+use Rattle.bound_cover.specs.Clamping.{IsWritable, AreWritable}
 use Rattle.bound_cover.specs.Covers.{CoverRow}
+use Rattle.bound_cover.specs.Stored.{AreShort}
+use Rattle.bound_cover.specs.Verdicts.{checked_rows}
 use Rattle.bound_cover.specs.declared.cover.CoverArc.{CoverArc}
+use Rattle.dp_model.specs.Dp.{Dp}
+use Rattle.dp_model.specs.Laws.{IsLawful}
 use Rattle.dp_model.specs.Lists.{Each}
 use Rattle.cover_text.specs.Heads.{HeadView, head_at}
 use Rattle.cover_text.specs.Instances.{parted}
@@ -43,6 +47,10 @@ pub record IsWrittenLayer (layer : List CoverRow) : Type 0 where
 pub record IsWritten (cover : List (List CoverRow)) : Type 0 where
   pub few : length cover < 2 ^ 64
   pub layers : Each IsWrittenLayer cover
+
+-- a cover whose rows pass for some claim, with bounds that can be written, is such a one
+abbrev pub PassingIsWritten : Type 0
+PassingIsWritten = (dp : Dp) (claim : Option ℤ) (cover : List (List CoverRow)) → IsLawful dp → checked_rows dp claim cover ≡ None → AreShort cover → AreWritable cover → IsWritten cover
 
 -- the printed sections of a cover are read as that cover
 abbrev pub SectionsAreRead : Type 0

@@ -6,7 +6,8 @@
 //! state, and perhaps arcs.
 //!
 //! Promised: `read_cover` answers exactly what the grammar gives, the first fault with its place included, and `push_cover` appends
-//! exactly the sections of a cover, which are read as that cover (the law `pushed_is_read`). Only want of memory has no stated cause.
+//! exactly the sections of a cover, which are read as that cover (the law `pushed_is_read`). A whole output that is printed is read as
+//! what was printed (`outputs_are_read`), for each cover whose rows pass (`passing_is_written`). Only want of memory has no stated cause.
 #![tactic(auto)]
 
 mod cover_error;
@@ -24,4 +25,4 @@ pub use cover_error::CoverError;
 pub use cover_text::CoverText;
 pub use printing::push_cover;
 pub use reading::read_cover;
-pub use theory::pushed_is_read;
+pub use theory::{outputs_are_read, passing_is_written, pushed_is_read};

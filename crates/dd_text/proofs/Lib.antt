@@ -5,4 +5,5 @@ pub mod Printing
 pub mod Ranges
 pub mod Repeats
 pub mod Scanning
+mod Windows
 pub mod Values

@@ -13,16 +13,16 @@ use Rattle.dd_text.specs.Scanned.{first_token, behind_token, head_digits, behind
 use Rattle.dd_text.proofs.Values.{behind_first, capped_value_after}
 use Rattle.dd_text.proofs.Digits.{digit_range, solid_digit}
 
-solid : (d : ℕ) → is_ascii_digit d ≡ true → is_solid d ≡ true
+pub solid : (d : ℕ) → is_ascii_digit d ≡ true → is_solid d ≡ true
 solid d digit = let range = digit_range d digit in solid_digit d (omega arith) range.1
 
-digits_first : (x : ℕ) (xs : List ℕ) → is_ascii_digit x ≡ true → head_digits (x ∷ xs) ≡ x ∷ head_digits xs
+pub digits_first : (x : ℕ) (xs : List ℕ) → is_ascii_digit x ≡ true → head_digits (x ∷ xs) ≡ x ∷ head_digits xs
 digits_first x xs digit = take_while-cons is_ascii_digit x xs ∙ rw digit refl
 
-no_digits : (x : ℕ) (xs : List ℕ) → is_ascii_digit x ≡ false → head_digits (x ∷ xs) ≡ []
+pub no_digits : (x : ℕ) (xs : List ℕ) → is_ascii_digit x ≡ false → head_digits (x ∷ xs) ≡ []
 no_digits x xs other = take_while-cons is_ascii_digit x xs ∙ rw other refl
 
-token_first : (x : ℕ) (xs : List ℕ) → is_solid x ≡ true → first_token (x ∷ xs) ≡ x ∷ first_token xs
+pub token_first : (x : ℕ) (xs : List ℕ) → is_solid x ≡ true → first_token (x ∷ xs) ≡ x ∷ first_token xs
 token_first x xs h = take_while-cons is_solid x xs ∙ rw h refl
 
 -- a digit is added to the number so far
@@ -50,7 +50,7 @@ token_length xs =
     let left = length-drop (length (first_token xs)) xs in
     omega arith
 
-blank_first : (x : ℕ) (xs : List ℕ) → is_solid x ≡ false → first_token (x ∷ xs) ≡ []
+pub blank_first : (x : ℕ) (xs : List ℕ) → is_solid x ≡ false → first_token (x ∷ xs) ≡ []
 blank_first x xs h = take_while-cons is_solid x xs ∙ rw h refl
 
 -- where no token begins behind the digits, the token is these digits
@@ -103,7 +103,7 @@ natural_is (x ∷ xs) some h = rw h refl
 pub no_natural : (xs : List ℕ) → 0 < length (first_token (behind_digits xs)) → natural_of (first_token xs) ≡ None
 no_natural xs some = natural_not (first_token xs) (beyond xs some)
 
-digits_long : (xs : List ℕ) → length (behind_digits xs) + length (head_digits xs) ≡ length xs
+pub digits_long : (xs : List ℕ) → length (behind_digits xs) + length (head_digits xs) ≡ length xs
 digits_long xs =
     let short = prefix_len-le-length is_ascii_digit xs in
     let long = length-prefix_len is_ascii_digit xs in

@@ -1,9 +1,9 @@
-ghost use Rattle.std.specs.Prelude.{◌≡◌, ℕ, Bool, ◌+◌, ◌-◌, ◌*◌, ◌^◌, ◌<◌, ◌≤◌, ◌==◌, ◌||◌, not, min, length, false, IfOk, IfSome, option_map, is_some, [], ◌∷◌, SomeIff, pos, neg_ℤ, FitsSigned, true, nat_eq};
+ghost use Rattle.std.specs.Prelude.{◌≡◌, ℕ, Bool, ◌+◌, ◌-◌, ◌*◌, ◌^◌, ◌<◌, ◌≤◌, ◌==◌, ◌||◌, not, min, length, false, IfOk, Ok, IfSome, option_map, is_some, [], ◌∷◌, SomeIff, pos, neg_ℤ, ◌≤ℤ◌, FitsSigned, true, nat_eq};
 ghost use Rattle.std.specs.Cmp.Lexicographic.{pointwise};
 ghost use Rattle.std.specs.Result.{result_map_both};
 ghost use Rattle.std.specs.List.{prefix_len};
 ghost use Rattle.std.specs.Int.{w64};
-ghost use Rattle.dd_text.specs.Text.{Comment, is_blank, is_solid, opens_comment, is_passed, is_inside_after, place_after, skip, IsCountable, natural_of, value_after, signed_of, within, number_in, is_blank_line};
+ghost use Rattle.dd_text.specs.Text.{Comment, Place, is_blank, is_solid, opens_comment, is_passed, is_inside_after, place_after, skip, IsCountable, natural_of, value_after, signed_of, within, number_in, is_blank_line};
 ghost use Rattle.dd_text.specs.Scanned.{first_token, behind_token, head_digits, behind_digits};
 
 use crate::comment::Comment;
@@ -12,6 +12,9 @@ use crate::text_error::TextError;
 
 /// A number below this has room for a further digit.
 const SURELY_SHORT: u64 = 1 << 59;
+
+/// In so many bytes a number of few digits ends. A loop over so few is written out, and its numbers are surely short.
+const WINDOW: usize = 12;
 
 /// Where a token begins, or the end of the text. It has no padding, which would be copied for each token.
 #[derive(Clone, Copy)]
@@ -342,6 +345,44 @@ fn signed(is_negative: bool, size: u64) -> Option<i64>
 pub(crate) struct Number<'a> {
     pub(crate) value: i64,
     pub(crate) behind: &'a [u8],
+}
+
+/// Whether the bytes begin with a blank that most often ends a token.
+#[inline]
+fn begin_with_a_blank(bytes: &[u8]) -> bool
+    ensures some { result ≡ true → 0 < length bytes.now }
+    ensures blank { result ≡ true → length (first_token bytes.now) ≡ 0 }
+{
+    match bytes {
+        [b' ', ..] | [b'\n', ..] => true,
+        _ => false,
+    }
+}
+
+/// The number from `least` to `greatest` that a first token of few digits writes; `None` where the token is anything else, and
+/// near the end of the bytes.
+#[inline(always)]
+#[tactic(auto, using(crate::proofs::Windows::window_steps))]
+pub(crate) fn short_number(bytes: &[u8], least: i64, greatest: i64) -> Option<Number<'_>>
+    ensures value { IfSome result (λ n. (place : Place) → number_in least greatest place (first_token bytes.now) ≡ Ok n.value) }
+    ensures range { IfSome result (λ n. (least ≤ℤ n.value) × (n.value ≤ℤ greatest)) }
+    ensures behind { IfSome result (λ n. n.behind.now ≡ behind_token bytes.now) }
+{
+    if bytes.len() < WINDOW {
+        return None;
+    }
+    let digits = leading_digits(&bytes[..WINDOW]);
+    let len = WINDOW - digits.behind.len();
+    if len == 0 || !begin_with_a_blank(digits.behind) {
+        return None;
+    }
+    match signed(false, digits.size) {
+        Some(number) if least <= number && number <= greatest => Some(Number {
+            value: number,
+            behind: &bytes[len..],
+        }),
+        _ => None,
+    }
 }
 
 /// Reads the first token as digits, behind a minus or not, of a number from `least` to `greatest`.

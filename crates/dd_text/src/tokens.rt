@@ -6,7 +6,8 @@ ghost use Rattle.dd_text.specs.Text.{text_start, at_token, IsCountable, token, p
 use crate::comment::Comment;
 use crate::place::Place;
 use crate::scan::{
-    Spot, behind_one_blank, behind_word, leading_number, skip_blanks, skip_comments, token_len,
+    Spot, behind_one_blank, behind_word, leading_number, short_number, skip_blanks, skip_comments,
+    token_len,
 };
 use crate::text_error::TextError;
 use std::marker::Model;
@@ -128,26 +129,48 @@ impl<'a> Tokens<'a> {
         behind_word(self.spot().rest, word).is_some()
     }
 
-    /// Goes on at this place, whatever stands there.
+    /// Right behind the next token.
+    #[inline]
+    #[tactic(auto, unfolding(crate::specs::Text::token, crate::specs::Text::after_token), using(crate::proofs::Scanning::token_length))]
+    fn behind_next(&self, behind: &'a [u8]) -> Here<'a>
+        requires { behind.now ≡ behind_token (at_token self.now).rest }
+        ensures stands { record { rest = result.rest.now; place = result.place; fresh = result.fresh; comment = self.now.comment } ≡ after_token self.now }
+        ensures countable { IsCountable result.place result.rest.now }
+        ensures on_line { result.fresh ≡ false }
+    {
+        let spot = self.spot();
+        let len = spot.rest.len() - behind.len();
+        Here {
+            rest: behind,
+            place: Place {
+                line: spot.place.line,
+                column: spot.place.column + len as u32,
+            },
+            fresh: false,
+        }
+    }
+
+    /// Passes over the next token, whatever stands behind it.
     #[cold]
     #[inline(never)]
-    fn go_on(&mut self, here: Here<'a>)
-        requires { IsCountable here.place here.rest.now }
-        ensures { self.new ≡ record { rest = here.entry.rest.now; place = here.entry.place; fresh = here.entry.fresh; comment = self.old.comment } }
+    fn pass_far(&mut self, behind: &'a [u8])
+        requires { behind.now ≡ behind_token (at_token self.old).rest }
+        ensures { self.new ≡ after_token self.old }
     {
+        let here = self.behind_next(behind);
         *self = tokens_from(self.comment, here);
     }
 
-    /// Goes on right behind a token, of which the next one is most often behind a single blank.
+    /// Passes over the next token, behind which most often a single blank stands.
     #[inline]
     #[tactic(auto, unfolding(crate::specs::Text::at_token))]
-    fn go_on_behind(&mut self, here: Here<'a>)
-        requires countable { IsCountable here.place here.rest.now }
-        requires on_line { here.fresh ≡ false }
-        ensures { self.new ≡ record { rest = here.entry.rest.now; place = here.entry.place; fresh = here.entry.fresh; comment = self.old.comment } }
+    fn pass(&mut self, behind: &'a [u8])
+        requires { behind.now ≡ behind_token (at_token self.old).rest }
+        ensures { self.new ≡ after_token self.old }
     {
+        let here = self.behind_next(behind);
         let Some(next) = behind_one_blank(self.comment, here.place, here.rest) else {
-            self.go_on(here);
+            self.pass_far(behind);
             return;
         };
         self.here = Snapshot::of(&here);
@@ -155,34 +178,10 @@ impl<'a> Tokens<'a> {
         self.next = next;
     }
 
-    #[inline]
-    #[tactic(auto, unfolding(crate::specs::Text::token, crate::specs::Text::after_token), using(crate::proofs::Scanning::token_length))]
-    fn pass(&mut self, behind: &'a [u8])
-        requires { behind.now ≡ behind_token (at_token self.old).rest }
-        ensures { self.new ≡ after_token self.old }
-    {
-        let spot = self.spot();
-        let len = spot.rest.len() - behind.len();
-        let here = Here {
-            rest: behind,
-            place: Place {
-                line: spot.place.line,
-                column: spot.place.column + len as u32,
-            },
-            fresh: false,
-        };
-        self.go_on_behind(here);
-    }
-
-    /// Reads the next token as a number from `least` to `greatest`: an optional minus and one or more
-    /// digits, of any length.
-    ///
-    /// `EndOfText` where no token is left, `NotAscii` where its first byte is not ASCII, `NotNumber`
-    /// where it is otherwise no number, `OutOfRange` where the number is outside the range, each at
-    /// the token's first byte. After an error the token is still the next.
-    #[inline(always)]
+    /// Reads the next token as any number from `least` to `greatest`.
+    #[inline(never)]
     #[tactic(auto, unfolding(crate::specs::Text::token, crate::specs::Text::place_of, crate::specs::Text::number_at), using(crate::proofs::Ranges::number_at_range))]
-    pub fn next_number(&mut self, least: i64, greatest: i64) -> Result<i64, TextError>
+    fn next_any_number(&mut self, least: i64, greatest: i64) -> Result<i64, TextError>
         ensures value { result ≡ number_at least greatest self.old }
         ensures range { IfOk result (λ z. (least ≤ℤ z) × (z ≤ℤ greatest)) }
         ensures ok { OnOk result (self.new ≡ after_token self.old) }
@@ -192,6 +191,29 @@ impl<'a> Tokens<'a> {
         let number = leading_number(spot.rest, &spot.place, least, greatest)?;
         self.pass(number.behind);
         Ok(number.value)
+    }
+
+    /// Reads the next token as a number from `least` to `greatest`: an optional minus and one or more
+    /// digits, of any length.
+    ///
+    /// `EndOfText` where no token is left, `NotAscii` where its first byte is not ASCII, `NotNumber`
+    /// where it is otherwise no number, `OutOfRange` where the number is outside the range, each at
+    /// the token's first byte. After an error the token is still the next.
+    #[inline(always)]
+    #[tactic(auto, unfolding(crate::specs::Text::token, crate::specs::Text::place_of, crate::specs::Text::number_at))]
+    pub fn next_number(&mut self, least: i64, greatest: i64) -> Result<i64, TextError>
+        ensures value { result ≡ number_at least greatest self.old }
+        ensures range { IfOk result (λ z. (least ≤ℤ z) × (z ≤ℤ greatest)) }
+        ensures ok { OnOk result (self.new ≡ after_token self.old) }
+        ensures err { OnErr result (self.new ≡ self.old) }
+    {
+        match short_number(self.spot().rest, least, greatest) {
+            Some(number) => {
+                self.pass(number.behind);
+                Ok(number.value)
+            }
+            None => self.next_any_number(least, greatest),
+        }
     }
 
     /// Reads the next token as a natural number from `least` to `greatest`, with the faults of `next_number`.

@@ -1,5 +1,5 @@
 -- A table at a put.
-use Rattle.std.proofs.Common.{◌≡◌, ℕ, ◌+◌, ◌-◌, ◌*◌, ◌<◌, ◌≤◌, ◌⊎◌, inl, inr, ℤ, pos, List, [], ◌∷◌, ◌++◌, length, true, false, cond, sym, ◌∙◌, ap, subst, arith, add-one, None, Result, Ok, Err, IsOk, is_ok}
+use Rattle.std.proofs.Common.{◌≡◌, ℕ, zero, suc, ◌+◌, ◌-◌, ◌*◌, ◌<◌, ◌≤◌, ◌⊎◌, inl, inr, ℤ, pos, List, [], ◌∷◌, ◌++◌, length, true, false, cond, refl, sym, ◌∙◌, ap, ap₂, subst, arith, add-one, None, Result, Ok, Err, IsOk, is_ok}
 use Rattle.std.proofs.Math.Nat.{suc-mul, add-mul}
 use Rattle.std.proofs.lemmas.Bool.{eq-eqb, ne_eqb}
 use Rattle.std.proofs.lemmas.Nat.{mul-le}
@@ -7,9 +7,9 @@ use Rattle.std.proofs.lemmas.List.{get_or_append_left, length-append}
 use Rattle.std.proofs.Math.Seq.{get_or-append_seam}
 use Rattle.dominance_table.specs.declared.entry.Entry.{Entry}
 use Rattle.dominance_table.specs.declared.put.Put.TheVariants.{Yes, AtLimit}
-use Rattle.dominance_table.specs.declared.groups.Link.{Link}
-use Rattle.dominance_table.specs.Groups.{HasEntered, fold_at}
-use Rattle.dominance_table.specs.Entries.{TableEntry, TableView, HasRoom, AreGrouped, AreRising, entry_at, group_fold, is_full, put_gives, after_put, with_row, with_rows}
+use Rattle.dominance_table.specs.declared.groups.Run.{Run}
+use Rattle.dominance_table.specs.Groups.{HasEntered, fold_at, depth_at, bucket_at, end_at, start_at, group_fold}
+use Rattle.dominance_table.specs.Entries.{TableEntry, TableView, HasRoom, HasRunRoom, AreGrouped, AreRising, entry_at, is_full, put_gives, after_put, with_row, with_rows}
 use Rattle.dominance_table.proofs.Rows.{length_with_rows, with_rows_more}
 
 -- a table as its fields show it
@@ -97,16 +97,118 @@ entry_last es e i here = ap (entry_at (es ++ e ∷ [])) here ∙ get_or-append_s
 before_or_last : (es : List Entry) (e : Entry) (i : ℕ) → i < length (es ++ e ∷ []) → (i < length es) ⊎ (i ≡ length es)
 before_or_last es e i less = let sum = length-append es (e ∷ []) in grind arith
 
+-- there is room for as many runs more as entries, with one entry more
+pub run_room_more : (room len runs runs' runs_room : ℕ) → HasRunRoom room len runs runs_room → len < room → (runs' ≡ runs) ⊎ (runs' ≡ runs + 1) → HasRunRoom room (len + 1) runs' runs_room
+run_room_more room len runs runs' runs_room h more step = elim step as (λ _. HasRunRoom room (len + 1) runs' runs_room) [ inl same ↦ omega arith | inr one ↦ omega arith ]
+
+-- the run after a place starts where the one at it ends
+pub start_is : (runs : List Run) (r : ℕ) → start_at runs (r + 1) ≡ end_at runs r
+start_is runs r = ap (start_at runs) (add-one r)
+
+-- no run starts past all entries
+pub start_within : (es : List Entry) (runs : List Run) (r : ℕ) → AreGrouped es runs → r ≤ length runs → start_at runs r ≤ length es
+start_within es runs zero h at = omega arith
+start_within es runs (suc r) h at = h.within r (omega arith)
+
 -- one more entry is grouped
-pub grouped_more : (es : List Entry) (e : Entry) (links links' : List Link) → AreGrouped es links → HasEntered links links' (group_fold e.depth e.bucket) → AreGrouped (es ++ e ∷ []) links'
-grouped_more es e links links' h more = record {
-  len = (let sum = length-append es (e ∷ []) in let len = more.len in let old = h.len in omega arith);
-  fold = λ i less. elim (before_or_last es e i less) as (λ _. fold_at links' i ≡ group_fold (entry_at (es ++ e ∷ []) i).depth (entry_at (es ++ e ∷ []) i).bucket) [
-    | inl there ↦ (let old = h.len in
-        more.kept i (omega arith) ∙ (h.fold i there ∙ sym (ap (λ (x : Entry). group_fold x.depth x.bucket) (entry_before es e i there))))
-    | inr here ↦ ap (fold_at links') (here ∙ sym h.len) ∙ (more.fold_is ∙ sym (ap (λ (x : Entry). group_fold x.depth x.bucket) (entry_last es e i here)))
-  ];
-}
+module _ (es : List Entry) (e : Entry) (runs runs' : List Run) (h : AreGrouped es runs) (more : HasEntered runs runs' e.depth e.bucket (group_fold e.depth e.bucket) (length es + 1)) where
+  starts : (r : ℕ) → r < length runs' → start_at runs' r ≡ start_at runs r
+  starts zero less = refl
+  starts (suc r) less = more.ends r (omega arith)
+
+  most : length runs' ≤ length runs + 1
+  most = elim more.len as (λ _. length runs' ≤ length runs + 1) [ inl same ↦ omega arith | inr one ↦ omega arith ]
+
+  least : length runs ≤ length runs'
+  least = elim more.len as (λ _. length runs ≤ length runs') [ inl same ↦ omega arith | inr one ↦ omega arith ]
+
+  last-or-not : (r : ℕ) → r < length runs' → (r + 1 < length runs') ⊎ (r + 1 ≡ length runs')
+  last-or-not r less = grind arith
+
+  -- a run that is not the last is as it was
+  ended : (r : ℕ) → r + 1 < length runs' → (r < length runs) × (end_at runs' r ≡ end_at runs r)
+  ended r less = (let k = most in omega arith, more.ends r less)
+
+  -- an entry that was there is in a run that was there
+  was-in : (r i : ℕ) → i < length es → r < length runs' → start_at runs r ≤ i → i < end_at runs' r → (r < length runs) × (i < end_at runs r)
+  was-in r i there less from to = elim (last-or-not r less) as (λ _. (r < length runs) × (i < end_at runs r)) [
+    | inl before ↦ (let k = ended r before in (k.0, subst (λ n. i < n) k.1 to))
+    | inr last ↦ (
+        let side : (r < length runs) ⊎ (r ≡ length runs) = (let k = most in grind arith) in
+        elim side as (λ _. (r < length runs) × (i < end_at runs r)) [
+          | inl old ↦ (let k = least in
+              let end : r + 1 ≡ length runs = omega arith in
+              let all : end_at runs r ≡ length es = sym (start_is runs r) ∙ (ap (start_at runs) end ∙ h.all) in
+              (old, omega arith))
+          | inr new ↦ absurd (let all : start_at runs r ≡ length es = ap (start_at runs) new ∙ h.all in omega arith)
+        ])
+  ]
+
+  -- a new entry is in the last run
+  is-last : (r : ℕ) → r < length runs' → length es < end_at runs' r → r + 1 ≡ length runs'
+  is-last r less to = elim (last-or-not r less) as (λ _. r + 1 ≡ length runs') [
+    | inl before ↦ absurd (let k = ended r before in let w = h.within r k.0 in let same = k.1 in omega arith)
+    | inr last ↦ last
+  ]
+
+  within-more : (r : ℕ) → r < length runs' → end_at runs' r ≤ length es + 1
+  within-more r less = elim (last-or-not r less) as (λ _. end_at runs' r ≤ length es + 1) [
+    | inl before ↦ (let k = ended r before in let w = h.within r k.0 in let same = k.1 in omega arith)
+    | inr last ↦ (let k = more.end_is r last in omega arith)
+  ]
+
+  ordered-more : (r : ℕ) → r < length runs' → start_at runs' r ≤ end_at runs' r
+  ordered-more r less = elim (last-or-not r less) as (λ _. start_at runs' r ≤ end_at runs' r) [
+    | inl before ↦ (let k = ended r before in let w = h.ordered r k.0 in let same = k.1 in let start = starts r less in omega arith)
+    | inr last ↦ (
+        let k = more.end_is r last in
+        let start = starts r less in
+        let m = most in
+        let w = start_within es runs r h (omega arith) in omega arith)
+  ]
+
+  group-more : (r i : ℕ) → r < length runs' → start_at runs' r ≤ i → i < end_at runs' r
+      → ((entry_at (es ++ e ∷ []) i).depth ≡ depth_at runs' r) × ((entry_at (es ++ e ∷ []) i).bucket ≡ bucket_at runs' r)
+  group-more r i less from to =
+      let sum = length-append es (e ∷ []) in
+      let top = within-more r less in
+      let start = starts r less in
+      let begun : start_at runs r ≤ i = omega arith in
+      elim (before_or_last es e i (omega arith)) as (λ _. ((entry_at (es ++ e ∷ []) i).depth ≡ depth_at runs' r) × ((entry_at (es ++ e ∷ []) i).bucket ≡ bucket_at runs' r)) [
+        | inl there ↦ (let k = was-in r i there less begun to in
+            let own = entry_before es e i there in
+            (ap (λ (x : Entry). x.depth) own ∙ (h.depth r i k.0 begun k.1 ∙ sym (more.depths r k.0)), ap (λ (x : Entry). x.bucket) own ∙ (h.bucket r i k.0 begun k.1 ∙ sym (more.buckets r k.0))))
+        | inr here ↦ (
+            let last = is-last r less (omega arith) in
+            let own = entry_last es e i here in
+            (ap (λ (x : Entry). x.depth) own ∙ sym (more.depth_is r last), ap (λ (x : Entry). x.bucket) own ∙ sym (more.bucket_is r last)))
+      ]
+
+  fold-more : (r : ℕ) → r < length runs' → fold_at runs' r ≡ group_fold (depth_at runs' r) (bucket_at runs' r)
+  fold-more r less =
+      let m = most in
+      let side : (r < length runs) ⊎ (r ≡ length runs) = grind arith in
+      elim side as (λ _. fold_at runs' r ≡ group_fold (depth_at runs' r) (bucket_at runs' r)) [
+        | inl old ↦ more.folds r old ∙ (h.fold r old ∙ ap₂ group_fold (sym (more.depths r old)) (sym (more.buckets r old)))
+        | inr new ↦ (
+            let one : length runs' ≡ length runs + 1 = omega arith in
+            let last : r + 1 ≡ length runs' = omega arith in
+            ap (fold_at runs') new ∙ (more.fold_is one ∙ ap₂ group_fold (sym (more.depth_is r last)) (sym (more.bucket_is r last))))
+      ]
+
+  pub grouped_more : AreGrouped (es ++ e ∷ []) runs'
+  grouped_more =
+      let sum = length-append es (e ∷ []) in
+      let some = more.some in
+      let last : length runs' - 1 + 1 ≡ length runs' = omega arith in
+      record {
+        all = ap (start_at runs') (sym last) ∙ (start_is runs' (length runs' - 1) ∙ (more.end_is (length runs' - 1) last ∙ sym sum));
+        within = λ r less. (let k = within-more r less in omega arith);
+        ordered = ordered-more;
+        depth = λ r i less from to. (group-more r i less from to).0;
+        bucket = λ r i less from to. (group-more r i less from to).1;
+        fold = fold-more;
+      }
 
 -- tickets rise with one more that is no less than the last
 pub rising_more : (es : List Entry) (e : Entry) → AreRising es → ((i : ℕ) → i + 1 ≡ length es → (entry_at es i).ticket ≤ e.ticket) → AreRising (es ++ e ∷ [])

@@ -1,16 +1,17 @@
--- The dominator among the entries so far, along the chain of a fold.
-use Rattle.std.proofs.Common.{◌≡◌, ◌≢◌, ℕ, zero, suc, ◌+◌, ◌-◌, ◌<◌, ◌≤◌, ℤ, pos, List, [], ◌∷◌, ◌++◌, length, take, drop, map, filter, get_or, Bool, true, false, cond, nat_le, Option, Some, None, ◌⊎◌, inl, inr, refl, sym, ◌∙◌, ap, subst, arith, length-drop}
+-- The dominator among the entries so far, along the runs of a fold.
+use Rattle.std.proofs.Common.{◌≡◌, ◌≢◌, ℕ, zero, suc, ◌+◌, ◌-◌, ◌<◌, ◌≤◌, ℤ, pos, List, [], ◌∷◌, ◌++◌, length, take, map, filter, get_or, Bool, true, false, cond, nat_le, Option, Some, None, ◌⊎◌, inl, inr, refl, sym, ◌∙◌, ap, ap₂, subst, arith}
 use Rattle.std.proofs.lemmas.Bool.{cases_eq, ne_eqb}
 use Rattle.std.proofs.lemmas.Bool.Decides.{nat_tests}
-use Rattle.std.proofs.lemmas.List.{map-append, take_more, take_all, take-append-drop, get_or-drop}
+use Rattle.std.proofs.lemmas.List.{map-append, take_more, take_all}
 use Rattle.std.proofs.lemmas.List.Elements.{filter-append}
 use Rattle.dp_model.specs.Dp.{Dp}
 use Rattle.dp_model.specs.Lists.{Each}
 use Rattle.dominance_table.specs.declared.entry.Entry.{Entry}
-use Rattle.dominance_table.specs.declared.groups.Link.{Link}
-use Rattle.dominance_table.specs.Groups.{fold_at}
+use Rattle.dominance_table.specs.declared.groups.Run.{Run}
+use Rattle.dominance_table.specs.Groups.{fold_at, depth_at, bucket_at, end_at, start_at, group_fold}
 use Rattle.dominance_table.specs.Dominator.{lesser, least, dominates, dominator, IsReached, AreStates}
-use Rattle.dominance_table.specs.Entries.{TableEntry, AreGrouped, AreRising, entry_at, row_at, group_fold, with_row, with_rows}
+use Rattle.dominance_table.specs.Entries.{TableEntry, AreGrouped, AreRising, entry_at, row_at, with_row, with_rows}
+use Rattle.dominance_table.proofs.Puts.{start_is}
 use Rattle.dominance_table.proofs.Rows.{least-append, with_rows_at, length_with_rows}
 
 no_entry : TableEntry
@@ -44,21 +45,6 @@ module _ (dp : Dp) (depth : ℕ) (row : List ℤ) (worth : ℤ) where
   none-left None = refl
   none-left (Some n) = refl
 
-  -- where no later ticket is less, none of them is the least
-  stays : (m : ℕ) (xs : List TableEntry) → ((j : ℕ) → j < length xs → m ≤ (get_or xs j no_entry).ticket) → lesser (Some m) (dominator dp xs depth row worth) ≡ Some m
-  stays m [] later = refl
-  stays m (x ∷ xs) later =
-      let rest = stays m xs (λ j less. later (suc j) (omega arith)) in
-      let here : m ≤ x.ticket = later 0 (omega arith) in
-      elim (dominates dp depth row worth x) as (λ b. lesser (Some m) (least (map (λ (e : TableEntry). e.ticket) (cond b (x ∷ filter (dominates dp depth row worth) xs) (filter (dominates dp depth row worth) xs)))) ≡ Some m) [
-        | true ↦ by (dominator dp xs depth row worth) rest here
-        | false ↦ rest
-      ]
-    where
-      by : (o : Option ℕ) → lesser (Some m) o ≡ Some m → m ≤ x.ticket → lesser (Some m) (lesser (Some x.ticket) o) ≡ Some m
-      by None rest here = ap (λ n. Some n) (grind (arith, nat_tests))
-      by (Some n) rest here = let k : cond (nat_le m n) m n ≡ m = cc in ap (λ n. Some n) (grind (arith, nat_tests))
-
   module _ (words : ℕ) (entries : List Entry) (cells : List ℤ) where
     abbrev pub seen : List TableEntry
     seen = with_rows words entries cells
@@ -90,58 +76,118 @@ module _ (dp : Dp) (depth : ℕ) (row : List ℤ) (worth : ℤ) where
     pub past_all : (at : ℕ) → length entries ≤ at → take at seen ≡ seen
     past_all at all = take_all at seen (subst (λ n. n ≤ at) (sym (length_with_rows words entries cells)) all)
 
-    -- an entry under another fold doesn't dominate
-    other-fold : (at : ℕ) → group_fold (entry_at entries at).depth (entry_at entries at).bucket ≢ group_fold depth (dp.bucket depth row)
+    -- an entry of another group doesn't dominate
+    other-group : (at : ℕ) → ((entry_at entries at).depth ≡ depth → (entry_at entries at).bucket ≡ dp.bucket depth row → ⊥)
         → dominates dp depth row worth (with_row (entry_at entries at) (row_at cells words at)) ≡ false
-    other-fold at other = by (cases_eq (entry_at entries at).depth depth) (cases_eq (entry_at entries at).bucket (dp.bucket depth row))
+    other-group at other = by (cases_eq (entry_at entries at).depth depth) (cases_eq (entry_at entries at).bucket (dp.bucket depth row))
       where
         by : ((entry_at entries at).depth ≡ depth) ⊎ ((entry_at entries at).depth ≢ depth) → ((entry_at entries at).bucket ≡ dp.bucket depth row) ⊎ ((entry_at entries at).bucket ≢ dp.bucket depth row)
             → dominates dp depth row worth (with_row (entry_at entries at) (row_at cells words at)) ≡ false
-        by (inl d) (inl b) = absurd (other (ap (λ n. group_fold n (entry_at entries at).bucket) d ∙ ap (λ n. group_fold depth n) b))
+        by (inl d) (inl b) = absurd (other d b)
         by (inr d) b = let k = ne_eqb _ _ d in cc
         by (inl d) (inr b) = let k = ne_eqb _ _ b in grind (arith, nat_tests)
 
-    -- places that the chain leaves out
-    pub skipped : (links : List Link) (at n : ℕ) → AreGrouped entries links
-        → ((j : ℕ) → at ≤ j → j < at + n → j < length links → fold_at links j ≢ group_fold depth (dp.bucket depth row))
-        → dominator dp (take (at + n) seen) depth row worth ≡ dominator dp (take at seen) depth row worth
-    skipped links at zero grouped others = let none : at + 0 ≡ at = omega arith in ap (λ k. dominator dp (take k seen) depth row worth) none
-    skipped links at (suc n) grouped others =
-        let rest = skipped links (at + 1) n grouped (λ j from to there. others j (omega arith) (omega arith) there) in
-        let first : dominator dp (take (at + 1) seen) depth row worth ≡ dominator dp (take at seen) depth row worth =
-        (let side : (at < length entries) ⊎ (length entries ≤ at) = grind arith in
-        elim side as (λ _. dominator dp (take (at + 1) seen) depth row worth ≡ dominator dp (take at seen) depth row worth) [
-          | inl less ↦ past_else at less (other-fold at (λ same. others at (omega arith) (omega arith) (let len = grouped.len in omega arith) (grouped.fold at less ∙ same)))
-          | inr all ↦ ap (λ l. dominator dp l depth row worth) (past_all (at + 1) (omega arith) ∙ sym (past_all at all))
-        ]) in
+    -- places of entries of other groups
+    skipped : (at n : ℕ) → ((j : ℕ) → at ≤ j → j < at + n → (entry_at entries j).depth ≡ depth → (entry_at entries j).bucket ≡ dp.bucket depth row → ⊥)
+        → at + n ≤ length entries → dominator dp (take (at + n) seen) depth row worth ≡ dominator dp (take at seen) depth row worth
+    skipped at zero others all = let none : at + 0 ≡ at = omega arith in ap (λ k. dominator dp (take k seen) depth row worth) none
+    skipped at (suc n) others all =
+        let rest = skipped (at + 1) n (λ j from to. others j (omega arith) (omega arith)) (omega arith) in
+        let first = past_else at (omega arith) (other-group at (others at (omega arith) (omega arith))) in
         let sum : at + suc n ≡ at + 1 + n = omega arith in
         ap (λ k. dominator dp (take k seen) depth row worth) sum ∙ (rest ∙ first)
+
+    -- a run of another group
+    pub skipped_run : (runs : List Run) (r : ℕ) → AreGrouped entries runs → r < length runs → (depth_at runs r ≡ depth → bucket_at runs r ≡ dp.bucket depth row → ⊥)
+        → dominator dp (take (start_at runs (r + 1)) seen) depth row worth ≡ dominator dp (take (start_at runs r) seen) depth row worth
+    skipped_run runs r grouped less other =
+        let ordered = grouped.ordered r less in
+        let within = grouped.within r less in
+        let sum : start_at runs r + (end_at runs r - start_at runs r) ≡ end_at runs r = omega arith in
+        ap (λ k. dominator dp (take k seen) depth row worth) (start_is runs r ∙ sym sum)
+        ∙ skipped (start_at runs r) (end_at runs r - start_at runs r)
+        (λ j from to d b. (let end : j < end_at runs r = omega arith in other (sym (grouped.depth r j less from end) ∙ d) (sym (grouped.bucket r j less from end) ∙ b))) (omega arith)
+
+    -- runs that the chain leaves out
+    skipped-runs : (runs : List Run) (at n : ℕ) → AreGrouped entries runs → at + n ≤ length runs
+        → ((j : ℕ) → at ≤ j → j < at + n → fold_at runs j ≢ group_fold depth (dp.bucket depth row))
+        → dominator dp (take (start_at runs (at + n)) seen) depth row worth ≡ dominator dp (take (start_at runs at) seen) depth row worth
+    skipped-runs runs at zero grouped all others = let none : at + 0 ≡ at = omega arith in ap (λ k. dominator dp (take (start_at runs k) seen) depth row worth) none
+    skipped-runs runs at (suc n) grouped all others =
+        let rest = skipped-runs runs (at + 1) n grouped (omega arith) (λ j from to. others j (omega arith) (omega arith)) in
+        let less : at < length runs = omega arith in
+        let first = skipped_run runs at grouped less (λ d b. others at (omega arith) (omega arith) (grouped.fold at less ∙ ap₂ group_fold d b)) in
+        let sum : at + suc n ≡ at + 1 + n = omega arith in
+        ap (λ k. dominator dp (take (start_at runs k) seen) depth row worth) sum ∙ (rest ∙ first)
 
     -- before the first place
     pub at_start : None ≡ dominator dp (take 0 seen) depth row worth
     at_start = refl
 
-    pub jumped : (links : List Link) (at next : ℕ) → at ≤ next → AreGrouped entries links
-        → ((j : ℕ) → at ≤ j → j < next → j < length links → fold_at links j ≢ group_fold depth (dp.bucket depth row))
-        → dominator dp (take next seen) depth row worth ≡ dominator dp (take at seen) depth row worth
-    jumped links at next later grouped others =
-        let sum : at + (next - at) ≡ next = omega arith in
-        ap (λ k. dominator dp (take k seen) depth row worth) (sym sum)
-        ∙ skipped links at (next - at) grouped (λ j from to there. others j from (omega arith) there)
+    -- so far before the run at the place, or among all entries where that is past all runs
+    abbrev pub IsSoFar : List Run → ℕ → Option ℕ → Type 0
+    IsSoFar runs at o = (at < length runs → o ≡ dominator dp (take (start_at runs at) seen) depth row worth) × (length runs ≤ at → o ≡ dominator dp seen depth row worth)
+
+    pub jumped : (runs : List Run) (at next : ℕ) (o : Option ℕ) → at ≤ next → at ≤ length runs → AreGrouped entries runs
+        → ((j : ℕ) → at ≤ j → j < next → j < length runs → fold_at runs j ≢ group_fold depth (dp.bucket depth row))
+        → o ≡ dominator dp (take (start_at runs at) seen) depth row worth → IsSoFar runs next o
+    jumped runs at next o later within grouped others is = (
+      λ less. (
+          let sum : at + (next - at) ≡ next = omega arith in
+          is ∙ sym (ap (λ k. dominator dp (take (start_at runs k) seen) depth row worth) (sym sum) ∙ skipped-runs runs at (next - at) grouped (omega arith) (λ j from to. others j from (omega arith) (omega arith)))),
+      λ past. (
+          let sum : at + (length runs - at) ≡ length runs = omega arith in
+          let all : take (start_at runs (length runs)) seen ≡ seen = past_all (start_at runs (length runs)) (let k = grouped.all in omega arith) in
+          is ∙ sym (ap (λ l. dominator dp l depth row worth) (sym all)
+          ∙ (ap (λ k. dominator dp (take (start_at runs k) seen) depth row worth) (sym sum) ∙ skipped-runs runs at (length runs - at) grouped (omega arith) (λ j from to. others j from (omega arith) (omega arith))))),
+    )
+
+    -- where tickets rise, no later ticket is less than the least so far
+    bound : (k m : ℕ) → k ≤ length entries → AreRising entries → dominator dp (take k seen) depth row worth ≡ Some m
+        → (j : ℕ) → k ≤ j → j < length entries → m ≤ (entry_at entries j).ticket
+    bound zero m all rising is j from less = let no : None ≡ Some m = is in absurd (cc)
+    bound (suc k) m all rising is j from less = by (λ before. bound k m (omega arith) rising before j (omega arith) less) (dominates dp depth row worth (with_row (entry_at entries k) (row_at cells words k))) refl
+      where
+        here : dominator dp (take (k + 1) seen) depth row worth ≡ Some m
+        here = let one : k + 1 ≡ suc k = omega arith in ap (λ n. dominator dp (take n seen) depth row worth) one ∙ is
+
+        by : (dominator dp (take k seen) depth row worth ≡ Some m → m ≤ (entry_at entries j).ticket)
+            → (b : Bool) → dominates dp depth row worth (with_row (entry_at entries k) (row_at cells words k)) ≡ b → m ≤ (entry_at entries j).ticket
+        by earlier true own =
+            let least = lesser_some (dominator dp (take k seen) depth row worth) (entry_at entries k).ticket in
+            let same : Some least.0 ≡ Some m = sym least.1 ∙ (sym (past_then k (omega arith) own) ∙ here) in
+            let number : least.0 ≡ m = cc in
+            let most = least.2 in
+            let step = rising k j (omega arith) less in omega arith
+        by earlier false own = earlier (sym (past_else k (omega arith) own) ∙ here)
+
+    lesser-same : (m t : ℕ) → m ≤ t → lesser (Some m) (Some t) ≡ Some m
+    lesser-same m t most = ap (λ n. Some n) (grind (arith, nat_tests))
+
+    stays-more : (k n m : ℕ) → k + n ≤ length entries → ((j : ℕ) → k ≤ j → j < length entries → m ≤ (entry_at entries j).ticket)
+        → dominator dp (take k seen) depth row worth ≡ Some m → dominator dp (take (k + n) seen) depth row worth ≡ Some m
+    stays-more k zero m all most is = let none : k + 0 ≡ k = omega arith in ap (λ n. dominator dp (take n seen) depth row worth) none ∙ is
+    stays-more k (suc n) m all most is = by (stays-more k n m (omega arith) most is) (dominates dp depth row worth (with_row (entry_at entries (k + n)) (row_at cells words (k + n)))) refl
+      where
+        sum : dominator dp (take (k + suc n) seen) depth row worth ≡ dominator dp (take (k + n + 1) seen) depth row worth
+        sum = let one : k + suc n ≡ k + n + 1 = omega arith in ap (λ l. dominator dp (take l seen) depth row worth) one
+
+        by : dominator dp (take (k + n) seen) depth row worth ≡ Some m
+            → (b : Bool) → dominates dp depth row worth (with_row (entry_at entries (k + n)) (row_at cells words (k + n))) ≡ b → dominator dp (take (k + suc n) seen) depth row worth ≡ Some m
+        by so-far true own = sum ∙ (past_then (k + n) (omega arith) own ∙ (ap (λ o. lesser o (Some (entry_at entries (k + n)).ticket)) so-far ∙ lesser-same m (entry_at entries (k + n)).ticket (most (k + n) (omega arith) (omega arith))))
+        by so-far false own = sum ∙ (past_else (k + n) (omega arith) own ∙ so-far)
 
     -- where tickets rise, the first that dominates has the least
-    pub first_is_least : (at : ℕ) → at < length entries → AreRising entries → dominates dp depth row worth (with_row (entry_at entries at) (row_at cells words at)) ≡ true
-        → lesser (dominator dp (take at seen) depth row worth) (Some (entry_at entries at).ticket) ≡ dominator dp seen depth row worth
-    first_is_least at less rising is =
-        let now = lesser_some (dominator dp (take at seen) depth row worth) (entry_at entries at).ticket in
-        let later : (j : ℕ) → j < length (drop (at + 1) seen) → now.0 ≤ (get_or (drop (at + 1) seen) j no_entry).ticket = λ j there. (
-        let long = length_with_rows words entries cells in
-        let cut = length-drop (at + 1) seen in
-        let place : at + 1 + j < length entries = omega arith in
-        let own : get_or (drop (at + 1) seen) j no_entry ≡ with_row (entry_at entries (at + 1 + j)) (row_at cells words (at + 1 + j)) =
-        get_or-drop (at + 1) seen j no_entry ∙ with_rows_at words entries cells (at + 1 + j) no_entry place in
-        let most : now.0 ≤ (entry_at entries (at + 1 + j)).ticket = (let a = now.2 in let b = rising at (at + 1 + j) (omega arith) place in omega arith) in
-        subst (λ (e : TableEntry). now.0 ≤ e.ticket) (sym own) most) in
-        let whole : dominator dp seen depth row worth ≡ lesser (dominator dp (take (at + 1) seen) depth row worth) (dominator dp (drop (at + 1) seen) depth row worth) =
-        ap (λ l. dominator dp l depth row worth) (sym (take-append-drop (at + 1) seen)) ∙ dominator-append (take (at + 1) seen) (drop (at + 1) seen) in
-        now.1 ∙ sym (whole ∙ (ap (λ o. lesser o (dominator dp (drop (at + 1) seen) depth row worth)) (past_then at less is ∙ now.1) ∙ stays now.0 (drop (at + 1) seen) later))
+    pub settled : (k n m : ℕ) → k ≤ n → n ≤ length entries → AreRising entries → dominator dp (take k seen) depth row worth ≡ Some m
+        → dominator dp (take n seen) depth row worth ≡ Some m
+    settled k n m later all rising is =
+        let sum : k + (n - k) ≡ n = omega arith in
+        ap (λ l. dominator dp (take l seen) depth row worth) (sym sum) ∙ stays-more k (n - k) m (omega arith) (bound k m (omega arith) rising is) is
+
+    pub settled_all : (k m : ℕ) → k ≤ length entries → AreRising entries → dominator dp (take k seen) depth row worth ≡ Some m → dominator dp seen depth row worth ≡ Some m
+    settled_all k m all rising is =
+        ap (λ l. dominator dp l depth row worth) (sym (past_all (length entries) (omega arith))) ∙ settled k (length entries) m all (omega arith) rising is
+
+    -- the least so far, where one more dominates, is there
+    pub found_one : (at : ℕ) → (m : ℕ) × (lesser (dominator dp (take at seen) depth row worth) (Some (entry_at entries at).ticket) ≡ Some m)
+    found_one at = let least = lesser_some (dominator dp (take at seen) depth row worth) (entry_at entries at).ticket in (least.0, least.1)

@@ -1,12 +1,10 @@
 -- The entries of a table, and the table as its callers see it.
-use Rattle.std.specs.Prelude.{◌≡◌, ℕ, ◌-◌, ◌*◌, ◌<◌, ◌≤◌, ℤ, pos, Bool, cond, nat_eq, List, [], ◌∷◌, ◌++◌, length, take, drop, slice_index_or, Option, None}
-use Rattle.std.specs.Int.{w64, cast_signed}
-use Rattle.dp_model.specs.Folds.{fold_of}
+use Rattle.std.specs.Prelude.{◌≡◌, ℕ, ◌+◌, ◌-◌, ◌*◌, ◌<◌, ◌≤◌, ℤ, pos, Bool, cond, nat_eq, List, [], ◌∷◌, ◌++◌, length, take, drop, slice_index_or, Option, None}
 use Rattle.dominance_table.specs.declared.entry.Entry.{Entry}
 use Rattle.dominance_table.specs.declared.put.Put.{Put}
 use Rattle.dominance_table.specs.declared.put.Put.TheVariants.{Yes, AtLimit}
-use Rattle.dominance_table.specs.declared.groups.Link.{Link}
-use Rattle.dominance_table.specs.Groups.{fold_at}
+use Rattle.dominance_table.specs.declared.groups.Run.{Run}
+use Rattle.dominance_table.specs.Groups.{fold_at, depth_at, bucket_at, end_at, start_at, group_fold}
 
 -- a state that was reached: its depth, its bucket, its row, the rank of the row, where it was told, the value that it was reached
 -- with, and its ticket
@@ -62,14 +60,18 @@ entry_at entries i = slice_index_or entries i (record { depth = 0; bucket = 0; r
 abbrev pub row_at : List ℤ → ℕ → ℕ → List ℤ
 row_at cells words place = take words (drop (place * words) cells)
 
--- the fold of a depth and a bucket
-abbrev pub group_fold : ℕ → ℕ → ℕ
-group_fold depth bucket = fold_of depth (cast_signed w64 bucket ∷ [])
+-- the entries of a run lie from the end of the one before to its own end, and are of its depth and bucket; all entries are in runs
+pub record AreGrouped (entries : List Entry) (runs : List Run) : Type 0 where
+  pub all : start_at runs (length runs) ≡ length entries
+  pub within : (r : ℕ) → r < length runs → end_at runs r ≤ length entries
+  pub ordered : (r : ℕ) → r < length runs → start_at runs r ≤ end_at runs r
+  pub depth : (r i : ℕ) → r < length runs → start_at runs r ≤ i → i < end_at runs r → (entry_at entries i).depth ≡ depth_at runs r
+  pub bucket : (r i : ℕ) → r < length runs → start_at runs r ≤ i → i < end_at runs r → (entry_at entries i).bucket ≡ bucket_at runs r
+  pub fold : (r : ℕ) → r < length runs → fold_at runs r ≡ group_fold (depth_at runs r) (bucket_at runs r)
 
--- each entry is under the fold of its depth and bucket
-pub record AreGrouped (entries : List Entry) (links : List Link) : Type 0 where
-  pub len : length links ≡ length entries
-  pub fold : (i : ℕ) → i < length entries → fold_at links i ≡ group_fold (entry_at entries i).depth (entry_at entries i).bucket
+-- there is room for as many runs more as entries
+abbrev pub HasRunRoom : ℕ → ℕ → ℕ → ℕ → Type 0
+HasRunRoom room len runs runs_room = runs + (room - len) ≤ runs_room
 
 -- no ticket is less than one before it
 abbrev pub AreRising : List Entry → Type 0

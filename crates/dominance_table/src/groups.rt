@@ -1,35 +1,38 @@
-//! Which entries were put under a fold, in the order of their puts.
+//! Which entries were put under a fold, in the order of their puts: runs of them, in chains.
 
-ghost use Rattle.std.specs.Prelude.{◌≡◌, ◌≢◌, ℕ, ◌+◌, ◌<◌, ◌≤◌, [], length, max, nat_eq, None, Some, IfSome, OnOk, OnErr, vec_len, vec_capacity};
+ghost use Rattle.std.specs.Prelude.{◌≡◌, ◌≢◌, ℕ, ◌+◌, ◌<◌, ◌≤◌, [], length, max, nat_eq, true, false, None, Some, IfSome, OnOk, OnErr, vec_len, vec_capacity};
 ghost use Rattle.indexmap.specs.IndexMap.{get, spare};
-ghost use Rattle.dominance_table.specs.Groups.{HasEntered, IsAppended, fold_at, ends_after, last_in};
+ghost use Rattle.dominance_table.specs.Groups.{HasEntered, IsAppended, IsLonger, fold_at, group_fold, ends_after, last_in, no_place};
 
-use dp_model::OutOfMemory;
+use dp_model::{OutOfMemory, fold};
 use indexmap::IndexMap;
 use std::alloc::Global;
 use std::marker::Model;
 
-/// The fold that an entry was put under, and the place of the next entry of that fold, or `usize::MAX`.
+/// Entries of one depth and one bucket that were put one after another, up to before the place `end`, with the fold that they
+/// were put under, and the place of the next run of that fold, or `usize::MAX`.
 #[derive(Clone, Copy, Debug)]
-pub struct Link {
+pub struct Run {
+    pub depth: usize,
+    pub bucket: u64,
+    pub end: usize,
     pub fold: u64,
     pub next: usize,
 }
 
-/// The places of the first and the last entry of a fold.
+/// The places of the first and the last run of a fold.
 #[derive(Clone, Copy, Debug)]
 pub struct Ends {
     pub first: usize,
     pub last: usize,
 }
 
-/// The entries of each fold in a chain, in the order of their puts. There is memory for `room` entries, those that are there
-/// included.
+/// The runs of each fold in a chain, in the order of their puts. There is memory for `room` runs, those that are there included.
 #[derive(Debug, Drop)]
 pub struct Groups {
     room: usize,
     heads: IndexMap<u64, Ends>,
-    links: Vec<Link>,
+    runs: Vec<Run>,
 }
 
 impl Model for Groups {
@@ -38,50 +41,50 @@ impl Model for Groups {
 
     ghost Value = { GroupsView };
 
-    ghost view = { λ g. record { links = g.links.items; room = g.room } };
+    ghost view = { λ g. record { runs = g.runs.items; room = g.room } };
 
-    ghost invariant = { λ g. AreChained g.heads g.links.items × HasHeadRoom g.heads g.links.items g.room (vec_capacity g.links) };
+    ghost invariant = { λ g. AreChained g.heads g.runs.items × HasHeadRoom g.heads g.runs.items g.room (vec_capacity g.runs) };
 }
 
 impl Groups {
-    /// No entries, and room for none. It takes no memory.
+    /// No runs, and room for none. It takes no memory.
     pub fn new(alloc: Global) -> Groups
-        ensures { result ≡ record { links = []; room = 0 } }
+        ensures { result ≡ record { runs = []; room = 0 } }
     {
         Groups {
             room: 0,
             heads: IndexMap::new(alloc),
-            links: Vec::new(alloc),
+            runs: Vec::new(alloc),
         }
     }
 
-    /// For how many entries there is memory, those that are there included.
+    /// For how many runs there is memory, those that are there included.
     pub fn room(&self) -> usize
         ensures { result ≡ self.now.room }
     {
         self.room
     }
 
-    /// Makes room for so many entries more. A refusal changes nothing.
+    /// Makes room for so many runs more. A refusal changes nothing.
     pub fn reserve(&mut self, count: usize) -> Result<(), OutOfMemory>
-        ensures links { self.new.links ≡ self.old.links }
-        ensures ok { OnOk result (self.new.room ≡ max (length self.old.links + count) self.old.room) }
+        ensures runs { self.new.runs ≡ self.old.runs }
+        ensures ok { OnOk result (self.new.room ≡ max (length self.old.runs + count) self.old.room) }
         ensures err { OnErr result (self.new ≡ self.old) }
     {
-        let len = self.links.len();
+        let len = self.runs.len();
         let Some(room) = len.checked_add(count) else {
             return Err(OutOfMemory);
         };
-        self.links.reserve(count)?;
+        self.runs.reserve(count)?;
         self.heads.reserve(count)?;
         self.room = room.max(self.room);
         Ok(())
     }
 
-    /// The place of the first entry of the fold, or a place past all entries.
+    /// The place of the first run of the fold, or a place past all runs.
     pub fn first(&self, fold: u64) -> usize
-        ensures fold { result < length self.now.links → fold_at self.now.links result ≡ fold }
-        ensures before { (j : ℕ) → j < result → j < length self.now.links → fold_at self.now.links j ≢ fold }
+        ensures fold { result < length self.now.runs → fold_at self.now.runs result ≡ fold }
+        ensures before { (j : ℕ) → j < result → j < length self.now.runs → fold_at self.now.runs j ≢ fold }
     {
         match self.heads.get(&fold) {
             Some(ends) => ends.first,
@@ -89,42 +92,86 @@ impl Groups {
         }
     }
 
-    /// The place of the next entry of the fold of the one at this place, or a place past all entries.
+    /// The place of the next run of the fold of the one at this place, or a place past all runs.
     pub fn next(&self, place: usize) -> usize
-        requires { place < length self.now.links }
+        requires { place < length self.now.runs }
         ensures later { place < result }
-        ensures fold { result < length self.now.links → fold_at self.now.links result ≡ fold_at self.now.links place }
-        ensures between { (j : ℕ) → place < j → j < result → j < length self.now.links → fold_at self.now.links j ≢ fold_at self.now.links place }
+        ensures fold { result < length self.now.runs → fold_at self.now.runs result ≡ fold_at self.now.runs place }
+        ensures between { (j : ℕ) → place < j → j < result → j < length self.now.runs → fold_at self.now.runs j ≢ fold_at self.now.runs place }
     {
-        self.links[place].next
+        self.runs[place].next
     }
 
-    /// One more entry. It takes no memory.
-    pub fn enter(&mut self, fold: u64)
-        requires { length self.old.links < self.old.room }
-        ensures entered { HasEntered self.old.links self.new.links fold }
+    /// All runs, in the order of their puts.
+    pub fn runs(&self) -> &[Run]
+        ensures { result.now ≡ self.now.runs }
+    {
+        self.runs.as_slice()
+    }
+
+    /// One more entry of the depth and the bucket, just before the place `end`. It takes no memory.
+    pub fn enter(&mut self, depth: usize, bucket: u64, end: usize)
+        requires { length self.old.runs < self.old.room }
+        ensures entered { HasEntered self.old.runs self.new.runs depth bucket (group_fold depth bucket) end }
         ensures room { self.new.room ≡ self.old.room }
     {
-        let last = set_last(&mut self.heads, fold, self.links.len());
-        append(&mut self.links, last, fold);
+        if lengthen(&mut self.runs, depth, bucket, end) {
+            return;
+        }
+        let fold = group_fold(depth, bucket);
+        let last = set_last(&mut self.heads, fold, self.runs.len());
+        append(
+            &mut self.runs,
+            last,
+            Run {
+                depth,
+                bucket,
+                end,
+                fold,
+                next: usize::MAX,
+            },
+        );
     }
 }
 
-/// One more entry at the end, which comes next after the one at the place `last`. It takes no memory.
-fn append(links: &mut Vec<Link>, last: Option<usize>, fold: u64)
-    requires room { vec_len links.old < vec_capacity links.old }
-    requires last { IfSome last (λ place. place < length links.old.items) }
-    ensures appended { IsAppended links.old.items links.new.items last fold }
-    ensures capacity { vec_capacity links.old ≤ vec_capacity links.new }
+/// The fold by which the entries of a depth and a bucket are found.
+pub fn group_fold(depth: usize, bucket: u64) -> u64
+    ensures { result ≡ group_fold depth bucket }
 {
-    let place = links.len();
-    if let Some(last) = last {
-        links[last].next = place;
+    fold(depth as u64, &[bucket.cast_signed()])
+}
+
+/// Lengthens the last run up to the new end where it is of the depth and the bucket, and answers whether it is. It takes no memory.
+fn lengthen(runs: &mut Vec<Run>, depth: usize, bucket: u64, end: usize) -> bool
+    ensures longer { result ≡ true → IsLonger runs.old.items runs.new.items depth bucket end }
+    ensures kept { result ≡ false → runs.new ≡ runs.old }
+    ensures capacity { vec_capacity runs.old ≤ vec_capacity runs.new }
+{
+    if runs.is_empty() {
+        return false;
     }
-    links.push_reserved(Link {
-        fold,
-        next: usize::MAX,
-    });
+    let last = runs.len() - 1;
+    if runs[last].depth != depth || runs[last].bucket != bucket {
+        return false;
+    }
+    runs[last].end = end;
+    true
+}
+
+/// One more run at the end, which comes next after the one at the place `last`. It takes no memory.
+fn append(runs: &mut Vec<Run>, last: Option<usize>, run: Run)
+    requires room { vec_len runs.old < vec_capacity runs.old }
+    requires last { IfSome last (λ place. place < length runs.old.items) }
+    requires end { run.next ≡ no_place }
+    ensures appended { IsAppended runs.old.items runs.new.items last run.fold }
+    ensures entered { HasEntered runs.old.items runs.new.items run.depth run.bucket run.fold run.end }
+    ensures capacity { vec_capacity runs.old ≤ vec_capacity runs.new }
+{
+    let place = runs.len();
+    if let Some(last) = last {
+        runs[last].next = place;
+    }
+    runs.push_reserved(run);
 }
 
 /// Makes the place the last of the fold, and answers the one that was, or `None` exactly where there was none. It takes no

@@ -9,8 +9,9 @@
 //! the depth and bucket that dominate: whose value is no less than the new one and their gap to it. `reserve` fails only for
 //! want of memory, and then changes nothing.
 //!
-//! The entries of one fold of depth and bucket are in a chain, in the order of their puts; depth and bucket are compared at
-//! each, so the answers are exact. Where no ticket was put after a greater one, the first entry that dominates is the answer.
+//! Entries of one depth and bucket that were put one after another are a run, and the runs of one fold of depth and bucket are in a
+//! chain, in the order of their puts. Depth and bucket are compared once at each run, so the answers are exact, and a search goes
+//! over consecutive entries. Where no ticket was put after a greater one, the first entry that dominates is the answer.
 #![tactic(auto)]
 
 mod dominating;

@@ -3,7 +3,7 @@ ghost use Rattle.dp_model.specs.Gaps.{IsStateOf};
 ghost use Rattle.dominance_table.specs.Dominator.{dominator, AreStates, entry_of_state};
 ghost use Rattle.dominance_table.specs.Entries.{put_gives, after_put, entry_at, with_row};
 
-use crate::dominating::{Sought, group_fold, least_dominator};
+use crate::dominating::{Seen, Sought, least_dominator};
 use crate::entry::Entry;
 use crate::groups::Groups;
 use crate::put::Put;
@@ -13,11 +13,14 @@ use std::marker::Model;
 
 /// States that were reached, each with its depth, bucket, value and ticket, in the order of their puts, up to a limit.
 ///
-/// The rows lie one after another in one block. The entries of one fold of depth and bucket are in a chain.
+/// The rows lie one after another in one block. Entries of one depth and bucket that were put one after another are a run, and the
+/// runs of one fold of depth and bucket are in a chain.
 #[derive(Debug, Drop)]
 pub struct Table {
     words: usize,
     limit: u32,
+    // for how many entries there is memory, those that are there included
+    room: usize,
     // only where no ticket is less than one before it
     rising: bool,
     entries: Vec<Entry>,
@@ -27,8 +30,8 @@ pub struct Table {
 
 impl Model for Table {
     ghost use Rattle.std.specs.Prelude.{◌-◌, vec_len, vec_capacity};
-    ghost use Rattle.std.specs.Prelude.{◌≡◌, true};
-    ghost use Rattle.dominance_table.specs.Entries.{TableView, HasRoom, AreGrouped, AreRising, with_rows};
+    ghost use Rattle.std.specs.Prelude.{◌≡◌, true, length};
+    ghost use Rattle.dominance_table.specs.Entries.{TableView, HasRoom, HasRunRoom, AreGrouped, AreRising, with_rows};
 
     ghost Value = { TableView };
 
@@ -36,11 +39,11 @@ impl Model for Table {
       entries = with_rows t.words t.entries.items t.cells.items;
       words = t.words;
       limit = t.limit;
-      spare = t.groups.room - vec_len t.entries;
+      spare = t.room - vec_len t.entries;
     } };
 
-    ghost invariant = { λ t. HasRoom t.words t.limit t.groups.room (vec_len t.entries) (vec_capacity t.entries) (vec_len t.cells) (vec_capacity t.cells)
-        × (AreGrouped t.entries.items t.groups.links × (t.rising ≡ true → AreRising t.entries.items)) };
+    ghost invariant = { λ t. HasRoom t.words t.limit t.room (vec_len t.entries) (vec_capacity t.entries) (vec_len t.cells) (vec_capacity t.cells)
+        × (HasRunRoom t.room (vec_len t.entries) (length t.groups.runs) t.groups.room × (AreGrouped t.entries.items t.groups.runs × (t.rising ≡ true → AreRising t.entries.items))) };
 }
 
 impl Table {
@@ -52,6 +55,7 @@ impl Table {
         Table {
             words,
             limit,
+            room: 0,
             rising: true,
             entries: Vec::new(alloc),
             cells: Vec::new(alloc),
@@ -69,7 +73,7 @@ impl Table {
         let Some(room) = self.entries.len().checked_add(rows) else {
             return Err(OutOfMemory);
         };
-        if room <= self.groups.room() {
+        if room <= self.room {
             return Ok(());
         }
         let Some(cells) = rows.checked_mul(self.words) else {
@@ -78,6 +82,7 @@ impl Table {
         self.entries.reserve(rows)?;
         self.cells.reserve(cells)?;
         self.groups.reserve(rows)?;
+        self.room = room;
         Ok(())
     }
 
@@ -139,7 +144,8 @@ impl Table {
             return Put::AtLimit;
         }
         self.rising = rise_with(self.rising, self.entries.as_slice(), entry.ticket);
-        self.groups.enter(group_fold(entry.depth, entry.bucket));
+        self.groups
+            .enter(entry.depth, entry.bucket, self.entries.len() + 1);
         self.entries.push_reserved(entry);
         let _ = self.cells.extend_from_slice(row);
         Put::Yes
@@ -167,15 +173,13 @@ impl Table {
             rank: model.rank(depth, row),
             value,
         };
-        least_dominator(
-            model,
-            self.entries.as_slice(),
-            self.cells.as_slice(),
-            self.words,
-            &self.groups,
-            self.rising,
-            &sought,
-        )
+        let seen = Seen {
+            entries: self.entries.as_slice(),
+            cells: self.cells.as_slice(),
+            words: self.words,
+            rising: self.rising,
+        };
+        least_dominator(model, &seen, &self.groups, &sought)
     }
 
     /// How many entries there are, at most the limit.
@@ -190,7 +194,7 @@ impl Table {
     pub fn spare(&self) -> usize
         ensures { result ≡ self.now.spare }
     {
-        self.groups.room() - self.entries.len()
+        self.room - self.entries.len()
     }
 
     /// How many entries there are at most.

@@ -1,5 +1,5 @@
 -- Leaders, one after another.
-use Rattle.std.proofs.Common.{◌≡◌, ℕ, ◌+◌, ◌<◌, ◌≤◌, nat_le, ℤ, ◌+ℤ◌, ◌-ℤ◌, int_le, Bool, true, false, not, cond, ◌&&◌, List, [], ◌∷◌, ◌++◌, length, drop, get_or, Option, Some, None, IfSome, refl, sym, ◌∙◌, ap, ap₂, subst, arith}
+use Rattle.std.proofs.Common.{◌≡◌, ℕ, ◌+◌, ◌^◌, ◌<◌, ◌≤◌, nat_le, ℤ, pos, ◌+ℤ◌, ◌-ℤ◌, ◌≤ℤ◌, int_le, Bool, true, false, not, cond, ◌&&◌, List, [], ◌∷◌, ◌++◌, length, drop, get_or, Option, Some, None, IfSome, refl, sym, ◌∙◌, ap, ap₂, subst, arith}
 use Rattle.std.proofs.lemmas.Int.{ints}
 use Rattle.std.proofs.lemmas.List.{map-append, length-map, drop_more, drop_all}
 use Rattle.dp_model.specs.Dp.{Dp}
@@ -27,6 +27,18 @@ within-small most (Some g) h = elim (int_le g most) as (λ b. IfSome (cond b (So
 
 pub gap-within-small : (dp : Dp) → IsLawful dp → (k : ℕ) (a s : List ℤ) (most : ℤ) (o : Option ℤ) → IsStateOf dp k a → IsStateOf dp k s → o ≡ within most (dp.gap k a s) → IfSome o (λ g. IsSmall g)
 gap-within-small dp laws k a s most o x y e = subst (λ o. IfSome o (λ g. IsSmall g)) (sym e) (within-small most (dp.gap k a s) (gap-small dp laws k a s (dp.gap k a s) x y refl))
+
+within-all : (most : ℤ) (o : Option ℤ) → IfSome o (λ g. g ≤ℤ most) → within most o ≡ o
+within-all most None h = refl
+within-all most (Some g) h = let less : int_le g most ≡ true = grind (arith, ints) in ap (λ b. cond b (Some g) None) less
+
+gap-high : (o : Option ℤ) → IfSome o (λ g. IsSmall g) → IfSome o (λ g. g ≤ℤ pos (2 ^ 50))
+gap-high None h = tt
+gap-high (Some g) h = h.high
+
+-- each gap is within the greatest one
+pub gap-within-all : (dp : Dp) → IsLawful dp → (k : ℕ) (a s : List ℤ) → IsStateOf dp k a → IsStateOf dp k s → within (pos (2 ^ 50)) (dp.gap k a s) ≡ dp.gap k a s
+gap-within-all dp laws k a s x y = within-all (pos (2 ^ 50)) (dp.gap k a s) (gap-high (dp.gap k a s) (gap-small dp laws k a s (dp.gap k a s) x y refl))
 
 compared : (g a v : ℤ) → int_le g (a -ℤ v) ≡ int_le (v +ℤ g) a
 compared g a v = grind (arith, ints)

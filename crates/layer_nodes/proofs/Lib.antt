@@ -10,6 +10,7 @@ pub mod Pruned
 pub mod Sifted
 pub mod Dropped
 pub mod SiftedLayers
+pub mod Inexact
 pub mod Kept
 pub mod Merged
 pub mod MergedLayers

@@ -1,6 +1,7 @@
 -- Nodes that are taken out, or stay and close up, one after another.
-use Rattle.std.proofs.Common.{◌≡◌, ℕ, ◌+◌, ◌<◌, ℤ, pos, Bool, true, false, cond, ◌||◌, List, [], ◌∷◌, ◌++◌, length, map, take, drop, set, get_or, Option, Some, None, is_some, refl, sym, ◌∙◌, ap, ap₂, subst, append_assoc, append-nil, arith}
-use Rattle.std.proofs.lemmas.List.{take_more_set, drop-set-lt, length-set, drop_more, drop_all, map-append, length_push}
+use Rattle.std.proofs.Common.{◌≡◌, ℕ, ◌+◌, ◌<◌, ℤ, pos, Bool, true, false, cond, ◌||◌, List, [], ◌∷◌, ◌++◌, length, map, take, drop, set, get_or, slice_get, Option, Some, None, is_some, refl, sym, ◌∙◌, ap, ap₂, subst, append_assoc, append-nil, arith}
+use Rattle.std.proofs.lemmas.List.{take_more_set, drop-set-lt, length-set, set-get_or, drop_more, drop_all, map-append, length_push}
+use Rattle.std.proofs.lemmas.Option.{get_or_from_slice_get}
 use Rattle.dp_model.specs.Dp.{Dp}
 use Rattle.dp_model.specs.Lists.{Each, OneOf}
 use Rattle.dp_model.specs.NumberLaws.{small_natural}
@@ -21,6 +22,10 @@ use Rattle.layer_nodes.proofs.Stored.{each-set, each-get, among-each, among-self
 
 abbrev pub here : ℕ → Option Redirect
 here place = Some (record { place = place; longer = pos 0 })
+
+-- a node that is put where it stands
+pub set-own : {X : Type 0} (xs : List X) (i : ℕ) (x : X) → slice_get xs i ≡ Some x → set xs i x ≡ xs
+set-own xs i x e = ap (set xs i) (sym (get_or_from_slice_get xs i x x e)) ∙ set-get_or xs i x
 
 -- One node.
 

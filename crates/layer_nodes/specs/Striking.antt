@@ -1,5 +1,5 @@
 -- Nodes that are struck or dominated are taken out in memory, and the others close up.
-use Rattle.std.specs.Prelude.{◌≡◌, ℕ, ◌≤◌, ℤ, pos, cond, List, [], ◌++◌, length, map, take, drop, Option, Some, None}
+use Rattle.std.specs.Prelude.{◌≡◌, ℕ, ◌≤◌, ℤ, pos, false, cond, List, [], ◌++◌, length, map, take, drop, Option, Some, None}
 use Rattle.dp_model.specs.Dp.{Dp}
 use Rattle.dp_model.specs.Lists.{Each}
 use Rattle.dp_laws.specs.Diagrams.Nodes.{DdNode}
@@ -12,6 +12,7 @@ use Rattle.layer_nodes.specs.declared.redirecting.LeaderAt.{LeaderAt}
 use Rattle.layer_nodes.specs.declared.striking.Strikes.{Strikes}
 use Rattle.layer_nodes.specs.declared.striking.Strikes.TheVariants.{AtMost, Nothing}
 use Rattle.layer_nodes.specs.Leading.{IsLeaderIn, leaders_of}
+use Rattle.layer_nodes.specs.Nodes.{NodeView}
 use Rattle.layer_nodes.specs.Redirecting.{IsShort}
 use Rattle.layer_nodes.specs.Steps.{AreAmong}
 
@@ -28,6 +29,10 @@ unstruck dp = record dp { rough = λ k row. Some (pos 0) }
 -- what a leader dominates is taken out of the next layer, at depth k, and nothing is struck
 abbrev pub drop_dominated : Dp → ℕ → TwoLayers → TwoLayers
 drop_dominated dp k two = prune (unstruck dp) k None two
+
+-- none of the nodes is exact
+abbrev pub AreInexact : List NodeView → Type 0
+AreInexact nodes = Each (λ (node : NodeView). node.exact ≡ false) nodes
 
 -- the threshold by which nodes are struck
 abbrev pub threshold_of : Strikes → Option ℤ

@@ -45,7 +45,7 @@ fn keep_targets(arcs: &mut [DdArc], width: usize)
 }
 
 /// Arcs of the layer whose targets are at or behind the width lose them, and nothing else of it changes.
-fn keep_layer_targets(layer: &mut Layer, width: usize)
+pub(crate) fn keep_layer_targets(layer: &mut Layer, width: usize)
     requires lengths { Each MayBeLengthened layer.old.nodes }
     ensures nodes { (paths : ℕ → List ℕ) (next : List DdNode) → width ≤ length next → shown_layer paths layer.new.nodes ≡ with_redirected (keep_redirects width next) (shown_layer paths layer.old.nodes) }
     ensures rest { KeepsNodes layer.old layer.new }

@@ -22,6 +22,9 @@ use crate::redirecting::{Redirect, Redirects, redirect_layer};
 use dp_model::DpModel;
 use layer_candidates::row;
 
+/// No gap is greater.
+const GREATEST_GAP: i64 = 1_125_899_906_842_624;
+
 /// The node's value with the gap, or none where there is none.
 fn lifted(node: Node, gap: Option<i64>) -> Option<i64>
     requires near { IsNearly node.value }
@@ -108,40 +111,44 @@ fn merge_rows<M: DpModel>(
     merge_into_row(model, k, front, words, nodes, &mut behind[..words]);
 }
 
-/// The gap from the row at the place to the node's row.
+/// The gap from the row at the place, whose rank is told, to the node's row. The ranks spare a part of the sums over the cells.
 fn gap_to<M: DpModel>(
     model: &M,
     k: usize,
     rows: &[i64],
     words: usize,
     place: usize,
+    rank: i64,
     node: Node,
 ) -> Option<i64>
     requires room { IsRowOf words rows.now place }
     requires state { IsStateOf (M.meaning (M.numbers model.now)) k (row_at rows.now words place) }
+    requires rank { rank ≡ (M.meaning (M.numbers model.now)).rank k (row_at rows.now words place) }
     requires node { IsNodeIn (M.meaning (M.numbers model.now)) k rows.now words node }
     ensures gap { result ≡ (M.meaning (M.numbers model.now)).gap k (row_at rows.now words place) (row_at rows.now words node.row) }
     ensures small { IfSome result (λ g. IsSmall g) }
 {
     let into = row(rows, words, place);
     let s = row(rows, words, node.row as usize);
-    model.gap(k, into, s)
+    model.covers_within(k, into, rank, s, node.rank, GREATEST_GAP)
 }
 
-/// Arcs into the nodes go to the target, lengthened by the gaps from its row, which stands at the place. Answers the greatest
-/// of the values, each with its gap.
+/// Arcs into the nodes go to the target, lengthened by the gaps from its row, which stands at the place and whose rank is told.
+/// Answers the greatest of the values, each with its gap.
 fn merge_targets<M: DpModel>(
     model: &M,
     k: usize,
     rows: &[i64],
     words: usize,
     place: usize,
+    rank: i64,
     nodes: &[Node],
     target: u32,
     redirects: &mut Vec<Option<Redirect>>,
 ) -> Option<i64>
     requires room { IsRowOf words rows.now place }
     requires state { IsStateOf (M.meaning (M.numbers model.now)) k (row_at rows.now words place) }
+    requires rank { rank ≡ (M.meaning (M.numbers model.now)).rank k (row_at rows.now words place) }
     requires nodes { Each (IsNodeIn (M.meaning (M.numbers model.now)) k rows.now words) nodes.now }
     requires short { Each IsShort redirects.old.items }
     requires redirects_room { length redirects.old.items + length nodes.now ≤ vec_capacity redirects.old }
@@ -153,7 +160,7 @@ fn merge_targets<M: DpModel>(
     let mut best = None;
     'nodes: for i in 0..nodes.len() {
         let node = nodes[i];
-        let gap = gap_to(model, k, rows, words, place, node);
+        let gap = gap_to(model, k, rows, words, place, rank, node);
         best = greater(best, lifted(node, gap));
         redirects.push_reserved(redirect_by(target, gap));
     }
@@ -212,9 +219,19 @@ fn merge_nodes<M: DpModel>(
     let first = width - 1;
     let last = nodes_from(nodes.as_slice(), first);
     merge_rows(model, k, rows, words, place, last);
-    stay_first(redirects, first);
-    let best = merge_targets(model, k, rows, words, place, last, first as u32, redirects);
     let rank = model.rank(k, row(rows, words, place));
+    stay_first(redirects, first);
+    let best = merge_targets(
+        model,
+        k,
+        rows,
+        words,
+        place,
+        rank,
+        last,
+        first as u32,
+        redirects,
+    );
     nodes.truncate(first);
     nodes.push_reserved(merged_node(best.unwrap_or(0), rank, place as u32));
 }

@@ -1,6 +1,6 @@
 //! Nodes that are struck, or that a leader dominates, are taken out of a layer.
 
-ghost use Rattle.std.specs.Prelude.{◌≡◌, ℕ, ◌≤◌, ◌<◌, ◌^◌, ◌∷◌, [], ◌++◌, List, IfSome, length, pos, set, Some, None, vec_capacity};
+ghost use Rattle.std.specs.Prelude.{◌≡◌, ℕ, ◌≤◌, ◌<◌, ◌^◌, ◌∷◌, [], ◌++◌, List, IfSome, IsFalse, length, pos, set, slice_get, Some, None, vec_capacity};
 ghost use Rattle.dp_model.specs.Lists.{Each};
 ghost use Rattle.dp_laws.specs.Rules.Redirects.{with_redirected};
 ghost use Rattle.dp_laws.specs.Rules.Pruning.{is_struck, pruned_nodes, prune_redirects};
@@ -8,8 +8,9 @@ ghost use Rattle.layer_nodes.specs.Leading.{IsNodeIn, IsLeaderIn, leaders_of, le
 ghost use Rattle.layer_nodes.specs.Nodes.{shown_layer, shown_below};
 ghost use Rattle.layer_nodes.specs.Redirecting.{IsShort};
 ghost use Rattle.layer_nodes.specs.Steps.{AreAmong, IsNodeOf, MayBeLengthened, KeepsNodes, KeepsRoom};
-ghost use Rattle.layer_nodes.specs.Striking.{threshold_of, asking, unstruck, taken_out, HasPruned};
+ghost use Rattle.layer_nodes.specs.Striking.{threshold_of, AreInexact, asking, unstruck, taken_out, HasPruned};
 
+use crate::keeping::keep_layer_targets;
 use crate::layer::Layer;
 use crate::leading::{at_leader, lead};
 use crate::node::Node;
@@ -67,15 +68,28 @@ fn taken_out<M: DpModel>(
     Some(Some(redirect))
 }
 
-/// The node stays at the place, and leads where it may.
+/// The node that stands at `from` is put at the place.
+fn put_at(nodes: &mut [Node], node: Node, from: usize, place: usize)
+    requires within { place < length nodes.old }
+    requires from { slice_get nodes.old from ≡ Some node }
+    ensures { nodes.new ≡ set nodes.old place node }
+{
+    if place != from {
+        nodes[place] = node;
+    }
+}
+
+/// The node, which stands at `from`, stays at the place, and leads where it may.
 fn keep_at(
     nodes: &mut [Node],
     leaders: &mut Vec<LeaderAt>,
     redirects: &mut Vec<Option<Redirect>>,
     node: Node,
+    from: usize,
     place: usize,
 )
     requires within { place < length nodes.old }
+    requires from { slice_get nodes.old from ≡ Some node }
     requires small { length nodes.old < 2 ^ 32 }
     requires leaders_room { 16 ≤ vec_capacity leaders.old }
     requires redirects_room { length redirects.old.items < vec_capacity redirects.old }
@@ -90,7 +104,7 @@ fn keep_at(
         longer: 0,
     }));
     lead(leaders, place as u32, node);
-    nodes[place] = node;
+    put_at(nodes, node, from, place);
 }
 
 /// Takes out the nodes that are struck or dominated. Those that stay close up, and arcs into each node go where it stays, or to
@@ -122,12 +136,24 @@ fn prune<M: DpModel>(
         match out {
             Some(redirect) => redirects.push_reserved(redirect),
             None => {
-                keep_at(nodes, leaders, redirects, node, stay);
+                keep_at(nodes, leaders, redirects, node, i, stay);
                 stay += 1;
             }
         }
     }
     stay
+}
+
+/// Whether a node of the layer is exact.
+fn has_exact(layer: &Layer) -> bool
+    ensures { IsFalse result → AreInexact layer.now.nodes }
+{
+    'nodes: for i in 0..layer.len() {
+        if layer.exact(i) {
+            return true;
+        }
+    }
+    false
 }
 
 /// Takes out the nodes of the next layer, at depth `k`, that are struck, or that one of the first 16 exact ones that stay
@@ -207,5 +233,10 @@ pub fn drop_dominated<M: DpModel>(
     ensures next_rooms { KeepsRoom next.old next.new }
     ensures redirects { redirects.new ≡ redirects.old }
 {
-    take_out(model, k, Strikes::Nothing, above, next, redirects);
+    // Only an exact node leads.
+    if has_exact(next) {
+        take_out(model, k, Strikes::Nothing, above, next, redirects);
+    } else {
+        keep_layer_targets(above, next.len());
+    }
 }

@@ -3,8 +3,8 @@ use Rattle.std.proofs.Common.{◌≡◌, ℕ, ◌+◌, ◌^◌, ◌<◌, ℤ, po
 use Rattle.std.specs.Int.RustNames.{int_div}
 use Rattle.std.proofs.lemmas.Int.{ints, clamps, to_z-of_z}
 use Rattle.std.proofs.lemmas.List.{length-drop}
-use Rattle.benefit_rows.specs.Benefits.{size_of, gain_of, rank_of, differences}
-use Rattle.benefit_rows.specs.BenefitLaws.{rank_of-positive, rank_of-drop, size_of-positive, gain_of-positive, gain_of-most, gap_of-by_sizes}
+use Rattle.benefit_rows.specs.Benefits.{size_of, choice_gain, rank_of, differences}
+use Rattle.benefit_rows.specs.BenefitLaws.{rank_of-positive, rank_of-drop, size_of-positive, choice_gain-positive, choice_gain-most, gap_of-by_sizes}
 use Rattle.benefit_rows.proofs.Steps.{rank_of-drop_more, read_at}
 use Rattle.max_cut.specs.Program.{pulls_of, settled_of}
 use Rattle.benefit_rows.specs.Benefits.{sums_of}
@@ -79,17 +79,17 @@ settles rank own weights next alone settled benefit most low twice positive alon
 pub record Settling (k : ℕ) (s : List ℤ) (rank : ℤ) (d : ℕ) (ws : List ℤ) (weights_rank own next alone : ℤ) : Type 0 where
   pub benefit : read (get_or s k (pos 0)) ≡ get_or s k (pos 0)
   pub facts : Settles rank own weights_rank next alone (settled_of (drop (k + 1) s) (pulls_of d ws))
-  pub alone_is : alone ≡ gain_of (get_or s k (pos 0)) d
+  pub alone_is : alone ≡ choice_gain (get_or s k (pos 0)) d
 
 pub settling : (k : ℕ) (s : List ℤ) (rank : ℤ) (d : ℕ) (ws : List ℤ) (weights_rank own next alone : ℤ) → k < length s → length ws + (k + 1) ≡ length s
     → rank_of s ≤ℤ pos (2 ^ 50) → rank_of ws ≤ℤ pos (2 ^ 50) → rank ≡ rank_of (drop k s) → weights_rank ≡ rank_of ws
-    → own ≡ size_of (read (get_or s k (pos 0))) → next ≡ rank_of (sums_of (drop (k + 1) s) (pulls_of d ws)) → alone ≡ gain_of (read (get_or s k (pos 0))) d
+    → own ≡ size_of (read (get_or s k (pos 0))) → next ≡ rank_of (sums_of (drop (k + 1) s) (pulls_of d ws)) → alone ≡ choice_gain (read (get_or s k (pos 0))) d
     → Settling k s rank d ws weights_rank own next alone
 settling k s rank d ws weights_rank own next alone vertex long small short rank_is weights_is own_is next_is alone_is =
     let at = (read_at s k vertex (omega (arith, ints))).is in
     let benefit = get_or s k (pos 0) in
     let own_size : own ≡ size_of benefit = own_is ∙ ap size_of at in
-    let alone_gain : alone ≡ gain_of benefit d = alone_is ∙ ap (λ z. gain_of z d) at in
+    let alone_gain : alone ≡ choice_gain benefit d = alone_is ∙ ap (λ z. choice_gain z d) at in
     let split = rank_of-drop_more s k (pos 0) vertex in
     let before = rank_of-drop k s in
     let rest = rank_of-positive (drop (k + 1) s) in
@@ -98,8 +98,8 @@ settling k s rank d ws weights_rank own next alone vertex long small short rank_
     let next_low = rank_of-positive (sums_of (drop (k + 1) s) (pulls_of d ws)) in
     let twice = settled_of-by_ranks d (drop (k + 1) s) ws (omega (arith, length-drop (k + 1) s)) in
     let positive = settled_of-positive (drop (k + 1) s) (pulls_of d ws) in
-    let alone_low = gain_of-positive benefit d in
-    let alone_most = gain_of-most benefit d in
+    let alone_low = choice_gain-positive benefit d in
+    let alone_most = choice_gain-most benefit d in
     record {
       benefit = at;
       facts = settles rank own weights_rank next alone (settled_of (drop (k + 1) s) (pulls_of d ws))

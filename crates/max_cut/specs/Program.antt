@@ -2,7 +2,7 @@
 -- later vertex the net benefit of putting it on T, and zero for each vertex that has its side.
 use Rattle.std.specs.Prelude.{ℕ, zero, suc, ◌+◌, ℤ, pos, neg_ℤ, ◌+ℤ◌, int_le, List, [], ◌∷◌, ◌++◌, drop, map, replicate, slice_index_or, Bool, true, false, ◌&&◌, ◌||◌, ◌==◌, if◌then◌else◌, Some}
 use Rattle.std.specs.Int.{int_min}
-use Rattle.benefit_rows.specs.Benefits.{size_of, gain_of, rank_of, gap_of, merged_of, sums_of}
+use Rattle.benefit_rows.specs.Benefits.{size_of, choice_gain, rank_of, gap_of, merged_of, sums_of}
 use Rattle.dp_model.specs.Dp.{Dp}
 use Rattle.max_cut.specs.Graph.{Graph, instance_of, row_of, weights_from, negatives_of}
 
@@ -69,7 +69,7 @@ program_of g = record {
   is_state = λ k s. is_within s (limits_of g k);
   allowed = λ k s d. true;
   step = stepped g;
-  gain = λ k s d. gain_of (slice_index_or s k (pos 0)) d +ℤ settled_of (drop (k + 1) s) (pulls_of d (row_of g k));
+  gain = λ k s d. choice_gain (slice_index_or s k (pos 0)) d +ℤ settled_of (drop (k + 1) s) (pulls_of d (row_of g k));
   merged = λ k a s. merged_of a s;
   gap = λ k a s. Some (gap_of (drop k a) (drop k s));
   rough = λ k s. Some (rank_of (drop k s) +ℤ rank_of (weights_from g k));

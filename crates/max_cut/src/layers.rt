@@ -1,7 +1,7 @@
 //! One pass over a row of benefits and a row of weights.
 
 ghost use Rattle.std.specs.Prelude.{◌≡◌, ◌+◌, ◌*◌, ◌-◌, ◌^◌, ◌<◌, ◌≤◌, ◌++◌, drop, take, length, slice_index_or, pos, ◌+ℤ◌, ◌≤ℤ◌};
-ghost use Rattle.benefit_rows.specs.Benefits.{gain_of, rank_of, size_of};
+ghost use Rattle.benefit_rows.specs.Benefits.{choice_gain, rank_of, size_of};
 ghost use Rattle.max_cut.specs.Graph.{IsGraph, negatives_of, pairs_of, row_of, row_start};
 ghost use Rattle.max_cut.specs.Program.{pull_of, pulls_of, settled_of, zeros};
 ghost use Rattle.benefit_rows.specs.Benefits.{sums_of};
@@ -97,7 +97,7 @@ pub(crate) fn extend_row(
     requires rank { rank ≡ rank_of (drop k s.now) }
     requires weights_rank { weights_rank ≡ rank_of weights.now }
     ensures row { out.new ≡ zeros (k + 1) ++ sums_of (drop (k + 1) s.now) (pulls_of d weights.now) }
-    ensures gain { result.gain ≡ gain_of (slice_index_or s.now k (pos 0)) d +ℤ settled_of (drop (k + 1) s.now) (pulls_of d weights.now) }
+    ensures gain { result.gain ≡ choice_gain (slice_index_or s.now k (pos 0)) d +ℤ settled_of (drop (k + 1) s.now) (pulls_of d weights.now) }
     ensures rank { result.rank ≡ rank_of (sums_of (drop (k + 1) s.now) (pulls_of d weights.now)) }
 {
     let benefit = s[k];
@@ -154,7 +154,7 @@ pub(crate) fn gain_by_side(benefit: i64, benefits: &[i64], d: u32, weights: &[i6
     requires size { size_of benefit ≤ℤ pos (2 ^ 50) }
     requires benefit_sizes { rank_of benefits.now ≤ℤ pos (2 ^ 50) }
     requires weight_sizes { rank_of weights.now ≤ℤ pos (2 ^ 50) }
-    ensures { result ≡ gain_of benefit d +ℤ settled_of benefits.now (pulls_of d weights.now) }
+    ensures { result ≡ choice_gain benefit d +ℤ settled_of benefits.now (pulls_of d weights.now) }
 {
     if d == 0 {
         below_zero(benefit) + settled_by::<0>(benefits, weights)
@@ -166,7 +166,7 @@ pub(crate) fn gain_by_side(benefit: i64, benefits: &[i64], d: u32, weights: &[i6
 /// What the side `d` of a vertex gains from its benefit alone.
 pub(crate) fn gain_alone(benefit: i64, d: u32) -> i64
     requires { size_of benefit ≤ℤ pos (2 ^ 50) }
-    ensures { result ≡ gain_of benefit d }
+    ensures { result ≡ choice_gain benefit d }
 {
     if d == 0 {
         below_zero(benefit)

@@ -4,8 +4,8 @@ use Rattle.std.specs.Prelude.{IsTrue}
 use Rattle.std.specs.Int.{int_min}
 use Rattle.std.proofs.lemmas.Int.{ints, clamps}
 use Rattle.std.proofs.lemmas.List.{drop_more, drop_all}
-use Rattle.benefit_rows.specs.Benefits.{above_zero, below_zero, gain_of, size_of, rank_of}
-use Rattle.benefit_rows.specs.BenefitLaws.{size_of-positive, rank_of-positive, gain_of-positive, gain_of-most}
+use Rattle.benefit_rows.specs.Benefits.{above_zero, below_zero, choice_gain, size_of, rank_of}
+use Rattle.benefit_rows.specs.BenefitLaws.{size_of-positive, rank_of-positive, choice_gain-positive, choice_gain-most}
 use Rattle.benefit_rows.proofs.Steps.{size_of-at, read_by_size}
 use Rattle.max_two_sat.specs.declared.weights.PairWeights.{PairWeights}
 use Rattle.max_two_sat.specs.declared.weights.UnitWeights.{UnitWeights}
@@ -170,7 +170,7 @@ benefit-read s k h rank =
 
 -- the side of the decided variable and the parts of the later ones
 pub gain-adds : (row : List PairWeights) (s : List ℤ) (k d : ℕ) (side shared : ℤ) → FitsState row k s →
-    side ≡ gain_of (to_z w64 (of_z w64 (get_or s k (pos 0)))) d → shared ≡ shared_gain row (drop (k + 1) s) d →
+    side ≡ choice_gain (to_z w64 (of_z w64 (get_or s k (pos 0)))) d → shared ≡ shared_gain row (drop (k + 1) s) d →
     PartsAdd (row_gain row (drop k s) d) side shared
 gain-adds row s k d side shared fits side_is shared_is =
     let below : k < length s = omega arith in
@@ -178,12 +178,12 @@ gain-adds row s k d side shared fits side_is shared_is =
     let ts : List ℤ = drop (k + 1) s in
     let cut : drop k s ≡ t ∷ ts = drop_more s k (pos 0) below in
     let sizes : rank_of (drop k s) ≡ size_of t +ℤ rank_of ts = ap rank_of cut in
-    let whole : row_gain row (drop k s) d ≡ gain_of t d +ℤ shared_gain row ts d = ap (λ us. row_gain row us d) cut in
-    let here : side ≡ gain_of t d = rw ((benefit-read s k below fits.rank).read) at side_is in
+    let whole : row_gain row (drop k s) d ≡ choice_gain t d +ℤ shared_gain row ts d = ap (λ us. row_gain row us d) cut in
+    let here : side ≡ choice_gain t d = rw ((benefit-read s k below fits.rank).read) at side_is in
     let rest = rank_of-positive ts in
     let size = size_of-positive t in
-    let low = gain_of-positive t d in
-    let high = gain_of-most t d in
+    let low = choice_gain-positive t d in
+    let high = choice_gain-most t d in
     let shared_least = shared_gain-positive row ts d fits.positive in
     let shared_greatest = shared_gain-most row ts d fits.positive in
     parts-add _ side shared (omega (arith, ints)) (omega (arith, ints)) (omega (arith, ints)) (omega (arith, ints))

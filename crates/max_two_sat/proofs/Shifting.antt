@@ -9,8 +9,8 @@ use Rattle.std.specs.List.{take-map}
 use Rattle.max_two_sat.specs.Fitting.{FitsState}
 use Rattle.max_two_sat.specs.Table.{entries_before}
 use Rattle.max_two_sat.proofs.Table.{row_at-is}
-use Rattle.benefit_rows.specs.Benefits.{size_of, gain_of, rank_of, sums_of}
-use Rattle.benefit_rows.specs.BenefitLaws.{size_of-positive, rank_of-positive, rank_of-append, rank_of-zeros, rank_of-sums_of, gain_of-positive, gain_of-most}
+use Rattle.benefit_rows.specs.Benefits.{size_of, choice_gain, rank_of, sums_of}
+use Rattle.benefit_rows.specs.BenefitLaws.{size_of-positive, rank_of-positive, rank_of-append, rank_of-zeros, rank_of-sums_of, choice_gain-positive, choice_gain-most}
 use Rattle.benefit_rows.proofs.Steps.{rank_of-drop_more}
 use Rattle.max_two_sat.specs.declared.weights.PairWeights.{PairWeights}
 use Rattle.max_two_sat.specs.Instance.{rows_of, row_at, pair_count, pair_total, pairs_total, no_pair}
@@ -133,24 +133,24 @@ gain-read rank own stakes next alone benefit stake after side =
 -- the gain of a decision as it is computed, by the rows
 pub record ExtendRead (shifts : List ℤ) (stakes : ℤ) (k : ℕ) (s : List ℤ) (rank : ℤ) (d : ℕ) (own next alone : ℤ) : Type 0 where
   pub facts : GainRead rank own stakes next alone
-  pub is : alone +ℤ int_div (((rank -ℤ own) +ℤ stakes) -ℤ next) (pos 2) ≡ gain_of (get_or s k (pos 0)) d +ℤ half_lost stakes (drop (k + 1) s) shifts
+  pub is : alone +ℤ int_div (((rank -ℤ own) +ℤ stakes) -ℤ next) (pos 2) ≡ choice_gain (get_or s k (pos 0)) d +ℤ half_lost stakes (drop (k + 1) s) shifts
 
 pub extend-read : (shifts : List ℤ) (stakes : ℤ) (k : ℕ) (s : List ℤ) (rank : ℤ) (d : ℕ) (own next alone : ℤ) → k < length s
     → rank_of shifts ≤ℤ pos (2 ^ 48) → rank_of (drop k s) ≤ℤ pos (2 ^ 48) → rank ≡ rank_of (drop k s) → pos 0 ≤ℤ stakes → stakes ≤ℤ pos (2 ^ 49)
-    → own ≡ size_of (read (get_or s k (pos 0))) → next ≡ rank_of (sums_of (drop (k + 1) s) shifts) → alone ≡ gain_of (read (get_or s k (pos 0))) d
+    → own ≡ size_of (read (get_or s k (pos 0))) → next ≡ rank_of (sums_of (drop (k + 1) s) shifts) → alone ≡ choice_gain (read (get_or s k (pos 0))) d
     → ExtendRead shifts stakes k s rank d own next alone
 extend-read shifts stakes k s rank d own next alone below small benefits rank_is low high own_is next_is alone_is =
     let at = (benefit-read s k below benefits).read in
     let benefit : ℤ = get_or s k (pos 0) in
     let own_size : own ≡ size_of benefit = own_is ∙ ap size_of at in
-    let alone_gain : alone ≡ gain_of benefit d = alone_is ∙ ap (λ z. gain_of z d) at in
+    let alone_gain : alone ≡ choice_gain benefit d = alone_is ∙ ap (λ z. choice_gain z d) at in
     let split = rank_of-drop_more s k (pos 0) below in
     let rest = rank_of-positive (drop (k + 1) s) in
     let own_low = size_of-positive benefit in
     let next_low = rank_of-positive (sums_of (drop (k + 1) s) shifts) in
     let next_high = rank_of-sums_of (drop (k + 1) s) shifts in
-    let side_low = gain_of-positive benefit d in
-    let side_high = gain_of-most benefit d in
+    let side_low = choice_gain-positive benefit d in
+    let side_high = choice_gain-most benefit d in
     let lost : ((rank -ℤ own) +ℤ stakes) -ℤ next ≡ (rank_of (drop (k + 1) s) +ℤ stakes) -ℤ rank_of (sums_of (drop (k + 1) s) shifts) = omega (arith, ints) in
     record {
       facts = gain-read rank own stakes next alone (omega (arith, ints), omega (arith, ints), omega (arith, ints)) (low, high) (omega (arith, ints), omega (arith, ints)) (omega (arith, ints), omega (arith, ints));
@@ -226,7 +226,7 @@ stakes-read d row z positive weight is =
     (read-small z (small-between z (omega (arith, ints)) (omega (arith, ints)))).1 ∙ is
 
 -- what a decision gains, by its own benefit and the later ones
-pub row_gain-cut : (row : List PairWeights) (s : List ℤ) (k d : ℕ) → k < length s → row_gain row (drop k s) d ≡ gain_of (get_or s k (pos 0)) d +ℤ shared_gain row (drop (k + 1) s) d
+pub row_gain-cut : (row : List PairWeights) (s : List ℤ) (k d : ℕ) → k < length s → row_gain row (drop k s) d ≡ choice_gain (get_or s k (pos 0)) d +ℤ shared_gain row (drop (k + 1) s) d
 row_gain-cut row s k d h = ap (λ us. row_gain row us d) (drop_more s k (pos 0) h)
 
 -- the rank of the state behind a decision

@@ -2,7 +2,7 @@
 -- of making it true, among the clauses that are decided but for it.
 use Rattle.std.specs.Prelude.{ℕ, zero, suc, ℤ, pos, neg_ℤ, ◌+ℤ◌, ◌-ℤ◌, Bool, true, false, ◌&&◌, ◌==◌, int_le, List, [], ◌∷◌, ◌++◌, length, take, drop, Some, map}
 use Rattle.std.specs.Int.{int_min}
-use Rattle.benefit_rows.specs.Benefits.{above_zero, below_zero, gain_of, rank_of, gap_of, merged_of}
+use Rattle.benefit_rows.specs.Benefits.{above_zero, below_zero, choice_gain, rank_of, gap_of, merged_of}
 use Rattle.dp_model.specs.Dp.{Dp}
 use Rattle.max_two_sat.specs.declared.weights.UnitWeights.{UnitWeights}
 use Rattle.max_two_sat.specs.declared.weights.PairWeights.{PairWeights}
@@ -46,7 +46,7 @@ row_step row (t ∷ ts) d = pos 0 ∷ grown row ts d
 
 abbrev pub row_gain : List PairWeights → List ℤ → ℕ → ℤ
 row_gain row [] d = pos 0
-row_gain row (t ∷ ts) d = gain_of t d +ℤ shared_gain row ts d
+row_gain row (t ∷ ts) d = choice_gain t d +ℤ shared_gain row ts d
 
 -- a state has a word for each variable, and one word where there is none
 abbrev pub words_of : ℕ → ℕ

@@ -1,6 +1,6 @@
 ghost use Rattle.std.specs.Prelude.{◌≡◌, suc, ◌+◌, ◌^◌, pos, ◌+ℤ◌, ◌-ℤ◌, ◌≤ℤ◌, ◌++◌, ◌∷◌, length, replicate, slice_index_or, take, drop, IsTrue};
 ghost use Rattle.std.specs.Int.{int_min};
-ghost use Rattle.benefit_rows.specs.Benefits.{above_zero, below_zero, gain_of, rank_of, size_of, sums_of};
+ghost use Rattle.benefit_rows.specs.Benefits.{above_zero, below_zero, choice_gain, rank_of, size_of, sums_of};
 ghost use Rattle.max_two_sat.specs.Shifts.{half_lost};
 ghost use Rattle.max_two_sat.specs.Instance.{pair_total, unit_total, units_total};
 ghost use Rattle.max_two_sat.specs.Fitting.{FitsBenefits, FitsState};
@@ -87,7 +87,7 @@ pub(crate) fn extend_row(
     requires stakes_low { pos 0 ≤ℤ stakes }
     requires stakes_high { stakes ≤ℤ pos (2 ^ 49) }
     ensures row { out.new ≡ replicate (k + 1) (pos 0) ++ sums_of (drop (k + 1) s.now) shifts.now }
-    ensures gain { result.gain ≡ gain_of (slice_index_or s.now k (pos 0)) d +ℤ half_lost stakes (drop (k + 1) s.now) shifts.now }
+    ensures gain { result.gain ≡ choice_gain (slice_index_or s.now k (pos 0)) d +ℤ half_lost stakes (drop (k + 1) s.now) shifts.now }
     ensures rank { result.rank ≡ rank_of (sums_of (drop (k + 1) s.now) shifts.now) }
 {
     let benefit = s[k];
@@ -122,7 +122,7 @@ pub(crate) fn step_gain(row: &[PairWeights], k: usize, s: &[i64], d: u32) -> i64
 /// What a variable gains from its benefit.
 fn side_gain(benefit: i64, d: u32) -> i64
     requires size { size_of benefit ≤ℤ pos (2 ^ 48) }
-    ensures { result ≡ gain_of benefit d }
+    ensures { result ≡ choice_gain benefit d }
 {
     if d == 0 {
         below_zero(benefit)

@@ -3,9 +3,9 @@ use Rattle.std.specs.Prelude.{◌≡◌, IsTrue}
 use Rattle.std.proofs.Common.{sym, subst}
 use Rattle.dp_model.specs.Solution.{SolutionGives}
 use Rattle.tsp_windows.specs.Instance.{Instance, is_small, numbers_of, instance_of}
-use Rattle.tsp_windows.specs.Instances.{is_small-gives}
+use Rattle.tsp_windows.specs.Laws.Limits.{is_small-gives}
 use Rattle.tsp_windows.specs.OwnWords.{tour_value}
-use Rattle.tsp_windows.specs.OwnWordsLaws.{solution_gives}
+use Rattle.tsp_windows.specs.Laws.Tours.{solution_gives}
 use Rattle.tsp_windows.specs.Program.{program, program_of}
 use Rattle.tsp_windows.specs.Texts.{spelled, printed}
 use Rattle.tsp_windows.specs.Generating.{generated}

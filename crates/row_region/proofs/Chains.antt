@@ -4,7 +4,8 @@ use Rattle.std.proofs.lemmas.Int.{ints}
 use Rattle.std.proofs.lemmas.Bool.Decides.{eqb_tells, nat_tests}
 use Rattle.std.proofs.lemmas.List.{replicate_more, length-append, ext_get_or, get_or_append_left}
 use Rattle.std.proofs.lemmas.List.Sums.{sum_by_push}
-use Rattle.row_region.specs.Layout.{named, first_cell, free_from, has, Apart, EachNumber, row_at, slot_at, table, slots, IsFreeRow, IsChained, SameBut, IsThreaded}
+use Rattle.row_region.specs.Layout.{named, first_cell, free_from, has, Apart, EachNumber, row_at, live_row_at, table, slots, IsFreeRow, HasFreeChain}
+use Rattle.row_region.proofs.Changes.{SameBut, IsThreaded}
 use Rattle.row_region.proofs.Rows.{row_within, length-row, get-row, same_first, other_row, table_same, table_set}
 
 same_number : (p : ℕ) → nat_eq p p ≡ true
@@ -15,13 +16,6 @@ has_head p ps = rw (same_number p) refl
 
 other_number : (p q : ℕ) → q ≢ p → nat_eq p q ≡ false
 other_number p q n = grind (arith, nat_tests)
-
-not_first : (p q : ℕ) (ps : List ℕ) → has (p ∷ ps) q ≡ false → (q ≢ p) × (has ps q ≡ false)
-not_first p q ps h = go (eqb_tells p q)
-  where
-    go : ((nat_eq p q ≡ true) × (p ≡ q)) ⊎ ((nat_eq p q ≡ false) × (p ≢ q)) → (q ≢ p) × (has ps q ≡ false)
-    go (inl e) = absurd (let k : has (p ∷ ps) q ≡ true = rw e.0 refl in cc)
-    go (inr n) = (λ k. n.1 (sym k), rw n.0 at h)
 
 has_rest : (p q : ℕ) (ps : List ℕ) → has ps q ≡ true → has (p ∷ ps) q ≡ true
 has_rest p q ps h = go (eqb_tells p q)
@@ -102,14 +96,14 @@ few n (p ∷ ps) within apart =
     omega arith
 
 -- so many rows are free at most
-pub spare_few : (cells : List ℤ) (words count free spare : ℕ) → IsChained cells words count free spare → spare ≤ count
+pub spare_few : (cells : List ℤ) (words count free spare : ℕ) → HasFreeChain cells words count free spare → spare ≤ count
 spare_few cells words count free spare c =
     let ps = free_from cells words spare free in
     let h = few count ps (Each_map (IsFreeRow cells words count) (λ p. p < count) ps (λ q k f. f.within) c.free_rows) c.apart in
     omega (arith, length-chain cells words spare free, hits_few ps count)
 
 -- and fewer where a row is live
-pub spare_fewer : (cells : List ℤ) (words count free spare p : ℕ) → IsChained cells words count free spare → p < count → has (free_from cells words spare free) p ≡ false → spare < count
+pub spare_fewer : (cells : List ℤ) (words count free spare p : ℕ) → HasFreeChain cells words count free spare → p < count → has (free_from cells words spare free) p ≡ false → spare < count
 spare_fewer cells words count free spare p c less live =
     let ps = free_from cells words spare free in
     let h = few count (p ∷ ps) (less, Each_map (IsFreeRow cells words count) (λ p. p < count) ps (λ q k f. f.within) c.free_rows) (live, c.apart) in
@@ -139,14 +133,14 @@ module _ (cells new : List ℤ) (words count p : ℕ) (positive : 0 < words) (ro
       (Each_map (IsFreeRow cells words count) (IsFreeRow new words more) ps (λ q k f. free_row_stays cells new words count more q positive le (stays q f.within (apart_from ps p q live k)) f) rows)
 
   -- the slots of the others stay
-  pub kept_slot : (ps qs : List ℕ) (i : ℕ) → i < count → i ≢ p → has qs i ≡ has ps i → slot_at new words qs i ≡ slot_at cells words ps i
+  pub kept_slot : (ps qs : List ℕ) (i : ℕ) → i < count → i ≢ p → has qs i ≡ has ps i → live_row_at new words qs i ≡ live_row_at cells words ps i
   kept_slot ps qs i less n e = rw (e, stays i less n) refl
 
 pos_positive : (n : ℕ) → pos 0 ≤ℤ pos n
 pos_positive n = omega (arith, ints)
 
 -- the place past the last row is not in the chain
-pub past_chain : (cells : List ℤ) (words count free spare : ℕ) → IsChained cells words count free spare → has (free_from cells words spare free) count ≡ false
+pub past_chain : (cells : List ℤ) (words count free spare : ℕ) → HasFreeChain cells words count free spare → has (free_from cells words spare free) count ≡ false
 past_chain cells words count free spare c = go (has (free_from cells words spare free) count) refl
   where
     go : (b : Bool) → has (free_from cells words spare free) count ≡ b → has (free_from cells words spare free) count ≡ false
@@ -154,15 +148,15 @@ past_chain cells words count free spare c = go (has (free_from cells words spare
     go false e = e
 
 -- a row joins the chain at its head
-pub push : (cells new : List ℤ) (words count more free spare p : ℕ) → IsChained cells words count free spare → SameBut cells new words p → first_cell new words p ≡ pos free → has (free_from cells words spare free) p ≡ false → p < more → count ≤ more → more ≤ 2 ^ 32 → more * words ≤ length new
+pub push : (cells new : List ℤ) (words count more free spare p : ℕ) → HasFreeChain cells words count free spare → SameBut cells new words p → first_cell new words p ≡ pos free → has (free_from cells words spare free) p ≡ false → p < more → count ≤ more → more ≤ 2 ^ 32 → more * words ≤ length new
     → free_from new words (suc spare) p ≡ p ∷ free_from cells words spare free
 push cells new words count more free spare p c but named_free live less le small room =
     let e : named (first_cell new words p) ≡ free = ap named named_free in
     ap (λ (j : ℕ). p ∷ free_from new words spare j) e
     ∙ ap (λ (l : List ℕ). p ∷ l) (kept_chain cells new words count p c.positive c.room but spare free c.free_rows live)
 
-pub push_chained : (cells new : List ℤ) (words count more free spare p : ℕ) → IsChained cells words count free spare → SameBut cells new words p → first_cell new words p ≡ pos free → has (free_from cells words spare free) p ≡ false → p < more → count ≤ more → more ≤ 2 ^ 32 → more * words ≤ length new
-    → IsChained new words more p (suc spare)
+pub push_chained : (cells new : List ℤ) (words count more free spare p : ℕ) → HasFreeChain cells words count free spare → SameBut cells new words p → first_cell new words p ≡ pos free → has (free_from cells words spare free) p ≡ false → p < more → count ≤ more → more ≤ 2 ^ 32 → more * words ≤ length new
+    → HasFreeChain new words more p (suc spare)
 push_chained cells new words count more free spare p c but named_free live less le small room =
     let ps = free_from cells words spare free in
     let chain = push cells new words count more free spare p c but named_free live less le small room in
@@ -180,8 +174,8 @@ push_chained cells new words count more free spare p c but named_free live less 
     }
 
 -- the first of the chain leaves it
-pub pop_chained : (cells new : List ℤ) (words count free spare : ℕ) → IsChained cells words count free (suc spare) → SameBut cells new words free
-    → IsChained new words count (named (first_cell cells words free)) spare
+pub pop_chained : (cells new : List ℤ) (words count free spare : ℕ) → HasFreeChain cells words count free (suc spare) → SameBut cells new words free
+    → HasFreeChain new words count (named (first_cell cells words free)) spare
 pop_chained cells new words count free spare c but =
     let next = named (first_cell cells words free) in
     let kept = kept_chain cells new words count free c.positive c.room but spare next c.free_rows.1 c.apart.0 in
@@ -195,14 +189,14 @@ pop_chained cells new words count free spare c but =
       apart = subst Apart (sym kept) c.apart.1;
     }
 
-pub pop_slots : (cells new : List ℤ) (words count free spare : ℕ) → IsChained cells words count free (suc spare) → SameBut cells new words free
+pub pop_slots : (cells new : List ℤ) (words count free spare : ℕ) → HasFreeChain cells words count free (suc spare) → SameBut cells new words free
     → slots new words count (named (first_cell cells words free)) spare ≡ set (slots cells words count free (suc spare)) free (Some (row_at new words free))
 pop_slots cells new words count free spare c but =
     let next = named (first_cell cells words free) in
     let ps = free_from cells words spare next in
     let kept = kept_chain cells new words count free c.positive c.room but spare next c.free_rows.1 c.apart.0 in
-    let f = slot_at cells words (free ∷ ps) in
-    let g = slot_at new words (free_from new words spare next) in
+    let f = live_row_at cells words (free ∷ ps) in
+    let g = live_row_at new words (free_from new words spare next) in
     let at : g free ≡ Some (row_at new words free) = rw (kept, c.apart.0) refl in
     table_set f g count free c.free_rows.0.within (λ i less n.
     kept_slot cells new words count free c.positive c.room but (free ∷ ps) (free_from new words spare next) i less n
@@ -210,8 +204,8 @@ pop_slots cells new words count free spare c but =
     ∙ ap (set (table f count) free) at
 
 -- a row that is not free is written
-pub write_chained : (cells new : List ℤ) (words count free spare p : ℕ) → IsChained cells words count free spare → SameBut cells new words p → has (free_from cells words spare free) p ≡ false
-    → IsChained new words count free spare
+pub write_chained : (cells new : List ℤ) (words count free spare p : ℕ) → HasFreeChain cells words count free spare → SameBut cells new words p → has (free_from cells words spare free) p ≡ false
+    → HasFreeChain new words count free spare
 write_chained cells new words count free spare p c but live =
     let kept = kept_chain cells new words count p c.positive c.room but spare free c.free_rows live in
     record {
@@ -223,40 +217,40 @@ write_chained cells new words count free spare p c but live =
       apart = subst Apart (sym kept) c.apart;
     }
 
-pub write_slots : (cells new : List ℤ) (words count free spare p : ℕ) → IsChained cells words count free spare → SameBut cells new words p → has (free_from cells words spare free) p ≡ false → p < count
+pub write_slots : (cells new : List ℤ) (words count free spare p : ℕ) → HasFreeChain cells words count free spare → SameBut cells new words p → has (free_from cells words spare free) p ≡ false → p < count
     → slots new words count free spare ≡ set (slots cells words count free spare) p (Some (row_at new words p))
 write_slots cells new words count free spare p c but live within =
     let ps = free_from cells words spare free in
     let kept = kept_chain cells new words count p c.positive c.room but spare free c.free_rows live in
-    let f = slot_at cells words ps in
-    let g = slot_at new words (free_from new words spare free) in
+    let f = live_row_at cells words ps in
+    let g = live_row_at new words (free_from new words spare free) in
     let at : g p ≡ Some (row_at new words p) = rw (kept, live) refl in
     table_set f g count p within (λ i less n.
     kept_slot cells new words count p c.positive c.room but ps (free_from new words spare free) i less n (ap (λ (l : List ℕ). has l i) kept))
     ∙ ap (set (table f count) p) at
 
 -- a live row is given back
-pub give_slots : (cells new : List ℤ) (words count free spare p : ℕ) → IsChained cells words count free spare → SameBut cells new words p → first_cell new words p ≡ pos free → has (free_from cells words spare free) p ≡ false → p < count → length new ≡ length cells
+pub give_slots : (cells new : List ℤ) (words count free spare p : ℕ) → HasFreeChain cells words count free spare → SameBut cells new words p → first_cell new words p ≡ pos free → has (free_from cells words spare free) p ≡ false → p < count → length new ≡ length cells
     → slots new words count p (suc spare) ≡ set (slots cells words count free spare) p None
 give_slots cells new words count free spare p c but named_free live within size =
     let ps = free_from cells words spare free in
     let chain = push cells new words count count free spare p c but named_free live within (omega arith) c.small (let r = c.room in omega arith) in
-    let f = slot_at cells words ps in
-    let g = slot_at new words (free_from new words (suc spare) p) in
+    let f = live_row_at cells words ps in
+    let g = live_row_at new words (free_from new words (suc spare) p) in
     let at : g p ≡ None = rw (same_number p) refl in
     table_set f g count p within (λ i less n.
     kept_slot cells new words count p c.positive c.room but ps (free_from new words (suc spare) p) i less n (ap (λ (l : List ℕ). has l i) chain ∙ rw (other_number p i n) refl))
     ∙ ap (set (table f count) p) at
 
 -- the row past the last one joins as a free one
-pub add_slots : (cells new : List ℤ) (words count free spare : ℕ) → IsChained cells words count free spare → SameBut cells new words count → first_cell new words count ≡ pos free → suc count ≤ 2 ^ 32 → suc count * words ≤ length new
+pub add_slots : (cells new : List ℤ) (words count free spare : ℕ) → HasFreeChain cells words count free spare → SameBut cells new words count → first_cell new words count ≡ pos free → suc count ≤ 2 ^ 32 → suc count * words ≤ length new
     → slots new words (suc count) count (suc spare) ≡ slots cells words count free spare ++ None ∷ []
 add_slots cells new words count free spare c but named_free small room =
     let ps = free_from cells words spare free in
     let live = past_chain cells words count free spare c in
     let chain = push cells new words count (suc count) free spare count c but named_free live (omega arith) (omega arith) small room in
-    let f = slot_at cells words ps in
-    let g = slot_at new words (free_from new words (suc spare) count) in
+    let f = live_row_at cells words ps in
+    let g = live_row_at new words (free_from new words (suc spare) count) in
     let at : g count ≡ None = rw (same_number count) refl in
     let front : table g count ≡ table f count = table_same f g count (λ i less.
     let n : i ≢ count = λ e. omega arith in
@@ -273,7 +267,7 @@ same_some : (a b : List ℤ) → Some a ≡ Some b → a ≡ b
 same_some a b h = cc
 
 -- a live row is no place of the chain
-pub live_slot : (cells : List ℤ) (words p : ℕ) (ps : List ℕ) (row : List ℤ) → slot_at cells words ps p ≡ Some row → (has ps p ≡ false) × (row_at cells words p ≡ row)
+pub live_slot : (cells : List ℤ) (words p : ℕ) (ps : List ℕ) (row : List ℤ) → live_row_at cells words ps p ≡ Some row → (has ps p ≡ false) × (row_at cells words p ≡ row)
 live_slot cells words p ps row h = go (has ps p) refl
   where
     go : (b : Bool) → has ps p ≡ b → (has ps p ≡ false) × (row_at cells words p ≡ row)
@@ -306,7 +300,7 @@ thread_step first now new words from to free next le small room t but named_next
           ∙ ap (λ (l : List (Option (List ℤ))). old ++ l) (replicate_more_none (to - from) ∙ ap (λ (k : ℕ). replicate k the_none) (sym count));
     }
 
-pub head_none : (cells : List ℤ) (words p : ℕ) (ps : List ℕ) → slot_at cells words (p ∷ ps) p ≡ None
+pub head_none : (cells : List ℤ) (words p : ℕ) (ps : List ℕ) → live_row_at cells words (p ∷ ps) p ≡ None
 head_none cells words p ps = rw (same_number p) refl
 
 -- more cells behind the rows change nothing
@@ -324,7 +318,7 @@ module _ (cells more : List ℤ) (words count : ℕ) (positive : 0 < words) (roo
   longer_chain : (n place : ℕ) → EachNumber (IsFreeRow cells words count) (free_from cells words n place) → free_from (cells ++ more) words n place ≡ free_from cells words n place
   longer_chain n place rows = same_chain cells (cells ++ more) words n place positive (λ q k. longer_row q (within_chain cells words count n place q rows k))
 
-  pub longer_chained : (free spare : ℕ) → IsChained cells words count free spare → IsChained (cells ++ more) words count free spare
+  pub longer_chained : (free spare : ℕ) → HasFreeChain cells words count free spare → HasFreeChain (cells ++ more) words count free spare
   longer_chained free spare c =
       let ps = free_from cells words spare free in
       let e = longer_chain spare free c.free_rows in
@@ -339,13 +333,13 @@ module _ (cells more : List ℤ) (words count : ℕ) (positive : 0 < words) (roo
         apart = subst Apart (sym e) c.apart;
       }
 
-  pub longer_slots : (free spare : ℕ) → IsChained cells words count free spare → slots (cells ++ more) words count free spare ≡ slots cells words count free spare
+  pub longer_slots : (free spare : ℕ) → HasFreeChain cells words count free spare → slots (cells ++ more) words count free spare ≡ slots cells words count free spare
   longer_slots free spare c =
       let e = longer_chain spare free c.free_rows in
-      table_same (slot_at cells words (free_from cells words spare free)) (slot_at (cells ++ more) words (free_from (cells ++ more) words spare free)) count (λ i less. rw (e, longer_row i less) refl)
+      table_same (live_row_at cells words (free_from cells words spare free)) (live_row_at (cells ++ more) words (free_from (cells ++ more) words spare free)) count (λ i less. rw (e, longer_row i less) refl)
 
 -- no rows at all
-pub empty_chained : (cells : List ℤ) (words : ℕ) → 0 < words → IsChained cells words 0 0 0
+pub empty_chained : (cells : List ℤ) (words : ℕ) → 0 < words → HasFreeChain cells words 0 0 0
 empty_chained cells words positive = record { positive = positive; room = omega arith; small = omega arith; first = omega arith; free_rows = tt; apart = tt }
 
 abbrev one_or_none : Bool → ℕ
@@ -356,15 +350,15 @@ none_slot row true = refl
 none_slot row false = refl
 
 -- the places without a row are those of the chain
-none_count : (cells : List ℤ) (words : ℕ) (ps : List ℕ) (n : ℕ) → count_by is_none (table (slot_at cells words ps) n) ≡ hits ps n
+none_count : (cells : List ℤ) (words : ℕ) (ps : List ℕ) (n : ℕ) → count_by is_none (table (live_row_at cells words ps) n) ≡ hits ps n
 none_count cells words ps zero = refl
 none_count cells words ps (suc n) =
     let front = none_count cells words ps n in
     let last = none_slot (row_at cells words n) (has ps n) in
-    let more = sum_by_push (λ (o : Option (List ℤ)). cond (is_none o) 1 0) (table (slot_at cells words ps) n) (slot_at cells words ps n) in
-    more ∙ ap (λ (k : ℕ). k + one_or_none (is_none (slot_at cells words ps n))) front ∙ ap (λ (k : ℕ). hits ps n + k) last
+    let more = sum_by_push (λ (o : Option (List ℤ)). cond (is_none o) 1 0) (table (live_row_at cells words ps) n) (live_row_at cells words ps n) in
+    more ∙ ap (λ (k : ℕ). k + one_or_none (is_none (live_row_at cells words ps n))) front ∙ ap (λ (k : ℕ). hits ps n + k) last
 
-pub spare_counts : (cells : List ℤ) (words count free spare : ℕ) → IsChained cells words count free spare → spare ≡ count_by is_none (slots cells words count free spare)
+pub spare_counts : (cells : List ℤ) (words count free spare : ℕ) → HasFreeChain cells words count free spare → spare ≡ count_by is_none (slots cells words count free spare)
 spare_counts cells words count free spare c =
     let ps = free_from cells words spare free in
     sym (length-chain cells words spare free)

@@ -2,14 +2,15 @@
 use Rattle.std.proofs.Common.{◌≡◌, ℕ, zero, suc, ◌+◌, ◌*◌, ◌<◌, ◌≤◌, ◌-◌, ℤ, pos, negsuc, ◌≤ℤ◌, false, List, length, set, Some, None, slice_get, get_or, replicate, refl, sym, ap, ◌∙◌, arith}
 use Rattle.std.proofs.lemmas.Int.{ints}
 use Rattle.std.proofs.lemmas.List.{ext_get_or, length-replicate, get_or-replicate, get_or-set_same}
-use Rattle.row_region.specs.Layout.{free_from, has, row_at, slot_at, slots, first_cell, named, IsFreeRow, IsChained, IsSound, SameBut}
+use Rattle.row_region.specs.Layout.{free_from, has, row_at, live_row_at, slots, first_cell, named, IsFreeRow, HasFreeChain, IsSound}
+use Rattle.row_region.proofs.Changes.{SameBut}
 use Rattle.row_region.specs.Region.{HasTaken}
 use Rattle.row_region.proofs.Rows.{row_within, length-row, get-row, get-table, table-get}
 use Rattle.row_region.proofs.Chains.{live_slot, head_none, pop_chained, pop_slots}
 
 module _ (cells : List ℤ) (words count free spare p : ℕ) (row : List ℤ) (sound : IsSound cells words count free spare) (live : slice_get (slots cells words count free spare) p ≡ Some (Some row)) where
-  found : (p < count) × (slot_at cells words (free_from cells words spare free) p ≡ Some row)
-  found = get-table (slot_at cells words (free_from cells words spare free)) count p (Some row) live
+  found : (p < count) × (live_row_at cells words (free_from cells words spare free) p ≡ Some row)
+  found = get-table (live_row_at cells words (free_from cells words spare free)) count p (Some row) live
 
   pub live_within : p < count
   live_within = found.0
@@ -26,7 +27,7 @@ module _ (cells : List ℤ) (words count free spare p : ℕ) (row : List ℤ) (s
   pub live_size : length row ≡ words
   live_size = ap length (sym live_row) ∙ length-row cells words p live_room
 
-first_free : (cells : List ℤ) (words count free spare : ℕ) → IsChained cells words count free spare → (spare ≡ 0 → ⊥) → IsFreeRow cells words count free
+first_free : (cells : List ℤ) (words count free spare : ℕ) → HasFreeChain cells words count free spare → (spare ≡ 0 → ⊥) → IsFreeRow cells words count free
 first_free cells words count free zero c some = absurd (some refl)
 first_free cells words count free (suc n) c some = c.free_rows.0
 
@@ -60,7 +61,7 @@ pub none_at : (cells : List ℤ) (words count free spare : ℕ) → IsSound cell
 none_at cells words count free zero s some = absurd (some refl)
 none_at cells words count free (suc n) s some =
     let ps = free_from cells words (suc n) free in
-    table-get (slot_at cells words ps) count free s.chained.free_rows.0.within ∙ ap Some (head_none cells words free (free_from cells words n (named (first_cell cells words free))))
+    table-get (live_row_at cells words ps) count free s.chained.free_rows.0.within ∙ ap Some (head_none cells words free (free_from cells words n (named (first_cell cells words free))))
 
 pub link_is : (z : ℤ) → pos 0 ≤ℤ z → z ≡ pos (named z)
 link_is (pos n) h = refl

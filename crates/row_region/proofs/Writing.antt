@@ -4,7 +4,8 @@ use Rattle.std.proofs.lemmas.List.{length-append, length-take-le, length-drop, g
 use Rattle.std.proofs.lemmas.Option.{get_or_from_slice_get}
 use Rattle.row_region.specs.Region.{refilled, row_or}
 use Rattle.row_region.specs.Parts.{written}
-use Rattle.row_region.specs.Layout.{row_at, slots, SameBut, IsSound}
+use Rattle.row_region.specs.Layout.{row_at, slots, IsSound}
+use Rattle.row_region.proofs.Changes.{SameBut}
 use Rattle.row_region.proofs.Rows.{length-row}
 use Rattle.row_region.proofs.Chains.{write_chained, write_slots}
 use Rattle.row_region.proofs.Live.{live_room, live_row, live_apart, live_within}

@@ -4,7 +4,7 @@ use Rattle.std.proofs.lemmas.Int.{ints}
 use Rattle.dp_model.proofs.Members.{Has-filter, Has-filter-from}
 use Rattle.dp_laws.proofs.Lists.{two-filter}
 use Rattle.shared_fringe.specs.Tickets.{Ticketed, above_value}
-use Rattle.shared_fringe.specs.Slots.{AreApart, in_slot, is_low, opened}
+use Rattle.shared_fringe.specs.Slots.{HaveOwnTickets, in_slot, is_low, opened}
 use Rattle.shared_fringe.proofs.Openeds.{has_opened, opened_has, opened_tickets, same_members}
 
 pub slot_within : (slots : List (Option Ticketed)) (t : ℕ) (o : Ticketed) → in_slot slots t ≡ Some o → t < length slots
@@ -18,7 +18,7 @@ above value o h = grind (arith, ints)
 not_low : (value : ℤ) (o : Ticketed) → int_lt value o.subproblem.bound ≡ true → is_low value (Some o) ≡ false
 not_low value o h = grind (arith, ints)
 
-pub opened_dropped : (old new : List (Option Ticketed)) (value : ℤ) → AreApart old → AreApart new
+pub opened_dropped : (old new : List (Option Ticketed)) (value : ℤ) → HaveOwnTickets old → HaveOwnTickets new
     → ((t : ℕ) (o : Ticketed) → in_slot new t ≡ Some o → in_slot old t ≡ Some o)
     → ((t : ℕ) (o : Ticketed) → in_slot old t ≡ Some o → is_low value (Some o) ≡ false → in_slot new t ≡ Some o)
     → ((t : ℕ) (o : Ticketed) → in_slot new t ≡ Some o → is_low value (Some o) ≡ false)

@@ -5,7 +5,12 @@ use Rattle.dp_model.specs.Numbers.{greatest}
 use Rattle.shared_fringe.specs.Bounds.{raised}
 use Rattle.shared_fringe.specs.Tickets.{Ticketed, by_ticket}
 use Rattle.shared_fringe.proofs.Bounds.{raised_by, raised_greatest}
-use Rattle.shared_fringe.specs.Slots.{in_slot, opened, raised_one, raised_slots}
+use Rattle.shared_fringe.specs.Slots.{opened, raised_one}
+
+-- the greatest bound, from the first slot on
+abbrev pub raised_slots : Option ℤ → List (Option Ticketed) → Option ℤ
+raised_slots most [] = most
+raised_slots most (x ∷ slots) = raised_slots (raised_one most x) slots
 
 more : (a b : ℤ) → cond (int_lt a b) b a ≡ cond (int_lt b a) a b
 more a b = grind (arith, ints)
@@ -32,13 +37,6 @@ raised_opened m (Some o ∷ slots) = raised_opened (raised m o.subproblem.bound)
 
 pub greatest_opened : (slots : List (Option Ticketed)) → raised_slots None slots ≡ greatest (map (λ o. o.subproblem.bound) (opened slots))
 greatest_opened slots = raised_opened None slots ∙ raised_greatest (opened slots)
-
-pub raised_step : (m : Option ℤ) (slots : List (Option Ticketed)) (n : ℕ) → raised_slots (raised_one m (in_slot slots n)) (drop (suc n) slots) ≡ raised_slots m (drop n slots)
-raised_step m [] zero = refl
-raised_step m [] (suc n) = refl
-raised_step m (None ∷ slots) zero = refl
-raised_step m (Some o ∷ slots) zero = refl
-raised_step m (x ∷ slots) (suc n) = raised_step m slots n
 
 pub dropped_all : (slots : List (Option Ticketed)) (n : ℕ) → length slots ≤ n → drop n slots ≡ []
 dropped_all [] zero h = refl

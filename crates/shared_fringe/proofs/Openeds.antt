@@ -6,7 +6,7 @@ use Rattle.dp_model.proofs.Members.{Has, each-has, each-of-all, Has-filter, Has-
 use Rattle.shared_fringe.specs.Tickets.{Ticketed, HasTickets, by_ticket, without}
 use Rattle.shared_fringe.proofs.Tickets.{tickets-by_ticket}
 use Rattle.dp_laws.proofs.Lists.{two-filter}
-use Rattle.shared_fringe.specs.Slots.{in_slot, opened, AreApart, IsSet}
+use Rattle.shared_fringe.specs.Slots.{in_slot, opened, HaveOwnTickets, IsSet}
 
 pub has_by_ticket : (o p : Ticketed) (os : List Ticketed) → Has p os → Has p (by_ticket o os)
 has_by_ticket o p [] h = absurd h
@@ -49,10 +49,10 @@ opened_has (Some p ∷ slots) o h =
       | inr there ↦ (let r = opened_has slots o there in (suc r.0, r.1))
     ]
 
-apart_rest : (x : Option Ticketed) (slots : List (Option Ticketed)) → AreApart (x ∷ slots) → AreApart slots
+apart_rest : (x : Option Ticketed) (slots : List (Option Ticketed)) → HaveOwnTickets (x ∷ slots) → HaveOwnTickets slots
 apart_rest x slots apart s t o p a b e = let k = apart (suc s) (suc t) o p a b e in omega arith
 
-pub opened_tickets : (slots : List (Option Ticketed)) → AreApart slots → HasTickets (opened slots)
+pub opened_tickets : (slots : List (Option Ticketed)) → HaveOwnTickets slots → HasTickets (opened slots)
 opened_tickets [] apart = tt
 opened_tickets (None ∷ slots) apart = opened_tickets slots (apart_rest None slots apart)
 opened_tickets (Some o ∷ slots) apart =
@@ -89,8 +89,8 @@ pub cleared : (old new : List (Option Ticketed)) (s t : ℕ) (p : Ticketed) → 
 cleared old new s t p set same at = let here : in_slot new s ≡ Some p = subst (λ n. in_slot new n ≡ Some p) same at in let now = set.changed in cc
 
 -- a slot was filled
-pub apart_filled : (old new : List (Option Ticketed)) (s : ℕ) (o : Ticketed) → IsSet old new s (Some o) → AreApart old
-    → ((t : ℕ) (p : Ticketed) → in_slot old t ≡ Some p → p.ticket ≢ o.ticket) → AreApart new
+pub apart_filled : (old new : List (Option Ticketed)) (s : ℕ) (o : Ticketed) → IsSet old new s (Some o) → HaveOwnTickets old
+    → ((t : ℕ) (p : Ticketed) → in_slot old t ≡ Some p → p.ticket ≢ o.ticket) → HaveOwnTickets new
 apart_filled old new s o set apart fresh t u a b at bt same =
     elim (cases_eq t s) as (λ _. t ≡ u) [
       | inl ts ↦ elim (cases_eq u s) as (λ _. t ≡ u) [
@@ -104,7 +104,7 @@ apart_filled old new s o set apart fresh t u a b at bt same =
     ]
 
 -- a slot was emptied
-pub apart_cleared : (old new : List (Option Ticketed)) (s : ℕ) → IsSet old new s None → AreApart old → AreApart new
+pub apart_cleared : (old new : List (Option Ticketed)) (s : ℕ) → IsSet old new s None → HaveOwnTickets old → HaveOwnTickets new
 apart_cleared old new s set apart t u a b at bt same =
     elim (cases_eq t s) as (λ _. t ≡ u) [
       | inl ts ↦ absurd (cleared old new s t a set ts at)
@@ -115,7 +115,7 @@ apart_cleared old new s set apart t u a b at bt same =
     ]
 
 -- an empty slot was filled: the open ones are those and one more
-pub opened_entered : (old new : List (Option Ticketed)) (s : ℕ) (o : Ticketed) → IsSet old new s (Some o) → in_slot old s ≡ None → AreApart old
+pub opened_entered : (old new : List (Option Ticketed)) (s : ℕ) (o : Ticketed) → IsSet old new s (Some o) → in_slot old s ≡ None → HaveOwnTickets old
     → ((t : ℕ) (p : Ticketed) → in_slot old t ≡ Some p → p.ticket ≢ o.ticket) → opened new ≡ by_ticket o (opened old)
 opened_entered old new s o set free apart fresh =
     same_members (opened new) (by_ticket o (opened old)) (opened_tickets new (apart_filled old new s o set apart fresh))
@@ -134,7 +134,7 @@ opened_entered old new s o set free apart fresh =
     ])
 
 -- a slot was emptied: the open ones are the others
-pub opened_taken : (old new : List (Option Ticketed)) (s : ℕ) (o : Ticketed) → IsSet old new s None → in_slot old s ≡ Some o → AreApart old
+pub opened_taken : (old new : List (Option Ticketed)) (s : ℕ) (o : Ticketed) → IsSet old new s None → in_slot old s ≡ Some o → HaveOwnTickets old
     → opened new ≡ without o.ticket (opened old)
 opened_taken old new s o set there apart =
     same_members (opened new) (without o.ticket (opened old)) (opened_tickets new (apart_cleared old new s set apart))

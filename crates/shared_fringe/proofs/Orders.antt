@@ -8,7 +8,7 @@ use Rattle.dp_model.proofs.RowLemmas.{nat_eq-is, nat_eq-self}
 use Rattle.dp_laws.specs.Pairs.{EachTwo}
 use Rattle.dp_laws.proofs.Restricted.Permutations.{two-at, two-map, two-both, Has-permutation, Has-permutation-back, keys-permutation}
 use Rattle.shared_fringe.specs.Tickets.{Ticketed, IsEarlier, HasTickets, by_ticket}
-use Rattle.shared_fringe.specs.Slots.{opened, AreApart}
+use Rattle.shared_fringe.specs.Slots.{opened, HaveOwnTickets}
 use Rattle.shared_fringe.specs.Listing.{in_slots, referred}
 use Rattle.shared_fringe.proofs.Openeds.{opened_tickets, same_members}
 
@@ -36,7 +36,7 @@ rising ps up = two-map referred (λ (a b : Ticketed). a.ticket ≤ b.ticket) ps
     (two-at (λ (p q : ℕ × Bor SubView). p.0 ≤ q.0) ps (λ i j d less within. up i j d (omega arith) within))
 
 -- the open ones in another order in which no ticket is less than one before it: they are in order of ticket
-pub sorted_opened : (slots : List (Option Ticketed)) (os : List Ticketed) → AreApart slots → IsPermutation (in_slots slots) os → EachTwo (λ (a b : Ticketed). a.ticket ≤ b.ticket) os
+pub sorted_opened : (slots : List (Option Ticketed)) (os : List Ticketed) → HaveOwnTickets slots → IsPermutation (in_slots slots) os → EachTwo (λ (a b : Ticketed). a.ticket ≤ b.ticket) os
     → os ≡ opened slots
 sorted_opened slots os apart moved rise =
     let tickets : HasTickets (opened slots) = opened_tickets slots apart in

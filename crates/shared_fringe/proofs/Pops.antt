@@ -3,7 +3,7 @@ use Rattle.std.proofs.Common.{◌≡◌, ℕ, List, Option, Some, None, sym, ◌
 use Rattle.shared_fringe.specs.Firsts.{first_taken}
 use Rattle.shared_fringe.specs.Popping.{after_pop, taken_out}
 use Rattle.shared_fringe.specs.Tickets.{Ticketed}
-use Rattle.shared_fringe.specs.Slots.{AreApart, IsFirstSlot, IsSet, in_slot, opened}
+use Rattle.shared_fringe.specs.Slots.{HaveOwnTickets, IsFirstSlot, IsSet, in_slot, opened}
 use Rattle.shared_fringe.proofs.Openeds.{opened_taken}
 use Rattle.shared_fringe.proofs.Views.{best_first, opened_none}
 
@@ -13,10 +13,10 @@ none_first slots none = ap first_taken (sym (opened_none slots none))
 pub none_after : (slots : List (Option Ticketed)) → ((s : ℕ) → in_slot slots s ≡ None) → opened slots ≡ after_pop (opened slots)
 none_after slots none = let e = opened_none slots none in e ∙ ap after_pop (sym e)
 
-pub best_taken : (slots : List (Option Ticketed)) (s : ℕ) (o : Ticketed) → AreApart slots → IsFirstSlot slots s → in_slot slots s ≡ Some o → Some o ≡ first_taken (opened slots)
+pub best_taken : (slots : List (Option Ticketed)) (s : ℕ) (o : Ticketed) → HaveOwnTickets slots → IsFirstSlot slots s → in_slot slots s ≡ Some o → Some o ≡ first_taken (opened slots)
 best_taken slots s o apart best at = sym at ∙ (best.there ∙ sym (best_first slots s apart best))
 
-pub best_after : (slots slots' : List (Option Ticketed)) (s : ℕ) (o : Ticketed) → AreApart slots → IsFirstSlot slots s → in_slot slots s ≡ Some o → IsSet slots slots' s None
+pub best_after : (slots slots' : List (Option Ticketed)) (s : ℕ) (o : Ticketed) → HaveOwnTickets slots → IsFirstSlot slots s → in_slot slots s ≡ Some o → IsSet slots slots' s None
     → opened slots' ≡ after_pop (opened slots)
 best_after slots slots' s o apart best at set =
     opened_taken slots slots' s o set at apart ∙ ap (λ t. taken_out t (opened slots)) (best_taken slots s o apart best at)

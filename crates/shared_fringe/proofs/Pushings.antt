@@ -1,12 +1,11 @@
 -- What a push finds and leaves.
-use Rattle.std.proofs.Common.{◌≡◌, ◌≢◌, ℕ, ◌<◌, ℤ, List, Bool, true, false, cond, not, nat_eq, int_le, Option, Some, None, inl, inr, refl, sym, ◌∙◌, ap, ap₂, subst}
+use Rattle.std.proofs.Common.{◌≡◌, ◌≢◌, ℕ, ◌<◌, ℤ, List, Bool, true, false, cond, not, nat_eq, int_le, Option, Some, None, inl, inr, refl, sym, ◌∙◌, ap₂, subst}
 use Rattle.std.proofs.lemmas.Bool.{cases_eq}
 use Rattle.dp_model.specs.Lists.{Each}
 use Rattle.dp_model.proofs.Members.{each-has}
 use Rattle.shared_fringe.specs.Fringe.{is_same, same_open}
-use Rattle.shared_fringe.specs.Pushing.{push_beside, push_gives, pushed_beside, after_push}
+use Rattle.shared_fringe.specs.Pushing.{pushed_beside, after_push}
 use Rattle.shared_fringe.specs.Tickets.{Ticketed, by_ticket, without}
-use Rattle.shared_fringe.specs.declared.fate.FringeFate.TheVariants.{Kept, Replaced, Entered}
 use Rattle.shared_fringe.proofs.Rows.{same-depth, same-row}
 use Rattle.shared_fringe.specs.Slots.{IsOpen, IsSet, in_slot, is_same_in, opened}
 use Rattle.shared_fringe.specs.Stored.{HasSame, HasNone}
@@ -52,27 +51,6 @@ has_same words slots depth row s o ticket worth held there test t w =
 
 pub has_none : (slots : List (Option Ticketed)) (depth : ℕ) (row : List ℤ) → ((s : ℕ) → is_same_in depth row (in_slot slots s) ≡ false) → HasNone slots depth row
 has_none slots depth row none = record { none = none; found = same_absent slots depth row none }
-
--- none of its depth and state
-pub gives_entered : (o : Ticketed) (os : List Ticketed) → same_open o.subproblem os ≡ None → Entered ≡ push_gives o os
-gives_entered o os e = ap (push_beside o) (sym e)
-
-pub after_entered : (o : Ticketed) (os : List Ticketed) → same_open o.subproblem os ≡ None → by_ticket o os ≡ after_push o os
-after_entered o os e = ap (pushed_beside o os) (sym e)
-
--- one of its depth and state, of no less value
-pub gives_kept : (o other : Ticketed) (os : List Ticketed) → same_open o.subproblem os ≡ Some other → int_le o.subproblem.value other.subproblem.value ≡ true → Kept other.ticket ≡ push_gives o os
-gives_kept o other os e le = ap (λ b. cond b (Kept other.ticket) (Replaced other.ticket)) (sym le) ∙ ap (push_beside o) (sym e)
-
-pub after_kept : (o other : Ticketed) (os : List Ticketed) → same_open o.subproblem os ≡ Some other → int_le o.subproblem.value other.subproblem.value ≡ true → os ≡ after_push o os
-after_kept o other os e le = ap (λ b. cond b os (by_ticket o (without other.ticket os))) (sym le) ∙ ap (pushed_beside o os) (sym e)
-
--- one of its depth and state, of less value
-pub gives_replaced : (o other : Ticketed) (os : List Ticketed) → same_open o.subproblem os ≡ Some other → int_le o.subproblem.value other.subproblem.value ≡ false → Replaced other.ticket ≡ push_gives o os
-gives_replaced o other os e le = ap (λ b. cond b (Kept other.ticket) (Replaced other.ticket)) (sym le) ∙ ap (push_beside o) (sym e)
-
-pub after_replaced : (o other : Ticketed) (os : List Ticketed) → same_open o.subproblem os ≡ Some other → int_le o.subproblem.value other.subproblem.value ≡ false → by_ticket o (without other.ticket os) ≡ after_push o os
-after_replaced o other os e le = ap (λ b. cond b os (by_ticket o (without other.ticket os))) (sym le) ∙ ap (pushed_beside o os) (sym e)
 
 -- tickets stay below what they and the new one are below
 pub each-push : (n : ℕ) (o : Ticketed) (os : List Ticketed) → o.ticket < n → Each (λ (x : Ticketed). x.ticket < n) os → Each (λ (x : Ticketed). x.ticket < n) (after_push o os)

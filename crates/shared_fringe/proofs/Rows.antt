@@ -1,10 +1,7 @@
 -- Rows that are the same, and subproblems of one depth and state.
-use Rattle.std.proofs.Common.{◌≡◌, ℕ, ◌+◌, ◌<◌, not, drop, get_or, ℤ, List, [], ◌∷◌, length, Bool, true, false, nat_eq, ◌&&◌, cond, Some, None, refl, sym, ◌∙◌, ap, ap₂, subst, arith}
+use Rattle.std.proofs.Common.{◌≡◌, ℕ, ◌<◌, not, ℤ, List, [], ◌∷◌, length, Bool, true, false, nat_eq, ◌&&◌, cond, Some, None, refl, sym, ◌∙◌, ap, ap₂, subst, arith}
 use Rattle.std.proofs.lemmas.Bool.{and_parts, eqb-true, eq-eqb}
 use Rattle.std.proofs.lemmas.Bool.Decides.{nat_tests}
-use Rattle.std.proofs.lemmas.List.{drop_more}
-use Rattle.std.proofs.lemmas.Option.{slice_get_read}
-use Rattle.std.specs.List.{slice_get}
 use Rattle.dp_model.specs.Lists.{Each}
 use Rattle.dp_model.specs.Rows.{row_same}
 use Rattle.dp_model.proofs.RowLemmas.{row_same-is}
@@ -78,11 +75,3 @@ same-others depth row (x ∷ os) other h rise two =
       | false ↦ λ e k. later-others depth row x os other e (found-has depth row (λ y. x.ticket < y.ticket) os other k rise.0) (same-others depth row os other k rise.1 two.1)
     ] in
     go (is_same depth row x) refl h
-
--- the one at a place is found, where none before it is the same
-pub found-at : (depth : ℕ) (row : List ℤ) (os : List Ticketed) (place : ℕ) (one : Ticketed) → place < length os → one ≡ get_or os place one
-    → same_at depth row (drop place os) ≡ same_at depth row os → is_same depth row one ≡ true → slice_get os place ≡ same_at depth row os
-found-at depth row os place one more is h test =
-    let rest : drop place os ≡ one ∷ drop (place + 1) os = drop_more os place one more ∙ ap (λ x. x ∷ drop (place + 1) os) (sym is) in
-    slice_get_read os (length os) place one refl more is
-    ∙ (ap (λ b. cond b (Some one) (same_at depth row (drop (place + 1) os))) (sym test) ∙ (ap (same_at depth row) (sym rest) ∙ h))

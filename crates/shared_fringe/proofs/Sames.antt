@@ -5,11 +5,11 @@ use Rattle.shared_fringe.specs.Fringe.{is_same}
 use Rattle.shared_fringe.proofs.Rows.{same-depth, same-row}
 use Rattle.shared_fringe.specs.declared.index.Node.{Node}
 use Rattle.dp_model.specs.Folds.{fold_of}
-use Rattle.shared_fringe.specs.Index.{fold_at, slot_at}
+use Rattle.shared_fringe.specs.Index.{entry_fold, entry_slot}
 use Rattle.shared_fringe.specs.Slots.{AreEntered, in_slot, is_same_in}
 
 pub none_same : (slots : List (Option Ticketed)) (nodes : List Node) (depth : ℕ) (row : List ℤ) → AreEntered slots nodes
-    → ((j : ℕ) → j < length nodes → fold_at nodes j ≡ fold_of depth row → is_same_in depth row (in_slot slots (slot_at nodes j)) ≡ false)
+    → ((j : ℕ) → j < length nodes → entry_fold nodes j ≡ fold_of depth row → is_same_in depth row (in_slot slots (entry_slot nodes j)) ≡ false)
     → (s : ℕ) → is_same_in depth row (in_slot slots s) ≡ false
 none_same slots nodes depth row entered none s =
     let go : (x : Option Ticketed) → in_slot slots s ≡ x → is_same_in depth row x ≡ false =
@@ -20,7 +20,7 @@ none_same slots nodes depth row entered none s =
             | true ↦ λ t. (
                 let n = entered s o e in
                 let fold = n.fold_is ∙ sym (ap₂ (λ d r. fold_of d r) (same-depth depth row o t) (same-row depth row o t)) in
-                let k : is_same_in depth row (in_slot slots (slot_at nodes n.place)) ≡ false = none n.place n.within fold in
+                let k : is_same_in depth row (in_slot slots (entry_slot nodes n.place)) ≡ false = none n.place n.within fold in
                 let k2 : is_same_in depth row (in_slot slots s) ≡ false = subst (λ m. is_same_in depth row (in_slot slots m) ≡ false) n.slot_is k in
                 let k3 : is_same_in depth row (Some o) ≡ false = subst (λ x. is_same_in depth row x ≡ false) e k2 in
                 sym t ∙ k3)

@@ -15,7 +15,7 @@ use Rattle.shared_fringe.specs.Stored.{IsStored}
 use Rattle.shared_fringe.proofs.Entries.{entered_more, entered_here}
 use Rattle.shared_fringe.proofs.Filters.{Contains-cons}
 use Rattle.shared_fringe.proofs.Keys.{key_free, set_of}
-use Rattle.shared_fringe.proofs.Openeds.{was, filled, cleared, apart_filled, apart_cleared}
+use Rattle.shared_fringe.proofs.Openeds.{was, filled, apart_filled}
 
 open_filled : (words : ℕ) (old new : List (Option Ticketed)) (s : ℕ) (o : Ticketed) → IsSet old new s (Some o) → IsOpen words old
     → ((t : ℕ) (p : Ticketed) → in_slot old t ≡ Some p → p.ticket ≢ o.ticket)
@@ -43,23 +43,6 @@ open_filled words old new s o set held fresh alone cells = record {
   cells = λ t a at. elim (cases_eq t s) as (λ _. length a.subproblem.row ≡ words) [
     | inl ts ↦ ap (λ (q : Ticketed). length q.subproblem.row) (filled old new s o t a set ts at) ∙ cells
     | inr tn ↦ held.cells t a (was old new s (Some o) t a set tn at)
-  ];
-}
-
-open_cleared : (words : ℕ) (old new : List (Option Ticketed)) (s : ℕ) → IsSet old new s None → IsOpen words old → IsOpen words new
-open_cleared words old new s set held = record {
-  apart = apart_cleared old new s set held.apart;
-  different = λ t u a b at bt same.
-      elim (cases_eq t s) as (λ _. t ≡ u) [
-        | inl ts ↦ absurd (cleared old new s t a set ts at)
-        | inr tn ↦ elim (cases_eq u s) as (λ _. t ≡ u) [
-          | inl us ↦ absurd (cleared old new s u b set us bt)
-          | inr un ↦ held.different t u a b (was old new s None t a set tn at) (was old new s None u b set un bt) same
-        ]
-      ];
-  cells = λ t a at. elim (cases_eq t s) as (λ _. length a.subproblem.row ≡ words) [
-    | inl ts ↦ absurd (cleared old new s t a set ts at)
-    | inr tn ↦ held.cells t a (was old new s None t a set tn at)
   ];
 }
 
@@ -95,30 +78,6 @@ stored_more words spare spare' slots keys taken keys' ranks ranks' index ready i
       keys_room = omega arith;
       ranks_room = omega arith;
       index_room = λ some. (let l = length-set slots s (Some o) in let m = h.index_room (omega (arith, free.0)) in omega arith);
-    }
-
--- a slot was emptied
-pub stored_less : (words spare spare' : ℕ) (slots slots' : List (Option Ticketed)) (keys keys' : RegionView) (ranks ranks' : RanksView) (index : IndexView) (s : ℕ)
-    → IsStored words spare slots keys ranks index → spare' ≤ spare + 1
-    → IsSet slots slots' s None → length slots' ≡ length slots → keys'.rows ≡ map key_of slots' → keys'.words ≡ keys.words → keys'.spare ≡ keys.spare + 1
-    → ((t : ℕ) (p : Ticketed) → in_slot slots t ≡ Some p → t ≢ s → Contains ranks'.ranks (rank_of t p)) → ranks'.len + spare' ≤ ranks'.room
-    → IsStored words spare' slots' keys' ranks' index
-stored_less words spare spare' slots slots' keys keys' ranks ranks' index s h less set len keyed width more ranked room =
-    let k = h.keys_room in record {
-      held = open_cleared words slots slots' s set h.held;
-      keyed = keyed;
-      width = width ∙ h.width;
-      ranked = λ t p at. elim (cases_eq t s) as (λ _. Contains ranks'.ranks (rank_of t p)) [
-        | inl ts ↦ absurd (cleared slots slots' s t p set ts at)
-        | inr tn ↦ ranked t p (was slots slots' s None t p set tn at) tn
-      ];
-      entered = λ t p at. elim (cases_eq t s) as (λ _. IsEntered index.nodes t (own_fold p)) [
-        | inl ts ↦ absurd (cleared slots slots' s t p set ts at)
-        | inr tn ↦ h.entered t p (was slots slots' s None t p set tn at)
-      ];
-      keys_room = omega arith;
-      ranks_room = room;
-      index_room = λ some. (let m = h.index_room (omega arith) in omega arith);
     }
 
 -- with more slots

@@ -7,7 +7,7 @@ use Rattle.shared_fringe.specs.Tickets.{Ticketed, HasTickets}
 use Rattle.shared_fringe.specs.Firsts.{is_taken_before, first_taken, first_from}
 use Rattle.shared_fringe.specs.Fringe.{is_same, same_at}
 use Rattle.shared_fringe.proofs.Rows.{same-depth, same-row}
-use Rattle.shared_fringe.specs.Slots.{in_slot, opened, AreApart, IsOpen, IsFirstSlot, is_same_in}
+use Rattle.shared_fringe.specs.Slots.{in_slot, opened, HaveOwnTickets, IsOpen, IsFirstSlot, is_same_in}
 use Rattle.shared_fringe.proofs.Openeds.{has_opened, opened_has, opened_tickets}
 use Rattle.shared_fringe.proofs.Takings.{first_taken-is}
 
@@ -38,7 +38,7 @@ first_of (x ∷ os) o h has none =
     let b = none (first_from x os) f.one in
     ap (λ (q : Ticketed). Some q) (same_ticket (x ∷ os) (first_from x os) o h f.one has (neither (first_from x os) o b a))
 
-pub best_first : (slots : List (Option Ticketed)) (s : ℕ) → AreApart slots → (best : IsFirstSlot slots s) → first_taken (opened slots) ≡ Some best.one
+pub best_first : (slots : List (Option Ticketed)) (s : ℕ) → HaveOwnTickets slots → (best : IsFirstSlot slots s) → first_taken (opened slots) ≡ Some best.one
 best_first slots s apart best =
     first_of (opened slots) best.one (opened_tickets slots apart) (has_opened slots s best.one best.there)
     (λ p h. let r = opened_has slots p h in best.first r.0 p r.1)

@@ -14,17 +14,17 @@ pub record IndexView : Type 0 where
 abbrev pub Heads : Type 0
 Heads = IndexMap ℕ ℕ (BuildHasherDefault FoldHasher)
 
-abbrev pub node_at : List Node → ℕ → Node
-node_at nodes i = slice_index_or nodes i (record { fold = 0; slot = 0; next = 0 })
+abbrev pub indexed_at : List Node → ℕ → Node
+indexed_at nodes i = slice_index_or nodes i (record { fold = 0; slot = 0; next = 0 })
 
-abbrev pub fold_at : List Node → ℕ → ℕ
-fold_at nodes i = (node_at nodes i).fold
+abbrev pub entry_fold : List Node → ℕ → ℕ
+entry_fold nodes i = (indexed_at nodes i).fold
 
-abbrev pub slot_at : List Node → ℕ → ℕ
-slot_at nodes i = (node_at nodes i).slot
+abbrev pub entry_slot : List Node → ℕ → ℕ
+entry_slot nodes i = (indexed_at nodes i).slot
 
-abbrev pub next_at : List Node → ℕ → ℕ
-next_at nodes i = (node_at nodes i).next
+abbrev pub entry_next : List Node → ℕ → ℕ
+entry_next nodes i = (indexed_at nodes i).next
 
 abbrev pub head_at : Heads → ℕ → ℕ
 head_at heads fold = unwrap_or (get nat_eq heads fold) 0
@@ -32,11 +32,11 @@ head_at heads fold = unwrap_or (get nat_eq heads fold) 0
 -- a head or a next is the place after the last entry of its fold, or 0 where there is none
 pub record IsIndex (heads : Heads) (nodes : List Node) : Type 0 where
   pub head_within : (f : ℕ) → head_at heads f ≤ length nodes
-  pub head_fold : (f i : ℕ) → head_at heads f ≡ i + 1 → fold_at nodes i ≡ f
-  pub head_last : (f j : ℕ) → head_at heads f ≤ j → j < length nodes → fold_at nodes j ≢ f
-  pub next_within : (j : ℕ) → j < length nodes → next_at nodes j ≤ j
-  pub next_fold : (j i : ℕ) → j < length nodes → next_at nodes j ≡ i + 1 → fold_at nodes i ≡ fold_at nodes j
-  pub next_last : (j i : ℕ) → j < length nodes → next_at nodes j ≤ i → i < j → fold_at nodes i ≢ fold_at nodes j
+  pub head_fold : (f i : ℕ) → head_at heads f ≡ i + 1 → entry_fold nodes i ≡ f
+  pub head_last : (f j : ℕ) → head_at heads f ≤ j → j < length nodes → entry_fold nodes j ≢ f
+  pub next_within : (j : ℕ) → j < length nodes → entry_next nodes j ≤ j
+  pub next_fold : (j i : ℕ) → j < length nodes → entry_next nodes j ≡ i + 1 → entry_fold nodes i ≡ entry_fold nodes j
+  pub next_last : (j i : ℕ) → j < length nodes → entry_next nodes j ≤ i → i < j → entry_fold nodes i ≢ entry_fold nodes j
 
 -- each entry that has room has room for a head too, and its place has 32 bits
 pub record HasHeadRoom (heads : Heads) (nodes : List Node) (room : ℕ) : Type 0 where
@@ -47,6 +47,6 @@ pub record HasHeadRoom (heads : Heads) (nodes : List Node) (room : ℕ) : Type 0
 -- the new entries are the old ones and one more
 pub record HasEntered (old new : List Node) (fold slot : ℕ) : Type 0 where
   pub len : length new ≡ length old + 1
-  pub kept : (j : ℕ) → j < length old → node_at new j ≡ node_at old j
-  pub fold_is : fold_at new (length old) ≡ fold
-  pub slot_is : slot_at new (length old) ≡ slot
+  pub kept : (j : ℕ) → j < length old → indexed_at new j ≡ indexed_at old j
+  pub fold_is : entry_fold new (length old) ≡ fold
+  pub slot_is : entry_slot new (length old) ≡ slot

@@ -7,7 +7,7 @@ use Rattle.shared_fringe.specs.Firsts.{is_taken_before}
 use Rattle.shared_fringe.specs.Fringe.{is_same}
 use Rattle.shared_fringe.specs.declared.index.Node.{Node}
 use Rattle.shared_fringe.specs.declared.rank.Rank.{Rank}
-use Rattle.shared_fringe.specs.Index.{fold_at, slot_at}
+use Rattle.shared_fringe.specs.Index.{entry_fold, entry_slot}
 use Rattle.dp_model.specs.Folds.{fold_of}
 use Rattle.std.specs.Int.{w64, cast_signed}
 
@@ -43,8 +43,8 @@ AreRanked slots ranks = (s : ℕ) (o : Ticketed) → in_slot slots s ≡ Some o 
 pub record IsEntered (nodes : List Node) (s fold : ℕ) : Type 0 where
   pub place : ℕ
   pub within : place < length nodes
-  pub slot_is : slot_at nodes place ≡ s
-  pub fold_is : fold_at nodes place ≡ fold
+  pub slot_is : entry_slot nodes place ≡ s
+  pub fold_is : entry_fold nodes place ≡ fold
 
 -- each open one was entered under the fold of its depth and state
 abbrev pub AreEntered : List (Option Ticketed) → List Node → Type 0
@@ -67,12 +67,12 @@ pub record IsFirstSlot (slots : List (Option Ticketed)) (s : ℕ) : Type 0 where
   pub first : (t : ℕ) (o : Ticketed) → in_slot slots t ≡ Some o → is_taken_before o one ≡ false
 
 -- no two slots have one ticket
-abbrev pub AreApart : List (Option Ticketed) → Type 0
-AreApart slots = (s t : ℕ) (o p : Ticketed) → in_slot slots s ≡ Some o → in_slot slots t ≡ Some p → o.ticket ≡ p.ticket → s ≡ t
+abbrev pub HaveOwnTickets : List (Option Ticketed) → Type 0
+HaveOwnTickets slots = (s t : ℕ) (o p : Ticketed) → in_slot slots s ≡ Some o → in_slot slots t ≡ Some p → o.ticket ≡ p.ticket → s ≡ t
 
 -- what the slots of a fringe keep: no two have one ticket, nor one depth and state, and each row has so many cells
 pub record IsOpen (words : ℕ) (slots : List (Option Ticketed)) : Type 0 where
-  pub apart : AreApart slots
+  pub apart : HaveOwnTickets slots
   pub different : (s t : ℕ) (o p : Ticketed) → in_slot slots s ≡ Some o → in_slot slots t ≡ Some p → is_same (length o.subproblem.decisions) o.subproblem.row p ≡ true → s ≡ t
   pub cells : (s : ℕ) (o : Ticketed) → in_slot slots s ≡ Some o → length o.subproblem.row ≡ words
 
@@ -90,7 +90,3 @@ is_low value (Some o) = int_le o.subproblem.bound value
 abbrev pub raised_one : Option ℤ → Option Ticketed → Option ℤ
 raised_one most None = most
 raised_one most (Some o) = raised most o.subproblem.bound
-
-abbrev pub raised_slots : Option ℤ → List (Option Ticketed) → Option ℤ
-raised_slots most [] = most
-raised_slots most (x ∷ slots) = raised_slots (raised_one most x) slots

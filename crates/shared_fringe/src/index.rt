@@ -2,7 +2,7 @@
 
 ghost use Rattle.std.specs.Prelude.{◌≡◌, ◌≢◌, ◌↔◌, ℕ, ◌+◌, ◌<◌, ◌≤◌, [], length, nat_eq, None, IfOk, IsTrue};
 ghost use Rattle.indexmap.specs.IndexMap.{get, index_map_len, spare};
-ghost use Rattle.shared_fringe.specs.Index.{fold_at, head_at, node_at, HasEntered};
+ghost use Rattle.shared_fringe.specs.Index.{entry_fold, head_at, indexed_at, HasEntered};
 
 use indexmap::IndexMap;
 use std::alloc::{AllocError, Global};
@@ -79,8 +79,8 @@ impl Index {
     /// The place after the last entry of the fold, or 0.
     pub fn last(&self, fold: u64) -> usize
         ensures within { result ≤ length self.now.nodes }
-        ensures at { (i : ℕ) → result ≡ i + 1 → fold_at self.now.nodes i ≡ fold }
-        ensures later { (j : ℕ) → result ≤ j → j < length self.now.nodes → fold_at self.now.nodes j ≢ fold }
+        ensures at { (i : ℕ) → result ≡ i + 1 → entry_fold self.now.nodes i ≡ fold }
+        ensures later { (j : ℕ) → result ≤ j → j < length self.now.nodes → entry_fold self.now.nodes j ≢ fold }
     {
         self.heads.get(&fold).copied().unwrap_or(0) as usize
     }
@@ -88,10 +88,10 @@ impl Index {
     /// The entry at a place.
     pub fn node(&self, place: usize) -> Node
         requires { place < length self.now.nodes }
-        ensures node { result ≡ node_at self.now.nodes place }
+        ensures node { result ≡ indexed_at self.now.nodes place }
         ensures within { result.next ≤ place }
-        ensures at { (i : ℕ) → result.next ≡ i + 1 → fold_at self.now.nodes i ≡ result.fold }
-        ensures between { (j : ℕ) → result.next ≤ j → j < place → fold_at self.now.nodes j ≢ result.fold }
+        ensures at { (i : ℕ) → result.next ≡ i + 1 → entry_fold self.now.nodes i ≡ result.fold }
+        ensures between { (j : ℕ) → result.next ≤ j → j < place → entry_fold self.now.nodes j ≢ result.fold }
     {
         self.nodes[place]
     }

@@ -2,7 +2,7 @@
 
 ghost use Rattle.std.specs.Prelude.{◌≡◌, map, IfOk};
 ghost use Rattle.shared_fringe.specs.Listing.{in_slots, referred};
-ghost use Rattle.shared_fringe.specs.Slots.{AreApart, opened};
+ghost use Rattle.shared_fringe.specs.Slots.{HaveOwnTickets, opened};
 
 use crate::listed::Listed;
 use dp_model::Sub;
@@ -31,7 +31,7 @@ pub fn list_by_ticket<'a>(
     slots: &'a [Option<Listed>],
     count: usize,
 ) -> Result<Vec<(u64, &'a Sub)>, AllocError>
-    requires { AreApart slots.now }
+    requires { HaveOwnTickets slots.now }
     ensures { IfOk result (λ list. map referred list.items ≡ opened slots.now) }
 {
     let mut list = list_slots(alloc, slots, count)?;

@@ -50,10 +50,3 @@ one_more n seed k x y d ds more a is behind short pushed =
           (λ i. ((ap (λ e. ds ++ e ∷ []) (ap (λ m. distance_drawn n m x) long ∙ sym is) ∙ sym pushed) i, (ap (λ m. behind_distance n m x) long ∙ sym behind) i));
       distances = subst (AreDistances n (k + 1)) (sym pushed) (distances_more n k d ds a.distances short (λ e. is ∙ ap (λ b. cond b 0 (10 + drawn x % 41)) (eq-eqb (k / n) (k % n) e)));
     }
-
--- all of them
-pub all_drawn : (n seed k x : ℕ) (ds : List ℕ) → AreDrawn n seed k x ds → k ≡ n * n → ds ≡ (steps (with_distance n) (n * n) [] seed).0
-all_drawn n seed k x ds a whole = sym (ap (λ p. p.0) (ap (λ m. steps (with_distance n) m [] seed) (sym whole) ∙ a.drawn))
-
-pub all_distances : (n seed k x : ℕ) (ds : List ℕ) → AreDrawn n seed k x ds → k ≡ n * n → AreDistances n (n * n) ds
-all_distances n seed k x ds a whole = subst (λ m. AreDistances n m ds) whole a.distances

@@ -1,3 +1,4 @@
+pub mod OnTheWay
 pub mod StateLemmas
 pub mod Assembled
 pub mod Behind

@@ -6,7 +6,7 @@ use Rattle.node_sets.specs.Sets.{IsSet, has}
 use Rattle.node_sets.proofs.Below.{sum_below-skip, sum_below-same, count_below-le}
 use Rattle.tsp_windows.specs.Instance.{Instance, IsTourInstance, Window, no_window, closing, near}
 use Rattle.tsp_windows.specs.States.{TourState, must_of, shown, is_lost, way_left}
-use Rattle.tsp_windows.specs.ProgramLaws.{way-most}
+use Rattle.tsp_windows.specs.Laws.Program.{way-most}
 use Rattle.tsp_windows.proofs.StateLemmas.{must-shown}
 use Rattle.tsp_windows.proofs.WayLemmas.{in_time}
 

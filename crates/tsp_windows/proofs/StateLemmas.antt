@@ -11,8 +11,8 @@ use Rattle.node_sets.proofs.Counts.{is_set-gives}
 use Rattle.tsp_windows.specs.States.{TourState, positions_of, must_of, may_of, time_of, shown, leg, may_visit, may_return, is_open, covers, is_sound, is_state_row}
 use Rattle.tsp_windows.specs.Instance.{Instance, closing}
 use Rattle.tsp_windows.specs.Apart.{IsApart}
-use Rattle.tsp_windows.specs.Tours.{all_below-not, sound-gives, sound-from}
-use Rattle.tsp_windows.specs.Walks.{CoversTour, covers-gives, covers-from}
+use Rattle.tsp_windows.specs.Laws.Moves.{all_below-not, sound-gives, sound-from}
+use Rattle.tsp_windows.specs.Laws.Walks.{CoversTour, covers-gives, covers-from}
 
 pub fits_time : (t : ℕ) → t ≤ 1000000000000 → FitsSigned w64 (pos t)
 fits_time t l = record { sfits = omega arith }

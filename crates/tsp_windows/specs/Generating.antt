@@ -35,18 +35,18 @@ abbrev pub way_on : ℕ → List ℕ → ℕ → ℕ
 way_on n ds v = get_or ds (v * n + (v + 1)) 0
 
 -- when a node is reached on the way from node to node, in the order of their numbers, from time 0
-abbrev pub reached : ℕ → List ℕ → ℕ → ℕ
-reached n ds zero = 0
-reached n ds (suc v) = reached n ds v + way_on n ds v
+abbrev pub reached_along : ℕ → List ℕ → ℕ → ℕ
+reached_along n ds zero = 0
+reached_along n ds (suc v) = reached_along n ds v + way_on n ds v
 
 -- when node 0 is reached again on that way
 abbrev pub home_again : ℕ → List ℕ → ℕ
-home_again n ds = reached n ds (n - 1) + get_or ds ((n - 1) * n) 0
+home_again n ds = reached_along n ds (n - 1) + get_or ds ((n - 1) * n) 0
 
 -- the window of a node: from 40 before it is reached, but not before 0, to 40 behind; for node 0 from 0 to 40 behind its second time
 abbrev pub window_along : ℕ → List ℕ → ℕ → Window
 window_along n ds zero = record { opening = 0; closing = home_again n ds + 40 }
-window_along n ds (suc v) = record { opening = reached n ds (suc v) - 40; closing = reached n ds (suc v) + 40 }
+window_along n ds (suc v) = record { opening = reached_along n ds (suc v) - 40; closing = reached_along n ds (suc v) + 40 }
 
 abbrev pub windows_along : ℕ → List ℕ → List Window
 windows_along n ds = map (window_along n ds) (range_with_len 0 n)

@@ -2,14 +2,9 @@ pub mod Instance
 pub mod States
 pub mod Program
 pub mod OwnWords
-pub mod Rows
-pub mod Tours
-pub mod Walks
-pub mod ProgramLaws
-pub mod Instances
-pub mod OwnWordsLaws
 pub mod Shown
 pub mod Texts
 pub mod Generating
 pub mod Apart
-pub mod Kept
+-- what an `impl` cites and no clause
+pub mod Laws

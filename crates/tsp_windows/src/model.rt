@@ -350,7 +350,7 @@ impl DpModel for TspWindows {
     ghost use Rattle.tsp_windows.specs.Instance.{numbers_of};
     ghost use Rattle.tsp_windows.specs.Program.{program};
     ghost use Rattle.tsp_windows.specs.Shown.{instance_in};
-    ghost use Rattle.tsp_windows.specs.Instances.{lawful_numbers, chained_numbers};
+    ghost use Rattle.tsp_windows.specs.Laws.Limits.{lawful_numbers, chained_numbers};
 
     ghost numbers = { λ m. numbers_of (instance_in m) };
 

@@ -4,7 +4,7 @@ ghost use Rattle.std.specs.Prelude.{◌≡◌, ◌<◌, ◌-◌, ◌^◌, [], le
 ghost use Rattle.bound_cover.specs.Stored.{last_layer};
 ghost use Rattle.bound_cover.specs.Building.{with_word, with_arc, with_layer, with_open_row};
 
-use super::{Cover, Head};
+use super::{Cover, Head, head_of};
 use crate::cover::CoverArc;
 use dp_model::OutOfMemory;
 use std::alloc::Global;
@@ -24,12 +24,14 @@ pub struct CoverBuilder {
 
 impl Model for CoverBuilder {
     ghost use Rattle.bound_cover.specs.Building.{BuilderView, built, IsBuilt};
+    ghost use Rattle.bound_cover.specs.Stored.{spans, BeginsAt};
 
     ghost Value = { BuilderView };
 
-    ghost view = { λ b. built b.starts.items b.heads.items b.words.items b.arcs.items b.words_from b.arcs_from };
+    ghost view = { λ b. built b.starts.items (spans b.heads.items) b.words.items b.arcs.items b.words_from b.arcs_from };
 
-    ghost invariant = { λ b. IsBuilt b.starts.items b.heads.items b.words.items b.arcs.items b.words_from b.arcs_from };
+    ghost invariant = { λ b. IsBuilt b.starts.items (spans b.heads.items) b.words.items b.arcs.items b.words_from b.arcs_from
+        × BeginsAt b.words_from b.arcs_from b.heads.items };
 }
 
 impl CoverBuilder {
@@ -90,7 +92,7 @@ impl CoverBuilder {
     ///
     /// There is a layer, and the last one has fewer than `2^32 - 1` rows. It fails only for want of memory, and then changes
     /// nothing. Without an arc part the arcs that were added are left out.
-    #[inline]
+    #[inline(always)]
     pub fn end_row(&mut self, bound: Option<i64>, has_arcs: bool) -> Result<(), OutOfMemory>
         requires layer { 0 < length self.old.cover }
         requires few { length (last_layer self.old.cover) < 2 ^ 32 - 1 }
@@ -100,14 +102,8 @@ impl CoverBuilder {
         self.heads.reserve(1)?;
         let words_to = self.words.len();
         let arcs_to = self.arcs.len();
-        self.heads.push_reserved(Head {
-            bound,
-            words_from: self.words_from,
-            words_to,
-            has_arcs,
-            arcs_from: self.arcs_from,
-            arcs_to,
-        });
+        self.heads
+            .push_reserved(head_of(bound, has_arcs, words_to, arcs_to));
         self.words_from = words_to;
         self.arcs_from = arcs_to;
         Ok(())
@@ -117,11 +113,15 @@ impl CoverBuilder {
     pub fn finish(self) -> Cover
         ensures { result ≡ self.cover }
     {
+        let mut words = self.words;
+        words.truncate(self.words_from);
+        let mut arcs = self.arcs;
+        arcs.truncate(self.arcs_from);
         Cover {
             starts: self.starts,
             heads: self.heads,
-            words: self.words,
-            arcs: self.arcs,
+            words,
+            arcs,
         }
     }
 }

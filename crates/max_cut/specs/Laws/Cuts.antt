@@ -6,7 +6,7 @@ use Rattle.std.specs.List.{list_all}
 use Rattle.std.proofs.lemmas.Int.{ints, clamps}
 use Rattle.std.proofs.lemmas.Bool.{and_parts, and_from}
 use Rattle.std.proofs.lemmas.Bool.Decides.{nat_tests}
-use Rattle.benefit_rows.specs.Benefits.{gain_of, gains_of}
+use Rattle.benefit_rows.specs.Benefits.{choice_gain, gains_of}
 use Rattle.dp_model.specs.Prefixes.{IsPath, IsSolution, value_of}
 use Rattle.dp_model.specs.Solution.{SolutionGives}
 use Rattle.max_cut.specs.Graph.{Graph, IsGraph, row_of, weights_from, negatives_of}
@@ -25,7 +25,7 @@ side-is : (d : ℕ) → nat_lt d 2 ≡ true → d < 2
 side-is d h = grind (arith, nat_tests)
 
 -- what a side gains from the pull of a vertex is the weight between them, where it is on the other side
-pulled_by : (d : ℕ) (w : ℤ) (e : ℕ) → d < 2 → e < 2 → gain_of (pull_of d w) e +ℤ int_min w (pos 0) ≡ cond (eqb d e) (pos 0) w
+pulled_by : (d : ℕ) (w : ℤ) (e : ℕ) → d < 2 → e < 2 → choice_gain (pull_of d w) e +ℤ int_min w (pos 0) ≡ cond (eqb d e) (pos 0) w
 pulled_by zero w zero few h = omega (arith, ints, clamps)
 pulled_by zero w (suc zero) few h = omega (arith, ints, clamps)
 pulled_by (suc zero) w zero few h = omega (arith, ints, clamps)

@@ -4,15 +4,15 @@ use Rattle.std.proofs.Common.{arith, ap, refl, get_or, ◌<◌}
 use Rattle.std.proofs.lemmas.Int.{ints}
 use Rattle.std.proofs.lemmas.Bool.Decides.{nat_tests}
 use Rattle.std.proofs.lemmas.List.{length-drop, drop_more, drop_all}
-use Rattle.benefit_rows.specs.Benefits.{gain_of, gains_of, rank_of, gap_of, merged_of}
+use Rattle.benefit_rows.specs.Benefits.{choice_gain, gains_of, rank_of, gap_of, merged_of}
 use Rattle.benefit_rows.proofs.Steps.{size_of-at}
-use Rattle.benefit_rows.specs.BenefitLaws.{size_of-bounds, rank_of-positive, rank_of-drop, gain_of-positive, gain_of-most, gains_of-most, gap_of-self, gap_of-positive, gap_of-most, gap_of-chain, gap_of-bounds, rank_of-zeros}
+use Rattle.benefit_rows.specs.BenefitLaws.{size_of-bounds, rank_of-positive, rank_of-drop, choice_gain-positive, choice_gain-most, gains_of-most, gap_of-self, gap_of-positive, gap_of-most, gap_of-chain, gap_of-bounds, rank_of-zeros}
 use Rattle.dp_model.specs.Gaps.{IsStateOf}
 use Rattle.dp_model.specs.Laws.{IsLawful, IsChained, StepsAreStates, GapsAreSound, RoughBounds, SizesHold}
 use Rattle.dp_model.specs.Lists.{Each}
 use Rattle.dp_model.specs.Numbers.{IsSmall}
 use Rattle.dp_model.specs.NumberLaws.{each_small, small_between, small_gap, small_positive}
-use Rattle.dp_model.specs.Prefixes.{IsPath, gain_of as path_gain}
+use Rattle.dp_model.specs.Prefixes.{IsPath, gain_of}
 use Rattle.max_cut.specs.Graph.{Graph, IsGraph, row_of, weights_from, negatives_of}
 use Rattle.max_cut.specs.Laws.Graph.{negatives_of-bounds, length-row_of, rank_of-split, rank_of-most, weights_from-none}
 use Rattle.max_cut.specs.Program.{zeros, pulls_of, settled_of, is_within, words_of, limits_of, stepped, program_of}
@@ -31,7 +31,7 @@ none_gained (x ∷ ss) = refl
 
 -- a continuation gains each vertex's part and each pair's part
 pub gain-split : (g : Graph) → IsGraph g → (k : ℕ) (s : List ℤ) (ds : List ℕ) → is_within s (limits_of g k) ≡ true → k + length ds ≡ g.vertices
-    → path_gain (program_of g) k s ds ≡ gains_of (drop k s) ds +ℤ pair_gains g k ds
+    → gain_of (program_of g) k s ds ≡ gains_of (drop k s) ds +ℤ pair_gains g k ds
 gain-split g h k s [] t whole = none_gained (drop k s)
 gain-split g h k s (d ∷ ds) t whole =
     let long : length s ≡ words_of g = length-state g h k s (omega arith) t in
@@ -39,7 +39,7 @@ gain-split g h k s (d ∷ ds) t whole =
     let row : length (row_of g k) ≡ g.vertices - (k + 1) = length-row_of g h k (omega arith) in
     let pulls : length (pulls_of d (row_of g k)) ≡ length (row_of g k) = length-pulls d (row_of g k) in
     let later : length (drop (k + 1) s) ≡ length s - (k + 1) = length-drop (k + 1) s in
-    let now : gains_of (drop k s) (d ∷ ds) ≡ gain_of (slice_index_or s k (pos 0)) d +ℤ gains_of (drop (k + 1) s) ds = ap (λ ss. gains_of ss (d ∷ ds)) (drop_more s k (pos 0) (omega arith)) in
+    let now : gains_of (drop k s) (d ∷ ds) ≡ choice_gain (slice_index_or s k (pos 0)) d +ℤ gains_of (drop (k + 1) s) ds = ap (λ ss. gains_of ss (d ∷ ds)) (drop_more s k (pos 0) (omega arith)) in
     let settles = settled_of-gains (drop (k + 1) s) (pulls_of d (row_of g k)) ds (omega arith) (omega arith) in
     let rest = gain-split g h (k + 1) (stepped g k s d) ds (stepped-state g k s d t) (omega arith) in
     let after : gains_of (drop (k + 1) (stepped g k s d)) ds ≡ gains_of (sums_of (drop (k + 1) s) (pulls_of d (row_of g k))) ds = ap (λ ss. gains_of ss ds) (drop-stepped g k s d) in
@@ -108,8 +108,8 @@ rough_holds g h = record {
 
 -- a gain is at most all weights together
 pub gain-most : (g : Graph) → IsGraph g → (k : ℕ) (s : List ℤ) (d : ℕ) → k < length s → is_within s (limits_of g k) ≡ true
-    → (pos 0 ≤ℤ (gain_of (slice_index_or s k (pos 0)) d +ℤ settled_of (drop (k + 1) s) (pulls_of d (row_of g k))))
-    × ((gain_of (slice_index_or s k (pos 0)) d +ℤ settled_of (drop (k + 1) s) (pulls_of d (row_of g k))) ≤ℤ pos (2 ^ 49))
+    → (pos 0 ≤ℤ (choice_gain (slice_index_or s k (pos 0)) d +ℤ settled_of (drop (k + 1) s) (pulls_of d (row_of g k))))
+    × ((choice_gain (slice_index_or s k (pos 0)) d +ℤ settled_of (drop (k + 1) s) (pulls_of d (row_of g k))) ≤ℤ pos (2 ^ 49))
 gain-most g h k s d deep t =
     let own = slice_index_or s k (pos 0) in
     let all = rank_of-most g h in
@@ -118,8 +118,8 @@ gain-most g h k s d deep t =
     let rest = rank_of-positive (weights_from g (k + 1)) in
     let pulls = rank_of-pulls d (row_of g k) in
     let settles = settled_of-most (drop (k + 1) s) (pulls_of d (row_of g k)) in (
-      omega (arith, ints, gain_of-positive own d, settled_of-positive (drop (k + 1) s) (pulls_of d (row_of g k))),
-      omega (arith, ints, gain_of-most own d, size_of-at s k (pos 0) deep),
+      omega (arith, ints, choice_gain-positive own d, settled_of-positive (drop (k + 1) s) (pulls_of d (row_of g k))),
+      omega (arith, ints, choice_gain-most own d, size_of-at s k (pos 0) deep),
     )
 
 gap_small : (g : Graph) → IsGraph g → (k : ℕ) (a s : List ℤ) (gap : ℤ) → IsStateOf (program_of g) k s → Some (gap_of (drop k a) (drop k s)) ≡ Some gap → (pos 0 ≤ℤ gap) × IsSmall gap
@@ -154,7 +154,7 @@ state_small g h k s state =
     small_between _ _ (omega (arith, ints)) bounds.0 (omega (arith, ints)))
 
 gain_small : (g : Graph) → IsGraph g → (k : ℕ) (s : List ℤ) (d : ℕ) → k < g.vertices → IsStateOf (program_of g) k s
-    → IsSmall (gain_of (slice_index_or s k (pos 0)) d +ℤ settled_of (drop (k + 1) s) (pulls_of d (row_of g k)))
+    → IsSmall (choice_gain (slice_index_or s k (pos 0)) d +ℤ settled_of (drop (k + 1) s) (pulls_of d (row_of g k)))
 gain_small g h k s d deep state =
     let long = length-state g h k s state.layer state.test in
     let words = words_of-some g (omega arith) in

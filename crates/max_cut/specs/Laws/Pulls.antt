@@ -3,13 +3,13 @@ use Rattle.std.specs.Prelude.{◌≡◌, ℕ, zero, suc, ◌≤◌, ℤ, pos, �
 use Rattle.std.proofs.Common.{arith, ap, sym, subst, refl}
 use Rattle.std.proofs.lemmas.Int.{ints, clamps}
 use Rattle.std.proofs.lemmas.List.{length-map}
-use Rattle.benefit_rows.specs.Benefits.{above_zero, below_zero, size_of, gain_of, gains_of, rank_of, gap_between, gap_of}
+use Rattle.benefit_rows.specs.Benefits.{above_zero, below_zero, size_of, choice_gain, gains_of, rank_of, gap_between, gap_of}
 use Rattle.benefit_rows.specs.BenefitLaws.{rank_of-positive, gap_of-positive}
 use Rattle.max_cut.specs.Program.{zeros, pull_of, pulls_of, settled, settled_of}
 use Rattle.benefit_rows.specs.Benefits.{sums_of}
 
 -- what is settled now and what the sum gains later is what the two gain
-pub settled-gains : (s p : ℤ) (d : ℕ) → settled s p +ℤ gain_of (s +ℤ p) d ≡ gain_of s d +ℤ gain_of p d
+pub settled-gains : (s p : ℤ) (d : ℕ) → settled s p +ℤ choice_gain (s +ℤ p) d ≡ choice_gain s d +ℤ choice_gain p d
 settled-gains s p zero = grind (arith, ints, clamps)
 settled-gains s p (suc d) = grind (arith, ints, clamps)
 
@@ -62,15 +62,15 @@ pub pulls_of_T : (d : ℕ) (ws : List ℤ) → (d ≡ 0 → ⊥) → pulls_of d 
 pulls_of_T zero ws h = absurd (h refl)
 pulls_of_T (suc d) ws h = refl
 
-pub gain_of_T : (z : ℤ) (d : ℕ) → (d ≡ 0 → ⊥) → gain_of z d ≡ above_zero z
+pub gain_of_T : (z : ℤ) (d : ℕ) → (d ≡ 0 → ⊥) → choice_gain z d ≡ above_zero z
 gain_of_T z zero h = absurd (h refl)
 gain_of_T z (suc d) h = refl
 
 pub pulls_of_S : (d : ℕ) (ws : List ℤ) → d ≡ 0 → pulls_of d ws ≡ pulls_of 0 ws
 pulls_of_S d ws h = ap (λ e. pulls_of e ws) h
 
-pub gain_of_S : (z : ℤ) (d : ℕ) → d ≡ 0 → gain_of z d ≡ below_zero z
-gain_of_S z d h = ap (gain_of z) h
+pub gain_of_S : (z : ℤ) (d : ℕ) → d ≡ 0 → choice_gain z d ≡ below_zero z
+gain_of_S z d h = ap (choice_gain z) h
 
 -- Zeros have and gain nothing.
 

@@ -8,7 +8,7 @@ use Rattle.benefit_rows.specs.Benefits.{gains_of, rank_of, gap_of}
 use Rattle.benefit_rows.specs.BenefitLaws.{gap_of-self, gap_of-bounds, gap_of-chain, gains_of-most, rank_of-positive}
 use Rattle.dp_model.specs.Gaps.{IsStateOf, IsSoundGap}
 use Rattle.dp_model.specs.Laws.{GapsAreSound, RoughBounds, IsChained}
-use Rattle.dp_model.specs.Prefixes.{IsPath, IsContinuation, gain_of as gain_along}
+use Rattle.dp_model.specs.Prefixes.{IsPath, IsContinuation, gain_of}
 use Rattle.max_two_sat.specs.declared.weights.UnitWeights.{UnitWeights}
 use Rattle.max_two_sat.specs.declared.weights.PairWeights.{PairWeights}
 use Rattle.max_two_sat.specs.Instance.{Instance, rows_of, pair_total, pairs_total, rows_total}
@@ -29,7 +29,7 @@ path-any i k s a (d ∷ ds) h =
 
 -- the gain of a continuation of a state
 state_split : (i : Instance) (k : ℕ) (s : List ℤ) (c : List ℕ) → IsWithinLimits i → IsStateOf (program_of i) k s → IsContinuation (program_of i) k s c →
-    gain_along (program_of i) k s c ≡ gains_of (drop k s) c +ℤ rows_value (drop k (rows_of (length i.units) i.pairs)) c
+    gain_of (program_of i) k s c ≡ gains_of (drop k s) c +ℤ rows_value (drop k (rows_of (length i.units) i.pairs)) c
 state_split i k s c kept state along = gain_split i k s c kept.whole (state-is i k s state.test).cells along.whole
 
 some-is : (g h : ℤ) → Some g ≡ Some h → g ≡ h
@@ -91,7 +91,7 @@ rows_value-most (row ∷ rows) (x ∷ xs) h =
     omega (arith, ints, row_value-most row x xs (and_parts _ _ h).0, rows_value-most rows xs (and_parts (pairs_are_positive row) _ h).1)
 
 rough-bounds : (i : Instance) (k : ℕ) (s : List ℤ) (c : List ℕ) → IsWithinLimits i → IsStateOf (program_of i) k s → IsContinuation (program_of i) k s c →
-    gain_along (program_of i) k s c ≤ℤ (rank_of (drop k s) +ℤ rows_total (drop k (rows_of (length i.units) i.pairs)))
+    gain_of (program_of i) k s c ≤ℤ (rank_of (drop k s) +ℤ rows_total (drop k (rows_of (length i.units) i.pairs)))
 rough-bounds i k s c kept state along =
     let rows : List (List PairWeights) = rows_of (length i.units) i.pairs in
     omega (

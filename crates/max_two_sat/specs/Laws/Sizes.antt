@@ -4,8 +4,8 @@ use Rattle.std.proofs.Common.{arith, get_or, lit≤}
 use Rattle.std.proofs.Math.Seq.{drop-cons}
 use Rattle.std.proofs.lemmas.Int.{ints, clamps}
 use Rattle.std.proofs.lemmas.Bool.{and_parts}
-use Rattle.benefit_rows.specs.Benefits.{size_of, gain_of, rank_of, gap_of}
-use Rattle.benefit_rows.specs.BenefitLaws.{rank_of-positive, gain_of-positive, gain_of-most, gap_of-positive, gap_of-most, size_of-bounds}
+use Rattle.benefit_rows.specs.Benefits.{size_of, choice_gain, rank_of, gap_of}
+use Rattle.benefit_rows.specs.BenefitLaws.{rank_of-positive, choice_gain-positive, choice_gain-most, gap_of-positive, gap_of-most, size_of-bounds}
 use Rattle.benefit_rows.proofs.Steps.{size_of-at}
 use Rattle.dp_model.specs.NumberLaws.{small_positive, small_gap, small_between, each_small}
 use Rattle.dp_model.specs.Gaps.{IsStateOf}
@@ -105,10 +105,10 @@ gain-small i k s d kept state layer =
     let positive_row : IsTrue (pairs_are_positive row) = positive-row_at rows k (positive-rows_of (length i.units) i.pairs kept.pairs) in
     let rest : rows_total (drop k rows) ≡ pairs_total row +ℤ rows_total (drop (suc k) rows) = rw (drop-rows rows k (omega (arith, length-rows_of (length i.units) i.pairs))) refl in
     let rank : rank_of (drop k s) ≡ size_of t +ℤ rank_of ts = rw cut refl in
-    let here : row_gain row (drop k s) d ≡ gain_of t d +ℤ shared_gain row ts d = rw cut refl in
+    let here : row_gain row (drop k s) d ≡ choice_gain t d +ℤ shared_gain row ts d = rw cut refl in
     small_positive (row_gain row (drop k s) d)
-    (omega (arith, ints, here, gain_of-positive t d, shared_gain-positive row ts d positive_row))
-    (omega (arith, ints, here, gain_of-most t d, shared_gain-most row ts d positive_row, rest, rank, rank-most i k s kept state, later-positive i (suc k) kept))
+    (omega (arith, ints, here, choice_gain-positive t d, shared_gain-positive row ts d positive_row))
+    (omega (arith, ints, here, choice_gain-most t d, shared_gain-most row ts d positive_row, rest, rank, rank-most i k s kept state, later-positive i (suc k) kept))
 
 -- gaps and rough bounds
 

@@ -5,7 +5,7 @@ use Rattle.std.proofs.Common.{arith, eq-eqb, sym}
 use Rattle.std.proofs.lemmas.Bool.{eqb-true, and_parts, and_from}
 use Rattle.std.proofs.lemmas.Bool.Decides.{nat_tests}
 use Rattle.std.proofs.lemmas.Int.{ints, clamps}
-use Rattle.benefit_rows.specs.Benefits.{gain_of, gains_of}
+use Rattle.benefit_rows.specs.Benefits.{choice_gain, gains_of}
 use Rattle.dp_model.specs.Prefixes.{IsPath, value_of}
 use Rattle.dp_model.specs.Solution.{SolutionGives}
 use Rattle.max_two_sat.specs.declared.weights.UnitWeights.{UnitWeights}
@@ -35,7 +35,7 @@ path-truth i k s (d ∷ ds) h =
 
 -- the root's benefits and the lesser weights are the units' weights
 
-unit-split : (u : UnitWeights) (x : ℕ) → int_min u.positive u.negative +ℤ gain_of (u.positive -ℤ u.negative) x ≡ unit_value u x
+unit-split : (u : UnitWeights) (x : ℕ) → int_min u.positive u.negative +ℤ choice_gain (u.positive -ℤ u.negative) x ≡ unit_value u x
 unit-split u zero = omega (arith, ints, clamps)
 unit-split u (suc x) = omega (arith, ints, clamps)
 

@@ -4,8 +4,8 @@ use Rattle.std.proofs.Common.{arith, ap, get_or, add-one}
 use Rattle.std.proofs.Math.Seq.{drop-cons}
 use Rattle.std.proofs.lemmas.Int.{ints, clamps}
 use Rattle.std.proofs.lemmas.List.{length-drop}
-use Rattle.benefit_rows.specs.Benefits.{gain_of, gains_of}
-use Rattle.dp_model.specs.Prefixes.{gain_of as gain_along}
+use Rattle.benefit_rows.specs.Benefits.{choice_gain, gains_of}
+use Rattle.dp_model.specs.Prefixes.{gain_of}
 use Rattle.max_two_sat.specs.declared.weights.PairWeights.{PairWeights}
 use Rattle.max_two_sat.specs.Instance.{Instance, rows_of, row_at, pair_count}
 use Rattle.max_two_sat.specs.OwnWords.{pair_value, row_value, rows_value}
@@ -14,8 +14,8 @@ use Rattle.max_two_sat.specs.Laws.Rows.{length-rows_of, length-row_at, drop-rows
 
 -- one pair: its clauses give what is settled and the lesser of what is open, and the rest is the second variable's benefit
 pub cell_split : (p : PairWeights) (t : ℤ) (d y : ℕ) →
-    gain_of t y +ℤ pair_value p d y ≡
-    cell_part p t d +ℤ gain_of (t +ℤ (open_true p d -ℤ open_false p d)) y
+    choice_gain t y +ℤ pair_value p d y ≡
+    cell_part p t d +ℤ choice_gain (t +ℤ (open_true p d -ℤ open_false p d)) y
 cell_split p t zero zero = omega (arith, ints, clamps)
 cell_split p t zero (suc y) = omega (arith, ints, clamps)
 cell_split p t (suc d) zero = omega (arith, ints, clamps)
@@ -40,7 +40,7 @@ rows_value-none (row ∷ rows) = refl
 -- the gain of a continuation: what the variables gain from their benefits, and the satisfied weight of the pairs from the layer on
 pub gain_split : (i : Instance) (k : ℕ) (s : List ℤ) (c : List ℕ) →
     length i.pairs ≡ pair_count (length i.units) → length s ≡ words_of (length i.units) → k + length c ≡ length i.units →
-    gain_along (program_of i) k s c ≡ gains_of (drop k s) c +ℤ rows_value (drop k (rows_of (length i.units) i.pairs)) c
+    gain_of (program_of i) k s c ≡ gains_of (drop k s) c +ℤ rows_value (drop k (rows_of (length i.units) i.pairs)) c
 gain_split i k s [] whole cells ends = omega (arith, ints, gains_of-none (drop k s), rows_value-none (drop k (rows_of (length i.units) i.pairs)))
 gain_split i k s (d ∷ ds) whole cells ends =
     let rows : List (List PairWeights) = rows_of (length i.units) i.pairs in
@@ -52,10 +52,10 @@ gain_split i k s (d ∷ ds) whole cells ends =
     let left = length-drop (suc k) s in
     let cut : drop k s ≡ get_or s k (pos 0) ∷ drop (suc k) s = drop-cons s k (pos 0) below in
     let rest = drop-rows rows k (omega (arith, length-rows_of (length i.units) i.pairs)) in
-    let here : row_gain row (drop k s) d ≡ gain_of (get_or s k (pos 0)) d +ℤ shared_gain row (drop (suc k) s) d = rw cut refl in
+    let here : row_gain row (drop k s) d ≡ choice_gain (get_or s k (pos 0)) d +ℤ shared_gain row (drop (suc k) s) d = rw cut refl in
     let next : List ℤ = take k s ++ row_step row (drop k s) d in
     let after : gains_of (drop (k + 1) next) ds ≡ gains_of (grown row (drop (suc k) s) d) ds = ap (λ ts. gains_of ts ds) (drop-step row s k d below) in
-    let benefits : gains_of (drop k s) (d ∷ ds) ≡ gain_of (get_or s k (pos 0)) d +ℤ gains_of (drop (suc k) s) ds = rw cut refl in
+    let benefits : gains_of (drop k s) (d ∷ ds) ≡ choice_gain (get_or s k (pos 0)) d +ℤ gains_of (drop (suc k) s) ds = rw cut refl in
     let pairs : rows_value (drop k rows) (d ∷ ds) ≡ row_value row d ds +ℤ rows_value (drop (suc k) rows) ds = rw rest refl in
     let same : rows_value (drop (k + 1) rows) ds ≡ rows_value (drop (suc k) rows) ds = rw add-one refl in
     let later = gain_split i (k + 1) next ds whole (omega (arith, length-step row s k d below (omega arith))) (omega arith) in

@@ -1,7 +1,7 @@
 use Rattle.std.proofs.Common.{◌≡◌, List, length, ◌+◌, ◌<◌, ◌++◌, map, sym, refl, ◌∙◌, ap, arith}
 use Rattle.bound_cover.specs.Covers.{CoverRow}
 use Rattle.bound_cover.specs.Exploring.{layer_of, row_for}
-use Rattle.cover_book.specs.Diagrams.{layer_in}
+use Rattle.relaxed_dd.specs.Shown.{layer_in}
 use Rattle.cover_book.proofs.Layers.{layer-get}
 use Rattle.cover_book.proofs.Putting.{adds-more}
 use Rattle.cover_book.proofs.adding.add_layers.Goals as goal

@@ -1,7 +1,7 @@
 use Rattle.std.proofs.Common.{length, ◌<◌, arith}
 use Rattle.bound_cover.specs.Exploring.{row_for}
-use Rattle.cover_book.specs.Diagrams.{layer_in}
-use Rattle.cover_book.proofs.Layers.{node-more, nodes-all}
+use Rattle.relaxed_dd.specs.Shown.{layer_in}
+use Rattle.cover_book.proofs.Layers.{node-more}
 use Rattle.cover_book.proofs.adding.add_nodes.Goals as goal
 
 pub nodes-preserved : goal.nodes-preserved

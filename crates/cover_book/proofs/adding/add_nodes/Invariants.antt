@@ -1,6 +1,6 @@
 use Rattle.std.proofs.Common.{◌≡◌, ◌++◌, map, take}
 use Rattle.bound_cover.specs.Exploring.{row_for}
-use Rattle.cover_book.specs.Diagrams.{layer_in}
+use Rattle.relaxed_dd.specs.Shown.{layer_in}
 use Rattle.cover_book.proofs.adding.add_nodes.Given as goal
 
 abbrev pub invariant-nodes : goal.invariant-nodes

@@ -1,5 +1,4 @@
-use Rattle.std.proofs.Common.{◌<◌, ◌≡◌, length, Some, ◌∙◌, ap, arith}
-use Rattle.cover_book.specs.Diagrams.{layer_in}
+use Rattle.std.proofs.Common.{Some, ◌∙◌, ap, arith}
 use Rattle.cover_book.proofs.Layers.{one-does-not, waits-so-far, all-do}
 use Rattle.cover_book.proofs.adding.all_wait.Goals as goal
 

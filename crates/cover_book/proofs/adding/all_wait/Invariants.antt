@@ -1,6 +1,6 @@
 use Rattle.std.proofs.Common.{◌≡◌, drop}
 use Rattle.bound_cover.specs.Exploring.{all_wait}
-use Rattle.cover_book.specs.Diagrams.{layer_in}
+use Rattle.relaxed_dd.specs.Shown.{layer_in}
 use Rattle.cover_book.proofs.adding.all_wait.Given as goal
 
 abbrev pub invariant-nodes : goal.invariant-nodes

@@ -1,4 +1,4 @@
-use Rattle.std.proofs.Common.{List, length, sym, ◌∙◌, ap, arith}
+use Rattle.std.proofs.Common.{List, length, sym, ◌∙◌, ap}
 use Rattle.bound_cover.specs.Covers.{CoverRow}
 use Rattle.cover_book.proofs.Layers.{layer-get, layer-none}
 use Rattle.cover_book.proofs.adding.rows_at.Goals as goal

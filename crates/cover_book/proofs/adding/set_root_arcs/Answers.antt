@@ -1,4 +1,4 @@
-use Rattle.std.proofs.Common.{List, length, ◌+◌, ◌<◌, ◌∙◌, ap, arith}
+use Rattle.std.proofs.Common.{List, length, ◌+◌, ◌∙◌, ap, arith}
 use Rattle.bound_cover.specs.Covers.{CoverRow}
 use Rattle.bound_cover.specs.Exploring.{layer_of}
 use Rattle.cover_book.proofs.Putting.{root-put}

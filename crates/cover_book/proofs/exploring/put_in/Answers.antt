@@ -1,5 +1,4 @@
-use Rattle.std.proofs.Common.{◌≡◌, ◌+◌, ◌<◌, ◌≤◌, List, length, slice_get, ◌++◌, ◌∙◌, ap, sym, subst, option_map, ℕ, arith}
-use Rattle.std.proofs.lemmas.List.{length-set}
+use Rattle.std.proofs.Common.{◌+◌, List, slice_get, ◌++◌, ◌∙◌, ap, sym, subst, option_map, ℕ, arith}
 use Rattle.dp_model.specs.Laws.{IsLawful}
 use Rattle.bound_cover.specs.Covers.{CoverRow}
 use Rattle.cover_book.specs.declared.waiting.WaitingRow.{WaitingRow}

@@ -1,6 +1,4 @@
-use Rattle.std.proofs.Common.{◌≡◌, List, ◌∷◌, ◌++◌, [], replicate, ◌∙◌, ap, ap₂, arith}
-use Rattle.std.proofs.lemmas.List.{replicate_more}
-use Rattle.bound_cover.specs.Covers.{CoverRow}
+use Rattle.std.proofs.Common.{◌∙◌, arith}
 use Rattle.cover_book.proofs.Layers.{start-more, start-all}
 use Rattle.cover_book.proofs.exploring.start_rows.Goals as goal
 

@@ -1,7 +1,7 @@
-use Rattle.std.proofs.Common.{◌<◌, ◌≡◌, ◌+◌, length, List, Vec, Global, Some, sym, ◌∙◌, ap, subst, arith}
-use Rattle.cover_book.specs.Diagrams.{layer_in}
+use Rattle.std.proofs.Common.{◌<◌, ◌+◌, length, Vec, Global, Some, sym, ◌∙◌, ap, subst, arith}
+use Rattle.relaxed_dd.specs.Shown.{layer_in}
 use Rattle.cover_book.specs.declared.waiting.WaitingRow.{WaitingRow}
-use Rattle.cover_book.proofs.Waits.{IsWaitingTo, waits-more, waits-not, waits-all}
+use Rattle.cover_book.proofs.Waits.{IsWaitingTo, waits-more, waits-not}
 use Rattle.cover_book.proofs.waiting.add_waiting.Goals as goal
 use Rattle.cover_book.proofs.waiting.add_waiting.Goals.{then-leads_at+in_ok-sub+in_ok-place+in_ok-push, else-leads_at}
 

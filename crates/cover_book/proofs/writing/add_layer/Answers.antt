@@ -1,4 +1,4 @@
-use Rattle.std.proofs.Common.{◌≡◌, ◌<◌, ◌≤◌, length, FitsSigned, to_z, of_z, w64, ◌∙◌, arith}
+use Rattle.std.proofs.Common.{◌<◌, ◌≤◌, length, FitsSigned, to_z, of_z, w64, ◌∙◌, arith}
 use Rattle.std.proofs.lemmas.Int.{ints, to_z-of_z}
 use Rattle.cover_book.proofs.Written.{rows-more, rows-few, rows-all}
 use Rattle.cover_book.proofs.writing.add_layer.Goals as goal

@@ -15,7 +15,7 @@ returns-then-entry-sought g c =
     let test = c.if-entry-sought.true in
     let less : c.args.entry.now.value <ℤ c.args.sought.now.value = grind (arith, ints) in
     less_dominates (g.M.DpModel.meaning (g.M.DpModel.numbers c.args.model.now)) c.args.sought.now.depth c.args.sought.now.row.now c.args.sought.now.value c.args.entry.now c.args.row.now
-    (laws_of g c.args.model.now) c.requires.row c.requires.state less
+    (laws_of g c.args.model.now) (λ _. c.requires.row) c.requires.state less
 
 pub covers-requires-clause-worth : goal.covers-requires-clause-worth
 covers-requires-clause-worth g c =

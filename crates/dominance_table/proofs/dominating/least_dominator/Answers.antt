@@ -1,67 +1,72 @@
-use Rattle.std.proofs.Common.{◌≡◌, ◌+◌, ◌<◌, ◌≤◌, length, take, Some, sym, ◌∙◌, ap, subst, arith}
-use Rattle.dominance_table.specs.Dominator.{lesser, dominates, dominator, IsReached}
-use Rattle.dominance_table.specs.Entries.{group_fold, entry_at, with_row, with_rows}
-use Rattle.dominance_table.proofs.Walks.{at_start, jumped, past_then, past_else, past_all, state_at, first_is_least}
+use Rattle.std.proofs.Common.{◌≡◌, ℕ, refl, ◌+◌, ◌<◌, length, take, Some, true, is_some, Option, None, sym, ◌∙◌, ap, subst, arith}
+use Rattle.dominance_table.specs.Dominator.{dominator}
+use Rattle.dominance_table.specs.Groups.{fold_at, group_fold, start_at}
+use Rattle.dominance_table.specs.Entries.{AreGrouped, with_rows}
+use Rattle.dominance_table.proofs.Puts.{start_is}
+use Rattle.dominance_table.proofs.Walks.{at_start, jumped, skipped_run, settled_all}
 use Rattle.dominance_table.proofs.dominating.least_dominator.Goals as goal
-use Rattle.dominance_table.proofs.dominating.least_dominator.Goals.{then-dominates+else-rising, else-dominates}
+use Rattle.dominance_table.proofs.dominating.least_dominator.Goals.{then-run-sought+then-run-sought-2+else-seen, else-run-sought, else-run-sought-via-then-run-sought+else-run-sought-2, else-run-sought-via-else-run-sought}
 
 pub loop-at-init : goal.loop-at-init
 loop-at-init g c =
     let a = c.args in
+    let s = a.seen.now in
     let dp = g.M.DpModel.meaning (g.M.DpModel.numbers a.model.now) in
+    let runs = c.runs-runs.result.now in
+    let same = c.runs-runs.ensures in
+    let grouped = subst (λ l. AreGrouped s.entries.now l) (sym same) c.requires.grouped in
     let own = c.group_fold.ensures ∙ ap (group_fold a.sought.now.depth) c.requires.bucket in
     record {
-      least = at_start dp a.sought.now.depth a.sought.now.row.now a.sought.now.value a.words a.entries.now a.cells.now
-          ∙ sym (jumped dp a.sought.now.depth a.sought.now.row.now a.sought.now.value a.words a.entries.now a.cells.now a.groups.now.links 0 c.first-at.result (omega arith) c.requires.grouped
-          (λ j from to there same. c.first-at.ensures.before j to there (same ∙ sym own)));
-      fold = λ there. c.first-at.ensures.fold there ∙ c.group_fold.ensures;
+      least = jumped dp a.sought.now.depth a.sought.now.row.now a.sought.now.value s.words s.entries.now s.cells.now runs 0 c.first-at.result None (omega arith) (omega arith) grouped
+          (λ j from to there fold. c.first-at.ensures.before j to (subst (λ l. j < length l) same there) (sym (ap (λ l. fold_at l j) same) ∙ (fold ∙ sym own)))
+          (at_start dp a.sought.now.depth a.sought.now.row.now a.sought.now.value s.words s.entries.now s.cells.now);
+      fold = λ there. ap (λ l. fold_at l c.first-at.result) same ∙ (c.first-at.ensures.fold (subst (λ l. c.first-at.result < length l) same there) ∙ c.group_fold.ensures);
     }
 
-pub dominates-requires-clause-row : goal.dominates-requires-clause-row
-dominates-requires-clause-row g c κs within deep =
-    let a = c.args in
-    let dp = g.M.DpModel.meaning (g.M.DpModel.numbers a.model.now) in
-    subst (λ r. IsReached dp a.sought.now.depth r (entry_at a.entries.now c.loop-at.at).rank) (sym c.row_at.ensures)
-    (state_at dp a.sought.now.depth a.sought.now.row.now a.sought.now.value a.words a.entries.now a.cells.now c.loop-at.at c.loop-at-test.true c.requires.rows deep)
+some_is : (o : Option ℕ) → is_some o ≡ true → (m : ℕ) × (o ≡ Some m)
+some_is None h = absurd (cc)
+some_is (Some m) h = (m, refl)
 
-pub returns-then-rising : goal.returns-then-rising
-returns-then-rising g c =
+pub returns-then-is_some : goal.returns-then-is_some
+returns-then-is_some g c =
     let a = c.args in
+    let s = a.seen.now in
+    let at = c.loop-at.at in
     let dp = g.M.DpModel.meaning (g.M.DpModel.numbers a.model.now) in
-    let e = entry_at a.entries.now c.loop-at.at in
-    let is = sym (c.dominates.ensures ∙ ap (λ r. dominates dp a.sought.now.depth a.sought.now.row.now a.sought.now.value (with_row e r)) c.row_at.ensures) ∙ c.if-dominates.true in
-    c.lesser-least.ensures ∙ (ap (λ o. lesser o (Some e.ticket)) c.loop-at.invariant.least
-    ∙ first_is_least dp a.sought.now.depth a.sought.now.row.now a.sought.now.value a.words a.entries.now a.cells.now c.loop-at.at c.loop-at-test.true (c.requires.rising c.if-rising.true) is)
+    let runs = c.runs-runs.result.now in
+    let grouped = subst (λ l. AreGrouped s.entries.now l) (sym c.runs-runs.ensures) c.requires.grouped in
+    let some = some_is c.least_in_run-least.result (sym c.is_some.ensures ∙ c.if-is_some.true) in
+    let within = grouped.within at c.loop-at-test.true in
+    some.1 ∙ sym (settled_all dp a.sought.now.depth a.sought.now.row.now a.sought.now.value s.words s.entries.now s.cells.now _ some.0 within (c.requires.rising c.if-seen.true)
+    (sym c.least_in_run-least.ensures ∙ some.1))
 
 pub loop-at-preserved : goal.loop-at-preserved
 loop-at-preserved g c =
     let a = c.args in
-    let dp = g.M.DpModel.meaning (g.M.DpModel.numbers a.model.now) in
+    let s = a.seen.now in
     let at = c.loop-at.at in
-    let e = entry_at a.entries.now at in
-    let less : at < length a.entries.now = c.loop-at-test.true in
-    let linked : at < length a.groups.now.links = (let len = c.requires.grouped.len in omega arith) in
-    let here = c.loop-at.invariant.fold linked in
+    let dp = g.M.DpModel.meaning (g.M.DpModel.numbers a.model.now) in
+    let runs = c.runs-runs.result.now in
+    let same = c.runs-runs.ensures in
+    let less : at < length runs = c.loop-at-test.true in
+    let linked : at < length a.groups.now.runs = subst (λ l. at < length l) same less in
+    let grouped = subst (λ l. AreGrouped s.entries.now l) (sym same) c.requires.grouped in
+    let here = c.loop-at.invariant.fold less in
+    let so-far = c.loop-at.invariant.least.0 less in
     let own = here ∙ ap (group_fold a.sought.now.depth) c.requires.bucket in
-    let tells = c.dominates.ensures ∙ ap (λ r. dominates dp a.sought.now.depth a.sought.now.row.now a.sought.now.value (with_row e r)) c.row_at.ensures in
-    let jump = jumped dp a.sought.now.depth a.sought.now.row.now a.sought.now.value a.words a.entries.now a.cells.now a.groups.now.links (at + 1) c.next-at.result (omega (arith, c.next-at.ensures.later)) c.requires.grouped
-    (λ j from to there same. c.next-at.ensures.between j (omega (arith, from)) to there (same ∙ sym own)) in
-    let now : c.if-dominates.least ≡ dominator dp (take (at + 1) (with_rows a.words a.entries.now a.cells.now)) a.sought.now.depth a.sought.now.row.now a.sought.now.value =
-    elim c.if-dominates.branch [
-      | then-dominates+else-rising w ↦ w.least-is ∙ (w.lesser-least.ensures ∙ (ap (λ o. lesser o (Some e.ticket)) c.loop-at.invariant.least
-          ∙ sym (past_then dp a.sought.now.depth a.sought.now.row.now a.sought.now.value a.words a.entries.now a.cells.now at less (sym tells ∙ w.if-dominates.true))))
-      | else-dominates w ↦ w.least-is ∙ (c.loop-at.invariant.least
-          ∙ sym (past_else dp a.sought.now.depth a.sought.now.row.now a.sought.now.value a.words a.entries.now a.cells.now at less (sym tells ∙ w.if-dominates.false)))
+    let value : ℕ → Option ℕ = λ k. dominator dp (take k (with_rows s.words s.entries.now s.cells.now)) a.sought.now.depth a.sought.now.row.now a.sought.now.value in
+    let end = start_is runs at in
+    let now : c.if-run-sought.least ≡ value (start_at runs (at + 1)) =
+    elim c.if-run-sought.branch [
+      | then-run-sought+then-run-sought-2+else-seen w ↦ w.least-is ∙ (w.least_in_run-least.ensures ∙ sym (ap value end))
+      | else-run-sought w ↦ w.least-is ∙ (so-far ∙ sym (skipped_run dp a.sought.now.depth a.sought.now.row.now a.sought.now.value s.words s.entries.now s.cells.now runs at grouped less
+          (λ d b. elim w.else-run-sought.branch [
+            | else-run-sought-via-then-run-sought+else-run-sought-2 v ↦ v.if-run-sought-2.false (b ∙ sym c.requires.bucket)
+            | else-run-sought-via-else-run-sought v ↦ v.if-run-sought.false d
+          ])))
     ] in
     record {
-      least = now ∙ sym jump;
-      fold = λ there. c.next-at.ensures.fold there ∙ here;
+      least = jumped dp a.sought.now.depth a.sought.now.row.now a.sought.now.value s.words s.entries.now s.cells.now runs (at + 1) c.next-at.result c.if-run-sought.least (omega (arith, c.next-at.ensures.later)) (omega arith) grouped
+          (λ j from to there fold. c.next-at.ensures.between j (omega (arith, from)) to (subst (λ l. j < length l) same there) (sym (ap (λ l. fold_at l j) same) ∙ (fold ∙ (sym own ∙ ap (λ l. fold_at l at) same)))) now;
+      fold = λ there. ap (λ l. fold_at l c.next-at.result) same ∙ (c.next-at.ensures.fold (subst (λ l. c.next-at.result < length l) same there) ∙ (sym (ap (λ l. fold_at l at) same) ∙ here));
     }
-
-pub returns : goal.returns
-returns g c =
-    let a = c.args in
-    let dp = g.M.DpModel.meaning (g.M.DpModel.numbers a.model.now) in
-    let ended : length a.entries.now ≤ c.loop-at.at = c.loop-at-test.false in
-    c.loop-at.invariant.least
-    ∙ ap (λ l. dominator dp l a.sought.now.depth a.sought.now.row.now a.sought.now.value) (past_all dp a.sought.now.depth a.sought.now.row.now a.sought.now.value a.words a.entries.now a.cells.now c.loop-at.at ended)

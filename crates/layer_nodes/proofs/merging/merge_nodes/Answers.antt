@@ -1,14 +1,27 @@
-use Rattle.std.proofs.Common.{◌≡◌, ◌-◌, ◌++◌, false, None, [], ◌∷◌, length, map, drop, w64, ◌∙◌, ap, ap₂, arith}
+use Rattle.std.proofs.Common.{◌≡◌, ◌-◌, ◌<◌, ◌++◌, false, None, [], ◌∷◌, length, map, drop, w64, sym, ◌∙◌, ap, ap₂, subst, arith}
 use Rattle.std.proofs.lemmas.Int.{to_z-of_z}
 use Rattle.std.proofs.lemmas.List.{length-drop}
+use Rattle.dp_model.specs.Lists.{Each}
 use Rattle.dp_model.specs.Numbers.{greatest}
 use Rattle.dp_laws.specs.Rules.Reducing.{row_of_all, merge_redirect}
 use Rattle.dp_laws.proofs.Rules.Merged.{length-staying}
 use Rattle.layer_candidates.specs.Rows.{row_at}
-use Rattle.layer_nodes.specs.Leading.{bare}
+use Rattle.layer_nodes.specs.Leading.{IsNodeIn, bare}
 use Rattle.layer_nodes.specs.Merging.{lifted}
-use Rattle.layer_nodes.proofs.Merged.{has-merged}
+use Rattle.layer_nodes.proofs.Merged.{has-merged, in-same}
+use Rattle.layer_nodes.proofs.Stored.{each-drop}
 use Rattle.layer_nodes.proofs.merging.merge_nodes.Goals as goal
+
+pub merge_targets-best-requires-clause-nodes : goal.merge_targets-best-requires-clause-nodes
+merge_targets-best-requires-clause-nodes g c κs within =
+    let dp = g.M.DpModel.meaning (g.M.DpModel.numbers c.args.model.now) in
+    let a = c.args in
+    let first = a.width - 1 in
+    let rows2 = c.merge_rows.new.rows in
+    let last : c.nodes_from-last.result.now ≡ drop first a.nodes.now.items = c.nodes_from-last.ensures ∙ ap (drop first) c.as_slice.ensures.value in
+    subst (Each (IsNodeIn dp a.k rows2 a.words)) (sym last)
+    (in-same dp a.k a.rows.now rows2 a.words a.place (drop first a.nodes.now.items) c.merge_rows.ensures.before c.merge_rows.ensures.size
+    (each-drop (IsNodeIn dp a.k a.rows.now a.words) first a.nodes.now.items c.requires.nodes) (each-drop (λ node. node.row < a.place) first a.nodes.now.items c.requires.before))
 
 pub merge_targets-best-requires-clause-redirects_room : goal.merge_targets-best-requires-clause-redirects_room
 merge_targets-best-requires-clause-redirects_room g c =

@@ -1,6 +1,6 @@
 use Rattle.std.proofs.Common.{◌+◌, pos, ◌+ℤ◌, drop, get_or, arith, ap, refl, ◌∙◌}
 use Rattle.std.proofs.lemmas.Int.{ints}
-use Rattle.benefit_rows.specs.Benefits.{gain_of}
+use Rattle.benefit_rows.specs.Benefits.{choice_gain}
 use Rattle.benefit_rows.proofs.Steps.{read_at}
 use Rattle.max_cut.specs.Program.{pulls_of, settled_of}
 use Rattle.max_cut.proofs.Settling.{Settling, settling, read}
@@ -11,7 +11,7 @@ size-requires c = omega (arith, ints, (read_at c.args.s.now c.args.k c.requires.
 
 -- before the vertex's own gain is computed
 before : (c : goal.After-size)
-    → Settling c.args.k c.args.s.now c.args.rank c.args.d c.args.weights.now c.args.weights_rank c.size.result c.write_step-next.result (gain_of (read (get_or c.args.s.now c.args.k (pos 0))) c.args.d)
+    → Settling c.args.k c.args.s.now c.args.rank c.args.d c.args.weights.now c.args.weights_rank c.size.result c.write_step-next.result (choice_gain (read (get_or c.args.s.now c.args.k (pos 0))) c.args.d)
 before c =
     settling c.args.k c.args.s.now c.args.rank c.args.d c.args.weights.now c.args.weights_rank c.size.result c.write_step-next.result _ c.requires.vertex c.requires.weights
     c.requires.benefit_sizes c.requires.weight_sizes c.requires.rank c.requires.weights_rank c.size.ensures c.write_step-next.ensures.rank refl

@@ -1,6 +1,6 @@
 use Rattle.std.proofs.Common.{pos, get_or, arith, refl, ◌∙◌}
 use Rattle.std.proofs.lemmas.Int.{ints}
-use Rattle.benefit_rows.specs.Benefits.{gain_of}
+use Rattle.benefit_rows.specs.Benefits.{choice_gain}
 use Rattle.max_two_sat.proofs.Cells.{benefit-read}
 use Rattle.max_two_sat.proofs.Shifting.{ExtendRead, extend-read, read}
 use Rattle.max_two_sat.proofs.row.extend_row.Goals as goal
@@ -9,7 +9,7 @@ pub size-requires : goal.size-requires
 size-requires c = omega (arith, ints, (benefit-read c.args.s.now c.args.k (omega arith) c.requires.benefits).small)
 
 before : (c : goal.After-size)
-    → ExtendRead c.args.shifts.now c.args.stakes c.args.k c.args.s.now c.args.rank c.args.d c.size.result c.write_step-next.result (gain_of (read (get_or c.args.s.now c.args.k (pos 0))) c.args.d)
+    → ExtendRead c.args.shifts.now c.args.stakes c.args.k c.args.s.now c.args.rank c.args.d c.size.result c.write_step-next.result (choice_gain (read (get_or c.args.s.now c.args.k (pos 0))) c.args.d)
 before c =
     extend-read c.args.shifts.now c.args.stakes c.args.k c.args.s.now c.args.rank c.args.d c.size.result c.write_step-next.result _ (omega arith) c.requires.sizes c.requires.benefits c.requires.rank
     c.requires.stakes_low c.requires.stakes_high c.size.ensures c.write_step-next.ensures.rank refl

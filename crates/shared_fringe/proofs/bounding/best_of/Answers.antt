@@ -1,6 +1,5 @@
 use Rattle.std.proofs.Common.{◌∙◌, sym, ap}
-use Rattle.shared_fringe.specs.Slots.{raised_slots}
-use Rattle.shared_fringe.proofs.Greatest.{dropped_all, greatest_opened}
+use Rattle.shared_fringe.proofs.Greatest.{raised_slots, dropped_all, greatest_opened}
 use Rattle.shared_fringe.proofs.bounding.best_of.Goals as goal
 
 pub returns : goal.returns

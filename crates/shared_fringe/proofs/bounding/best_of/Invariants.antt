@@ -1,5 +1,5 @@
 use Rattle.std.proofs.Common.{◌≡◌, drop, None}
-use Rattle.shared_fringe.specs.Slots.{raised_slots}
+use Rattle.shared_fringe.proofs.Greatest.{raised_slots}
 use Rattle.shared_fringe.proofs.bounding.best_of.Given as goal
 
 abbrev pub invariant-loop-one : goal.invariant-loop-one

@@ -1,5 +1,5 @@
 use Rattle.std.proofs.Common.{◌*◌, pos, get_or, ap, ◌∙◌}
-use Rattle.tsp_windows.specs.ProgramLaws.{state_row-gives}
+use Rattle.tsp_windows.specs.Laws.Program.{state_row-gives}
 use Rattle.tsp_windows.proofs.StateLemmas.{time_read}
 use Rattle.tsp_windows.proofs.parts.parts_of.Goals as goal
 

@@ -3,7 +3,7 @@ use Rattle.std.specs.Prelude.{Ok}
 use Rattle.std.proofs.lemmas.Result.{IfOk-weaker}
 use Rattle.tsp_windows.specs.Shown.{instance_in}
 use Rattle.tsp_windows.specs.Texts.{spelled, printed}
-use Rattle.tsp_windows.specs.Instances.{is_small-gives}
+use Rattle.tsp_windows.specs.Laws.Limits.{is_small-gives}
 use Rattle.tsp_windows.proofs.Printings.{printed_reads_back}
 use Rattle.tsp_windows.proofs.TextLengths.{printed_is_short}
 use Rattle.tsp_windows.proofs.printing.print.Goals as goal

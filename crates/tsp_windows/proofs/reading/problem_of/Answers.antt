@@ -1,6 +1,6 @@
 use Rattle.std.proofs.Common.{ℕ, List, length, ap, ◌∙◌}
 use Rattle.tsp_windows.specs.Instance.{Instance, least_way}
-use Rattle.tsp_windows.specs.Instances.{is_small-gives, instance_of-numbers_of}
+use Rattle.tsp_windows.specs.Laws.Limits.{is_small-gives, instance_of-numbers_of}
 use Rattle.tsp_windows.proofs.reading.problem_of.Goals as goal
 
 pub least_ways-requires-clause-few : goal.least_ways-requires-clause-few

@@ -1,6 +1,6 @@
 use Rattle.std.proofs.Common.{length}
 use Rattle.tsp_windows.specs.Shown.{instance_in}
-use Rattle.tsp_windows.specs.Kept.{IsOnTheWay}
+use Rattle.tsp_windows.proofs.OnTheWay.{IsOnTheWay}
 use Rattle.tsp_windows.proofs.value.end_time.Given as goal
 
 abbrev pub invariant-visits : goal.invariant-visits

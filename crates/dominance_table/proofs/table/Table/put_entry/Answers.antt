@@ -1,8 +1,8 @@
-use Rattle.std.proofs.Common.{◌≡◌, ℕ, ◌+◌, ◌*◌, ◌≤◌, List, length, true, sym, ◌∙◌, ap, subst, arith}
+use Rattle.std.proofs.Common.{vec_len, ◌≡◌, ℕ, ◌+◌, ◌*◌, ◌≤◌, List, length, true, sym, ◌∙◌, ap, subst, arith}
 use Rattle.dominance_table.specs.declared.entry.Entry.{Entry}
-use Rattle.dominance_table.specs.Groups.{HasEntered}
-use Rattle.dominance_table.specs.Entries.{TableView, entry_at}
-use Rattle.dominance_table.proofs.Puts.{full_then, full_else, answers_full, answers_put, stays_full, room_left, row_fits, row_put, kept_room, put_step, grouped_more, rising_more}
+use Rattle.dominance_table.specs.Groups.{HasEntered, group_fold}
+use Rattle.dominance_table.specs.Entries.{TableView, HasRunRoom, entry_at}
+use Rattle.dominance_table.proofs.Puts.{full_then, full_else, answers_full, answers_put, stays_full, room_left, row_fits, row_put, kept_room, put_step, run_room_more, grouped_more, rising_more}
 use Rattle.dominance_table.proofs.table.Table.put_entry.Goals as goal
 
 pub returns-then-len-self-clause-answer : goal.returns-then-len-self-clause-answer
@@ -16,8 +16,7 @@ returns-then-len-self-clause-step c =
 pub enter-requires : goal.enter-requires
 enter-requires c =
     let more = room_left _ _ _ _ _ _ _ c.self.view_is c.self.inside.entries.ok.0 (λ e. c.if-len-self.false (c.len.ensures ∙ e)) c.requires.room in
-    let len = c.self.invariant.1.0.len in
-    let long = c.self.inside.entries.ok.0 in omega arith
+    let room = c.self.invariant.1.0 in omega arith
 
 pub push_reserved-requires : goal.push_reserved-requires
 push_reserved-requires c =
@@ -33,14 +32,19 @@ invariant_of-self c =
     let kept = kept_room _ _ _ _ _ _ _ c.self.invariant.0 more (λ e. c.if-len-self.false (c.len.ensures ∙ e)) in
     let grown = c.extend_from_slice.ensures.capacity in
     let blocks = c.self.invariant.0.blocks in
-    let room = c.enter.ensures.room in
-    let last = subst (λ (l : List Entry). (i : ℕ) → c.rise_with-self-inside.result ≡ true → i + 1 ≡ length l → (entry_at l i).ticket ≤ c.args.entry.ticket) c.as_slice.ensures.value c.rise_with-self-inside.ensures.last in
-    rw (c.push_reserved.ensures.items, c.push_reserved.ensures.len, c.push_reserved.ensures.capacity, put.1, room) (
+    let end : c.len-2.result + 1 ≡ length c.self.inside.entries.items + 1 = ap (λ n. n + 1) (c.len-2.ensures ∙ c.self.inside.entries.ok.0) in
+    let e = c.args.entry in
+    let entered = subst (λ n. HasEntered c.self.inside.groups.runs c.enter.new.self.runs e.depth e.bucket (group_fold e.depth e.bucket) n) end c.enter.ensures.entered in
+    let last = subst (λ (l : List Entry). (i : ℕ) → c.rise_with-self-inside.result ≡ true → i + 1 ≡ length l → (entry_at l i).ticket ≤ e.ticket) c.as_slice.ensures.value c.rise_with-self-inside.ensures.last in
+    rw (c.push_reserved.ensures.items, c.push_reserved.ensures.len, c.push_reserved.ensures.capacity, put.1) (
       record { some = kept.some; limited = kept.limited; placed = kept.placed; entries = kept.entries; rows = kept.rows; blocks = omega arith },
       (
-        grouped_more c.self.inside.entries.items _ c.self.inside.groups.links c.enter.new.self.links c.self.invariant.1.0
-            (subst (λ n. HasEntered c.self.inside.groups.links c.enter.new.self.links n) c.group_fold.ensures c.enter.ensures.entered),
-        λ rises. rising_more c.self.inside.entries.items _ (c.self.invariant.1.1 (c.rise_with-self-inside.ensures.so_far rises)) (λ i end. last i rises end),
+        subst (λ n. HasRunRoom c.self.inside.room (vec_len c.self.inside.entries + 1) (length c.enter.new.self.runs) n) (sym c.enter.ensures.room)
+            (run_room_more _ _ _ _ _ c.self.invariant.1.0 more entered.len),
+        (
+          grouped_more c.self.inside.entries.items e c.self.inside.groups.runs c.enter.new.self.runs c.self.invariant.1.1.0 entered,
+          λ rises. rising_more c.self.inside.entries.items _ (c.self.invariant.1.1.1 (c.rise_with-self-inside.ensures.so_far rises)) (λ i end. last i rises end),
+        ),
       ),
     )
 
@@ -56,5 +60,5 @@ returns-clause-step c =
     let put = row_put c.extend_from_slice.result c.self.inside.words _ _ _ _ _ _ c.extend_from_slice.ensures.succeeds fits words c.extend_from_slice.ensures.items c.extend_from_slice.ensures.len in
     let open_now = full_else _ _ _ _ _ _ _ c.self.view_is c.self.inside.entries.ok.0 (λ e. c.if-len-self.false (c.len.ensures ∙ e)) in
     let rows = sym c.self.inside.cells.ok.0 ∙ (c.self.invariant.0.rows ∙ ap (λ n. n * c.self.inside.words) c.self.inside.entries.ok.0) in
-    rw (c.push_reserved.ensures.items, c.push_reserved.ensures.len, put.0, c.enter.ensures.room)
+    rw (c.push_reserved.ensures.items, c.push_reserved.ensures.len, put.0)
     (put_step c.args.self.now _ _ _ _ _ _ _ c.args.row.now c.self.view_is open_now rows words)

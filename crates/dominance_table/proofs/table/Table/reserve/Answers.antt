@@ -1,4 +1,4 @@
-use Rattle.std.proofs.Common.{◌≡◌, ◌+◌, arith}
+use Rattle.std.proofs.Common.{◌≡◌, ◌+◌, ◌-◌, ◌≤◌, length, ap, arith}
 use Rattle.std.specs.Prelude.{vec_len}
 use Rattle.dominance_table.proofs.Puts.{reserved_room}
 use Rattle.dominance_table.proofs.table.Table.reserve.Goals as goal
@@ -6,16 +6,18 @@ use Rattle.dominance_table.proofs.table.Table.reserve.Goals as goal
 pub invariant_of-self-2 : goal.invariant_of-self-2
 invariant_of-self-2 c =
     let old = c.self.inside in
-    let len = c.self.invariant.1.0.len in
-    let long = old.entries.ok.0 in
-    let less = c.if-room.false in
+    let less = c.if-room-self.false in
     let count = c.in-Some.ensures.1 in
     let own = c.len.ensures in
-    let there = c.room.ensures in
     let most = c.in_ok-reserve-3.ensures.ok in
-    let now : c.reserve-3.new.self.room ≡ vec_len old.entries + c.args.rows = grind arith in (
-      reserved_room old.words old.limit old.groups.room _ _ _ _ c.args.rows c.in-Some-checked_mul.cells c.reserve-3.new.self.room _ _ _ _ c.self.invariant.0
+    let runs = c.in_ok-reserve-3.ensures.runs in
+    let room = c.self.invariant.1.0 in
+    let now : c.in-Some.room ≡ vec_len old.entries + c.args.rows = omega arith in
+    let same = c.in_ok-reserve.ensures.len in
+    let links : length c.reserve-3.new.self.runs ≡ length old.groups.runs = ap length runs in
+    let left : length c.reserve-3.new.self.runs + (c.in-Some.room - vec_len c.reserve.new.self) ≤ c.reserve-3.new.self.room = grind arith in (
+      reserved_room old.words old.limit old.room _ _ _ _ c.args.rows c.in-Some-checked_mul.cells c.in-Some.room _ _ _ _ c.self.invariant.0
           now c.in-Some-checked_mul.ensures.1
           c.in_ok-reserve.ensures.len c.in_ok-reserve.ensures.ok c.in_ok-reserve-2.ensures.len c.in_ok-reserve-2.ensures.ok,
-      rw (c.in_ok-reserve.ensures.items, c.in_ok-reserve-3.ensures.links) c.self.invariant.1,
+      (left, rw (c.in_ok-reserve.ensures.items, c.in_ok-reserve-3.ensures.runs) c.self.invariant.1.1),
     )

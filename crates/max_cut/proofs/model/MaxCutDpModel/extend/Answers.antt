@@ -1,6 +1,6 @@
 use Rattle.std.proofs.Common.{◌+◌, ◌+ℤ◌, pos, length, drop, get_or, w64, ap, sym, ◌∙◌}
 use Rattle.std.proofs.lemmas.Int.{to_z-of_z}
-use Rattle.benefit_rows.specs.Benefits.{gain_of, rank_of}
+use Rattle.benefit_rows.specs.Benefits.{choice_gain, rank_of}
 use Rattle.max_cut.specs.Graph.{row_of}
 use Rattle.max_cut.specs.Program.{pulls_of, settled_of}
 use Rattle.benefit_rows.specs.Benefits.{sums_of}
@@ -24,7 +24,7 @@ extend_row-requires c =
 
 pub returns-clause-extended : goal.returns-clause-extended
 returns-clause-extended c = (
-  c.extend_row.ensures.gain ∙ ap (λ ws. gain_of (get_or c.args.s.now c.args.k (pos 0)) c.args.d +ℤ settled_of (drop (c.args.k + 1) c.args.s.now) (pulls_of c.args.d ws)) c.row-row.ensures,
+  c.extend_row.ensures.gain ∙ ap (λ ws. choice_gain (get_or c.args.s.now c.args.k (pos 0)) c.args.d +ℤ settled_of (drop (c.args.k + 1) c.args.s.now) (pulls_of c.args.d ws)) c.row-row.ensures,
   c.extend_row.ensures.rank ∙ (ap (λ ws. rank_of (sums_of (drop (c.args.k + 1) c.args.s.now) (pulls_of c.args.d ws))) c.row-row.ensures
       ∙ sym (rank_of-stepped (instance_in c.args.self.now) c.args.k c.args.s.now c.args.d)),
 )

@@ -1,6 +1,6 @@
 use Rattle.std.proofs.Common.{◌+◌, ◌+ℤ◌, ◌++◌, pos, ℕ, ℤ, List, get_or, ◌<◌, ◌≤◌, arith, length, replicate, drop, w64, ap, sym, ◌∙◌}
 use Rattle.std.proofs.lemmas.Int.{to_z-of_z}
-use Rattle.benefit_rows.specs.Benefits.{gain_of, rank_of, sums_of}
+use Rattle.benefit_rows.specs.Benefits.{choice_gain, rank_of, sums_of}
 use Rattle.max_two_sat.specs.Laws.Numbers.{instance_of-numbers_of}
 use Rattle.max_two_sat.specs.Shown.{instance_in}
 use Rattle.max_two_sat.specs.Instance.{row_at, rows_of}
@@ -66,9 +66,9 @@ returns-clause-extended c =
     let sums : List ℤ = sums_of later (shifts_of c.args.d row) in
     rw (instance_of-numbers_of i) (
       c.extend_row.ensures.gain
-          ∙ (ap (λ z. gain_of (get_or c.args.s.now c.args.k (pos 0)) c.args.d +ℤ half_lost z later c.shifts-shifts.result.now) stakes
-          ∙ (ap (λ zs. gain_of (get_or c.args.s.now c.args.k (pos 0)) c.args.d +ℤ half_lost (stakes_of c.args.d row) later zs) c.shifts-shifts.ensures
-          ∙ (ap (λ z. gain_of (get_or c.args.s.now c.args.k (pos 0)) c.args.d +ℤ z) (shared-half row later c.args.d own.later) ∙ sym whole))),
+          ∙ (ap (λ z. choice_gain (get_or c.args.s.now c.args.k (pos 0)) c.args.d +ℤ half_lost z later c.shifts-shifts.result.now) stakes
+          ∙ (ap (λ zs. choice_gain (get_or c.args.s.now c.args.k (pos 0)) c.args.d +ℤ half_lost (stakes_of c.args.d row) later zs) c.shifts-shifts.ensures
+          ∙ (ap (λ z. choice_gain (get_or c.args.s.now c.args.k (pos 0)) c.args.d +ℤ z) (shared-half row later c.args.d own.later) ∙ sym whole))),
       c.extend_row.ensures.rank
           ∙ (ap (λ zs. rank_of (sums_of later zs)) c.shifts-shifts.ensures
           ∙ (sym (rank-stepped c.args.k sums) ∙ ap rank_of (step-shifts row c.args.s.now c.args.k c.args.d own.below (none-before i c.args.k c.args.s.now state)))),

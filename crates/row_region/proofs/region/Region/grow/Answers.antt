@@ -1,5 +1,5 @@
 use Rattle.std.proofs.Common.{◌≡◌, ℕ, ◌+◌, ◌-◌, ◌*◌, ◌≤◌, ℤ, pos, List, ◌++◌, length, mul-le-mul_right, arith, sym, ap, ◌∙◌, take, replicate, Option, None, subst}
-use Rattle.row_region.specs.Layout.{slots, IsChained}
+use Rattle.row_region.specs.Layout.{slots, HasFreeChain}
 use Rattle.row_region.proofs.Chains.{spare_few, longer_chained, longer_slots}
 use Rattle.std.proofs.lemmas.List.{take_all}
 use Rattle.row_region.proofs.region.Region.grow.Goals as goal
@@ -24,11 +24,11 @@ invariant_of-self-2 c =
     let e = resized i.cells.items c.resize.new.self.items i.words i.count c.args.rows c.in-Some.size i.cells.len c.self.invariant.size i.cells.ok.0 c.in-Some.ensures.1 c.in_ok-resize.ensures.items in
     let more = replicate (c.in-Some.size - i.cells.len) (pos 0) in
     let room : i.count * i.words ≤ length i.cells.items = k.room in
-    let long : IsChained c.resize.new.self.items i.words i.count i.free i.spare = subst (λ (l : List ℤ). IsChained l i.words i.count i.free i.spare) (sym e) (longer_chained i.cells.items more i.words i.count k.positive room i.free i.spare k) in
+    let long : HasFreeChain c.resize.new.self.items i.words i.count i.free i.spare = subst (λ (l : List ℤ). HasFreeChain l i.words i.count i.free i.spare) (sym e) (longer_chained i.cells.items more i.words i.count k.positive room i.free i.spare k) in
     let n : (i.count + c.args.rows - i.count) + i.spare ≡ i.spare + c.args.rows = omega arith in
     let new = c.thread-self-inside.new.cells in
     record {
-      chained = subst (λ (j : ℕ). IsChained new.items i.words (i.count + c.args.rows) c.thread-self-inside.result j) n (c.thread-self-inside.ensures.chained i.spare long);
+      chained = subst (λ (j : ℕ). HasFreeChain new.items i.words (i.count + c.args.rows) c.thread-self-inside.result j) n (c.thread-self-inside.ensures.chained i.spare long);
       size = sym new.ok.0 ∙ c.thread-self-inside.ensures.len ∙ c.in_ok-resize.ensures.len ∙ c.in-Some.ensures.1;
     }
 
@@ -39,7 +39,7 @@ returns-clause-ok c =
     let e = resized i.cells.items c.resize.new.self.items i.words i.count c.args.rows c.in-Some.size i.cells.len c.self.invariant.size i.cells.ok.0 c.in-Some.ensures.1 c.in_ok-resize.ensures.items in
     let more = replicate (c.in-Some.size - i.cells.len) (pos 0) in
     let room : i.count * i.words ≤ length i.cells.items = k.room in
-    let long : IsChained c.resize.new.self.items i.words i.count i.free i.spare = subst (λ (l : List ℤ). IsChained l i.words i.count i.free i.spare) (sym e) (longer_chained i.cells.items more i.words i.count k.positive room i.free i.spare k) in
+    let long : HasFreeChain c.resize.new.self.items i.words i.count i.free i.spare = subst (λ (l : List ℤ). HasFreeChain l i.words i.count i.free i.spare) (sym e) (longer_chained i.cells.items more i.words i.count k.positive room i.free i.spare k) in
     let n : (i.count + c.args.rows - i.count) + i.spare ≡ i.spare + c.args.rows = omega arith in
     let m : i.count + c.args.rows - i.count ≡ c.args.rows = omega arith in
     let new = c.thread-self-inside.new.cells in

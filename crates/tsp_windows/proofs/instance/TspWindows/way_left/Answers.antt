@@ -5,7 +5,7 @@ use Rattle.node_sets.specs.Sets.{words_for}
 use Rattle.node_sets.proofs.Below.{count_below-le}
 use Rattle.tsp_windows.specs.States.{shown}
 use Rattle.tsp_windows.specs.Shown.{instance_in}
-use Rattle.tsp_windows.specs.Instances.{is_small-gives}
+use Rattle.tsp_windows.specs.Laws.Limits.{is_small-gives}
 use Rattle.tsp_windows.specs.Instance.{Window, no_window}
 use Rattle.tsp_windows.proofs.Behind.{read_count}
 use Rattle.tsp_windows.proofs.Lost.{times_shown, lost_many, lost_late, left_is}

@@ -6,9 +6,9 @@ use Rattle.node_sets.specs.Sets.{words_for}
 use Rattle.tsp_windows.specs.Instance.{Instance, Window, no_window}
 use Rattle.tsp_windows.specs.Shown.{instance_in}
 use Rattle.tsp_windows.specs.States.{TourState, departure, shown, row_for, moved, is_state_row}
-use Rattle.tsp_windows.specs.ProgramLaws.{state_row-gives}
-use Rattle.tsp_windows.specs.Rows.{shown-row_for, words_enough}
-use Rattle.tsp_windows.specs.Tours.{moved-bounded}
+use Rattle.tsp_windows.specs.Laws.Program.{state_row-gives}
+use Rattle.tsp_windows.specs.Laws.States.{shown-row_for, words_enough}
+use Rattle.tsp_windows.specs.Laws.Moves.{moved-bounded}
 use Rattle.tsp_windows.proofs.Behind.{gain_is, read_count}
 use Rattle.tsp_windows.proofs.model.TspWindowsDpModel.extend.Goals as goal
 

@@ -8,7 +8,7 @@ use Rattle.node_sets.proofs.Below.{all_below-gives}
 use Rattle.dp_model.specs.Laws.{IsLawful, IsChained}
 use Rattle.tsp_windows.specs.Instance.{Instance, IsTourInstance, Window, distance, no_window, is_window, is_small, window_numbers, numbers_of, windows_of, instance_of}
 use Rattle.tsp_windows.specs.Program.{program, program_of}
-use Rattle.tsp_windows.specs.ProgramLaws.{lawful_program, chained_program}
+use Rattle.tsp_windows.specs.Laws.Program.{lawful_program, chained_program}
 
 short_all : (ds : List ℕ) → list_all (λ d. nat_le d 1000000000) ds ≡ true → (k : ℕ) → get_or ds k 0 ≤ 1000000000
 short_all [] e k = omega arith

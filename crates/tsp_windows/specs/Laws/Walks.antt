@@ -10,9 +10,9 @@ use Rattle.node_sets.proofs.Below.{sum_below-same, sum_below-removed, sum_below-
 use Rattle.dp_model.specs.Prefixes.{IsPath, gain_of}
 use Rattle.tsp_windows.specs.Instance.{Instance, distance, closing, near}
 use Rattle.tsp_windows.specs.States.{TourState, from_elsewhere, leg, arrival, departure, may_go, moved, is_open, joined, is_within, covers, way_left, shown, row_for}
-use Rattle.tsp_windows.specs.Rows.{IsBounded, shown-row_for, words_enough}
+use Rattle.tsp_windows.specs.Laws.States.{IsBounded, shown-row_for, words_enough}
 use Rattle.tsp_windows.specs.Program.{program_of}
-use Rattle.tsp_windows.specs.Tours.{within-gives, within-from, NoMore, least_amount-wider, NoMore-or, NoMore-some, near-le-arrival, near-alone, leg-alone, visits, returns, may_visit-from, may_return-from, goes_on, goes_home, moved-bounded}
+use Rattle.tsp_windows.specs.Laws.Moves.{within-gives, within-from, NoMore, least_amount-wider, NoMore-or, NoMore-some, near-le-arrival, near-alone, leg-alone, visits, returns, may_visit-from, may_return-from, goes_on, goes_home, moved-bounded}
 
 -- the decision may be taken
 pub record IsGone (i : Instance) (k : ℕ) (t : TourState) (d : ℕ) : Type 0 where

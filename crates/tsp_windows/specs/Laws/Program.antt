@@ -18,10 +18,10 @@ use Rattle.dp_model.specs.Numbers.{AtMost, IsSmall as IsSmallNumber}
 use Rattle.dp_model.specs.Laws.{StepsAreStates, GapsAreSound, RoughBounds, SizesHold, IsLawful, IsChained}
 use Rattle.tsp_windows.specs.Instance.{Instance, IsTourInstance, distance, opening, closing, near, least_way}
 use Rattle.tsp_windows.specs.States.{TourState, positions_of, must_of, may_of, time_of, shown, row_for, arrival, departure, moved, joined, covers, is_lost, way_left, start, is_sound, is_state_row}
-use Rattle.tsp_windows.specs.Rows.{IsBounded, shown-row_for, positions_of-row_for, must_of-row_for, may_of-row_for, time_of-row_for, length-row_for, words_enough}
+use Rattle.tsp_windows.specs.Laws.States.{IsBounded, shown-row_for, positions_of-row_for, must_of-row_for, may_of-row_for, time_of-row_for, length-row_for, words_enough}
 use Rattle.tsp_windows.specs.Program.{program_of, rough_of, gap_of}
-use Rattle.tsp_windows.specs.Tours.{IsSound, sound-gives, sound-from, moved-sound, joined-sound, start-sound, moved-bounded, joined-bounded, start-bounded, least_amount-most, visits, returns, goes_on, goes_home}
-use Rattle.tsp_windows.specs.Walks.{IsGone, last_time, CoversTour, covers-gives, covers-from, CoversTour-self, CoversTour-chain, joined-covers-left, joined-covers-right, tour-covered, Costs, costs, tour-of_path, path-of_tour, gain-of_tour}
+use Rattle.tsp_windows.specs.Laws.Moves.{IsSound, sound-gives, sound-from, moved-sound, joined-sound, start-sound, moved-bounded, joined-bounded, start-bounded, least_amount-most, visits, returns, goes_on, goes_home}
+use Rattle.tsp_windows.specs.Laws.Walks.{IsGone, last_time, CoversTour, covers-gives, covers-from, CoversTour-self, CoversTour-chain, joined-covers-left, joined-covers-right, tour-covered, Costs, costs, tour-of_path, path-of_tour, gain-of_tour}
 
 -- ---- rows that are states
 

@@ -1,4 +1,4 @@
--- Tours from a state on, and what one state's tours tell of another's.
+-- One step of a tour: the tests that allow it, the way and the state behind it.
 use Rattle.std.proofs.Common.{◌≡◌, ◌≢◌, ℕ, zero, suc, ◌+◌, ◌<◌, ◌≤◌, Bool, true, false, cond, not, ◌&&◌, ◌||◌, nat_eq, nat_lt, nat_le, Option, Some, None, refl, sym, ap, ap₂, ◌∙◌, subst, arith, inl, inr, ◌⊎◌, eq-eqb}
 use Rattle.std.specs.Prelude.{is_some, unwrap_or}
 use Rattle.std.proofs.lemmas.Bool.{cases_eq, false≢true, eqb-true, and_parts, and_from, or_left, or_right, or_cases, not-true, cases_Bool, ne_eqb, leb-true, le-leb, lt-ltb, le-ltb, eqb-false}
@@ -6,7 +6,7 @@ use Rattle.node_sets.specs.Sums.{all_below, lesser, least_amount}
 use Rattle.node_sets.proofs.Below.{all_below-gives, all_below-from}
 use Rattle.tsp_windows.specs.Instance.{Instance, distance, closing, near, least_way}
 use Rattle.tsp_windows.specs.States.{TourState, from_elsewhere, leg, arrival, may_visit, may_return, may_go, moved, is_open, joined, is_within, start, is_sound}
-use Rattle.tsp_windows.specs.Rows.{IsBounded}
+use Rattle.tsp_windows.specs.Laws.States.{IsBounded}
 
 -- ---- tests
 
@@ -73,23 +73,6 @@ pub NoMore-some : (a b : Option ℕ) → NoMore a b → is_some b ≡ true → i
 NoMore-some a None h e = absurd (false≢true e)
 NoMore-some None (Some y) h e = absurd h
 NoMore-some (Some x) (Some y) h e = refl
-
--- the least amount is at most one that passes, and one that passes has it
-pub least_amount-at : (n : ℕ) (p : ℕ → Bool) (f : ℕ → ℕ) (v : ℕ) → v < n → p v ≡ true → NoMore (least_amount n p f) (Some (f v))
-least_amount-at zero p f v l e = absurd (omega arith)
-least_amount-at (suc n) p f v l e =
-    elim (cases_eq v n) [
-      | inl s ↦ subst (λ b. NoMore (cond b (lesser (f n) (least_amount n p f)) (least_amount n p f)) (Some (f v))) (sym (sym (ap p s) ∙ e)) (first (least_amount n p f) (ap f s))
-      | inr s ↦ step (p n) (least_amount-at n p f v (omega arith) e)
-    ]
-  where
-    first : (o : Option ℕ) → f v ≡ f n → NoMore (lesser (f n) o) (Some (f v))
-    first None g = omega arith
-    first (Some x) g = omega arith
-
-    step : (b : Bool) → NoMore (least_amount n p f) (Some (f v)) → NoMore (cond b (lesser (f n) (least_amount n p f)) (least_amount n p f)) (Some (f v))
-    step true r = lesser-one (f n) (least_amount n p f) (Some (f v)) r
-    step false r = r
 
 lesser-le : (x most : ℕ) (o : Option ℕ) → x ≤ most → unwrap_or o 0 ≤ most → unwrap_or (lesser x o) 0 ≤ most
 lesser-le x most None p q = p

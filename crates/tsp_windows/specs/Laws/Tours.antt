@@ -10,12 +10,12 @@ use Rattle.node_sets.proofs.Below.{sum_below-removed, sum_below-none, least_amou
 use Rattle.dp_model.specs.Prefixes.{IsSolution, gain_of, value_of}
 use Rattle.tsp_windows.specs.Instance.{Instance, IsTourInstance, distance, opening, closing}
 use Rattle.tsp_windows.specs.States.{TourState, from_elsewhere, leg, arrival, departure, moved, start, shown, row_for}
-use Rattle.tsp_windows.specs.Rows.{IsBounded, shown-row_for, words_enough}
+use Rattle.tsp_windows.specs.Laws.States.{IsBounded, shown-row_for, words_enough}
 use Rattle.tsp_windows.specs.Program.{program_of}
 use Rattle.tsp_windows.specs.OwnWords.{are_different, ends_at_home, is_order, end_time, negated, tour_value}
 use Rattle.dp_model.specs.Solution.{IsSolutionWith, SolutionGives}
-use Rattle.tsp_windows.specs.Tours.{visits, returns, may_visit-from, may_return-from, goes_on, goes_home, start-bounded}
-use Rattle.tsp_windows.specs.Walks.{IsGone, IsTour, last_time, tour-of_path, path-of_tour, gain-of_tour}
+use Rattle.tsp_windows.specs.Laws.Moves.{visits, returns, may_visit-from, may_return-from, goes_on, goes_home, start-bounded}
+use Rattle.tsp_windows.specs.Laws.Walks.{IsGone, IsTour, last_time, tour-of_path, path-of_tour, gain-of_tour}
 
 -- ---- a state of one position, as every state is that a tour reaches
 
@@ -315,10 +315,10 @@ lists-rest i t d f ds h l must =
           ∙ any-none d (f ∷ ds) different t.must (and_parts (t.must d || nat_eq d 0) (list_all (λ v. t.must v || nat_eq v 0) (f ∷ ds)) h.wanted).1;
     }
 
-pub made : (i : Instance) (k here : ℕ) (t : TourState) (ds : List ℕ) (last : ℕ) → IsTourInstance i → IsAt i.nodes here t → k + length ds ≡ i.nodes → (here ≡ 0 → k ≡ 0) → Lists i.nodes t.must ds → end_time i here t.time ds ≡ Some last → IsMade i k t ds last
-made i k here t [] last small a l single h e = absurd (omega (arith, h.whole))
-made i k here t (d ∷ []) last small a l single h e = made-last i k here t d last small a (omega arith) (λ z. omega (arith, single z)) h e
-made i k here t (d ∷ f ∷ ds) last small a l single h e =
+pub is_made : (i : Instance) (k here : ℕ) (t : TourState) (ds : List ℕ) (last : ℕ) → IsTourInstance i → IsAt i.nodes here t → k + length ds ≡ i.nodes → (here ≡ 0 → k ≡ 0) → Lists i.nodes t.must ds → end_time i here t.time ds ≡ Some last → IsMade i k t ds last
+is_made i k here t [] last small a l single h e = absurd (omega (arith, h.whole))
+is_made i k here t (d ∷ []) last small a l single h e = made-last i k here t d last small a (omega arith) (λ z. omega (arith, single z)) h e
+is_made i k here t (d ∷ f ∷ ds) last small a l single h e =
     let choice = ltb-true d i.nodes (and_parts (nat_lt d i.nodes) (list_all (λ v. nat_lt v i.nodes) (f ∷ ds)) h.inside).0 in
     let different = not-true (list_any (λ u. nat_eq u d) (f ∷ ds)) (and_parts (not (list_any (λ u. nat_eq u d) (f ∷ ds))) (are_different (f ∷ ds)) h.different).0 in
     let away = home-behind d (f ∷ ds) h.home different in
@@ -337,7 +337,7 @@ made i k here t (d ∷ f ∷ ds) last small a l single h e =
       });
     } in
     let then = ap (λ x. end_time i d x (f ∷ ds)) (time-moved-is i t d ∙ ap (λ x. max x (opening i d)) way) ∙ sym (on_time i here d t.time (f ∷ ds) soon) ∙ e in
-    let rest = made i (k + 1) d (moved i t d) (f ∷ ds) last small (moved-at i here d t a choice) (omega arith) (λ z. absurd (away z)) (lists-rest i t d f ds h choice must) then in
+    let rest = is_made i (k + 1) d (moved i t d) (f ∷ ds) last small (moved-at i here d t a choice) (omega arith) (λ z. absurd (away z)) (lists-rest i t d f ds h choice must) then in
     record { tour = (go, rest.tour); last_is = rest.last_is }
   where
     only : (x y : Bool) → y ≡ false → (x || y) ≡ true → x ≡ true
@@ -443,7 +443,7 @@ order-worth : (i : Instance) (ds : List ℕ) (last : ℕ) → IsTourInstance i �
 order-worth i ds last small order e =
     let lists = order-gives i ds small.some order in
     let whole : length ds ≡ i.nodes = lists.whole ∙ start-count i small.some in
-    let m = made i 0 0 (start i) ds last small (start-at i small.some) (omega (arith, whole)) (λ _. refl) lists (ap (λ x. end_time i 0 x ds) (start-time i) ∙ e) in
+    let m = is_made i 0 0 (start i) ds last small (start-at i small.some) (omega (arith, whole)) (λ _. refl) lists (ap (λ x. end_time i 0 x ds) (start-time i) ∙ e) in
     record {
       solution = record {
         prefix = path-of_tour i 0 (row_for (words_for i.nodes) (start i)) ds (root-bounded i small.some) (subst (λ t. IsTour i 0 t ds) (sym (root-shown i small.some)) m.tour);

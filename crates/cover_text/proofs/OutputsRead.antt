@@ -1,0 +1,156 @@
+-- A printed output is read as what was printed.
+use Rattle.std.proofs.Common.{◌≡◌, ℕ, zero, suc, ◌+◌, ◌<◌, ◌≤◌, ◌^◌, pos, Bool, true, false, List, [], ◌∷◌, ◌++◌, length, take, drop, ℤ, refl, sym, ap, ◌∙◌, subst, arith, append_assoc, length-append, nat_eq}
+use Rattle.std.specs.Prelude.{codes, decimal, Option, Some, None, Ok, not, nat_abs, nat_le, cond, flat_map}
+use Rattle.std.specs.List.{list_all}
+use Rattle.std.proofs.Math.Seq.{take-append_seam, drop-append_seam}
+use Rattle.std.proofs.lemmas.Bool.{and_parts, not-true}
+use Rattle.std.proofs.lemmas.Bool.Decides.{nat_tests}
+use Rattle.dd_text.specs.Text.{is_blank, is_solid}
+use Rattle.dd_text.specs.Decimal.{decimal_of}
+use Rattle.dd_text.proofs.Digits.{is_printed}
+use Rattle.dp_model.specs.Lists.{Each}
+use Rattle.bound_cover.specs.Covers.{CoverRow}
+use Rattle.problem_names.specs.ModelNames as names
+use Rattle.problem_names.specs.declared.ModelName.{ModelName}
+use Rattle.problem_names.specs.declared.ModelName.TheVariants.{Knapsack, MaxCut, MaxTwoSat, TspWindows}
+use Rattle.cover_text.specs.Heads.{ClaimView}
+use Rattle.cover_text.specs.Instances.{behind_lines, parted}
+use Rattle.cover_text.specs.Outputs.{spaced, CountsView, printed_lines, claim_lines, counts_lines, cover_lines, printed_output, IsToldClaim, MayBeCounts}
+use Rattle.cover_text.specs.Printed.{printed_cover}
+use Rattle.cover_text.specs.Texts.{text_of}
+use Rattle.cover_text.specs.Written.{IsWord, IsWritten}
+use Rattle.cover_text.proofs.PrintedHeads.{word-small, claim_then, counts_then, head_then, head_height, MayBeClaim, head-read}
+use Rattle.cover_text.proofs.RoundTrip.{texts_read}
+
+-- ---- the instance begins behind the last of the lines
+
+solid-on : (b : ℕ) → is_solid b ≡ true → nat_eq b 10 ≡ false
+solid-on b solid = let no_blank : is_blank b ≡ false = not-true (is_blank b) solid in grind (arith, nat_tests)
+
+-- what has no blank stays on its line
+over-solid : (l : ℕ) (word rest : List ℕ) → list_all is_solid word ≡ true → behind_lines (suc l) (word ++ rest) ≡ behind_lines (suc l) rest
+over-solid l [] rest h = refl
+over-solid l (b ∷ bs) rest h =
+    let parts : (is_solid b ≡ true) × (list_all is_solid bs ≡ true) = and_parts _ _ h in
+    rw (solid-on b parts.0, behind_lines) (over-solid l bs rest parts.1)
+
+over-number : (l : ℕ) (z : ℤ) (rest : List ℕ) → nat_abs z < 2 ^ 64 → behind_lines (suc l) (decimal_of z ++ rest) ≡ behind_lines (suc l) rest
+over-number l z rest small =
+    let p = is_printed z small in
+    subst (λ w. behind_lines (suc l) (w ++ rest) ≡ behind_lines (suc l) rest) (sym p.printed_is) (over-solid l (p.first ∷ p.others) rest p.solid)
+
+over-spaced : (l : ℕ) (ds rest : List ℕ) → Each (λ d. d < 2 ^ 32) ds → behind_lines (suc l) (spaced ds ++ rest) ≡ behind_lines (suc l) rest
+over-spaced l [] rest held = refl
+over-spaced l (d ∷ ds) rest held =
+    let few = held.0 in
+    ap (behind_lines (suc l)) (append_assoc (decimal_of (pos d)) (spaced ds) rest) ∙ (over-number l (pos d) (spaced ds ++ rest) (omega arith) ∙ over-spaced l ds rest held.1)
+
+-- so many lines more
+abbrev claim_down : Option ℤ → ℕ → ℕ
+claim_down None l = suc l
+claim_down (Some value) l = suc (suc (suc l))
+
+abbrev counts_down : Option CountsView → ℕ → ℕ
+counts_down None l = l
+counts_down (Some counts) l = suc (suc l)
+
+behind-claim : (most : ℕ) (best : Option ℤ) (ds more : List ℕ) (l : ℕ) → MayBeClaim most best ds → behind_lines (claim_down best l) (claim_then best ds more) ≡ behind_lines l more
+behind-claim most None ds more l fits = refl
+behind-claim most (Some value) ds more l fits =
+    over-number (suc l) value (10 ∷ (codes "assignment" ++ (spaced ds ++ (10 ∷ more)))) (word-small value fits.0) ∙ over-spaced l ds (10 ∷ more) fits.1.0
+
+behind-counts : (counts : Option CountsView) (more : List ℕ) (l : ℕ) → MayBeCounts counts → behind_lines (counts_down counts l) (counts_then counts more) ≡ behind_lines l more
+behind-counts None more l told = refl
+behind-counts (Some counts) more l told =
+    over-number (suc l) (pos counts.taken) (10 ∷ (codes "finished" ++ (32 ∷ (decimal counts.finished ++ (10 ∷ more))))) told.taken ∙ over-number l (pos counts.finished) (10 ∷ more) told.finished
+
+behind-cover : (model : ModelName) (size : ℕ) (more : List ℕ) → size < 2 ^ 32
+    → behind_lines (suc (suc zero)) (codes "cover" ++ (32 ∷ (names.text_of model ++ (10 ∷ (codes "instance" ++ (32 ∷ (decimal size ++ (10 ∷ more)))))))) ≡ behind_lines zero more
+behind-cover Knapsack size more few = over-number zero (pos size) (10 ∷ more) (omega arith)
+behind-cover MaxCut size more few = over-number zero (pos size) (10 ∷ more) (omega arith)
+behind-cover MaxTwoSat size more few = over-number zero (pos size) (10 ∷ more) (omega arith)
+behind-cover TspWindows size more few = over-number zero (pos size) (10 ∷ more) (omega arith)
+
+behind-none : (more : List ℕ) → behind_lines zero more ≡ more
+behind-none [] = refl
+behind-none (b ∷ bs) = refl
+
+heights : (claim : ClaimView) (counts : Option CountsView) → (best : Option ℤ) → claim.best ≡ best → head_height claim counts ≡ claim_down best (counts_down counts (suc (suc zero)))
+heights claim None None e = rw e refl
+heights claim (Some counts) None e = rw e refl
+heights claim None (Some value) e = rw e refl
+heights claim (Some counts) (Some value) e = rw e refl
+
+behind-head : (most : ℕ) (claim : ClaimView) (counts : Option CountsView) (model : ModelName) (size : ℕ) (more : List ℕ) → MayBeClaim most claim.best claim.assignment → MayBeCounts counts → size < 2 ^ 32 → behind_lines (head_height claim counts) (head_then claim counts model size more) ≡ more
+behind-head most claim counts model size more fits told few =
+    let third = codes "cover" ++ (32 ∷ (names.text_of model ++ (10 ∷ (codes "instance" ++ (32 ∷ (decimal size ++ (10 ∷ more))))))) in
+    ap (λ l. behind_lines l (head_then claim counts model size more)) (heights claim counts claim.best refl)
+    ∙ (behind-claim most claim.best claim.assignment (counts_then counts third) (counts_down counts (suc (suc zero))) fits
+    ∙ (behind-counts counts third (suc (suc zero)) told ∙ (behind-cover model size more few ∙ behind-none more)))
+
+-- it has its bytes, and the sections stand behind them
+parted-there : (bytes instance behind : List ℕ) (lines : ℕ) → behind_lines lines bytes ≡ instance ++ behind → parted bytes lines (length instance) ≡ Ok (instance, behind)
+parted-there bytes instance behind lines is =
+    let both = length-append instance behind in
+    let fits : nat_le (length instance) (length (instance ++ behind)) ≡ true = grind (arith, nat_tests) in
+    rw (is, fits, take-append_seam instance behind, drop-append_seam instance behind) refl
+
+-- ---- the whole output
+
+spaced-few : (ds : List ℕ) → length ds ≤ length (spaced ds)
+spaced-few [] = omega arith
+spaced-few (d ∷ ds) = omega (arith, length-append (decimal_of (pos d)) (spaced ds), spaced-few ds)
+
+claim-few : (best : Option ℤ) (ds more : List ℕ) → IsToldClaim best ds → MayBeClaim (length (claim_then best ds more)) best ds
+claim-few None ds more told = told
+claim-few (Some value) ds more told =
+    let last = spaced ds ++ (10 ∷ more) in
+    let third = codes "assignment" ++ last in
+    let second = decimal_of value ++ (10 ∷ third) in
+    let first = codes "value" ++ (32 ∷ second) in
+    let one = length-append (codes "proved") (10 ∷ first) in
+    let two = length-append (codes "value") (32 ∷ second) in
+    let three = length-append (decimal_of value) (10 ∷ third) in
+    let four = length-append (codes "assignment") last in
+    let five = length-append (spaced ds) (10 ∷ more) in
+    (told.0, (told.1, omega (arith, spaced-few ds)))
+
+-- a line, and the others behind it
+lines-first : (text : List ℕ) (lines : List (List ℕ)) (rest : List ℕ) → printed_lines (text ∷ lines) ++ rest ≡ text ++ (10 ∷ (printed_lines lines ++ rest))
+lines-first text lines rest = append_assoc (text ++ 10 ∷ []) (printed_lines lines) rest ∙ append_assoc text (10 ∷ []) (printed_lines lines ++ rest)
+
+two-lines : (one two rest : List ℕ) → printed_lines (one ∷ two ∷ []) ++ rest ≡ one ++ (10 ∷ (two ++ (10 ∷ rest)))
+two-lines one two rest = lines-first one (two ∷ []) rest ∙ ap (λ l. one ++ (10 ∷ l)) (lines-first two [] rest)
+
+claim-parts : (best : Option ℤ) (x rest : List ℕ) → printed_lines (claim_lines best x) ++ rest ≡ claim_then best x rest
+claim-parts None x rest = lines-first (codes "infeasible") [] rest
+claim-parts (Some value) x rest =
+    lines-first (codes "proved") ((codes "value" ++ 32 ∷ decimal_of value) ∷ (codes "assignment" ++ spaced x) ∷ []) rest
+    ∙ ap (λ l. codes "proved" ++ (10 ∷ l)) (two-lines (codes "value" ++ 32 ∷ decimal_of value) (codes "assignment" ++ spaced x) rest)
+
+counts-parts : (counts : Option CountsView) (rest : List ℕ) → printed_lines (counts_lines counts) ++ rest ≡ counts_then counts rest
+counts-parts None rest = refl
+counts-parts (Some counts) rest = two-lines (codes "taken" ++ 32 ∷ decimal counts.taken) (codes "finished" ++ 32 ∷ decimal counts.finished) rest
+
+output-parts : (claim : ClaimView) (counts : Option CountsView) (model : ModelName) (instance : List ℕ) (cover : List (List CoverRow))
+    → printed_output claim counts model instance cover ≡ head_then claim counts model (length instance) (instance ++ printed_cover cover)
+output-parts claim counts model instance cover =
+    let sections = instance ++ printed_cover cover in
+    let last = printed_lines (cover_lines model (length instance)) ++ sections in
+    claim-parts claim.best claim.assignment (printed_lines (counts_lines counts) ++ last)
+    ∙ ap (claim_then claim.best claim.assignment) (counts-parts counts last
+    ∙ ap (counts_then counts) (two-lines (codes "cover" ++ 32 ∷ names.text_of model) (codes "instance" ++ 32 ∷ decimal (length instance)) sections))
+
+pub outputs_read : (claim : ClaimView) (counts : Option CountsView) (model : ModelName) (instance : List ℕ) (cover : List (List CoverRow))
+    → IsToldClaim claim.best claim.assignment → MayBeCounts counts → length instance < 2 ^ 32 → IsWritten cover
+    → text_of (printed_output claim counts model instance cover) ≡ Ok (record { model = model; best = claim.best; assignment = claim.assignment; instance = instance; cover = cover })
+outputs_read claim counts model instance cover told counted few written =
+    let sections = instance ++ printed_cover cover in
+    let bytes = printed_output claim counts model instance cover in
+    let is : bytes ≡ head_then claim counts model (length instance) sections = output-parts claim counts model instance cover in
+    let third = codes "cover" ++ (32 ∷ (names.text_of model ++ (10 ∷ (codes "instance" ++ (32 ∷ (decimal (length instance) ++ (10 ∷ sections))))))) in
+    let fits : MayBeClaim (length bytes) claim.best claim.assignment = subst (λ (b : List ℕ). MayBeClaim (length b) claim.best claim.assignment) (sym is) (claim-few claim.best claim.assignment (counts_then counts third) told) in
+    let head = head-read claim counts model (length instance) sections bytes is fits counted few in
+    let behind = ap (behind_lines (head_height claim counts)) is ∙ behind-head (length bytes) claim counts model (length instance) sections fits counted few in
+    texts_read bytes instance (record { claim = claim; model = model; size = record { bytes = length instance; line = head_height claim counts } }) cover written head
+    (parted-there bytes instance (printed_cover cover) (head_height claim counts) behind)

@@ -1,0 +1,67 @@
+-- A whole output as it is printed: the report, perhaps the counts, the lines of the cover, the instance, and the sections.
+use Rattle.std.specs.Prelude.{◌≡◌, ℕ, ◌<◌, ◌^◌, ℤ, pos, List, [], ◌∷◌, ◌++◌, length, flat_map, codes, decimal, Option, Some, None, Ok}
+use Rattle.bound_cover.specs.Covers.{CoverRow}
+use Rattle.dd_text.specs.Decimal.{decimal_of}
+use Rattle.dp_model.specs.Lists.{Each}
+use Rattle.problem_names.specs.ModelNames as names
+use Rattle.problem_names.specs.declared.ModelName.{ModelName}
+use Rattle.cover_text.specs.Heads.{ClaimView}
+use Rattle.cover_text.specs.Printed.{printed_cover}
+use Rattle.cover_text.specs.Texts.{text_of}
+use Rattle.cover_text.specs.Written.{IsWord, IsWritten}
+
+-- lines, each of which ends with LF
+abbrev pub printed_lines : List (List ℕ) → List ℕ
+printed_lines lines = flat_map (λ text. text ++ 10 ∷ []) lines
+
+-- each number behind a space
+abbrev pub spaced : List ℕ → List ℕ
+spaced ds = flat_map (λ d. 32 ∷ decimal_of (pos d)) ds
+
+-- the lines of a report
+abbrev pub claim_lines : Option ℤ → List ℕ → List (List ℕ)
+claim_lines None x = codes "infeasible" ∷ []
+claim_lines (Some value) x = codes "proved" ∷ (codes "value" ++ 32 ∷ decimal_of value) ∷ (codes "assignment" ++ spaced x) ∷ []
+
+-- how many subproblems were taken, and how many of them finished
+pub record CountsView : Type 0 where
+  pub taken : ℕ
+  pub finished : ℕ
+
+-- their lines, where they are told
+abbrev pub counts_lines : Option CountsView → List (List ℕ)
+counts_lines None = []
+counts_lines (Some counts) = (codes "taken" ++ 32 ∷ decimal counts.taken) ∷ (codes "finished" ++ 32 ∷ decimal counts.finished) ∷ []
+
+-- the lines of a cover before its instance, which has so many bytes
+abbrev pub cover_lines : ModelName → ℕ → List (List ℕ)
+cover_lines model size = (codes "cover" ++ 32 ∷ names.text_of model) ∷ (codes "instance" ++ 32 ∷ decimal size) ∷ []
+
+-- the cover of an instance: its lines, the instance, and the sections
+abbrev pub printed_whole : ModelName → List ℕ → List (List CoverRow) → List ℕ
+printed_whole model instance cover = printed_lines (cover_lines model (length instance)) ++ (instance ++ printed_cover cover)
+
+-- the report with its counts, and the cover behind it
+abbrev pub printed_output : ClaimView → Option CountsView → ModelName → List ℕ → List (List CoverRow) → List ℕ
+printed_output claim counts model instance cover =
+    printed_lines (claim_lines claim.best claim.assignment) ++ (printed_lines (counts_lines counts) ++ printed_whole model instance cover)
+
+-- a value of 64 bits with decisions of 32 bits; where there is none there are no decisions
+abbrev pub IsToldClaim : Option ℤ → List ℕ → Type 0
+IsToldClaim None x = x ≡ []
+IsToldClaim (Some value) x = IsWord value × Each (λ d. d < 2 ^ 32) x
+
+-- counts of 64 bits
+pub record AreToldCounts (counts : CountsView) : Type 0 where
+  pub taken : counts.taken < 2 ^ 64
+  pub finished : counts.finished < 2 ^ 64
+
+abbrev pub MayBeCounts : Option CountsView → Type 0
+MayBeCounts None = Unit {0}
+MayBeCounts (Some counts) = AreToldCounts counts
+
+-- a whole output that is printed is read as what was printed
+abbrev pub OutputsAreRead : Type 0
+OutputsAreRead = (claim : ClaimView) (counts : Option CountsView) (model : ModelName) (instance : List ℕ) (cover : List (List CoverRow))
+    → IsToldClaim claim.best claim.assignment → MayBeCounts counts → length instance < 2 ^ 32 → IsWritten cover
+    → text_of (printed_output claim counts model instance cover) ≡ Ok (record { model = model; best = claim.best; assignment = claim.assignment; instance = instance; cover = cover })
