@@ -52,7 +52,7 @@ pub(crate) fn parts_of(nodes: usize, s: &[i64]) -> Parts<'_>
     ensures may_set { IsSet nodes result.may.now }
     ensures early { result.time ≤ 1000000000000 }
 {
-    let words = few_words(nodes);
+    let words = words_for(nodes);
     let (positions, must, may) = sets_of(words, s);
     let time = s[3 * words] as u64;
     Parts {
