@@ -41,10 +41,6 @@ may_finish dp b c threshold cs fs is branched fates =
       fates = fates;
     }
 
--- the incumbent's value is at most the reach
-pub incumbent_below : (dp : Dp) (b : BoardState) → IsBoard dp b → OptionAtMost (incumbent_value b) (reach b)
-incumbent_below dp b g = reach-above b.settings.within (incumbent_value b) g.settings.within_least
-
 pub contents-long : (held : List SubView) → length (contents held) ≡ length held
 contents-long [] = refl
 contents-long (h ∷ held) = let rest = contents-long held in omega arith
