@@ -99,11 +99,11 @@ impl CoverBuilder {
         ensures ok { OnOk result (self.new ≡ with_open_row self.old bound has_arcs) }
         ensures err { OnErr result (self.new ≡ self.old) }
     {
-        self.heads.reserve(1)?;
         let words_to = self.words.len();
         let arcs_to = self.arcs.len();
-        self.heads
-            .push_reserved(head_of(bound, has_arcs, words_to, arcs_to));
+        let head = head_of(bound, has_arcs, words_to, arcs_to)?;
+        self.heads.reserve(1)?;
+        self.heads.push_reserved(head);
         self.words_from = words_to;
         self.arcs_from = arcs_to;
         Ok(())
