@@ -2,13 +2,15 @@
 
 ghost use Rattle.std.specs.Prelude.{◌≡◌, ℕ, ◌<◌, ◌≤◌, ◌-◌, ◌^◌, cond, List, [], ◌∷◌, ◌++◌, length, slice_get, Option, Some, None, option_map, OnOk, OnErr, IfOk};
 ghost use Rattle.bound_cover.specs.Covers.{CoverRow};
-ghost use Rattle.bound_cover.specs.Stored.{with_row, shown_row, span_of, spans, row_of, place_at, count_at, last_layer, AreShort, IsWithin};
+ghost use Rattle.bound_cover.specs.Stored.{with_row, shown_row, span_of, spans, row_of, place_at, start_at, count_at, last_layer, AreShort, IsWithin};
 ghost use Rattle.bound_cover.specs.Exploring.{layer_of};
 
 mod building;
+mod layer_rows;
 
 use crate::cover::CoverArc;
 pub use building::CoverBuilder;
+pub use layer_rows::LayerRows;
 use dp_model::OutOfMemory;
 use std::alloc::Global;
 use std::marker::Model;
@@ -60,6 +62,16 @@ fn place_of(starts: &[usize], rows: usize, layer: usize, row: usize) -> Option<u
         Some(start + row)
     } else {
         None
+    }
+}
+
+/// The place among all rows where a layer begins; one that is not there begins behind all rows.
+fn start_of(starts: &[usize], rows: usize, layer: usize) -> usize
+    ensures { result ≡ start_at starts.now rows layer }
+{
+    match starts.get(layer) {
+        Some(start) => *start,
+        None => rows,
     }
 }
 
@@ -287,6 +299,20 @@ impl Cover {
         ensures small { result < 2 ^ 32 }
     {
         count_of(self.starts.as_slice(), self.heads.len(), layer)
+    }
+
+    /// The rows of a layer, of which there are none where the layer is not there.
+    pub(crate) fn layer(&self, layer: usize) -> LayerRows<'_>
+        ensures { result ≡ layer_of self.now layer }
+    {
+        let rows = self.heads.len();
+        LayerRows {
+            heads: self.heads.as_slice(),
+            words: self.words.as_slice(),
+            arcs: self.arcs.as_slice(),
+            first: start_of(self.starts.as_slice(), rows, layer),
+            count: count_of(self.starts.as_slice(), rows, layer),
+        }
     }
 
     /// Adds an empty layer. A refusal changes nothing.

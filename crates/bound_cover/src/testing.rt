@@ -15,7 +15,7 @@ ghost use Rattle.bound_cover.specs.declared.cover.Verdict.TheVariants.{Accepted}
 ghost use Rattle.bound_cover.specs.Exploring.{layer_of};
 
 use crate::cover::{CoverArc, Verdict, Why};
-use crate::storing::{Cover, RowRef};
+use crate::storing::{Cover, LayerRows, RowRef};
 use dp_model::{DpModel, walk};
 
 /// The rows of a layer.
@@ -368,18 +368,11 @@ pub fn rows_fault<M: DpModel, L: Rows, N: Rows>(
     None
 }
 
-/// A layer of a cover.
-#[derive(Clone, Copy)]
-pub struct LayerOf<'c> {
-    cover: &'c Cover,
-    layer: usize,
-}
-
-impl<'c> Rows for LayerOf<'c> {
-    ghost rows = { λ l. layer_of l.cover.now l.layer };
+impl<'c> Rows for LayerRows<'c> {
+    ghost rows = { λ l. l };
 
     fn row(&self, place: u32) -> Option<RowRef<'_>> {
-        self.cover.row(self.layer, place as usize)
+        self.at(place as usize)
     }
 }
 
@@ -391,11 +384,8 @@ pub fn layers_fault<M: DpModel>(model: &M, cover: &Cover, step: &mut [i64]) -> O
     ensures { result ≡ layers_fault (M.meaning (M.numbers model.now)) 0 cover.now }
 {
     'layers: for k in 0..cover.layers() {
-        let here = LayerOf { cover, layer: k };
-        let next = LayerOf {
-            cover,
-            layer: k + 1,
-        };
+        let here = cover.layer(k);
+        let next = cover.layer(k + 1);
         let why = rows_fault(model, &here, cover.rows(k) as u32, &next, k, step);
         if why.is_some() {
             return why;
@@ -458,7 +448,7 @@ pub fn check_rows<M: DpModel>(
         return Some(Why::Layers);
     }
     model.root(root);
-    let first = LayerOf { cover, layer: 0 };
+    let first = cover.layer(0);
     if !has_root(model, &first, cover.rows(0) as u32, root, claim) {
         return Some(Why::Root);
     }
