@@ -10,8 +10,8 @@ mod layer_rows;
 
 use crate::cover::CoverArc;
 pub use building::CoverBuilder;
-pub use layer_rows::LayerRows;
 use dp_model::OutOfMemory;
+pub use layer_rows::LayerRows;
 use std::alloc::Global;
 use std::marker::Model;
 
