@@ -88,9 +88,6 @@ tested-allowed dp k words arcs d less may =
 
 -- ---- the arc at hand
 
-abbrev hand : List CoverArc → ℕ → ℕ → Option CoverArc
-hand arcs place d = at_hand d (slice_get arcs place)
-
 -- where it is that of the decision it is the one that counts; else the decision is not listed
 pub record IsAtHand (arcs : List CoverArc) (place d : ℕ) (o : Option CoverArc) : Type 0 where
   pub for : arc_for d arcs ≡ o

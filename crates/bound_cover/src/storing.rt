@@ -202,7 +202,7 @@ fn view_of<'c>(span: Span, words: &'c [i64], arcs: &'c [CoverArc]) -> RowRef<'c>
     }
 }
 
-/// A cover: for each layer a list of rows.
+/// A cover: for each layer a list of rows. It has room for fewer than `2^32` words and as many arcs, which take 34 and 51 GB.
 #[derive(Debug, Drop)]
 pub struct Cover {
     starts: Vec<usize>,
@@ -327,8 +327,8 @@ impl Cover {
 
     /// Adds a row to the last layer: its bound, its words, and its arcs, or none where it has no arc part.
     ///
-    /// There is a layer, and the last one has fewer than `2^32 - 1` rows. It fails only for want of memory, and then changes
-    /// nothing.
+    /// There is a layer, and the last one has fewer than `2^32 - 1` rows. It fails only for want of memory or of a cover's room, and
+    /// then changes nothing.
     pub fn add_row(
         &mut self,
         bound: Option<i64>,
