@@ -58,8 +58,8 @@ fn is_within(gain: i64, gap: i64, bound: Option<i64>, most: Option<i64>) -> bool
     is_sum_within(gain, gap, bound, most)
 }
 
-/// The first failure of an arc to a row: it is there, is a state, and covers the next state within the bounds. Where all rows of the
-/// next layer are known to be states, this is not tested again.
+/// The first failure of an arc to a row: it is there, is a state, and covers the next state within the bounds. Where it is `known` that
+/// all rows of the next layer are states, this is not tested again.
 fn row_arc_fault<M: DpModel>(
     model: &M,
     k: usize,
@@ -354,7 +354,8 @@ pub fn row_fault<M: DpModel, N: Rows>(
     }
 }
 
-/// The first failure of the rows of a layer. `step` is written over.
+/// The first failure of the rows of a layer. `step` is written over; `known` says that all rows of the next layer are states, and
+/// may be false where they are.
 pub fn rows_fault<M: DpModel, L: Rows, N: Rows>(
     model: &M,
     here: &L,
