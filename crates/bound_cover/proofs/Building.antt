@@ -112,10 +112,6 @@ module _ (starts : List ℕ) (heads : List Span) (words : List ℤ) (arcs : List
   pub layers-built : length starts ≡ length (built starts heads words arcs w a).cover
   layers-built = sym (length-layers starts (map (row_of words arcs) heads))
 
--- the cover alone
-pub cover-stored : (starts : List ℕ) (heads : List Span) (words : List ℤ) (arcs : List CoverArc) (w a : ℕ) → IsBuilt starts heads words arcs w a → IsStored starts heads (length words) (length arcs)
-cover-stored starts heads words arcs w a is = stored-wider starts heads w a (length words) (length arcs) is.stored is.words_end is.arcs_end
-
 -- without what was added to the open row it shows the same
 pub cover-cut : (starts : List ℕ) (heads : List Span) (words : List ℤ) (arcs : List CoverArc) (w a : ℕ) → IsBuilt starts heads words arcs w a
     → map (row_of (take w words) (take a arcs)) heads ≡ map (row_of words arcs) heads
