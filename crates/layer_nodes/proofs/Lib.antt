@@ -14,3 +14,4 @@ pub mod Inexact
 pub mod Kept
 pub mod Merged
 pub mod MergedLayers
+pub mod Ended

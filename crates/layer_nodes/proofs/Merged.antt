@@ -138,7 +138,7 @@ greater-none : (o : Option ℤ) → greater o None ≡ o
 greater-none None = refl
 greater-none (Some z) = refl
 
-greatest-option : (xs : List ℤ) (o : Option ℤ) → greatest (xs ++ cons_option o []) ≡ greater (greatest xs) o
+pub greatest-option : (xs : List ℤ) (o : Option ℤ) → greatest (xs ++ cons_option o []) ≡ greater (greatest xs) o
 greatest-option xs None = ap greatest (append-nil xs) ∙ sym (greater-none (greatest xs))
 greatest-option xs (Some z) = greatest-push xs z
 

@@ -36,7 +36,7 @@ fn lifted(node: Node, gap: Option<i64>) -> Option<i64>
 }
 
 /// The greater of two numbers, of which none may be there.
-fn greater(best: Option<i64>, other: Option<i64>) -> Option<i64>
+pub(crate) fn greater(best: Option<i64>, other: Option<i64>) -> Option<i64>
     ensures { result ≡ greater best other }
 {
     let Some(z) = best else {
