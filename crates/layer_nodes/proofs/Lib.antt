@@ -15,3 +15,4 @@ pub mod Kept
 pub mod Merged
 pub mod MergedLayers
 pub mod Ended
+pub mod Behind
