@@ -69,9 +69,13 @@ fn copy_nodes(
 {
     nodes.clear();
     'nodes: for i in 0..others.len() {
-        let node = others[i];
-        write_row(rows, words, i, row(other_rows, words, node.row as usize));
-        nodes.push_reserved(bare(node, i as u32));
+        write_row(
+            rows,
+            words,
+            i,
+            row(other_rows, words, others[i].row as usize),
+        );
+        nodes.push_reserved(bare(others[i], i as u32));
     }
 }
 
