@@ -126,7 +126,7 @@ fn redirect_behind(arc: DdArc, first: usize, redirects: &[Option<Redirect>]) -> 
 }
 
 /// The arc at the place, which is told, becomes the new one where there is one.
-fn put_arc(arcs: &mut [DdArc], i: usize, arc: DdArc, new: Option<DdArc>)
+pub(crate) fn put_arc(arcs: &mut [DdArc], i: usize, arc: DdArc, new: Option<DdArc>)
     requires { slice_get arcs.old i ≡ Some arc }
     ensures { arcs.new ≡ set arcs.old i (unwrap_or new arc) }
 {
