@@ -1,5 +1,5 @@
 -- How much memory layers of a width need.
-use Rattle.std.proofs.Common.{◌≡◌, ℕ, zero, suc, ◌+◌, ◌*◌, ◌^◌, ◌<◌, ◌≤◌, max, vec_capacity, mul-le-mul_left, mul-le-mul_right, refl, sym, ap, subst, ◌∙◌, ◌⊎◌, inl, inr, arith}
+use Rattle.std.proofs.Common.{◌≡◌, ℕ, zero, suc, ◌+◌, ◌*◌, ◌^◌, ◌<◌, ◌≤◌, max, vec_capacity, mul-le-mul_left, mul-le-mul_right, sym, ap, subst, ◌∙◌, ◌⊎◌, inl, inr, arith}
 use Rattle.dp_model.specs.Dp.{Dp}
 use Rattle.dp_model.specs.Laws.{IsLawful}
 use Rattle.dp_laws.specs.Width.{cost_below, FitsWidth, IsGreatestWidth}
