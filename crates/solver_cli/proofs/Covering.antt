@@ -9,10 +9,10 @@ use Rattle.dp_model.specs.Dp.{Dp}
 use Rattle.dp_model.specs.Laws.{IsLawful}
 use Rattle.dp_model.specs.Lists.{Each}
 use Rattle.dp_model.specs.NumberLaws.{int_le-from}
-use Rattle.dp_model.specs.Prefixes.{IsPath, value_of}
+use Rattle.dp_model.specs.Prefixes.{IsPath}
 use Rattle.dp_model.proofs.Sizes.{value_of-far}
 use Rattle.bound_cover.specs.Covers.{CoverRow}
-use Rattle.bound_cover.specs.Verdicts.{checked_rows, claim_of, solution_fault, value_fault, verdict, verdict_of, worth}
+use Rattle.bound_cover.specs.Verdicts.{checked_rows, value_fault, verdict, verdict_of, worth}
 use Rattle.bound_cover.specs.declared.cover.Verdict.TheVariants.{Accepted}
 use Rattle.bound_cover.proofs.Sound.{checked-by}
 use Rattle.bound_cover.proofs.Worths.{worth-whole}
@@ -20,7 +20,6 @@ use Rattle.cover_text.specs.Heads.{ClaimView}
 use Rattle.cover_text.specs.Outputs.{CountsView, IsToldClaim, MayBeCounts, claim_lines, counts_lines, cover_lines, printed_lines, printed_output, printed_whole}
 use Rattle.cover_text.specs.Printed.{printed_cover}
 use Rattle.cover_text.specs.Texts.{CoverTextView, text_of}
-use Rattle.cover_text.specs.Written.{IsWritten}
 use Rattle.cover_text.proofs.OutputsRead.{outputs_read}
 use Rattle.problem_names.specs.declared.ModelName.{ModelName}
 use Rattle.problems.specs.Theories.{theory_of}

@@ -1,7 +1,5 @@
-use Rattle.std.proofs.Common.{◌≡◌, ◌∙◌, ◌++◌, length, ap, List, ℕ, append_assoc, arith}
+use Rattle.std.proofs.Common.{◌≡◌, ◌∙◌, length, ap, List, ℕ}
 use Rattle.dp_model.specs.Laws.{IsLawful}
-use Rattle.cover_text.specs.Outputs.{cover_lines, printed_lines, printed_whole}
-use Rattle.cover_text.specs.Printed.{printed_cover}
 use Rattle.cover_text.proofs.PassingWritten.{passing-written}
 use Rattle.solver_cli.proofs.Covering.{whole-made}
 use Rattle.solver_cli.proofs.job.covering.cover_text.Given as given
