@@ -156,10 +156,6 @@ layer-end starts heads layer first count rises first_is count_is =
     rw (first_is, count_is) low
 
 -- a row of a part
-pub part-none : (rows : List CoverRow) (first count place : ℕ) → count ≤ place → None ≡ slice_get (slice_range rows first (first + count)) place
-part-none rows first count place beyond =
-    let none : nat_lt place (first + count - first) ≡ false = (let e : first + count - first ≡ count = omega arith in rw e (grind arith)) in
-    sym (get-take (first + count - first) place (drop first rows) ∙ rw none refl)
 
 pub part-some : (rows : List CoverRow) (first count place : ℕ) → place < count → slice_get rows (first + place) ≡ slice_get (slice_range rows first (first + count)) place
 part-some rows first count place within =
