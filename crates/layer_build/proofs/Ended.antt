@@ -74,21 +74,6 @@ pub next-newest : (s : Stack) (depth : ℕ) → depth ≡ s.last → nodes_in s 
 next-newest s depth e = newest-at s.vars s.first s.last s.layers.items s.newest depth e
 
 -- the last layer
-pub newest-ended : (s : Stack) (depth : ℕ) (x : LayerView) → depth ≡ s.last → x ≡ ended_last s.newest → HasEnded depth s (record { vars = s.vars; first = s.first; last = s.last; layers = s.layers; newest = x })
-newest-ended s depth x e is =
-    let items = s.layers.items in
-    let old = newest-at s.vars s.first s.last items s.newest depth e in
-    record {
-      vars = refl;
-      first = refl;
-      last = refl;
-      rooms = refl;
-      newest = ap room_of is;
-      nodes = newest-at s.vars s.first s.last items x depth e ∙ (ap (λ (l : LayerView). l.nodes) is
-          ∙ (ap (map (λ (n : NodeView). record n { suffix = Some (pos 0) })) (sym old) ∙ last-rule s depth e (nodes_in s depth)));
-      others = λ k low apart. above-at s.vars s.first s.last items x k (λ f. apart (f ∙ sym e)) ∙ sym (above-at s.vars s.first s.last items s.newest k (λ f. apart (f ∙ sym e)));
-      top = refl;
-    }
 
 down-to : (j last : ℕ) → j ≤ last → (j < last) ⊎ (j ≡ last)
 down-to j last low = grind arith

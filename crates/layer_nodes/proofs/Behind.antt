@@ -8,10 +8,6 @@ use Rattle.dp_laws.specs.Rules.Reducing.{staying}
 use Rattle.layer_nodes.specs.Redirecting.{redirect_of}
 use Rattle.layer_nodes.proofs.Kept.{plus-none}
 
--- without a target there is nothing to redirect
-pub untargeted : (ls : List (Option Redirect)) (arc : DdArc) → arc.target ≡ None → arc ≡ redirected ls arc
-untargeted ls arc e = ap (λ (t : Option ℕ). record arc { target = t }) e ∙ sym (ap (λ (t : Option ℕ). redirected_by arc (redirect_of ls t)) e)
-
 -- a target before the first place stays
 pub before-first : (ls : List (Option Redirect)) (arc : DdArc) (first i : ℕ) → arc.target ≡ Some i → i < first → arc ≡ redirected (staying first ++ ls) arc
 before-first ls arc first i e less =

@@ -136,14 +136,6 @@ placed-more words old other_rows now rows row i d x h less hold have is new =
       same = length-set now i x ∙ h.same;
     }
 
-pub placed-row : (words : ℕ) (old : List Node) (other_rows : List ℤ) (now : List Node) (rows : List ℤ) (i : ℕ) (d : Node) → ArePlaced words old other_rows now rows i → i < length old → Each (HasRow words other_rows) old → HasRow words other_rows (get_or now i d)
-placed-row words old other_rows now rows i d h less have = subst (HasRow words other_rows) (sym (left-at old now i d h.left h.same less)) (each-get (HasRow words other_rows) old i d have less)
-
-pub placed-all : (words : ℕ) (old : List Node) (other_rows : List ℤ) (now : List Node) (rows : List ℤ) (i : ℕ) → ArePlaced words old other_rows now rows i → i ≡ length old → AreCopied words old other_rows now rows (length old)
-placed-all words old other_rows now rows i h end =
-    let size = h.same in
-    subst (λ n. AreCopied words old other_rows now rows n) end (subst (λ l. AreCopied words old other_rows l rows i) (take_all i now (omega arith)) h.copied)
-
 pub copied-stored : (room n : ℕ) (nodes : List Node) → n ≤ room → Each (IsCopy n) nodes → Each (IsStored room []) nodes
 copied-stored room n nodes most h = Each-then (IsCopy n) (IsStored room []) nodes (λ node c. record {
   row = (let low = c.row in omega arith);
