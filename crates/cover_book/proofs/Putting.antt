@@ -101,8 +101,6 @@ added-below dp claim d end j rows far =
 
 -- ---- steps of the loop over layers
 
-}
-
 -- a layer that is not yet reached is as it was
 not-yet : (dp : Dp) (claim : Option ℤ) (d : DdLayers) (k j : ℕ) (old rows : List (List CoverRow)) → AreAdded dp claim d k old rows → k ≤ j → layer_of rows j ≡ layer_of old j
 not-yet dp claim d k j old rows h far = h.layers j ∙ added-below dp claim d k j old far

@@ -12,6 +12,3 @@ less-fits dp v w le fits =
     let cost = fits.cost in
     let less : v * cost_below dp dp.vars ≤ w * cost_below dp dp.vars = mul-le-mul_right (cost_below dp dp.vars) le in
     record { most = omega arith; cost = omega arith }
-
--- the lesser of the greatest width and a positive number fits
-}
