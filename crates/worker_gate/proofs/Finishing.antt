@@ -1,15 +1,12 @@
 -- What a Finish asks.
 use Rattle.std.proofs.Common.{◌≡◌, ◌≤◌, ℤ, List, [], ◌∷◌, length, Option, Some, None, option_map, refl, sym, ap, subst, arith}
 use Rattle.dp_model.specs.Dp.{Dp}
-use Rattle.dp_model.specs.Numbers.{OptionAtMost}
 use Rattle.dp_model.specs.Subproblem.{Subproblem, SubView}
 use Rattle.shared_fringe.specs.Tickets.{Ticketed}
-use Rattle.board_laws.specs.Board.{BoardState, incumbent_value, reach, full_slots, slot_at}
+use Rattle.board_laws.specs.Board.{BoardState, full_slots, slot_at}
 use Rattle.board_laws.specs.Fates.{fates_on}
 use Rattle.board_laws.specs.Finishing.{MayFinish}
-use Rattle.board_laws.specs.GoodBoard.{IsBoard}
 use Rattle.board_laws.specs.declared.fate.Fate.{Fate}
-use Rattle.board_laws.proofs.Carrying.{reach-above}
 use Rattle.search_core.specs.Contents.{contents}
 use Rattle.worker_gate.specs.Branched.{IsBranched}
 use Rattle.worker_gate.proofs.Taking.{first_full}

@@ -1,19 +1,12 @@
 -- What offers keep.
-use Rattle.std.proofs.Common.{◌≡◌, ℕ, ℤ, ◌≤ℤ◌, List, [], ◌++◌, Option, Some, None, refl, sym, ◌∙◌, subst, arith}
-use Rattle.std.proofs.lemmas.Int.{ints}
+use Rattle.std.proofs.Common.{◌≡◌, ℕ, List, [], ◌++◌, refl, sym, ◌∙◌, subst}
 use Rattle.dp_model.specs.Dp.{Dp}
-use Rattle.dp_model.specs.Numbers.{AtMost, OptionAtMost}
-use Rattle.dp_model.specs.Prefixes.{IsSolution, value_of}
-use Rattle.dp_model.specs.Solution.{IsSolutionWith}
-use Rattle.dp_laws.proofs.Reaches.{at-most-raised}
-use Rattle.board_laws.specs.Board.{BoardState, incumbent_value, reach}
-use Rattle.board_laws.specs.GoodBoard.{IsBoard}
+use Rattle.board_laws.specs.Board.{BoardState}
 use Rattle.board_laws.specs.Improving.{ImproveGives, after_offer}
 use Rattle.board_laws.specs.declared.improved.Improved.{Improved}
 use Rattle.board_laws.specs.declared.improved.Improved.TheVariants.{Yes, NotBetter, NoSolution}
-use Rattle.board_laws.proofs.Running.{run-then, run-follows, offer-runs}
+use Rattle.board_laws.proofs.Running.{run-then, offer-runs}
 use Rattle.worker_gate.specs.Offered.{IsOffered}
-use Rattle.worker_gate.proofs.Finishing.{incumbent_below}
 
 pub IsOffered-refl : (dp : Dp) (b : BoardState) → IsOffered dp b b
 IsOffered-refl dp b = record { steps = []; run = refl; slots = refl; taken = refl; finished = refl; next_ticket = refl; cause = refl }
