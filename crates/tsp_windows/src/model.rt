@@ -161,6 +161,9 @@ impl TspWindows {
             return None;
         }
         let state = parts_of(self.nodes, s);
+        if state.time >= self.too_late[to] {
+            return None;
+        }
         let listed = is_listed(state.must, state.may, to);
         if !listed {
             return None;
@@ -289,7 +292,7 @@ impl TspWindows {
         if state.time + home > self.windows[0].closing {
             return None;
         }
-        let ways = ways_within(&self.nearest, &self.windows, state.must, state.time)?;
+        let ways = ways_within(&self.nearest, &self.too_late, state.must, state.time)?;
         Some(ways + home)
     }
 }

@@ -1,11 +1,18 @@
-use Rattle.std.proofs.Common.{◌+◌, ◌||◌, nat_le, sym, ap, ap₂, ◌∙◌}
+use Rattle.std.proofs.Common.{◌+◌, ◌||◌, nat_le, sym, ap, ap₂, ◌∙◌, arith}
+use Rattle.std.proofs.lemmas.List.{get_or_read}
 use Rattle.node_sets.specs.Sets.{words_for}
 use Rattle.tsp_windows.specs.Instance.{closing}
+use Rattle.tsp_windows.proofs.Late.{too_late-gives}
 use Rattle.tsp_windows.specs.States.{shown}
 use Rattle.tsp_windows.specs.Shown.{instance_in}
 use Rattle.tsp_windows.proofs.Behind.{in_time_is}
-use Rattle.tsp_windows.proofs.StateLemmas.{visit_no, visit_some, must-shown, may-shown}
+use Rattle.tsp_windows.proofs.StateLemmas.{visit_no, visit_late, visit_some, must-shown, may-shown}
 use Rattle.tsp_windows.proofs.instance.TspWindows.visited.Goals as goal
+
+pub returns-then-state-index-clause-allowed : goal.returns-then-state-index-clause-allowed
+returns-then-state-index-clause-allowed c =
+    sym (visit_late (instance_in c.args.self.now) (shown (words_for c.args.self.now.nodes) c.args.s.now) c.args.to c.parts_of-state.result.time _ c.parts_of-state.ensures.time
+    (get_or_read c.args.self.now.too_late.items c.args.to _ (omega (arith, c.args.self.now.all_too_late, c.requires.inside)) c.index.ensures 0 ∙ too_late-gives (instance_in c.args.self.now) c.args.self.now.too_late.items c.args.self.now.late c.args.to c.requires.inside) c.if-state-index.true)
 
 pub returns-then-not-listed-clause-allowed : goal.returns-then-not-listed-clause-allowed
 returns-then-not-listed-clause-allowed c =
