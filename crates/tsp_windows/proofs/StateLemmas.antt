@@ -11,7 +11,7 @@ use Rattle.node_sets.proofs.Counts.{is_set-gives}
 use Rattle.tsp_windows.specs.States.{TourState, positions_of, must_of, may_of, time_of, shown, leg, arrival, may_visit, may_return, is_open, covers, is_sound, is_state_row}
 use Rattle.tsp_windows.specs.Instance.{Instance, closing, near}
 use Rattle.tsp_windows.specs.Apart.{IsApart}
-use Rattle.tsp_windows.specs.Laws.Moves.{near-le-arrival, all_below-not, sound-gives, sound-from}
+use Rattle.tsp_windows.specs.Laws.Moves.{IsSound, near-le-arrival, all_below-not, sound-gives, sound-from}
 use Rattle.tsp_windows.specs.Laws.Walks.{CoversTour, covers-gives, covers-from}
 
 pub fits_time : (t : ℕ) → t ≤ 1000000000000 → FitsSigned w64 (pos t)
@@ -132,6 +132,10 @@ time_last n s x z e f t g =
 
 pub visit_no : (i : Instance) (t : TourState) (d : ℕ) → (t.must d || t.may d) ≡ false → may_visit i t d ≡ false
 visit_no i t d e = and_no (not (nat_eq d 0)) _ (no_and (t.must d || t.may d) _ e)
+
+-- node 0 is none that must or may be visited
+pub open_elsewhere : (n : ℕ) (t : TourState) (d : ℕ) → IsSound n t → is_open t d ≡ true → d ≢ 0
+open_elsewhere n t d sound there home = false≢true (sym (ap₂ ◌||◌ sound.no_must sound.no_may) ∙ ap (is_open t) (sym home) ∙ there)
 
 -- a node that is not reached in time even on its least way
 pub visit_late : (i : Instance) (t : TourState) (d time moment : ℕ) → time ≡ t.time → moment ≡ (closing i d + 1) - near i d → moment ≤ time → may_visit i t d ≡ false

@@ -149,7 +149,7 @@ impl TspWindows {
     }
 
     /// When a node other than 0 that must or may be visited is reached, or none where it is no such node or is not reached
-    /// in time.
+    /// in time. Node 0 never must or may be.
     fn visited(&self, s: &[i64], to: usize) -> Option<u64>
         requires state { IsTrue (is_state_row self.now.nodes s.now) }
         requires inside { to < self.now.nodes }
@@ -157,9 +157,6 @@ impl TspWindows {
         ensures arrival { IfSome result (λ at. at ≡ states.arrival (instance_in self.now) (shown (sets.words_for self.now.nodes) s.now) to) }
         ensures small { IfSome result (λ at. at < 2 ^ 62) }
     {
-        if to == 0 {
-            return None;
-        }
         let state = parts_of(self.nodes, s);
         if state.time >= self.too_late[to] {
             return None;
