@@ -85,7 +85,6 @@ pub(crate) fn moments_too_late(
     nearest: &[u32],
     windows: &[Window],
 ) -> Result<Vec<u64>, AllocError>
-    requires few { length nearest.now ≤ 300 }
     requires same { length windows.now ≡ length nearest.now }
     requires closes { (v : ℕ) → (get_or windows.now v no_window).closing ≤ 1000000000000 }
     ensures all { IfOk result (λ moments. length moments.items ≡ length nearest.now) }

@@ -14,11 +14,6 @@ least_ways-requires-clause-square c =
     let i : Instance = record { nodes = c.args.nodes; distances = c.args.distances.items; windows = c.args.windows.items } in
     ap length c.deref.ensures.value ∙ (is_small-gives i c.requires).square
 
-pub moments_too_late-requires-clause-few : goal.moments_too_late-requires-clause-few
-moments_too_late-requires-clause-few c =
-    let i : Instance = record { nodes = c.args.nodes; distances = c.args.distances.items; windows = c.args.windows.items } in
-    rw (ap length c.deref-2.ensures.value ∙ c.in_ok-nearest.ensures.all) (is_small-gives i c.requires).few
-
 pub moments_too_late-requires-clause-same : goal.moments_too_late-requires-clause-same
 moments_too_late-requires-clause-same c =
     let i : Instance = record { nodes = c.args.nodes; distances = c.args.distances.items; windows = c.args.windows.items } in
