@@ -11,13 +11,6 @@ use Rattle.bound_cover.specs.Stored.{row_of, layers_of, last_layer, IsWithin, Ri
 use Rattle.bound_cover.specs.Building.{built, IsBuilt, with_word, with_arc, with_layer, open_row, with_open_row}
 use Rattle.bound_cover.proofs.Blocks.{head_behind, layer-added, layer-stored, layers-row, length-layers, map-behind, range-front, row-stored, short-layer, short-row}
 
--- blocks that grow hold what they held
-stored-wider : (starts : List ℕ) (heads : List Span) (words arcs more_words more_arcs : ℕ) → IsStored starts heads words arcs → words ≤ more_words → arcs ≤ more_arcs → IsStored starts heads more_words more_arcs
-stored-wider starts heads words arcs more_words more_arcs h w a = record {
-  starts_rise = h.starts_rise;
-  within = Each-then (IsWithin words arcs) (IsWithin more_words more_arcs) heads (λ x i. (let p = i.words_end in let q = i.arcs_end in record { words_rise = i.words_rise; words_end = omega arith; arcs_rise = i.arcs_rise; arcs_end = omega arith })) h.within;
-}
-
 -- a word behind those of all rows is in none of them
 words-kept : (words more : List ℤ) (arcs : List CoverArc) (heads : List Span) (w a : ℕ) → w ≤ length words → Each (IsWithin w a) heads → map (row_of (words ++ more) arcs) heads ≡ map (row_of words arcs) heads
 words-kept words more arcs [] w a low h = refl
@@ -111,10 +104,6 @@ module _ (starts : List ℕ) (heads : List Span) (words : List ℤ) (arcs : List
 
   pub layers-built : length starts ≡ length (built starts heads words arcs w a).cover
   layers-built = sym (length-layers starts (map (row_of words arcs) heads))
-
--- the cover alone
-pub cover-stored : (starts : List ℕ) (heads : List Span) (words : List ℤ) (arcs : List CoverArc) (w a : ℕ) → IsBuilt starts heads words arcs w a → IsStored starts heads (length words) (length arcs)
-cover-stored starts heads words arcs w a is = stored-wider starts heads w a (length words) (length arcs) is.stored is.words_end is.arcs_end
 
 -- without what was added to the open row it shows the same
 pub cover-cut : (starts : List ℕ) (heads : List Span) (words : List ℤ) (arcs : List CoverArc) (w a : ℕ) → IsBuilt starts heads words arcs w a

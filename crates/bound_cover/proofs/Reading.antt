@@ -1,17 +1,16 @@
 -- A row of a layer by its place among all rows.
-use Rattle.std.proofs.Common.{◌≡◌, ℕ, zero, suc, ◌+◌, ◌-◌, ◌≤◌, nat_lt, ℤ, Bool, true, false, cond, List, [], ◌∷◌, length, map, take, drop, slice_get, Option, Some, None, option_map, option_and_then, unwrap_or, refl, sym, ◌∙◌, ap, subst, arith, zero-add}
-use Rattle.std.proofs.lemmas.List.{length-map, length-drop, length-take-le}
+use Rattle.std.proofs.Common.{◌≡◌, ℕ, zero, suc, ◌+◌, ◌-◌, ◌<◌, ◌≤◌, nat_lt, ℤ, Bool, true, false, cond, List, [], ◌∷◌, length, map, take, drop, slice_get, Option, Some, None, option_map, option_and_then, unwrap_or, refl, sym, ◌∙◌, ap, subst, arith, zero-add}
+use Rattle.std.proofs.lemmas.List.{length-map, length-drop, length-take-le, take_all}
 use Rattle.std.proofs.lemmas.Option.{slice_get-map}
 use Rattle.std.specs.List.{slice_range}
-use Rattle.dp_model.specs.Lists.{Each}
-use Rattle.dp_model.proofs.Members.{each-has}
-use Rattle.dp_laws.proofs.Diagrams.Places.{Has-at}
 use Rattle.bound_cover.proofs.Blocks.{starts-within}
+use Rattle.bound_cover.proofs.Spans.{length-spans}
 use Rattle.bound_cover.specs.declared.cover.CoverArc.{CoverArc}
+use Rattle.bound_cover.specs.declared.storing.Head.{Head}
 use Rattle.bound_cover.specs.declared.storing.Span.{Span}
 use Rattle.bound_cover.specs.Covers.{CoverRow}
 use Rattle.bound_cover.specs.Exploring.{layer_of}
-use Rattle.bound_cover.specs.Stored.{row_of, layers_of, IsWithin, RiseTo, place_from, place_at, count_at}
+use Rattle.bound_cover.specs.Stored.{row_of, layers_of, spans, RiseTo, place_from, place_at, count_at, start_at, rows_from}
 
 none-either : (b : Bool) → ◌≡◌ {A = Option CoverRow} None (cond b None None)
 none-either true = refl
@@ -108,3 +107,57 @@ count-is cover starts s heads words arcs layer n result is rises same many at =
     let rows = map (row_of words arcs) heads in
     let long : length rows ≡ length heads = length-map heads (row_of words arcs) in
     at ∙ (ap (λ l. count_at l n layer) same ∙ (ap (λ m. count_at starts m layer) (many ∙ sym long) ∙ (count-of starts rows layer (subst (RiseTo starts) (sym long) rises) ∙ ap (λ (ls : List (List CoverRow)). length (layer_of ls layer)) is)))
+
+-- the rows of a layer lie side by side
+
+layer-range : (starts : List ℕ) (rows : List CoverRow) (layer : ℕ) → RiseTo starts (length rows)
+    → slice_range rows (start_at starts (length rows) layer) (start_at starts (length rows) layer + count_at starts (length rows) layer) ≡ layer_of (layers_of starts rows) layer
+layer-range [] rows layer h = let none : length rows + 0 - length rows ≡ 0 = omega arith in ap (λ n. take n (drop (length rows) rows)) none
+layer-range (start ∷ []) rows zero h =
+    let count : start + (length rows - start) - start ≡ length rows - start = omega arith in
+    ap (λ n. take n (drop start rows)) count ∙ take_all (length rows - start) (drop start rows) (let long = length-drop start rows in omega arith)
+layer-range (start ∷ []) rows (suc layer) h = let none : length rows + 0 - length rows ≡ 0 = omega arith in ap (λ n. take n (drop (length rows) rows)) none
+layer-range (start ∷ next ∷ starts) rows zero h =
+    let count : start + (next - start) - start ≡ next - start = omega arith in
+    ap (λ n. take n (drop start rows)) count
+layer-range (start ∷ next ∷ starts) rows (suc layer) h =
+    let e : suc layer + 1 ≡ suc (layer + 1) = omega arith in
+    let from = start_at (next ∷ starts) (length rows) layer in
+    ap (λ n. slice_range rows from (from + unwrap_or (option_map (λ s. unwrap_or (slice_get (start ∷ next ∷ starts) n) (length rows) - s) (slice_get (next ∷ starts) layer)) 0)) e ∙ layer-range (next ∷ starts) rows layer h.1
+
+range-end : (starts : List ℕ) (n layer : ℕ) → RiseTo starts n → start_at starts n layer + count_at starts n layer ≤ n
+range-end [] n layer h = omega arith
+range-end (start ∷ []) n zero h = omega arith
+range-end (start ∷ []) n (suc layer) h = omega arith
+range-end (start ∷ next ∷ starts) n zero h =
+    let low = starts-within next starts n h.1 in
+    let up = h.0 in
+    omega arith
+range-end (start ∷ next ∷ starts) n (suc layer) h =
+    let e : suc layer + 1 ≡ suc (layer + 1) = omega arith in
+    let from = start_at (next ∷ starts) n layer in
+    subst (λ m. from + unwrap_or (option_map (λ s. unwrap_or (slice_get (start ∷ next ∷ starts) m) n - s) (slice_get (next ∷ starts) layer)) 0 ≤ n) (sym e) (range-end (next ∷ starts) n layer h.1)
+
+-- as the code finds them
+pub layer-is : (cover : List (List CoverRow)) (starts : List ℕ) (heads : List Head) (words : List ℤ) (arcs : List CoverArc) (layer first count : ℕ) → layers_of starts (map (row_of words arcs) (spans heads)) ≡ cover → RiseTo starts (length (spans heads))
+    → first ≡ start_at starts (length heads) layer → count ≡ count_at starts (length heads) layer → rows_from heads words arcs first count ≡ layer_of cover layer
+layer-is cover starts heads words arcs layer first count is rises first_is count_is =
+    let rows = map (row_of words arcs) (spans heads) in
+    let long : length rows ≡ length heads = length-map (spans heads) (row_of words arcs) ∙ length-spans 0 0 heads in
+    let at : RiseTo starts (length rows) = subst (RiseTo starts) (sym (length-map (spans heads) (row_of words arcs))) rises in
+    ap (λ n. slice_range rows n (n + count)) (first_is ∙ ap (λ n. start_at starts n layer) (sym long))
+    ∙ (ap (λ n. slice_range rows (start_at starts (length rows) layer) (start_at starts (length rows) layer + n)) (count_is ∙ ap (λ n. count_at starts n layer) (sym long))
+    ∙ (layer-range starts rows layer at ∙ ap (λ (ls : List (List CoverRow)). layer_of ls layer) is))
+
+pub layer-end : (starts : List ℕ) (heads : List Head) (layer first count : ℕ) → RiseTo starts (length (spans heads)) → first ≡ start_at starts (length heads) layer → count ≡ count_at starts (length heads) layer → first + count ≤ length heads
+layer-end starts heads layer first count rises first_is count_is =
+    let at : RiseTo starts (length heads) = subst (RiseTo starts) (length-spans 0 0 heads) rises in
+    let low = range-end starts (length heads) layer at in
+    rw (first_is, count_is) low
+
+-- a row of a part
+
+pub part-some : (rows : List CoverRow) (first count place : ℕ) → place < count → slice_get rows (first + place) ≡ slice_get (slice_range rows first (first + count)) place
+part-some rows first count place within =
+    let some : nat_lt place (first + count - first) ≡ true = (let e : first + count - first ≡ count = omega arith in rw e (grind arith)) in
+    sym (get-take (first + count - first) place (drop first rows) ∙ rw some (get-drop first place rows))

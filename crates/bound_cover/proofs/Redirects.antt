@@ -2,7 +2,7 @@
 use Rattle.std.proofs.Common.{◌≡◌, ℕ, ◌+◌, ◌<◌, ℤ, ◌+ℤ◌, ◌-ℤ◌, ◌≤ℤ◌, true, false, List, Option, Some, None, IsTrue, refl, sym, subst, arith}
 use Rattle.std.proofs.lemmas.Int.{ints}
 use Rattle.dp_model.specs.Dp.{Dp}
-use Rattle.dp_model.specs.Gaps.{IsStateOf, HasGapWithin, is_struck_by}
+use Rattle.dp_model.specs.Gaps.{IsStateOf, HasGapWithin}
 use Rattle.dp_model.specs.Laws.{IsLawful, IsChained}
 use Rattle.dp_model.specs.NumberLaws.{int_le-is, int_le-from}
 use Rattle.dp_model.specs.Numbers.{add_some}
@@ -13,14 +13,6 @@ use Rattle.bound_cover.specs.Exploring.{rest_of}
 use Rattle.bound_cover.proofs.Faults.{unless-holds, cond-holds}
 use Rattle.bound_cover.proofs.Claims.{at-most-through}
 use Rattle.bound_cover.proofs.NodeRows.{state-row}
-
--- what is struck by a threshold is struck by a greater one: so a book's diagram, made with an earlier incumbent, serves for best
-pub struck-later : (value : ℤ) (rough t best : Option ℤ) → IsTrue (is_at_most t best) → IsTrue (is_struck_by value rough t) → IsTrue (is_struck_by value rough best)
-struck-later value None t best up h = refl
-struck-later value (Some r) None best up h = absurd (let clash : false ≡ true = h in cc)
-struck-later value (Some r) (Some t) None up h = absurd (let clash : false ≡ true = up in cc)
-struck-later value (Some r) (Some t) (Some b) up h =
-    let one : (value +ℤ r) ≤ℤ t = int_le-is (value +ℤ r) t h in let two : t ≤ℤ b = int_le-is t b up in int_le-from (value +ℤ r) b (omega (arith, ints))
 
 -- the row of a keeper, a dominator or a replacer of a node: its state covers the node's within the difference of the values,
 -- and it claims at most best less its own value

@@ -1,13 +1,15 @@
 -- The turns over the rows of a layer.
-use Rattle.std.proofs.Common.{◌≡◌, ℕ, zero, suc, ◌+◌, ◌<◌, length, ℤ, Bool, true, false, ◌||◌, List, [], ◌∷◌, drop, slice_get, Option, Some, None, option_map, refl, sym, ◌∙◌, ap, subst, arith}
+use Rattle.std.proofs.Common.{◌≡◌, ℕ, zero, suc, ◌+◌, ◌<◌, length, ℤ, Bool, true, false, ◌&&◌, ◌||◌, List, [], ◌∷◌, drop, slice_get, Option, Some, None, option_map, refl, sym, ◌∙◌, ap, subst, arith}
 use Rattle.std.specs.Option.{is_some}
+use Rattle.std.specs.Prelude.{IfSome}
+use Rattle.std.proofs.lemmas.Bool.{and_parts}
 use Rattle.dp_model.specs.Dp.{Dp}
 use Rattle.dp_laws.proofs.Diagrams.Places.{same-Some}
 use Rattle.bound_cover.specs.declared.storing.RowRef.{RowRef}
 use Rattle.bound_cover.specs.declared.cover.Why.{Why}
 use Rattle.bound_cover.specs.Covers.{CoverRow}
 use Rattle.bound_cover.specs.Stored.{shown_row}
-use Rattle.bound_cover.specs.Tests.{first_of, row_fault}
+use Rattle.bound_cover.specs.Tests.{first_of, row_fault, is_state_row, are_states}
 use Rattle.bound_cover.specs.Verdicts.{first_layer, rows_fault, layers_fault, root_test, has_root}
 use Rattle.bound_cover.specs.Exploring.{layer_of}
 
@@ -95,3 +97,32 @@ pub root-not-yet : (dp : Dp) (claim : Option ℤ) (i : ℕ) (rows : List CoverRo
 root-not-yet dp claim i rows o row test so_far shown is its fails =
     let open' = open-root dp claim i rows (shown_row row) (shown-at rows i o row shown is) in
     ap (λ b. b || has_root dp claim (drop (i + 1) rows)) (sym fails ∙ its) ∙ (sym open' ∙ so_far)
+
+-- ---- the states
+
+open-states : (dp : Dp) (k i : ℕ) (rows : List CoverRow) (r : CoverRow) → slice_get rows i ≡ Some r → are_states dp k (drop i rows) ≡ (is_state_row dp k r.words && are_states dp k (drop (i + 1) rows))
+open-states dp k i rows r at =
+    let up : suc i ≡ i + 1 = omega arith in
+    ap (are_states dp k) (next-row rows i r at) ∙ ap (λ n. is_state_row dp k r.words && are_states dp k (drop n rows)) up
+
+pub state-missing : (dp : Dp) (k i : ℕ) (rows : List CoverRow) (o : Option RowRef) (row : RowRef) (test : Bool) → are_states dp k (drop i rows) ≡ are_states dp k rows → option_map shown_row o ≡ slice_get rows i → o ≡ Some row
+    → test ≡ is_state_row dp k row.words.now → test ≡ false → false ≡ are_states dp k rows
+state-missing dp k i rows o row test so_far shown is its fails =
+    let open' = open-states dp k i rows (shown_row row) (shown-at rows i o row shown is) in
+    ap (λ b. b && are_states dp k (drop (i + 1) rows)) (sym fails ∙ its) ∙ (sym open' ∙ so_far)
+
+pub states-so-far : (dp : Dp) (k i : ℕ) (rows : List CoverRow) (o : Option RowRef) (row : RowRef) (test : Bool) → are_states dp k (drop i rows) ≡ are_states dp k rows → option_map shown_row o ≡ slice_get rows i → o ≡ Some row
+    → test ≡ is_state_row dp k row.words.now → test ≡ true → are_states dp k (drop (i + 1) rows) ≡ are_states dp k rows
+states-so-far dp k i rows o row test so_far shown is its holds =
+    let open' = open-states dp k i rows (shown_row row) (shown-at rows i o row shown is) in
+    ap (λ b. b && are_states dp k (drop (i + 1) rows)) (sym holds ∙ its) ∙ (sym open' ∙ so_far)
+
+state-found : (dp : Dp) (k i : ℕ) (rows : List CoverRow) (r : CoverRow) → are_states dp k rows ≡ true → slice_get rows i ≡ Some r → is_state_row dp k r.words ≡ true
+state-found dp k i [] r all at = absurd (let none : None ≡ Some r = at in cc)
+state-found dp k zero (x ∷ rows) r all at = ap (λ (y : CoverRow). is_state_row dp k y.words) (sym (same-Some x r at)) ∙ (and_parts (is_state_row dp k x.words) (are_states dp k rows) all).0
+state-found dp k (suc i) (x ∷ rows) r all at = state-found dp k i rows r (and_parts (is_state_row dp k x.words) (are_states dp k rows) all).1 at
+
+-- each row of a layer of states is one
+pub state-at : (dp : Dp) (k i : ℕ) (rows : List CoverRow) (o : Option RowRef) (known : Bool) → (known ≡ true → are_states dp k rows ≡ true) → option_map shown_row o ≡ slice_get rows i → IfSome o (λ r. known ≡ true → is_state_row dp k r.words.now ≡ true)
+state-at dp k i rows None known all shown = tt
+state-at dp k i rows (Some row) known all shown = λ h. state-found dp k i rows (shown_row row) (all h) (sym shown)

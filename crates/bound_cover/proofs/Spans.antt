@@ -1,7 +1,6 @@
 -- The spans of heads: at a place, and where a further head is put behind.
-use Rattle.std.proofs.Common.{◌≡◌, ℕ, zero, suc, ◌+◌, ◌-◌, ◌<◌, ◌≤◌, Bool, true, false, cond, ℤ, List, [], ◌∷◌, ◌++◌, length, map, take, drop, slice_get, Option, Some, None, refl, sym, ◌∙◌, ap, subst, arith}
+use Rattle.std.proofs.Common.{◌≡◌, ℕ, zero, suc, ◌-◌, ◌<◌, Bool, ℤ, List, [], ◌∷◌, ◌++◌, length, slice_get, Option, Some, None, refl, ◌∙◌, ap, subst, arith}
 use Rattle.dp_laws.proofs.Diagrams.Places.{same-Some}
-use Rattle.bound_cover.specs.declared.cover.CoverArc.{CoverArc}
 use Rattle.bound_cover.specs.declared.storing.Head.{Head}
 use Rattle.bound_cover.specs.declared.storing.Span.{Span}
 use Rattle.bound_cover.specs.Stored.{span_of, spans_from, spans, end_of_words, end_of_arcs, BeginsAt}

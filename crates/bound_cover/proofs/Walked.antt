@@ -1,5 +1,5 @@
 -- A walk over the decisions, step by step.
-use Rattle.std.proofs.Common.{◌≡◌, ℕ, zero, suc, ◌+◌, ◌<◌, ◌≤◌, nat_eq, nat_lt, ℤ, true, false, cond, ◌&&◌, ◌||◌, List, [], ◌∷◌, ◌++◌, length, map, filter, take, drop, slice_get, Option, Some, None, ◌⊎◌, inl, inr, IsTrue, refl, sym, ◌∙◌, ap, subst, arith}
+use Rattle.std.proofs.Common.{◌≡◌, ℕ, zero, suc, ◌+◌, ◌<◌, ◌≤◌, nat_eq, nat_lt, ℤ, true, false, cond, ◌&&◌, List, [], ◌∷◌, ◌++◌, length, map, filter, take, drop, slice_get, Option, Some, None, ◌⊎◌, inl, inr, IsTrue, refl, sym, ◌∙◌, ap, subst, arith}
 use Rattle.std.proofs.lemmas.List.{take_all}
 use Rattle.std.proofs.lemmas.Bool.{and_parts}
 use Rattle.dp_model.specs.Decisions.{below}
@@ -87,9 +87,6 @@ tested-allowed dp k words arcs d less may =
     Has-with_listed (filter (dp.allowed k words) (below (dp.choices k))) arcs d (Has-filter (dp.allowed k words) (below (dp.choices k)) d (Has-below (dp.choices k) d less) may)
 
 -- ---- the arc at hand
-
-abbrev hand : List CoverArc → ℕ → ℕ → Option CoverArc
-hand arcs place d = at_hand d (slice_get arcs place)
 
 -- where it is that of the decision it is the one that counts; else the decision is not listed
 pub record IsAtHand (arcs : List CoverArc) (place d : ℕ) (o : Option CoverArc) : Type 0 where

@@ -1,5 +1,5 @@
 -- How a cover lies in memory: heads of rows one after another, and their words and arcs in two blocks.
-use Rattle.std.specs.Prelude.{◌≡◌, ℕ, ◌+◌, ◌-◌, ◌^◌, ◌<◌, ◌≤◌, nat_lt, unwrap_or, option_and_then, option_map, slice_get, ℤ, cond, List, [], ◌∷◌, ◌++◌, length, drop, Option, Some, None}
+use Rattle.std.specs.Prelude.{◌≡◌, ℕ, ◌+◌, ◌-◌, ◌^◌, ◌<◌, ◌≤◌, nat_lt, unwrap_or, option_and_then, option_map, slice_get, ℤ, cond, List, [], ◌∷◌, ◌++◌, length, map, drop, Option, Some, None}
 use Rattle.std.specs.List.{slice_range}
 use Rattle.dp_model.specs.Lists.{Each}
 use Rattle.bound_cover.specs.declared.cover.CoverArc.{CoverArc}
@@ -113,3 +113,11 @@ place_at starts rows layer row = option_and_then (place_from row (unwrap_or (sli
 -- how many rows a layer has
 abbrev pub count_at : List ℕ → ℕ → ℕ → ℕ
 count_at starts rows layer = unwrap_or (option_map (λ start. unwrap_or (slice_get starts (layer + 1)) rows - start) (slice_get starts layer)) 0
+
+-- where a layer begins; one that is not there begins behind all rows
+abbrev pub start_at : List ℕ → ℕ → ℕ → ℕ
+start_at starts rows layer = unwrap_or (slice_get starts layer) rows
+
+-- so many rows from a place on
+abbrev pub rows_from : List Head → List ℤ → List CoverArc → ℕ → ℕ → List CoverRow
+rows_from heads words arcs first count = slice_range (map (row_of words arcs) (spans heads)) first (first + count)

@@ -27,6 +27,11 @@ first_of (Some why) other = Some why
 abbrev pub is_state_row : Dp → ℕ → List ℤ → Bool
 is_state_row dp k words = nat_eq (length words) dp.words && dp.is_state k words
 
+-- whether all rows are states of the layer
+abbrev pub are_states : Dp → ℕ → List CoverRow → Bool
+are_states dp k [] = true
+are_states dp k (row ∷ rows) = is_state_row dp k row.words && are_states dp k rows
+
 abbrev pub lists : ℕ → List CoverArc → Bool
 lists d [] = false
 lists d (arc ∷ arcs) = nat_eq arc.decision d || lists d arcs

@@ -1,15 +1,17 @@
 //! Covers in memory: heads of rows one after another, and their words and arcs in two blocks.
 
-ghost use Rattle.std.specs.Prelude.{◌≡◌, ℕ, ◌<◌, ◌≤◌, ◌-◌, ◌^◌, cond, List, [], ◌∷◌, ◌++◌, length, slice_get, Option, Some, None, option_map, OnOk, OnErr};
+ghost use Rattle.std.specs.Prelude.{◌≡◌, ℕ, ◌<◌, ◌≤◌, ◌-◌, ◌^◌, cond, List, [], ◌∷◌, ◌++◌, length, slice_get, Option, Some, None, option_map, OnOk, OnErr, IfOk};
 ghost use Rattle.bound_cover.specs.Covers.{CoverRow};
-ghost use Rattle.bound_cover.specs.Stored.{with_row, shown_row, span_of, spans, row_of, place_at, count_at, last_layer, AreShort, IsWithin};
+ghost use Rattle.bound_cover.specs.Stored.{with_row, shown_row, span_of, spans, row_of, place_at, start_at, count_at, last_layer, AreShort, IsWithin};
 ghost use Rattle.bound_cover.specs.Exploring.{layer_of};
 
 mod building;
+mod layer_rows;
 
 use crate::cover::CoverArc;
 pub use building::CoverBuilder;
 use dp_model::OutOfMemory;
+pub use layer_rows::LayerRows;
 use std::alloc::Global;
 use std::marker::Model;
 
@@ -18,8 +20,8 @@ use std::marker::Model;
 pub struct Head {
     // It counts where the row is bounded.
     bound: i64,
-    words_to: usize,
-    arcs_to: usize,
+    words_to: u32,
+    arcs_to: u32,
     is_bounded: bool,
     has_arcs: bool,
 }
@@ -63,6 +65,16 @@ fn place_of(starts: &[usize], rows: usize, layer: usize, row: usize) -> Option<u
     }
 }
 
+/// The place among all rows where a layer begins; one that is not there begins behind all rows.
+fn start_of(starts: &[usize], rows: usize, layer: usize) -> usize
+    ensures { result ≡ start_at starts.now rows layer }
+{
+    match starts.get(layer) {
+        Some(start) => *start,
+        None => rows,
+    }
+}
+
 /// How many rows a layer has.
 fn count_of(starts: &[usize], rows: usize, layer: usize) -> usize
     ensures { result ≡ count_at starts.now rows layer }
@@ -78,22 +90,40 @@ fn count_of(starts: &[usize], rows: usize, layer: usize) -> usize
     if start <= end { end - start } else { 0 }
 }
 
-/// The head of a row with this bound, whose words and arcs end there.
+/// Where words or arcs end, where there is room for so many.
 #[inline]
-fn head_of(bound: Option<i64>, has_arcs: bool, words_to: usize, arcs_to: usize) -> Head
-    ensures { (words_from arcs_from : ℕ) → span_of words_from arcs_from result ≡ record { bound = bound; words_from = words_from; words_to = words_to; has_arcs = has_arcs; arcs_from = arcs_from; arcs_to = arcs_to } }
+fn end_of(len: usize) -> Result<u32, OutOfMemory>
+    ensures { IfOk result (λ end. end ≡ len) }
 {
+    match u32::try_from(len) {
+        Ok(end) => Ok(end),
+        Err(_) => Err(OutOfMemory),
+    }
+}
+
+/// The head of a row with this bound, whose words and arcs end there, where a cover has room for so many.
+#[inline]
+fn head_of(
+    bound: Option<i64>,
+    has_arcs: bool,
+    words_to: usize,
+    arcs_to: usize,
+) -> Result<Head, OutOfMemory>
+    ensures { IfOk result (λ head. (words_from arcs_from : ℕ) → span_of words_from arcs_from head ≡ record { bound = bound; words_from = words_from; words_to = words_to; has_arcs = has_arcs; arcs_from = arcs_from; arcs_to = arcs_to }) }
+{
+    let words_to = end_of(words_to)?;
+    let arcs_to = end_of(arcs_to)?;
     let (is_bounded, bound) = match bound {
         Some(bound) => (true, bound),
         None => (false, 0),
     };
-    Head {
+    Ok(Head {
         bound,
         words_to,
         arcs_to,
         is_bounded,
         has_arcs,
-    }
+    })
 }
 
 /// The span of a head whose words and arcs begin here.
@@ -108,10 +138,10 @@ fn span_of(words_from: usize, arcs_from: usize, head: Head) -> Span
     Span {
         bound,
         words_from,
-        words_to: head.words_to,
+        words_to: head.words_to as usize,
         has_arcs: head.has_arcs,
         arcs_from,
-        arcs_to: head.arcs_to,
+        arcs_to: head.arcs_to as usize,
     }
 }
 
@@ -145,7 +175,7 @@ fn span_behind(heads: &[Head], place: usize, head: Head) -> Span
         return span_of(0, 0, head);
     }
     let before = head_before(heads, place);
-    span_of(before.words_to, before.arcs_to, head)
+    span_of(before.words_to as usize, before.arcs_to as usize, head)
 }
 
 /// The span at a place, or `None` where there is none.
@@ -172,7 +202,7 @@ fn view_of<'c>(span: Span, words: &'c [i64], arcs: &'c [CoverArc]) -> RowRef<'c>
     }
 }
 
-/// A cover: for each layer a list of rows.
+/// A cover: for each layer a list of rows. It has room for fewer than `2^32` words and as many arcs, which take 34 and 51 GB.
 #[derive(Debug, Drop)]
 pub struct Cover {
     starts: Vec<usize>,
@@ -271,6 +301,20 @@ impl Cover {
         count_of(self.starts.as_slice(), self.heads.len(), layer)
     }
 
+    /// The rows of a layer, of which there are none where the layer is not there.
+    pub(crate) fn layer(&self, layer: usize) -> LayerRows<'_>
+        ensures { result ≡ layer_of self.now layer }
+    {
+        let rows = self.heads.len();
+        LayerRows {
+            heads: self.heads.as_slice(),
+            words: self.words.as_slice(),
+            arcs: self.arcs.as_slice(),
+            first: start_of(self.starts.as_slice(), rows, layer),
+            count: count_of(self.starts.as_slice(), rows, layer),
+        }
+    }
+
     /// Adds an empty layer. A refusal changes nothing.
     pub fn add_layer(&mut self) -> Result<(), OutOfMemory>
         ensures ok { OnOk result (self.new ≡ self.old ++ [] ∷ []) }
@@ -283,8 +327,8 @@ impl Cover {
 
     /// Adds a row to the last layer: its bound, its words, and its arcs, or none where it has no arc part.
     ///
-    /// There is a layer, and the last one has fewer than `2^32 - 1` rows. It fails only for want of memory, and then changes
-    /// nothing.
+    /// There is a layer, and the last one has fewer than `2^32 - 1` rows. It fails only for want of memory or of a cover's room, and
+    /// then changes nothing.
     pub fn add_row(
         &mut self,
         bound: Option<i64>,
@@ -318,9 +362,12 @@ impl Cover {
         self.heads.reserve(1)?;
         self.words.reserve(words.len())?;
         self.arcs.reserve(arcs.len())?;
+        let words_to = self.words.len() + words.len();
+        let arcs_to = self.arcs.len() + arcs.len();
+        let head = head_of(bound, has_arcs, words_to, arcs_to)?;
         let _ = self.words.extend_from_slice(words);
         let _ = self.arcs.extend_from_slice(arcs);
-        self.heads.push_reserved(head_of(bound, has_arcs, self.words.len(), self.arcs.len()));
+        self.heads.push_reserved(head);
         Ok(())
     }
 }

@@ -1,12 +1,12 @@
 //! The tests of a cover, each by a function of its own.
 
-ghost use Rattle.std.specs.Prelude.{◌≡◌, ℕ, ◌<◌, ◌≤◌, ◌+◌, ◌^◌, ℤ, pos, ◌+ℤ◌, ◌≤ℤ◌, List, length, slice_get, Option, Some, option_map, IsTrue, IfSome, int_le};
+ghost use Rattle.std.specs.Prelude.{◌≡◌, ℕ, ◌<◌, ◌≤◌, ◌+◌, ◌^◌, ℤ, pos, ◌+ℤ◌, ◌≤ℤ◌, List, length, true, slice_get, Option, Some, option_map, IsTrue, IfSome, int_le};
 ghost use Rattle.dp_model.specs.Dp.{Dp, IsAllowed};
 ghost use Rattle.dp_model.specs.Gaps.{IsStateOf};
 ghost use Rattle.dp_model.specs.Numbers.{add_some};
 ghost use Rattle.bound_cover.specs.Covers.{CoverRow};
 ghost use Rattle.bound_cover.specs.Walking.{least_behind, lesser, at_hand, decision_of, step_fault};
-ghost use Rattle.bound_cover.specs.Tests.{is_at_most, is_state_row, arc_fault, tested, decisions_fault, row_fault};
+ghost use Rattle.bound_cover.specs.Tests.{is_at_most, is_state_row, are_states, arc_fault, tested, decisions_fault, row_fault};
 ghost use Rattle.bound_cover.specs.Stored.{shown_row, to_row_fault};
 ghost use Rattle.bound_cover.specs.Verdicts.{rows_fault, layers_fault, has_root, root_test, checked_rows, worth, solution_fault, claim_of, verdict};
 ghost use Rattle.bound_cover.specs.Clamping.{IsWritable};
@@ -15,7 +15,7 @@ ghost use Rattle.bound_cover.specs.declared.cover.Verdict.TheVariants.{Accepted}
 ghost use Rattle.bound_cover.specs.Exploring.{layer_of};
 
 use crate::cover::{CoverArc, Verdict, Why};
-use crate::storing::{Cover, RowRef};
+use crate::storing::{Cover, LayerRows, RowRef};
 use dp_model::{DpModel, walk};
 
 /// The rows of a layer.
@@ -58,7 +58,8 @@ fn is_within(gain: i64, gap: i64, bound: Option<i64>, most: Option<i64>) -> bool
     is_sum_within(gain, gap, bound, most)
 }
 
-/// The first failure of an arc to a row: it is there, is a state, and covers the next state within the bounds.
+/// The first failure of an arc to a row: it is there, is a state, and covers the next state within the bounds. Where it is `known` that
+/// all rows of the next layer are states, this is not tested again.
 fn row_arc_fault<M: DpModel>(
     model: &M,
     k: usize,
@@ -68,8 +69,10 @@ fn row_arc_fault<M: DpModel>(
     bound: Option<i64>,
     decision: u32,
     next: Option<RowRef<'_>>,
+    known: bool,
 ) -> Option<Why>
     requires layer { k < (M.meaning (M.numbers model.now)).vars }
+    requires states { IfSome next (λ r. known ≡ true → is_state_row (M.meaning (M.numbers model.now)) (k + 1) r.words.now ≡ true) }
     requires step { IsStateOf (M.meaning (M.numbers model.now)) (k + 1) step.now }
     ensures { result ≡ to_row_fault (M.meaning (M.numbers model.now)) k i gain step.now bound decision (option_map shown_row next.entry) }
 {
@@ -81,7 +84,7 @@ fn row_arc_fault<M: DpModel>(
             decision,
         });
     };
-    if !is_state_row(model, k + 1, next.words) {
+    if !known && !is_state_row(model, k + 1, next.words) {
         return Some(Why::Target {
             layer,
             row: i,
@@ -135,7 +138,9 @@ fn arc_fault<M: DpModel, N: Rows>(
     row: RowRef<'_>,
     arc: CoverArc,
     step: &mut [i64],
+    known: bool,
 ) -> Option<Why>
+    requires states { known ≡ true → are_states (M.meaning (M.numbers model.now)) (k + 1) (N.rows next.now) ≡ true }
     requires state { IsTrue ((M.meaning (M.numbers model.now)).is_state k row.words.now) }
     requires allowed { IsAllowed (M.meaning (M.numbers model.now)) k row.words.now arc.decision }
     requires cells { length step.old ≡ (M.meaning (M.numbers model.now)).words }
@@ -166,6 +171,7 @@ fn arc_fault<M: DpModel, N: Rows>(
             row.bound,
             decision,
             next.row(place),
+            known,
         ),
     }
 }
@@ -216,7 +222,9 @@ fn step_fault<M: DpModel, N: Rows>(
     decision: u32,
     arc: Option<CoverArc>,
     step: &mut [i64],
+    known: bool,
 ) -> Option<Why>
+    requires states { known ≡ true → are_states (M.meaning (M.numbers model.now)) (k + 1) (N.rows next.now) ≡ true }
     requires layer { k < (M.meaning (M.numbers model.now)).vars }
     requires choice { decision < (M.meaning (M.numbers model.now)).choices k }
     requires state { IsTrue ((M.meaning (M.numbers model.now)).is_state k row.words.now) }
@@ -237,7 +245,7 @@ fn step_fault<M: DpModel, N: Rows>(
     }
     match arc {
         None => Some(missing),
-        Some(arc) => arc_fault(model, next, k, i, row, arc, step),
+        Some(arc) => arc_fault(model, next, k, i, row, arc, step, known),
     }
 }
 
@@ -259,7 +267,9 @@ fn decisions_fault<M: DpModel, N: Rows>(
     i: u32,
     row: RowRef<'_>,
     step: &mut [i64],
+    known: bool,
 ) -> Option<Why>
+    requires states { known ≡ true → are_states (M.meaning (M.numbers model.now)) (k + 1) (N.rows next.now) ≡ true }
     requires layer { k < (M.meaning (M.numbers model.now)).vars }
     requires state { IsTrue ((M.meaning (M.numbers model.now)).is_state k row.words.now) }
     requires cells { length step.old ≡ (M.meaning (M.numbers model.now)).words }
@@ -277,7 +287,7 @@ fn decisions_fault<M: DpModel, N: Rows>(
             });
         }
         let arc = arc_at(row.arcs, place, decision);
-        let why = step_fault(model, next, k, i, row, decision, arc, step);
+        let why = step_fault(model, next, k, i, row, decision, arc, step, known);
         if why.is_some() {
             return why;
         }
@@ -317,7 +327,9 @@ pub fn row_fault<M: DpModel, N: Rows>(
     i: u32,
     row: RowRef<'_>,
     step: &mut [i64],
+    known: bool,
 ) -> Option<Why>
+    requires states { known ≡ true → are_states (M.meaning (M.numbers model.now)) (k + 1) (N.rows next.now) ≡ true }
     requires layer { k ≤ (M.meaning (M.numbers model.now)).vars }
     requires cells { length step.old ≡ (M.meaning (M.numbers model.now)).words }
     ensures { result ≡ row_fault (M.meaning (M.numbers model.now)) k i (N.rows next.now) (shown_row row.entry) }
@@ -333,7 +345,7 @@ pub fn row_fault<M: DpModel, N: Rows>(
         return Some(Why::Terminal { row: i });
     }
     if row.has_arcs {
-        return decisions_fault(model, next, k, i, row, step);
+        return decisions_fault(model, next, k, i, row, step, known);
     }
     if is_at_most(model.rough(k, row.words), row.bound) {
         None
@@ -342,7 +354,8 @@ pub fn row_fault<M: DpModel, N: Rows>(
     }
 }
 
-/// The first failure of the rows of a layer. `step` is written over.
+/// The first failure of the rows of a layer. `step` is written over; `known` says that all rows of the next layer are states, and
+/// may be false where they are.
 pub fn rows_fault<M: DpModel, L: Rows, N: Rows>(
     model: &M,
     here: &L,
@@ -350,7 +363,9 @@ pub fn rows_fault<M: DpModel, L: Rows, N: Rows>(
     next: &N,
     k: usize,
     step: &mut [i64],
+    known: bool,
 ) -> Option<Why>
+    requires states { known ≡ true → are_states (M.meaning (M.numbers model.now)) (k + 1) (N.rows next.now) ≡ true }
     requires layer { k ≤ (M.meaning (M.numbers model.now)).vars }
     requires count { count ≡ length (L.rows here.now) }
     requires cells { length step.old ≡ (M.meaning (M.numbers model.now)).words }
@@ -360,7 +375,7 @@ pub fn rows_fault<M: DpModel, L: Rows, N: Rows>(
         let Some(row) = here.row(i) else {
             return None;
         };
-        let why = row_fault(model, next, k, i, row, step);
+        let why = row_fault(model, next, k, i, row, step, known);
         if why.is_some() {
             return why;
         }
@@ -368,18 +383,43 @@ pub fn rows_fault<M: DpModel, L: Rows, N: Rows>(
     None
 }
 
-/// A layer of a cover.
-#[derive(Clone, Copy)]
-pub struct LayerOf<'c> {
-    cover: &'c Cover,
-    layer: usize,
-}
-
-impl<'c> Rows for LayerOf<'c> {
-    ghost rows = { λ l. layer_of l.cover.now l.layer };
+impl<'c> Rows for LayerRows<'c> {
+    ghost rows = { λ l. l };
 
     fn row(&self, place: u32) -> Option<RowRef<'_>> {
-        self.cover.row(self.layer, place as usize)
+        self.at(place as usize)
+    }
+}
+
+/// Whether all rows are states of the layer.
+fn are_states<M: DpModel, L: Rows>(model: &M, k: usize, rows: &L, count: u32) -> bool
+    requires layer { k ≤ (M.meaning (M.numbers model.now)).vars }
+    requires count { count ≡ length (L.rows rows.now) }
+    ensures { result ≡ are_states (M.meaning (M.numbers model.now)) k (L.rows rows.now) }
+{
+    'rows: for i in 0..count {
+        let Some(row) = rows.row(i) else {
+            return false;
+        };
+        if !is_state_row(model, k, row.words) {
+            return false;
+        }
+    }
+    true
+}
+
+/// Whether there is a next layer whose rows are states. They are looked at in order here, so that the arcs that lead to them
+/// out of order find them near.
+fn next_are_states<M: DpModel>(model: &M, cover: &Cover, k: usize) -> bool
+    requires long { length cover.now ≡ (M.meaning (M.numbers model.now)).vars + 1 }
+    requires layer { k < length cover.now }
+    ensures { result ≡ true → are_states (M.meaning (M.numbers model.now)) (k + 1) (layer_of cover.now (k + 1)) ≡ true }
+{
+    if k + 1 < cover.layers() {
+        let rows = cover.layer(k + 1);
+        are_states(model, k + 1, &rows, cover.rows(k + 1) as u32)
+    } else {
+        false
     }
 }
 
@@ -391,12 +431,10 @@ pub fn layers_fault<M: DpModel>(model: &M, cover: &Cover, step: &mut [i64]) -> O
     ensures { result ≡ layers_fault (M.meaning (M.numbers model.now)) 0 cover.now }
 {
     'layers: for k in 0..cover.layers() {
-        let here = LayerOf { cover, layer: k };
-        let next = LayerOf {
-            cover,
-            layer: k + 1,
-        };
-        let why = rows_fault(model, &here, cover.rows(k) as u32, &next, k, step);
+        let here = cover.layer(k);
+        let next = cover.layer(k + 1);
+        let known = next_are_states(model, cover, k);
+        let why = rows_fault(model, &here, cover.rows(k) as u32, &next, k, step, known);
         if why.is_some() {
             return why;
         }
@@ -458,7 +496,7 @@ pub fn check_rows<M: DpModel>(
         return Some(Why::Layers);
     }
     model.root(root);
-    let first = LayerOf { cover, layer: 0 };
+    let first = cover.layer(0);
     if !has_root(model, &first, cover.rows(0) as u32, root, claim) {
         return Some(Why::Root);
     }

@@ -75,9 +75,6 @@ node-more f d depth i old now new row less h is n =
     let more : map f (take (i + 1) layer) ≡ map f (take i layer) ++ row ∷ [] = map_more f layer i x.0 less ∙ ap (λ r. map f (take i layer) ++ r ∷ []) (ap f same ∙ its) in
     n ∙ (ap (λ l. l ++ row ∷ []) h ∙ (append_assoc old (map f (take i layer)) (row ∷ []) ∙ ap (λ l. old ++ l) (sym more)))
 
-pub nodes-all : (f : DdNode → CoverRow) (d : DdLayers) (depth i : ℕ) (old now : List CoverRow) → i ≡ length (layer_in d depth) → now ≡ old ++ map f (take i (layer_in d depth)) → now ≡ old ++ map f (layer_in d depth)
-nodes-all f d depth i old now end h = h ∙ ap (λ l. old ++ map f l) (take_all i (layer_in d depth) (omega arith))
-
 -- whether all nodes wait, one after another
 pub waits-so-far : (claim : Option ℤ) (d : DdLayers) (depth i : ℕ) → i < length (layer_in d depth) → option_map (leads_above claim) (node_at d depth i) ≡ Some true → all_wait claim (drop i (layer_in d depth)) ≡ all_wait claim (layer_in d depth)
     → all_wait claim (drop (i + 1) (layer_in d depth)) ≡ all_wait claim (layer_in d depth)

@@ -101,17 +101,6 @@ added-below dp claim d end j rows far =
 
 -- ---- steps of the loop over layers
 
-pub adds-none : (dp : Dp) (claim : Option ℤ) (d : DdLayers) (rows : List (List CoverRow)) → AreAdded dp claim d (d.first + 1) rows rows
-adds-none dp claim d rows = record {
-  long = refl;
-  layers = λ j.
-      let split : (j ≤ d.first) ⊎ (d.first + 1 ≤ j) = grind arith in
-      elim split as (λ _. layer_of rows j ≡ added_layer dp claim d (d.first + 1) rows j) [
-        | inl high ↦ sym (added-above dp claim d (d.first + 1) j rows high)
-        | inr far ↦ sym (added-below dp claim d (d.first + 1) j rows far)
-      ];
-}
-
 -- a layer that is not yet reached is as it was
 not-yet : (dp : Dp) (claim : Option ℤ) (d : DdLayers) (k j : ℕ) (old rows : List (List CoverRow)) → AreAdded dp claim d k old rows → k ≤ j → layer_of rows j ≡ layer_of old j
 not-yet dp claim d k j old rows h far = h.layers j ∙ added-below dp claim d k j old far

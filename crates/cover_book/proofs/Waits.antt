@@ -17,9 +17,6 @@ pub record IsWaitingTo (dp : Dp) (claim : Option ℤ) (d : DdLayers) (depth star
   pub waiting : waiting_of now ++ waiting_in claim (start + i) (drop i (layer_in d depth)) ≡ waiting_of old ++ waiting_in claim start (layer_in d depth)
   pub own : AreOwn dp now
 
-pub waits-start : (dp : Dp) (claim : Option ℤ) (d : DdLayers) (depth start : ℕ) (old : List WaitingRow) → AreOwn dp old → IsWaitingTo dp claim d depth start 0 old old
-waits-start dp claim d depth start old own = record { waiting = ap (λ n. waiting_of old ++ waiting_in claim n (layer_in d depth)) (let e : start + 0 ≡ start = omega arith in e); own = own }
-
 -- what a node says
 pub node-is : (d : DdLayers) (depth i : ℕ) → i < length (layer_in d depth) → IsSome (node_at d depth i)
 node-is d depth i less = let x = there (layer_in d depth) i less in subst (λ (o : Option DdNode). IsSome o) (sym (node-here d depth i ∙ x.1)) refl
@@ -70,8 +67,3 @@ waits-not dp claim d depth start i old now less h leads =
 append-none : {X : Type 0} (xs : List X) → xs ++ [] ≡ xs
 append-none [] = refl
 append-none (x ∷ xs) = ap (λ ys. x ∷ ys) (append-none xs)
-
-pub waits-all : (dp : Dp) (claim : Option ℤ) (d : DdLayers) (depth start i : ℕ) (old now : List WaitingRow) → i ≡ length (layer_in d depth) → IsWaitingTo dp claim d depth start i old now → waiting_of now ≡ waiting_of old ++ waiting_in claim start (layer_in d depth)
-waits-all dp claim d depth start i old now end h =
-    let none : waiting_in claim (start + i) (drop i (layer_in d depth)) ≡ [] = ap (waiting_in claim (start + i)) (drop_all i (layer_in d depth) (omega arith)) in
-    sym (append-none (waiting_of now)) ∙ (ap (λ l. waiting_of now ++ l) (sym none) ∙ h.waiting)

@@ -12,10 +12,3 @@ less-fits dp v w le fits =
     let cost = fits.cost in
     let less : v * cost_below dp dp.vars ≤ w * cost_below dp dp.vars = mul-le-mul_right (cost_below dp dp.vars) le in
     record { most = omega arith; cost = omega arith }
-
--- the lesser of the greatest width and a positive number fits
-pub lesser-fits : (dp : Dp) (greatest n : ℕ) → IsGreatestWidth dp greatest → 1 ≤ greatest → 1 ≤ n → IsWidth dp (min greatest n)
-lesser-fits dp greatest n is some positive = record {
-  positive = le-min some positive;
-  fits = less-fits dp (min greatest n) greatest (min-le_left greatest n) is.fits;
-}

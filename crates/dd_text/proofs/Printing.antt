@@ -6,7 +6,7 @@ use Rattle.std.proofs.Math.Seq.{take-append_seam, drop-append_seam}
 use Rattle.std.proofs.lemmas.Bool.{and_parts, and_right, not-true}
 use Rattle.std.proofs.lemmas.Bool.Decides.{nat_tests}
 use Rattle.std.proofs.lemmas.Int.{ints}
-use Rattle.dd_text.specs.Text.{TextState, Place, Comment, text_start, is_blank, is_solid, opens_comment, place_after, is_passed, is_inside_after, skip, at_token, token, place_of, number_of, number_in, number_at, word_in, word_at, nothing_in, finish_at, ends_line, is_at_end, after_token}
+use Rattle.dd_text.specs.Text.{TextState, Place, Comment, text_start, is_blank, is_solid, opens_comment, place_after, is_passed, is_inside_after, skip, at_token, token, place_of, number_of, number_in, number_at, word_in, word_at, nothing_in, finish_at, ends_line, after_token}
 use Rattle.dd_text.specs.Decimal.{decimal_of}
 use Rattle.dd_text.specs.Printed.{IsBefore, ReadsNumber, ReadsWord}
 use Rattle.dd_text.proofs.Digits.{is_printed, number_of-decimal_of}
@@ -156,10 +156,6 @@ passes_natural n least greatest b more s low high fits blank before =
     passes_number (pos n) (pos least) (pos greatest) b more s (omega arith) (omega (arith, ints)) (omega (arith, ints)) blank before
 
 -- no token is left behind the last blanks
-pub is_at_end_before : (s : TextState) → IsBefore [] s → is_at_end s ≡ true
-unfolding is_at_end
-is_at_end_before s before = rw (at_nothing s before).rest_is refl
-
 pub no_token_before : (s : TextState) → IsBefore [] s → token s ≡ []
 unfolding token
 no_token_before s before = rw (at_nothing s before).rest_is refl
@@ -167,18 +163,6 @@ no_token_before s before = rw (at_nothing s before).rest_is refl
 pub finishes : (s : TextState) → IsBefore [] s → finish_at s ≡ Ok tt
 unfolding finish_at
 finishes s before = ap (nothing_in (place_of s)) (no_token_before s before)
-
-not_empty : (x : ℕ) (xs : List ℕ) → nat_eq (length (x ∷ xs)) 0 ≡ false
-not_empty x xs = grind (arith, nat_tests)
-
--- a token is left before a printed number
-pub is_at_end_number : (z : ℤ) (more : List ℕ) (s : TextState) → nat_abs z < 2 ^ 64 → IsBefore (decimal_of z ++ more) s → is_at_end s ≡ false
-unfolding is_at_end
-is_at_end_number z more s small before =
-    let p = is_printed z small in
-    let ahead : IsBefore (p.first ∷ (p.others ++ more)) s = subst (λ (w : List ℕ). IsBefore (w ++ more) s) p.printed_is before in
-    let at = at_word p.first (p.others ++ more) s (and_parts _ _ p.solid).0 (p.plain s.comment) ahead in
-    rw at.rest_is (not_empty p.first (p.others ++ more))
 
 -- LF ends a line
 pub ends_line_LF : (more : List ℕ) (s : TextState) → s.rest ≡ 10 ∷ more → ends_line s ≡ true

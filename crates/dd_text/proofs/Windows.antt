@@ -1,12 +1,12 @@
 -- A number of few digits, read in a part of the bytes.
-use Rattle.std.proofs.Common.{◌≡◌, ◌≢◌, ℕ, zero, suc, ◌+◌, ◌-◌, ◌*◌, ◌^◌, ◌≤◌, ◌<◌, min, Bool, true, false, List, [], ◌∷◌, length, take, drop, get_or, refl, ap, ◌∙◌, sym, subst, arith}
-use Rattle.std.specs.Prelude.{Some, None, option_map, ℤ, pos, int_le, ◌&&◌, Ok}
+use Rattle.std.proofs.Common.{◌≡◌, ◌≢◌, ℕ, zero, suc, ◌-◌, ◌^◌, ◌≤◌, ◌<◌, min, Bool, true, false, List, [], ◌∷◌, length, take, drop, get_or, refl, ap, ◌∙◌, sym, subst, arith}
+use Rattle.std.specs.Prelude.{Some, option_map, ℤ, pos, int_le, ◌&&◌, Ok}
 use Rattle.std.proofs.lemmas.List.{length-drop, length-take-le, take_all}
 use Rattle.std.specs.Char.{is_ascii_digit}
-use Rattle.dd_text.specs.Text.{Place, is_blank, is_solid, value_after, natural_of, number_in, within, signed_of}
+use Rattle.dd_text.specs.Text.{Place, is_solid, value_after, number_in, within, signed_of}
 use Rattle.dd_text.specs.Scanned.{first_token, behind_token, head_digits, behind_digits}
 use Rattle.dd_text.proofs.Digits.{digit_range}
-use Rattle.dd_text.proofs.Scanning.{digits_first, no_digits, token_first, blank_first, digits_long, digits_natural, behind_alone, plain_number, solid}
+use Rattle.dd_text.proofs.Scanning.{digits_first, no_digits, token_first, blank_first, digits_long, digits_natural, behind_alone, plain_number}
 
 -- where the digits end before a blank in the first n bytes, they are those of all bytes, and no token begins behind them
 abbrev Same : ℕ → List ℕ → Type 0

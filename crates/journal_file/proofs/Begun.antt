@@ -39,9 +39,6 @@ begins file (inr probed) = probed_not_begun false file probed
 pub torn_first : (file c : List ℕ) → length file ≤ 1 → Torn 0 1 file c → journal_of c ≡ Err NotBegun
 torn_first file c short torn = short_file c (omega (arith, torn.no_longer))
 
-pub written_first : (file new : List ℕ) → length file ≤ 1 → Holds file 0 (0 ∷ []) new → new ≡ 0 ∷ []
-written_first file new short holds = holds ∙ ap (λ (l : List ℕ). 0 ∷ l) (drop_all 1 file short)
-
 -- no record, or the head
 pub first_record : (h : HeadView) (c : List ℕ) → length h.text < 2 ^ 32 → IsBeforeOrAfter [] (head_frame h) c → IsBegun h c
 unfolding journal_in

@@ -1,5 +1,5 @@
 -- A workspace whose last two layers were changed by a step.
-use Rattle.std.proofs.Common.{◌≡◌, ◌≢◌, ℕ, zero, suc, ◌+◌, ◌-◌, ◌*◌, ◌<◌, ◌≤◌, ℤ, Bool, true, false, cond, ◌||◌, List, [], ◌∷◌, map, set, length, get_or, slice_index_or, Option, ◌⊎◌, inl, inr, refl, sym, ap, ap₂, ◌∙◌, subst, arith}
+use Rattle.std.proofs.Common.{◌≡◌, ℕ, ◌+◌, ◌-◌, ◌<◌, ◌≤◌, ℤ, Bool, true, false, cond, ◌||◌, List, [], ◌∷◌, map, set, length, get_or, slice_index_or, Option, ◌⊎◌, inl, inr, refl, sym, ap, ap₂, ◌∙◌, subst, arith}
 use Rattle.std.specs.Vec.{with_item}
 use Rattle.std.proofs.lemmas.List.{get_or-set_other, get_or-set_same}
 use Rattle.dp_model.specs.Dp.{Dp}
@@ -13,13 +13,13 @@ use Rattle.layer_nodes.specs.Steps.{IsRanked, KeepsNodes, KeepsRoom}
 use Rattle.dp_laws.proofs.Rules.Pruned.{few-pruned}
 use Rattle.layer_build.specs.contracts.workspace.Workspace.{the_view, the_invariant}
 use Rattle.layer_build.specs.declared.workspace.Workspace.TheInside.{Inside}
-use Rattle.layer_build.specs.Layers.{SpaceView, last_depth, last_layer, on_last_two}
-use Rattle.layer_build.specs.Stacked.{no_layer, place_of, place_above, room_of, HaveRooms, HasStack, HaveDepths, path_in, shown_down}
+use Rattle.layer_build.specs.Layers.{last_depth, last_layer, on_last_two}
+use Rattle.layer_build.specs.Stacked.{no_layer, place_above, room_of, HaveRooms, HaveDepths, path_in, shown_down}
 use Rattle.layer_build.specs.UnderWay.{IsUnderWay, last_two}
 use Rattle.layer_build.proofs.Kept.{last-two}
 use Rattle.layer_build.proofs.Shown.{ranks-of}
-use Rattle.layer_build.proofs.Stacks.{at_depth, newest-at, above-low, above-first, above-later, place-low, count-of, rooms-set, map-length}
-use Rattle.layer_build.proofs.Going.{above_of, last_paths, deep, last-seen, count-seen, first-or, top-empty, two-view, above-within}
+use Rattle.layer_build.proofs.Stacks.{at_depth, newest-at, above-first, above-later, place-low, count-of, rooms-set, map-length}
+use Rattle.layer_build.proofs.Going.{above_of, last_paths, deep, last-seen, count-seen, first-or, top-empty, two-view}
 
 -- the workspace with its last two layers changed
 abbrev pub changed : Inside → ℕ → LayerView → LayerView → ℕ → Option ℕ → Inside

@@ -1,15 +1,14 @@
 -- Exact nodes keep paths of their depth.
-use Rattle.std.proofs.Common.{◌≡◌, ℕ, zero, suc, ◌+◌, ◌-◌, ◌<◌, ◌≤◌, ℤ, Bool, false, true, List, [], ◌∷◌, ◌++◌, map, take, drop, length, Option, Some, None, IsTrue, ◌⊎◌, inl, inr, refl, sym, ap, ◌∙◌, subst, arith, length-append}
+use Rattle.std.proofs.Common.{◌≡◌, ℕ, ◌+◌, ◌-◌, ◌<◌, ℤ, false, true, List, [], ◌∷◌, ◌++◌, map, take, drop, length, Option, IsTrue, refl, sym, ap, ◌∙◌, subst, arith, length-append}
 use Rattle.dp_model.specs.Dp.{Dp}
-use Rattle.dp_model.specs.Lists.{Each}
 use Rattle.dp_model.specs.Reached.{Reached}
-use Rattle.dp_model.proofs.Members.{Has, Each-append, Each-map, Each-then, each-has, each-of-all}
+use Rattle.dp_model.proofs.Members.{Each-append, Each-map, Each-then, each-has, each-of-all}
 use Rattle.dp_laws.specs.Diagrams.Nodes.{DdNode}
 use Rattle.dp_laws.specs.Diagrams.Seen.{decisions_at}
 use Rattle.dp_laws.specs.Rules.Redirects.{Redirect, redirected, with_redirected}
 use Rattle.dp_laws.specs.Rules.Expanding.{is_exact_row, new_layer, arc_of}
 use Rattle.dp_laws.specs.Rules.Pruning.{pruned_nodes}
-use Rattle.dp_laws.specs.Rules.Reducing.{keep_redirects, merge_redirects, merged_node, merged_layer}
+use Rattle.dp_laws.specs.Rules.Reducing.{merged_node, merged_layer}
 use Rattle.dp_laws.specs.Rules.Compiling.{TwoLayers, expand, prune, keep_first, merge_rest}
 use Rattle.dp_laws.proofs.Rules.Built.{in-take}
 use Rattle.dp_laws.proofs.Rules.Expanded.{new-node, exact-maker, makes-by}

@@ -16,3 +16,4 @@ pub mod Suffixed
 pub mod Standing
 pub mod Ready
 pub mod Parents
+pub mod Ended

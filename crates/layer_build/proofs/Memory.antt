@@ -1,18 +1,10 @@
 -- The memory of a workspace.
-use Rattle.std.proofs.Common.{◌≡◌, ℕ, zero, suc, ◌+◌, ◌-◌, ◌*◌, ◌^◌, ◌<◌, ◌≤◌, List, [], ◌∷◌, ◌++◌, map, length, get_or, slice_index_or, max, vec_capacity, refl, sym, ap, ap₂, ◌∙◌, subst, arith, add-one, length-append, ◌⊎◌, inl, inr}
-use Rattle.std.proofs.lemmas.List.{get_or_append_left, get_or-append-add}
+use Rattle.std.proofs.Common.{◌≡◌, ℕ, ◌+◌, ◌*◌, ◌^◌, ◌<◌, ◌≤◌, List, [], ◌∷◌, ◌++◌, map, length, vec_capacity, sym, ap, ◌∙◌, subst, arith, add-one}
 use Rattle.dp_model.specs.Decisions.{below}
 use Rattle.dp_model.specs.Dp.{Dp}
-use Rattle.dp_model.specs.Laws.{IsLawful}
 use Rattle.layer_candidates.specs.Beaming.{HasLayers}
 use Rattle.layer_candidates.specs.declared.beam.Beam.{Beam}
-use Rattle.layer_nodes.specs.Nodes.{LayerView}
-use Rattle.layer_build.specs.Layers.{IsWidth}
-use Rattle.layer_build.specs.Stacked.{empty_layer, no_layer, room_of, HaveRooms, HasStack}
-use Rattle.layer_build.specs.Preparing.{IsReady}
-use Rattle.layer_build.specs.declared.stack.Stack.{Stack}
-use Rattle.layer_build.proofs.Rooms.{choice-few}
-use Rattle.layer_build.proofs.Stacks.{choice-at, length-below, map-append, map-length, below-at}
+use Rattle.layer_build.proofs.Stacks.{choice-at, length-below, map-append, map-length}
 
 pub below-next : {X : Type 0} (f : ℕ → X) (k : ℕ) → map f (below (k + 1)) ≡ map f (below k) ++ f k ∷ []
 below-next f k = ap (λ (n : ℕ). map f (below n)) (add-one k) ∙ map-append f (below k) (k ∷ [])

@@ -1,14 +1,13 @@
 -- What the readers of a workspace read.
-use Rattle.std.proofs.Common.{◌≡◌, ◌≢◌, ℕ, zero, suc, ◌+◌, ◌-◌, ◌*◌, ◌<◌, ◌≤◌, List, [], ◌∷◌, map, length, get_or, slice_get, slice_index_or, Option, Some, None, IsSome, option_map, option_and_then, unwrap_or, ◌⊎◌, inl, inr, Bool, true, false, refl, sym, ap, ap₂, ◌∙◌, subst, arith}
-use Rattle.dp_laws.specs.Diagrams.Nodes.{DdNode, DdLayers, node_at}
-use Rattle.layer_nodes.specs.Nodes.{NodeView, LayerView, shown, shown_from, shown_layer}
+use Rattle.std.proofs.Common.{◌≡◌, ℕ, zero, suc, ◌+◌, ◌-◌, ◌<◌, ◌≤◌, List, [], ◌∷◌, length, slice_get, Option, Some, None, IsSome, option_map, option_and_then, unwrap_or, ◌⊎◌, inl, inr, true, false, refl, sym, ap, ◌∙◌, subst, arith}
+use Rattle.dp_laws.specs.Diagrams.Nodes.{DdNode, node_at}
+use Rattle.layer_nodes.specs.Nodes.{NodeView, shown, shown_from, shown_layer}
 use Rattle.layer_build.specs.contracts.workspace.Workspace.{the_view, the_invariant}
 use Rattle.layer_build.specs.declared.workspace.Workspace.TheInside.{Inside}
-use Rattle.layer_build.specs.Layers.{SpaceView, diagram_of, last_depth, layer_at}
-use Rattle.layer_build.specs.Stacked.{no_layer, place_of, path_in, paths_at, paths_below, shown_down, shown_stack, nodes_in, layer_in}
-use Rattle.layer_build.proofs.Shown.{length-down, length-shown}
+use Rattle.layer_build.specs.Layers.{SpaceView, diagram_of, layer_at}
+use Rattle.layer_build.specs.Stacked.{place_of, path_in, paths_at, paths_below, shown_down, shown_stack, nodes_in}
+use Rattle.layer_build.proofs.Shown.{length-shown}
 use Rattle.layer_build.proofs.Stacks.{place-low, count-of}
-use Rattle.layer_build.proofs.Going.{deep}
 
 -- the j-th layer that is seen
 pub layer-down : (nodes : ℕ → List NodeView) (ps : List (List ℕ)) (k m j d : ℕ) → j ≤ m → k + j ≡ d → slice_get (shown_down nodes ps k m) j ≡ Some (shown_layer (path_in (paths_at nodes ps k j)) (nodes d))

@@ -1,5 +1,5 @@
 -- How much memory layers of a width need.
-use Rattle.std.proofs.Common.{◌≡◌, ℕ, zero, suc, ◌+◌, ◌*◌, ◌^◌, ◌<◌, ◌≤◌, max, vec_capacity, mul-le-mul_left, mul-le-mul_right, refl, sym, ap, subst, ◌∙◌, ◌⊎◌, inl, inr, arith}
+use Rattle.std.proofs.Common.{◌≡◌, ℕ, zero, suc, ◌+◌, ◌*◌, ◌^◌, ◌<◌, ◌≤◌, max, vec_capacity, mul-le-mul_left, mul-le-mul_right, sym, ap, subst, ◌∙◌, ◌⊎◌, inl, inr, arith}
 use Rattle.dp_model.specs.Dp.{Dp}
 use Rattle.dp_model.specs.Laws.{IsLawful}
 use Rattle.dp_laws.specs.Width.{cost_below, FitsWidth, IsGreatestWidth}
@@ -34,27 +34,12 @@ vars-few dp laws w h =
     let c = mul-le-mul_left w (vars-cost dp laws dp.vars) in
     omega arith
 
--- a width fits where it is at most the greatest
-pub width-fits : (dp : Dp) (w g : ℕ) → IsGreatestWidth dp g → w ≤ g → FitsWidth dp w
-width-fits dp w g h le =
-    let most = h.fits.most in
-    let cost = h.fits.cost in
-    let c = mul-le-mul_right (cost_below dp dp.vars) le in
-    record { most = omega arith; cost = omega arith }
-
 -- One layer more.
 
 pub record AreEnoughTo (dp : Dp) (w n room before : ℕ) : Type 0 where
   pub enough : AreEnough dp w n room
   pub last : (k : ℕ) → k + 1 ≡ n → before ≡ dp.choices k
   pub before_few : before ≤ 1024
-
-pub enough-none : (dp : Dp) (w : ℕ) → AreEnoughTo dp w 0 1 0
-enough-none dp w = record {
-  enough = record { some = omega arith; first = λ k less. absurd (omega arith); second = λ k less. absurd (omega arith); later = λ k less. absurd (omega arith); few = omega arith };
-  last = λ k e. absurd (omega arith);
-  before_few = omega arith;
-}
 
 pub enough-more : (dp : Dp) → IsLawful dp → (w n room before choices new : ℕ) → IsWidth dp w → n < dp.vars → AreEnoughTo dp w n room before → choices ≡ dp.choices n
     → room ≤ new → w * choices ≤ new → before * choices ≤ new → new ≤ 2 ^ 25 → AreEnoughTo dp w (n + 1) new choices

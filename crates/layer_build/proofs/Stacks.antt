@@ -1,13 +1,13 @@
 -- Where the layers of a stack lie.
-use Rattle.std.proofs.Common.{◌≡◌, ◌≢◌, ℕ, zero, suc, ◌+◌, ◌-◌, ◌*◌, ◌^◌, ◌<◌, ◌≤◌, nat_eq, Bool, true, false, cond, List, [], ◌∷◌, ◌++◌, map, set, length, get_or, slice_index_or, ◌⊎◌, inl, inr, mul-le-mul_right, refl, sym, ap, ◌∙◌, subst, arith, length-append}
+use Rattle.std.proofs.Common.{◌≡◌, ◌≢◌, ℕ, zero, suc, ◌+◌, ◌-◌, ◌*◌, ◌<◌, ◌≤◌, nat_eq, Bool, true, false, cond, List, [], ◌∷◌, ◌++◌, map, set, length, get_or, slice_index_or, ◌⊎◌, inl, inr, mul-le-mul_right, refl, sym, ap, ◌∙◌, subst, arith, length-append}
 use Rattle.std.proofs.lemmas.Bool.Decides.{nat_tests}
-use Rattle.std.proofs.lemmas.List.{get_or-set_same, get_or-set_other, get_or_default}
+use Rattle.std.proofs.lemmas.List.{get_or-set_same, get_or-set_other}
 use Rattle.std.proofs.Math.ListN.{get_or-map}
 use Rattle.std.proofs.Math.Seq.{map-set_same, get_or-append_seam}
 use Rattle.std.proofs.lemmas.List.{get_or_append_left}
 use Rattle.dp_model.specs.Decisions.{below}
 use Rattle.dp_model.specs.Dp.{Dp}
-use Rattle.layer_nodes.specs.Nodes.{NodeView, LayerView, shown_layer}
+use Rattle.layer_nodes.specs.Nodes.{NodeView, LayerView}
 use Rattle.layer_nodes.specs.Steps.{KeepsRoom}
 use Rattle.layer_build.specs.Layers.{AreEnough}
 use Rattle.layer_build.specs.Stacked.{no_layer, place_of, place_above, room_of, HaveRooms, shown_down}
@@ -35,7 +35,7 @@ place-other vars first depth n = ap (λ (b : Bool). cond b vars depth) (other-te
 pub place-second : (vars first depth : ℕ) → depth ≡ first + 1 → place_of vars first depth ≡ vars
 place-second vars first depth e = ap (λ (b : Bool). cond b vars depth) (eq-test depth (first + 1) e)
 
-is-or : (a b : ℕ) → (a ≡ b) ⊎ (a ≢ b)
+pub is-or : (a b : ℕ) → (a ≡ b) ⊎ (a ≢ b)
 is-or a b = elim (nat_eq a b) as (λ v. nat_eq a b ≡ v → (a ≡ b) ⊎ (a ≢ b)) [
   | true ↦ λ e. inl (grind (arith, nat_tests))
   | false ↦ λ e. inr (λ same. let t = eq-test a b same in absurd (let clash : true ≡ false = sym t ∙ e in cc))

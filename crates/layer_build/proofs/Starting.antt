@@ -1,16 +1,12 @@
 -- A compilation starts from a prefix.
-use Rattle.std.proofs.Common.{◌≡◌, ℕ, zero, suc, ◌+◌, ◌-◌, ◌≤◌, ℤ, true, List, [], ◌∷◌, map, length, None, refl, sym, ap, ap₂, ◌∙◌, subst, arith}
+use Rattle.std.proofs.Common.{◌≡◌, ℕ, ◌-◌, ◌≤◌, ℤ, true, List, [], ◌∷◌, map, length, None, refl, sym, ap, ap₂, ◌∙◌, subst, arith}
 use Rattle.dp_model.specs.Dp.{Dp}
-use Rattle.dp_model.specs.Gaps.{IsStateOf}
-use Rattle.dp_model.specs.Laws.{IsLawful}
-use Rattle.dp_model.specs.Prefixes.{IsPrefix, state_of, value_of}
+use Rattle.dp_model.specs.Prefixes.{state_of, value_of}
 use Rattle.dp_model.specs.Reached.{reached}
-use Rattle.dp_model.proofs.Paths.{state_of-state}
-use Rattle.dp_laws.specs.Diagrams.Nodes.{DdNode}
 use Rattle.dp_laws.specs.Rules.Compiling.{start_layer}
 use Rattle.layer_nodes.specs.Nodes.{NodeView, LayerView, shown_layer}
 use Rattle.layer_nodes.specs.Steps.{KeepsRoom}
-use Rattle.layer_build.specs.contracts.workspace.Workspace.{the_view, the_invariant}
+use Rattle.layer_build.specs.contracts.workspace.Workspace.{the_invariant}
 use Rattle.layer_build.specs.declared.workspace.Workspace.TheInside.{Inside}
 use Rattle.layer_build.specs.declared.stack.Stack.{Stack}
 use Rattle.layer_build.specs.Stacked.{HasSpace, HaveRooms, HaveDepths, path_in, shown_down, shown_stack, nodes_in, room_of}

@@ -49,6 +49,22 @@ like-in (suc j) i s [] = tt
 like-in zero i s (x ∷ l) = (like-set i s x, all-like-self l)
 like-in (suc j) i s (x ∷ l) = (like-self x, like-in j i s l)
 
+like-with : (rule : List DdArc → Option ℤ) (xs : List DdNode) → AreLike xs (map (λ (n : DdNode). record n { suffix = rule n.arcs }) xs)
+like-with rule [] = tt
+like-with rule (a ∷ xs) = (refl, like-with rule xs)
+
+-- the layers with suffixes that the arcs of the nodes of the j-th of them give
+abbrev pub ended_by : (List DdArc → Option ℤ) → ℕ → List (List DdNode) → List (List DdNode)
+ended_by rule j [] = []
+ended_by rule zero (layer ∷ rest) = map (λ (n : DdNode). record n { suffix = rule n.arcs }) layer ∷ rest
+ended_by rule (suc j) (layer ∷ rest) = layer ∷ ended_by rule j rest
+
+pub like-ended : (rule : List DdArc → Option ℤ) (j : ℕ) (l : List (List DdNode)) → AreAllLike l (ended_by rule j l)
+like-ended rule zero [] = tt
+like-ended rule (suc j) [] = tt
+like-ended rule zero (x ∷ l) = (like-with rule x, all-like-self l)
+like-ended rule (suc j) (x ∷ l) = (like-self x, like-ended rule j l)
+
 length-like : (xs ys : List DdNode) → AreLike xs ys → length ys ≡ length xs
 length-like [] [] h = refl
 length-like [] (b ∷ ys) h = absurd h
@@ -188,7 +204,7 @@ paths-set above [] (suc i) s = refl
 paths-set above (n ∷ nodes) zero s = refl
 paths-set above (n ∷ nodes) (suc i) s = ap (λ (l : List (List ℕ)). path_below (path_in above) n.parent n.decision ∷ l) (paths-set above nodes i s)
 
-same-down : (old new : ℕ → List NodeView) (e : ℕ) (k m : ℕ) → k + m ≤ e → ((j : ℕ) → k ≤ j → j ≤ e → new j ≡ old j) → (ps : List (List ℕ)) → shown_down new ps k m ≡ shown_down old ps k m
+pub same-down : (old new : ℕ → List NodeView) (e : ℕ) (k m : ℕ) → k + m ≤ e → ((j : ℕ) → k ≤ j → j ≤ e → new j ≡ old j) → (ps : List (List ℕ)) → shown_down new ps k m ≡ shown_down old ps k m
 same-down old new e k zero low same ps = ap (λ (l : List NodeView). shown_layer (path_in ps) l ∷ []) (same k (omega arith) (omega arith))
 same-down old new e k (suc m) low same ps =
     let here = same k (omega arith) (omega arith) in

@@ -44,17 +44,6 @@ append-none : (xs : List ℕ) → xs ++ [] ≡ xs
 append-none [] = refl
 append-none (x ∷ xs) = ap (λ (l : List ℕ). x ∷ l) (append-none xs)
 
-pub walked-start : (s : Stack) (prefix out : List ℕ) (depth node : ℕ) → s.first ≤ depth → length out ≡ depth → node < length (nodes_in s depth)
-    → length (path_of (nodes_in s) prefix s.first depth node) ≡ depth → IsWalked s prefix out depth node depth node
-walked-start s prefix out depth node above size place long = record {
-  above = above;
-  low = omega arith;
-  size = size;
-  place = λ _. place;
-  long = long;
-  list = ap (λ (l : List ℕ). path_of (nodes_in s) prefix s.first depth node ++ l) (drop_all depth out (omega arith)) ∙ append-none (path_of (nodes_in s) prefix s.first depth node);
-}
-
 -- the paths of the nodes of a layer below the first one
 paths-are : (nodes : ℕ → List NodeView) (prefix : List ℕ) (first k : ℕ) → first < k
     → paths_at nodes (prefix ∷ []) first (k - first) ≡ paths_below (paths_at nodes (prefix ∷ []) first (k - 1 - first)) (nodes k)
@@ -192,9 +181,6 @@ count_all layers = sum_by (λ (layer : List DdNode). length layer) layers
 pub record AreCounted (s : Stack) (a depth rows : ℕ) : Type 0 where
   pub all : (prefix : List ℕ) → rows + count_all (drop (depth - s.first) (shown_stack prefix s)) ≡ count_all (drop (a - s.first) (shown_stack prefix s))
   pub few : rows ≤ depth * 2 ^ 25
-
-pub counted-start : (s : Stack) (a : ℕ) → AreCounted s a a 0
-counted-start s a = record { all = λ prefix. omega arith; few = omega arith }
 
 pub counted-more : (s : Stack) (a depth rows n : ℕ) → AreCounted s a depth rows → s.first ≤ depth → depth ≤ s.last → n ≡ length (nodes_in s depth) → n ≤ 2 ^ 25 → AreCounted s a (depth + 1) (rows + n)
 counted-more s a depth rows n h above low count small = record {

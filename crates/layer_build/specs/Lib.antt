@@ -5,3 +5,4 @@ pub mod UnderWay
 pub mod Space
 pub mod Finding
 pub mod Kept
+pub mod Ended

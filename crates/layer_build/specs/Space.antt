@@ -1,5 +1,5 @@
 -- What a workspace is prepared for.
-use Rattle.std.specs.Prelude.{◌≡◌, ℕ, ◌+◌, ◌*◌, ◌^◌, ◌<◌, ◌≤◌, Result, Ok, Err}
+use Rattle.std.specs.Prelude.{◌≡◌, ℕ, Result, Ok, Err}
 use Rattle.dp_model.specs.Dp.{Dp}
 use Rattle.layer_build.specs.Layers.{SpaceView, IsWidth, IsPreparedFor}
 use Rattle.layer_build.specs.declared.workspace.PrepareError.{PrepareError}

@@ -1,14 +1,18 @@
 //! What the layers of a workspace are, as its readers show them.
 
-ghost use Rattle.std.specs.Prelude.{◌≡◌, ◌+◌, ◌-◌, ◌<◌, ◌≤◌, true, [], ◌∷◌, ◌++◌, Some, IsSome, length, take, slice_get, option_map, option_and_then};
+ghost use Rattle.std.specs.Prelude.{◌≡◌, ◌+◌, ◌-◌, ◌<◌, ◌≤◌, true, [], ◌∷◌, ◌++◌, Some, IsSome, length, map, take, slice_get, option_map, option_and_then};
 ghost use Rattle.std.specs.Borrow.{sem};
 ghost use Rattle.dp_model.specs.Dp.{Dp};
+ghost use Rattle.dp_model.specs.Lists.{Each};
 ghost use Rattle.dp_laws.specs.Diagrams.Nodes.{node_at};
 ghost use Rattle.dp_laws.specs.Diagrams.Cutsets.{first_exact};
+ghost use Rattle.layer_nodes.specs.Ending.{MayAdd, MayLead};
 ghost use Rattle.layer_build.specs.Layers.{diagram_of, last_depth, layer_at, last_layer, suffix_in, live_in};
+ghost use Rattle.layer_build.specs.Ended.{ended_at};
 ghost use Rattle.layer_build.specs.Finding.{IsFound, IsFoundAs, StaysButPath, StaysSeen};
 ghost use Rattle.layer_build.specs.UnderWay.{IsUnderWay};
 
+use crate::ending::end_layer;
 use crate::stack::{layer_at, place_of};
 use crate::walking::{exact_place, live_rows, parent_or_first, write_front, write_path};
 use crate::workspace::Workspace;
@@ -103,6 +107,20 @@ impl Workspace {
             let at = place_of(self.stack.vars, self.stack.first, depth);
             self.stack.layers[at].set_suffix(node, suffix);
         }
+    }
+
+    /// Sets the suffixes of all nodes at the depth, where those of the layer below are known and the last layer is that of all
+    /// variables: the greatest length of a path to it, or none where there is no such path.
+    pub fn set_suffixes(&mut self, depth: usize)
+        requires first { length self.old.prefix ≤ depth }
+        requires last { depth ≤ last_depth self.old }
+        requires whole { last_depth self.old ≡ self.old.vars }
+        requires arcs { depth < last_depth self.old → Each (λ node. Each MayAdd node.arcs) (layer_at self.old depth) }
+        requires leads { depth < last_depth self.old → Each (λ node. Each (λ arc. MayLead (map (λ below. below.suffix) (layer_at self.old (depth + 1))) arc.target) node.arcs) (layer_at self.old depth) }
+        ensures layers { (dp : Dp) → dp.vars ≡ self.old.vars → self.new ≡ record self.old { layers = ended_at dp depth (depth - length self.old.prefix) self.old.layers } }
+        ensures under_way { (dp : Dp) → IsUnderWay dp self.old → IsUnderWay dp self.new }
+    {
+        end_layer(&mut self.stack, depth);
     }
 
     /// How many arcs a node has.

@@ -16,6 +16,7 @@ use dp_model::fold;
 /// Takes a way in, whose row stands behind those of the others: where its state has a way already, the better one stays, and
 /// otherwise it is kept behind the others. Answers the place of the state's way. The first `live` cells of all rows are zero,
 /// and are not compared.
+#[inline(always)]
 pub fn take_in(
     rows: &[i64],
     words: usize,

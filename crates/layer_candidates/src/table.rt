@@ -16,14 +16,14 @@ fn slot(fold: u64, size: usize) -> usize
     fold as usize & (size - 1)
 }
 
-/// How many of the slots that there are serve for so many rows: at most about half of them are taken.
+/// How many of the slots that there are serve for so many rows: no fewer than the rows, of which mostly a part is made.
 pub fn slots_for(rows: usize, slots: usize) -> usize
     requires some { 0 < slots }
     requires small { rows + 1 < 2 ^ 32 }
     ensures some { 0 < result }
     ensures within { result ≤ slots }
 {
-    (2 * rows).next_power_of_two().min(slots)
+    rows.next_power_of_two().min(slots)
 }
 
 /// Takes all rows out.

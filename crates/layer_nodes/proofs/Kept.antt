@@ -15,7 +15,7 @@ none-there zero j = refl
 none-there (suc m) zero = refl
 none-there (suc m) (suc j) = none-there m j
 
-plus-none : (z : ℤ) → z +ℤ pos 0 ≡ z
+pub plus-none : (z : ℤ) → z +ℤ pos 0 ≡ z
 plus-none z = omega (arith, ints)
 
 -- a target below the width stays, and another is lost

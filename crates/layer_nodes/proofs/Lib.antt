@@ -14,3 +14,5 @@ pub mod Inexact
 pub mod Kept
 pub mod Merged
 pub mod MergedLayers
+pub mod Ended
+pub mod Behind

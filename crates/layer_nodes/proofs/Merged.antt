@@ -9,7 +9,6 @@ use Rattle.dp_model.specs.Dp.{Dp}
 use Rattle.dp_model.specs.Gaps.{IsStateOf}
 use Rattle.dp_model.specs.Laws.{IsLawful}
 use Rattle.dp_model.specs.Lists.{Each}
-use Rattle.dp_model.specs.NumberLaws.{small_natural}
 use Rattle.dp_model.specs.Numbers.{add_some, greatest, greatest_from}
 use Rattle.dp_model.proofs.Members.{Each-append}
 use Rattle.dp_laws.specs.Diagrams.Nodes.{DdNode}
@@ -24,13 +23,10 @@ use Rattle.layer_nodes.specs.Redirecting.{IsShort}
 use Rattle.layer_nodes.proofs.Pruned.{here}
 use Rattle.layer_nodes.proofs.Stored.{each-drop}
 
--- ---- nodes that stay
+-- ---- redirects
 
 pub staying-more : (n : ℕ) → staying (n + 1) ≡ staying n ++ here n ∷ []
 staying-more n = let one : n + 1 ≡ suc n = omega arith in ap staying one ∙ map-append (λ (i : ℕ). here i) (below n) (n ∷ [])
-
-pub short-here : (n : ℕ) → IsShort (here n)
-short-here n = small_natural 0 (omega arith)
 
 pub short-more : (ls : List (Option Redirect)) (o : Option Redirect) → Each IsShort ls → IsShort o → Each IsShort (ls ++ o ∷ [])
 short-more ls o all one = Each-append IsShort ls (o ∷ []) all (one, tt)
@@ -138,7 +134,7 @@ greater-none : (o : Option ℤ) → greater o None ≡ o
 greater-none None = refl
 greater-none (Some z) = refl
 
-greatest-option : (xs : List ℤ) (o : Option ℤ) → greatest (xs ++ cons_option o []) ≡ greater (greatest xs) o
+pub greatest-option : (xs : List ℤ) (o : Option ℤ) → greatest (xs ++ cons_option o []) ≡ greater (greatest xs) o
 greatest-option xs None = ap greatest (append-nil xs) ∙ sym (greater-none (greatest xs))
 greatest-option xs (Some z) = greatest-push xs z
 
@@ -212,14 +208,14 @@ redirects-strip dp k w nodes =
 
 -- ---- all of it
 
-pub has-merged : (dp : Dp) (k width words place : ℕ) (rows : List ℤ) (nodes : List Node) (rows2 : List ℤ) (nodes2 : List Node) (stayed redirects : List (Option Redirect)) (best : Option ℤ) (node : Node)
+pub has-merged : (dp : Dp) (k width words place : ℕ) (rows : List ℤ) (nodes : List Node) (rows2 : List ℤ) (nodes2 : List Node) (redirects : List (Option Redirect)) (best : Option ℤ) (node : Node)
     → ((q : ℕ) → q < place → row_at rows2 words q ≡ row_at rows words q) → row_at rows2 words place ≡ row_of_all dp k (map (bare rows words) (drop (width - 1) nodes)) → IsStateOf dp k (row_at rows2 words place)
-    → length rows2 ≡ length rows → Each (λ node. node.row < place) nodes → stayed ≡ staying (width - 1)
+    → length rows2 ≡ length rows → Each (λ node. node.row < place) nodes
     → best ≡ greatest (lifted dp k (row_at rows2 words place) (map (bare rows2 words) (drop (width - 1) nodes)))
-    → redirects ≡ stayed ++ map (merge_redirect dp k (width - 1) (row_at rows2 words place)) (map (bare rows2 words) (drop (width - 1) nodes)) → Each IsShort redirects
+    → redirects ≡ map (merge_redirect dp k (width - 1) (row_at rows2 words place)) (map (bare rows2 words) (drop (width - 1) nodes)) → Each IsShort redirects
     → node ≡ record { value = unwrap_or best (pos 0); rank = dp.rank k (row_at rows2 words place); suffix = None; parent = None; row = place; decision = 0; first_arc = 0; arcs = 0; exact = false }
     → nodes2 ≡ take (width - 1) nodes ++ node ∷ [] → HasMerged dp k width words place rows nodes rows2 nodes2 redirects
-has-merged dp k width words place rows nodes rows2 nodes2 stayed redirects best node before merged state size low stay value targets short is list =
+has-merged dp k width words place rows nodes rows2 nodes2 redirects best node before merged state size low value targets short is list =
     let n = width - 1 in
     let last = map (bare rows words) (drop n nodes) in
     let same : map (bare rows2 words) (drop n nodes) ≡ last = bare-same rows rows2 words place (drop n nodes) before (each-drop (λ node. node.row < place) n nodes low) in
@@ -230,7 +226,7 @@ has-merged dp k width words place rows nodes rows2 nodes2 stayed redirects best 
       state = state;
       size = size;
       list = list ∙ ap (λ m. take n nodes ++ m ∷ []) (is ∙ ap₂ (λ b r. record { value = unwrap_or b (pos 0); rank = dp.rank k r; suffix = None; parent = None; row = place; decision = 0; first_arc = 0; arcs = 0; exact = false }) best_is merged);
-      targets = targets ∙ (ap₂ (λ a b. a ++ b) stay (ap₂ (λ r l. map (merge_redirect dp k n r) l) merged same)
-          ∙ ap (λ l. staying n ++ map (merge_redirect dp k n (row_of_all dp k l)) l) (sym (drop-map (bare rows words) n nodes)));
+      targets = ap (λ l. staying n ++ l) (targets ∙ ap₂ (λ r l. map (merge_redirect dp k n r) l) merged same)
+          ∙ ap (λ l. staying n ++ map (merge_redirect dp k n (row_of_all dp k l)) l) (sym (drop-map (bare rows words) n nodes));
       short = short;
     }

@@ -7,7 +7,7 @@ use Rattle.dp_model.proofs.Members.{Each-append, Each-map, Each-then}
 use Rattle.dp_laws.proofs.Lists.{each-take}
 use Rattle.dp_laws.specs.declared.arc.DdArc.{DdArc}
 use Rattle.dp_laws.specs.Rules.Redirects.{Redirect}
-use Rattle.dp_laws.specs.Rules.Reducing.{merged_node, merged_layer, merge_redirects}
+use Rattle.dp_laws.specs.Rules.Reducing.{staying, merged_node, merged_layer, merge_redirects}
 use Rattle.layer_candidates.specs.Rows.{row_at}
 use Rattle.layer_nodes.specs.declared.node.Node.{Node}
 use Rattle.layer_nodes.specs.Leading.{IsNodeIn, bare}
@@ -53,7 +53,7 @@ module _ (dp : Dp) (k width words place : ℕ) (rows : List ℤ) (nodes : List N
       ∙ (ap₂ (λ l m. l ++ m ∷ []) front one
       ∙ ap (merged_layer dp k width) (sym (below-seen paths words rows arcs nodes)))))
 
-  pub merged-targets : (paths : ℕ → List ℕ) → redirects ≡ merge_redirects dp k width (shown_below paths (map (node_view words rows arcs) nodes))
+  pub merged-targets : (paths : ℕ → List ℕ) → staying (width - 1) ++ redirects ≡ merge_redirects dp k width (shown_below paths (map (node_view words rows arcs) nodes))
   merged-targets paths =
       let show = seen paths words rows arcs in
       h.targets ∙ (ap (merge_redirects dp k width) (sym (bare-seen paths words rows arcs nodes))

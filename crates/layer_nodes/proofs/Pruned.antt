@@ -144,21 +144,6 @@ pub pruned-none : (dp : Dp) (k : ℕ) (strikes : Strikes) (rows : List ℤ) (wor
 pruned-none dp k strikes rows words nodes =
     record { left = refl; size = refl; few = omega arith; count = refl; leading = tt; short = tt; among = among-self nodes; nodes = λ show shows. refl; targets = λ show shows. refl }
 
--- all nodes were looked at
-pub pruned-all : (dp : Dp) (k : ℕ) (strikes : Strikes) (rows : List ℤ) (words : ℕ) (old : List Node) (ls : List LeaderAt) (now : List Node) (redirects : List (Option Redirect)) (stay i : ℕ)
-    → ArePruned dp k strikes rows words old ls now redirects stay i → i ≡ length old → HasPruned dp k strikes rows words old now redirects stay
-pruned-all dp k strikes rows words old ls now redirects stay i h end =
-    let L = leaders_of rows words ls in
-    let none = drop_all i old (omega arith) in
-    record {
-      size = h.size;
-      few = (let low = h.few in omega arith);
-      short = h.short;
-      among = h.among;
-      nodes = λ show shows. sym (append-nil (map show (take stay now))) ∙ (ap (λ l. map show (take stay now) ++ pruned_nodes (asking strikes dp) k (threshold_of strikes) L stay (map show l)) (sym none) ∙ h.nodes show shows);
-      targets = λ show shows. sym (append-nil redirects) ∙ (ap (λ l. redirects ++ prune_redirects (asking strikes dp) k (threshold_of strikes) L stay (map show l)) (sym none) ∙ h.targets show shows);
-    }
-
 -- the same by equal parts
 pub pruned-by : (dp : Dp) (k : ℕ) (strikes : Strikes) (rows : List ℤ) (words : ℕ) (old : List Node) (ls ls2 : List LeaderAt) (now now2 : List Node) (redirects redirects2 : List (Option Redirect)) (stay stay2 i : ℕ)
     → ArePruned dp k strikes rows words old ls now redirects stay i → ls2 ≡ ls → now2 ≡ now → redirects2 ≡ redirects → stay2 ≡ stay → ArePruned dp k strikes rows words old ls2 now2 redirects2 stay2 i

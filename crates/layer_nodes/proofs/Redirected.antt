@@ -83,6 +83,17 @@ left-at (o ∷ old) [] i d left same less = absurd (omega arith)
 left-at (o ∷ old) (n ∷ now) zero d left same less = ap (λ l. get_or l 0 d) left
 left-at (o ∷ old) (n ∷ now) (suc i) d left same less = left-at old now i d left (omega arith) (omega arith)
 
+-- the elements behind it
+pub left-after : {X : Type 0} (old now : List X) (i : ℕ) → drop i now ≡ drop i old → length now ≡ length old → drop (i + 1) now ≡ drop (i + 1) old
+left-after old now i left same = let one : i + 1 ≡ suc i = omega arith in ap (λ n. drop n now) one ∙ (next old now i left same ∙ ap (λ n. drop n old) (sym one))
+  where
+    next : {X : Type 0} (old now : List X) (i : ℕ) → drop i now ≡ drop i old → length now ≡ length old → drop (suc i) now ≡ drop (suc i) old
+    next [] [] i left same = refl
+    next [] (n ∷ now) i left same = absurd (omega arith)
+    next (o ∷ old) [] i left same = absurd (omega arith)
+    next (o ∷ old) (n ∷ now) zero left same = ap (drop 1) left
+    next (o ∷ old) (n ∷ now) (suc i) left same = next old now i left (omega arith)
+
 pub changed-more : (ls : List (Option Redirect)) (old now : List DdArc) (i : ℕ) (arc d : DdArc) → IsChanged ls old now i → i < length old → IsRedirected ls (get_or now i d) arc → IsChanged ls old (set now i arc) (i + 1)
 changed-more ls old now i arc d h less one =
     let size = h.same in
@@ -91,19 +102,9 @@ changed-more ls old now i arc d h less one =
       done = subst (λ l. AreRedirected ls (take (i + 1) old) l) (sym (take_more_set now i arc (omega arith)))
           (subst (λ l. AreRedirected ls l (take i now ++ arc ∷ [])) (sym (take_more old i d less))
           (push ls (take i old) (take i now) (get_or old i d) arc h.done (subst (λ a. IsRedirected ls a arc) at one)));
-      left = drop-set-lt (i + 1) now i arc (omega arith) ∙ after old now i h.left h.same;
+      left = drop-set-lt (i + 1) now i arc (omega arith) ∙ left-after old now i h.left h.same;
       same = length-set now i arc ∙ h.same;
     }
-  where
-    after : {X : Type 0} (old now : List X) (i : ℕ) → drop i now ≡ drop i old → length now ≡ length old → drop (i + 1) now ≡ drop (i + 1) old
-    after old now i left same = let one : i + 1 ≡ suc i = omega arith in ap (λ n. drop n now) one ∙ (next old now i left same ∙ ap (λ n. drop n old) (sym one))
-      where
-        next : {X : Type 0} (old now : List X) (i : ℕ) → drop i now ≡ drop i old → length now ≡ length old → drop (suc i) now ≡ drop (suc i) old
-        next [] [] i left same = refl
-        next [] (n ∷ now) i left same = absurd (omega arith)
-        next (o ∷ old) [] i left same = absurd (omega arith)
-        next (o ∷ old) (n ∷ now) zero left same = ap (drop 1) left
-        next (o ∷ old) (n ∷ now) (suc i) left same = next old now i left (omega arith)
 
 pub changed-all : (ls : List (Option Redirect)) (old now : List DdArc) (i : ℕ) → IsChanged ls old now i → length old ≤ i → AreRedirected ls old now
 changed-all ls old now i h end =

@@ -36,9 +36,6 @@ pub bare-redirected : (words : ℕ) (rows : List ℤ) (old new : List DdArc) (no
 bare-redirected words rows old new [] = refl
 bare-redirected words rows old new (node ∷ nodes) = ap (λ l. without_arcs (node_view words rows old node) ∷ l) (bare-redirected words rows old new nodes)
 
-pub stored-same : (room : ℕ) (old new : List DdArc) (nodes : List Node) → length new ≡ length old → Each (IsStored room old) nodes → Each (IsStored room new) nodes
-stored-same room old new nodes same h = Each-then (IsStored room old) (IsStored room new) nodes (λ node s. record { row = s.row; fresh = s.fresh; arcs_lie = (let lie = s.arcs_lie in omega arith) }) h
-
 -- ---- the layer below
 
 pub map-map : {X Y Z : Type 0} (f : Y → Z) (g : X → Y) (xs : List X) → map f (map g xs) ≡ map (λ x. f (g x)) xs

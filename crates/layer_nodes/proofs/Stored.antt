@@ -1,6 +1,6 @@
 -- Nodes of a layer in memory, one after another.
 use Rattle.std.proofs.Common.{◌≡◌, ℕ, zero, suc, ◌+◌, ◌*◌, ◌<◌, ◌≤◌, ℤ, List, [], ◌∷◌, ◌++◌, length, map, take, drop, set, get_or, Option, refl, sym, ◌∙◌, inl, inr, ap, ap₂, subst, arith, mul-le-mul_right}
-use Rattle.std.proofs.lemmas.List.{take_more, take_all, map-append, length_push}
+use Rattle.std.proofs.lemmas.List.{take_more, take_more_set, take_all, drop-set-lt, length-set, map-append, length_push}
 use Rattle.dp_model.specs.Lists.{Each, OneOf}
 use Rattle.dp_model.proofs.Members.{Each-append, Each-then}
 use Rattle.dp_laws.proofs.Lists.{each-take}
@@ -11,6 +11,7 @@ use Rattle.layer_nodes.specs.declared.node.Node.{Node}
 use Rattle.layer_nodes.specs.Nodes.{without_arcs, suffix_set}
 use Rattle.layer_nodes.specs.Steps.{AreAmong}
 use Rattle.layer_nodes.specs.Stored.{node_view, IsStored, IsCopy, AreCopied, HasRow}
+use Rattle.layer_nodes.proofs.Redirected.{left-at, left-after}
 
 -- ---- members of lists
 
@@ -114,6 +115,25 @@ copied-more words others other_rows nodes rows row i d h less hold here is =
       copies = Each-append (IsCopy (i + 1)) nodes (new ∷ []) (Each-then (IsCopy i) (IsCopy (i + 1)) nodes (λ n c. record { row = (let low = c.row in omega arith); first_arc = c.first_arc; no_arcs = c.no_arcs }) h.copies)
           (record { row = omega arith; first_arc = refl; no_arcs = refl }, tt);
       size = length_push nodes new ∙ (let s = h.size in omega arith);
+    }
+
+-- the first i of the nodes are copies, and the others are as they were
+pub record ArePlaced (words : ℕ) (old : List Node) (other_rows : List ℤ) (now : List Node) (rows : List ℤ) (i : ℕ) : Type 0 where
+  pub copied : AreCopied words old other_rows (take i now) rows i
+  pub left : drop i now ≡ drop i old
+  pub same : length now ≡ length old
+
+pub placed-more : (words : ℕ) (old : List Node) (other_rows : List ℤ) (now : List Node) (rows row : List ℤ) (i : ℕ) (d x : Node) → ArePlaced words old other_rows now rows i → i < length old → length old * words ≤ length rows
+    → Each (HasRow words other_rows) old → row ≡ row_at other_rows words (get_or now i d).row → x ≡ record (get_or now i d) { row = i; first_arc = 0; arcs = 0 } → ArePlaced words old other_rows (set now i x) (with_row rows (i * words) row) (i + 1)
+placed-more words old other_rows now rows row i d x h less hold have is new =
+    let size = h.same in
+    let at : get_or now i d ≡ get_or old i d = left-at old now i d h.left h.same less in
+    let put : record (get_or old i d) { row = i; first_arc = 0; arcs = 0 } ≡ x = sym (new ∙ ap (λ (n : Node). record n { row = i; first_arc = 0; arcs = 0 }) at) in
+    record {
+      copied = subst (λ l. AreCopied words old other_rows l (with_row rows (i * words) row) (i + 1)) (ap (λ y. take i now ++ y ∷ []) put ∙ sym (take_more_set now i x (omega arith)))
+          (copied-more words old other_rows (take i now) rows row i d h.copied less hold (each-get (HasRow words other_rows) old i d have less) (is ∙ ap (λ (n : Node). row_at other_rows words n.row) at));
+      left = drop-set-lt (i + 1) now i x (omega arith) ∙ left-after old now i h.left h.same;
+      same = length-set now i x ∙ h.same;
     }
 
 pub copied-stored : (room n : ℕ) (nodes : List Node) → n ≤ room → Each (IsCopy n) nodes → Each (IsStored room []) nodes

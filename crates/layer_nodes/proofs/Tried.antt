@@ -164,17 +164,3 @@ module _ (dp : Dp) (k : ℕ) (s : List ℤ) (exact : Bool) where
   trials-next n =
       ap (λ l. trials_by dp k s exact l) (ap below (add-one n))
       ∙ (ap (map (trial s exact)) (filter-append (dp.allowed k s) (below n) (n ∷ [])) ∙ map-append (trial s exact) (all_allowed dp k s (below n)) (all_allowed dp k s (n ∷ [])))
-
--- the same by equal parts
-pub tried-by : (dp : Dp) (k words : ℕ) (rows rows2 : List ℤ) (count count2 : ℕ) (ts ts2 : List Trial) (marks marks2 : List Bool) (arcs arcs2 : List DdArc)
-    → AreTried dp k rows words count ts marks arcs → rows2 ≡ rows → count2 ≡ count → ts ≡ ts2 → marks2 ≡ marks → arcs2 ≡ arcs → AreTried dp k rows2 words count2 ts2 marks2 arcs2
-tried-by dp k words rows rows2 count count2 ts ts2 marks marks2 arcs arcs2 h a b c d e =
-    subst (λ x. AreTried dp k x words count2 ts2 marks2 arcs2) (sym a)
-    (subst (λ x. AreTried dp k rows words x ts2 marks2 arcs2) (sym b)
-    (subst (λ x. AreTried dp k rows words count x marks2 arcs2) c
-    (subst (λ x. AreTried dp k rows words count ts x arcs2) (sym d)
-    (subst (λ x. AreTried dp k rows words count ts marks x) (sym e) h))))
-
--- no trial yet
-pub tried-none : (dp : Dp) (k words : ℕ) (rows : List ℤ) (marks : List Bool) → AreTried dp k rows words 0 [] marks []
-tried-none dp k words rows marks = record { arcs_are = tt; marks_are = λ i less. absurd (omega arith) }

@@ -8,3 +8,4 @@ pub mod Striking
 pub mod Sifting
 pub mod Keeping
 pub mod Merging
+pub mod Ending

@@ -7,7 +7,7 @@ use Rattle.dp_model.specs.Lists.{Each}
 use Rattle.dp_model.specs.Numbers.{add_some}
 use Rattle.dp_laws.specs.Diagrams.Nodes.{DdNode}
 use Rattle.dp_laws.specs.Rules.Redirects.{Redirect}
-use Rattle.dp_laws.specs.Rules.Reducing.{row_of_all, merged_node, merge_redirects}
+use Rattle.dp_laws.specs.Rules.Reducing.{staying, row_of_all, merged_node, merge_redirects}
 use Rattle.layer_candidates.specs.Rows.{row_at}
 use Rattle.layer_nodes.specs.declared.node.Node.{Node}
 use Rattle.layer_nodes.specs.Leading.{bare}
@@ -44,5 +44,5 @@ pub record HasMerged (dp : Dp) (k width words place : ℕ) (rows : List ℤ) (no
   pub state : IsStateOf dp k (row_at rows2 words place)
   pub size : length rows2 ≡ length rows
   pub list : nodes2 ≡ take (width - 1) nodes ++ merged_at dp k place (map (bare rows words) (drop (width - 1) nodes)) ∷ []
-  pub targets : redirects ≡ merge_redirects dp k width (map (bare rows words) nodes)
+  pub targets : staying (width - 1) ++ redirects ≡ merge_redirects dp k width (map (bare rows words) nodes)
   pub short : Each IsShort redirects

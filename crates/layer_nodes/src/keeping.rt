@@ -1,38 +1,31 @@
 //! Only the first nodes of a layer stay.
 
-ghost use Rattle.std.specs.Prelude.{◌≡◌, ℕ, ◌≤◌, List, length, take};
+ghost use Rattle.std.specs.Prelude.{◌≡◌, ℕ, ◌≤◌, List, length, take, unwrap_or};
 ghost use Rattle.dp_model.specs.Lists.{Each};
 ghost use Rattle.dp_laws.specs.Diagrams.Nodes.{DdNode};
 ghost use Rattle.dp_laws.specs.Rules.Redirects.{with_redirected};
 ghost use Rattle.dp_laws.specs.Rules.Reducing.{keep_redirects};
-ghost use Rattle.layer_nodes.specs.Keeping.{kept_target, kept_arc};
+ghost use Rattle.layer_nodes.specs.Keeping.{kept_arc};
 ghost use Rattle.layer_nodes.specs.Nodes.{shown_layer, shown_below};
 ghost use Rattle.layer_nodes.specs.Redirecting.{AreRedirected};
 ghost use Rattle.layer_nodes.specs.Steps.{AreAmong, MayBeLengthened, KeepsNodes, KeepsRoom};
 
 use crate::layer::Layer;
+use crate::redirecting::put_arc;
 use dp_laws::DdArc;
 
-/// The target where it is below the width.
-fn kept_target(target: Option<u32>, width: usize) -> Option<u32>
-    ensures { result ≡ kept_target width target }
+/// The arc without its target where that is at or behind the width, or none where the arc stays as it is.
+fn lose_target(arc: DdArc, width: usize) -> Option<DdArc>
+    ensures { unwrap_or result arc ≡ kept_arc width arc }
 {
-    let place = target?;
+    let place = arc.target?;
     if (place as usize) < width {
-        Some(place)
-    } else {
-        None
+        return None;
     }
-}
-
-/// The arc, with its target where that is below the width.
-fn keep_target(arc: DdArc, width: usize) -> DdArc
-    ensures { result ≡ kept_arc width arc }
-{
-    DdArc {
-        target: kept_target(arc.target, width),
+    Some(DdArc {
+        target: None,
         ..arc
-    }
+    })
 }
 
 /// Arcs whose targets are at or behind the width lose them.
@@ -40,7 +33,9 @@ fn keep_targets(arcs: &mut [DdArc], width: usize)
     ensures { (layer : List DdNode) → width ≤ length layer → AreRedirected (keep_redirects width layer) arcs.old arcs.new }
 {
     'arcs: for i in 0..arcs.len() {
-        arcs[i] = keep_target(arcs[i], width);
+        let arc = arcs[i];
+        let new = lose_target(arc, width);
+        put_arc(arcs, i, arc, new);
     }
 }
 

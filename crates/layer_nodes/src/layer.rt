@@ -39,15 +39,43 @@ impl Model for Layer {
     ghost invariant = { λ l. HasLayer l.words l.room l.nodes.items (vec_capacity l.nodes) l.rows.items l.arcs.items };
 }
 
-/// The node with its row at the place, and without arcs.
-fn bare(node: Node, place: u32) -> Node
-    ensures { result ≡ record node { row = place; first_arc = 0; arcs = 0 } }
+/// The node has its row at the place, and no arcs.
+fn put_at(node: &mut Node, place: u32)
+    ensures { node.new ≡ record node.old { row = place; first_arc = 0; arcs = 0 } }
 {
-    Node {
-        row: place,
-        first_arc: 0,
-        arcs: 0,
-        ..node
+    node.row = place;
+    node.first_arc = 0;
+    node.arcs = 0;
+}
+
+/// The rows of the nodes are written where each stands at the place of its node, and the nodes lose their arcs.
+fn place_rows(words: usize, other_rows: &[i64], nodes: &mut [Node], rows: &mut [i64])
+    requires others { Each (HasRow words other_rows.now) nodes.old }
+    requires rows_room { length nodes.old * words ≤ length rows.old }
+    requires few { length nodes.old < 2 ^ 32 }
+    ensures copied { AreCopied words nodes.old other_rows.now nodes.new rows.new (length nodes.old) }
+    ensures size { length rows.new ≡ length rows.old }
+{
+    'nodes: for i in 0..nodes.len() {
+        write_row(
+            rows,
+            words,
+            i,
+            row(other_rows, words, nodes[i].row as usize),
+        );
+        put_at(&mut nodes[i], i as u32);
+    }
+}
+
+/// Becomes these nodes.
+fn list_all(others: &[Node], nodes: &mut Vec<Node>)
+    requires room { length others.now ≤ vec_capacity nodes.old }
+    ensures nodes { nodes.new.items ≡ others.now }
+    ensures capacity { vec_capacity nodes.new ≡ vec_capacity nodes.old }
+{
+    nodes.clear();
+    'nodes: for i in 0..others.len() {
+        nodes.push_reserved(others[i]);
     }
 }
 
@@ -67,12 +95,8 @@ fn copy_nodes(
     ensures size { length rows.new ≡ length rows.old }
     ensures capacity { vec_capacity nodes.new ≡ vec_capacity nodes.old }
 {
-    nodes.clear();
-    'nodes: for i in 0..others.len() {
-        let node = others[i];
-        write_row(rows, words, i, row(other_rows, words, node.row as usize));
-        nodes.push_reserved(bare(node, i as u32));
-    }
+    list_all(others, nodes);
+    place_rows(words, other_rows, nodes.as_mut_slice(), rows);
 }
 
 impl Layer {

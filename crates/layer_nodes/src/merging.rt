@@ -5,7 +5,7 @@ ghost use Rattle.dp_model.specs.Gaps.{IsStateOf};
 ghost use Rattle.dp_model.specs.Lists.{Each};
 ghost use Rattle.dp_model.specs.Numbers.{IsSmall, add_some, greatest};
 ghost use Rattle.dp_laws.specs.Rules.Redirects.{with_redirected};
-ghost use Rattle.dp_laws.specs.Rules.Reducing.{staying, row_of_all, merged_layer, merge_redirect, merge_redirects};
+ghost use Rattle.dp_laws.specs.Rules.Reducing.{row_of_all, merged_layer, merge_redirect, merge_redirects};
 ghost use Rattle.layer_candidates.specs.Rows.{row_at};
 ghost use Rattle.layer_candidates.specs.Ways.{IsNearly};
 ghost use Rattle.layer_nodes.specs.Leading.{IsNodeIn, bare};
@@ -18,7 +18,7 @@ ghost use Rattle.layer_nodes.specs.Stored.{IsRowOf};
 use crate::layer::Layer;
 use crate::leading::redirect_by;
 use crate::node::Node;
-use crate::redirecting::{Redirect, Redirects, redirect_layer};
+use crate::redirecting::{Redirect, Redirects, redirect_layer_behind};
 use dp_model::DpModel;
 use layer_candidates::row;
 
@@ -36,7 +36,7 @@ fn lifted(node: Node, gap: Option<i64>) -> Option<i64>
 }
 
 /// The greater of two numbers, of which none may be there.
-fn greater(best: Option<i64>, other: Option<i64>) -> Option<i64>
+pub(crate) fn greater(best: Option<i64>, other: Option<i64>) -> Option<i64>
     ensures { result ≡ greater best other }
 {
     let Some(z) = best else {
@@ -46,23 +46,6 @@ fn greater(best: Option<i64>, other: Option<i64>) -> Option<i64>
         return best;
     };
     if z < y { Some(y) } else { Some(z) }
-}
-
-/// So many nodes stay at their places.
-fn stay_first(redirects: &mut Vec<Option<Redirect>>, count: usize)
-    requires room { count ≤ vec_capacity redirects.old }
-    requires small { count < 2 ^ 32 }
-    ensures redirects { redirects.new.items ≡ staying count }
-    ensures short { Each IsShort redirects.new.items }
-    ensures capacity { vec_capacity redirects.new ≡ vec_capacity redirects.old }
-{
-    redirects.clear();
-    'places: for place in 0..count {
-        redirects.push_reserved(Some(Redirect {
-            place: place as u32,
-            longer: 0,
-        }));
-    }
 }
 
 /// Writes the row into which the rows of the nodes are merged in order.
@@ -192,7 +175,7 @@ fn nodes_from(nodes: &[Node], first: usize) -> &[Node]
     &nodes[first..]
 }
 
-/// Merges the nodes but for the first `width - 1` into one, whose row stands at the place, and tells where arcs go.
+/// Merges the nodes but for the first `width - 1` into one, whose row stands at the place, and tells where the arcs into them go.
 fn merge_nodes<M: DpModel>(
     model: &M,
     k: usize,
@@ -220,7 +203,7 @@ fn merge_nodes<M: DpModel>(
     let last = nodes_from(nodes.as_slice(), first);
     merge_rows(model, k, rows, words, place, last);
     let rank = model.rank(k, row(rows, words, place));
-    stay_first(redirects, first);
+    redirects.clear();
     let best = merge_targets(
         model,
         k,
@@ -270,5 +253,5 @@ pub fn merge_rest<M: DpModel>(
         &mut next.nodes,
         &mut redirects.all,
     );
-    redirect_layer(above, redirects.all.as_slice());
+    redirect_layer_behind(above, width - 1, redirects.all.as_slice());
 }

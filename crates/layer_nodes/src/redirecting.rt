@@ -1,11 +1,12 @@
 //! Where the arcs into a layer are redirected when its nodes are put into order, taken out or merged.
 
-ghost use Rattle.std.specs.Prelude.{◌≡◌, ℕ, List, IfOk, map};
+ghost use Rattle.std.specs.Prelude.{◌≡◌, ◌++◌, ℕ, List, IfOk, Some, map, set, slice_get, unwrap_or};
 ghost use Rattle.dp_model.specs.Lists.{Each};
 ghost use Rattle.dp_model.specs.Numbers.{IsFar};
 ghost use Rattle.dp_laws.specs.Rules.Redirects.{Redirect, redirected, with_redirected};
+ghost use Rattle.dp_laws.specs.Rules.Reducing.{staying};
 ghost use Rattle.layer_nodes.specs.Nodes.{shown_layer};
-ghost use Rattle.layer_nodes.specs.Redirecting.{redirect_of, IsShort, AreRedirected};
+ghost use Rattle.layer_nodes.specs.Redirecting.{redirect_of, IsShort, IsRedirected, AreRedirected};
 ghost use Rattle.layer_nodes.specs.Steps.{MayBeLengthened, KeepsNodes};
 
 use crate::layer::Layer;
@@ -108,6 +109,52 @@ pub(crate) fn redirect_arcs(arcs: &mut [DdArc], redirects: &[Option<Redirect>])
     'arcs: for i in 0..arcs.len() {
         arcs[i] = redirect_arc(arcs[i], redirects);
     }
+}
+
+/// The arc with its new target where its old one stands at `first` or behind it, or none where it keeps it. The redirects are those
+/// of the places from `first` on.
+fn redirect_behind(arc: DdArc, first: usize, redirects: &[Option<Redirect>]) -> Option<DdArc>
+    requires short { Each IsShort redirects.now }
+    ensures { IsRedirected (staying first ++ redirects.now) arc (unwrap_or result arc) }
+{
+    let place = (arc.target? as usize).checked_sub(first)?;
+    let moved = DdArc {
+        target: Some(place as u32),
+        ..arc
+    };
+    Some(redirect_arc(moved, redirects))
+}
+
+/// The arc at the place, which is told, becomes the new one where there is one.
+pub(crate) fn put_arc(arcs: &mut [DdArc], i: usize, arc: DdArc, new: Option<DdArc>)
+    requires { slice_get arcs.old i ≡ Some arc }
+    ensures { arcs.new ≡ set arcs.old i (unwrap_or new arc) }
+{
+    if let Some(new) = new {
+        arcs[i] = new;
+    }
+}
+
+/// The arcs whose targets stand at `first` or behind it get new ones, by the redirects of the places from there on.
+fn redirect_arcs_behind(arcs: &mut [DdArc], first: usize, redirects: &[Option<Redirect>])
+    requires short { Each IsShort redirects.now }
+    ensures { AreRedirected (staying first ++ redirects.now) arcs.old arcs.new }
+{
+    'arcs: for i in 0..arcs.len() {
+        let arc = arcs[i];
+        let new = redirect_behind(arc, first, redirects);
+        put_arc(arcs, i, arc, new);
+    }
+}
+
+/// The arcs of the layer whose targets stand at `first` or behind it get new ones, and nothing else of it changes.
+pub(crate) fn redirect_layer_behind(layer: &mut Layer, first: usize, redirects: &[Option<Redirect>])
+    requires short { Each IsShort redirects.now }
+    requires lengths { Each MayBeLengthened layer.old.nodes }
+    ensures nodes { (paths : ℕ → List ℕ) → shown_layer paths layer.new.nodes ≡ with_redirected (staying first ++ redirects.now) (shown_layer paths layer.old.nodes) }
+    ensures rest { KeepsNodes layer.old layer.new }
+{
+    redirect_arcs_behind(layer.arcs.as_mut_slice(), first, redirects);
 }
 
 /// The arcs of the layer get new targets, and nothing else of it changes.

@@ -4,7 +4,7 @@ use dp_model::OutOfMemory;
 use max_cut::MaxCut;
 use std::alloc::Global;
 
-#[tactic(auto, using(crate::proofs::Readings::reads_numbers, crate::proofs::Readings::drawn_numbers))]
+#[tactic(auto, using(crate::proofs::Readings::reads_numbers, crate::proofs::Readings::drawn_numbers, crate::proofs::Readings::spelled_numbers))]
 impl Problem for MaxCut {
     ghost use Rattle.std.specs.Prelude.{refl};
     ghost use Rattle.problems.specs.Cuts.{cut_theory, cut_agrees};

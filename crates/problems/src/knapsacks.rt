@@ -4,7 +4,7 @@ use dp_model::OutOfMemory;
 use knapsack::Knapsack;
 use std::alloc::Global;
 
-#[tactic(auto, using(crate::proofs::Readings::reads_numbers, crate::proofs::Readings::drawn_numbers, knapsack::specs::Laws::Program::round_trip))]
+#[tactic(auto, using(crate::proofs::Readings::reads_numbers, crate::proofs::Readings::drawn_numbers, crate::proofs::Readings::spelled_numbers, knapsack::specs::Laws::Program::round_trip))]
 impl Problem for Knapsack {
     ghost use Rattle.std.specs.Prelude.{refl};
     ghost use Rattle.knapsack.specs.Shown.{instance_in};

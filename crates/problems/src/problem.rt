@@ -1,4 +1,4 @@
-ghost use Rattle.std.specs.Prelude.{◌≡◌, ℕ, ◌^◌, ◌-◌, ◌<◌, ◌≤◌, ℤ, List, length, IfOk};
+ghost use Rattle.std.specs.Prelude.{◌≡◌, ℕ, ◌^◌, ◌-◌, ◌<◌, ◌≤◌, ℤ, List, length, Ok, IfOk};
 ghost use Rattle.dd_text.specs.Grammar.{Reads};
 ghost use Rattle.problems.specs.Theory.{Theory, Agrees};
 
@@ -20,9 +20,10 @@ pub trait Problem: DpModel {
         requires { length bytes.now < 2 ^ 32 - 1 }
         ensures { Reads Self.numbers result (theory.spelled bytes.now) };
 
-    /// The canonical text of the instance. Fails only for want of memory.
+    /// The canonical text of the instance, which spells it. Fails only for want of memory.
     fn print(alloc: Global, model: &Self) -> Result<Vec<u8>, OutOfMemory>
-        ensures { IfOk result (λ text. text.items ≡ theory.canonical (Self.numbers model.now)) };
+        ensures text { IfOk result (λ text. text.items ≡ theory.canonical (Self.numbers model.now)) }
+        ensures reads_back { IfOk result (λ text. theory.spelled text.items ≡ Ok (Self.numbers model.now)) };
 
     /// The value of the decisions in the problem's own words, and `None` exactly where they are no solution.
     fn value_of(model: &Self, decisions: &[u32]) -> Option<i64>

@@ -4,7 +4,7 @@ use dp_model::OutOfMemory;
 use max_two_sat::MaxTwoSat;
 use std::alloc::Global;
 
-#[tactic(auto, using(crate::proofs::Readings::reads_numbers, crate::proofs::Readings::drawn_numbers, max_two_sat::specs::Laws::Numbers::reads_numbers))]
+#[tactic(auto, using(crate::proofs::Readings::reads_numbers, crate::proofs::Readings::drawn_numbers, crate::proofs::Readings::spelled_numbers, max_two_sat::specs::Laws::Numbers::reads_numbers))]
 impl Problem for MaxTwoSat {
     ghost use Rattle.std.specs.Prelude.{refl};
     ghost use Rattle.max_two_sat.specs.Shown.{instance_in};

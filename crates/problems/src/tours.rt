@@ -4,7 +4,7 @@ use dp_model::OutOfMemory;
 use std::alloc::Global;
 use tsp_windows::TspWindows;
 
-#[tactic(auto, using(crate::proofs::Readings::reads_numbers, crate::proofs::Readings::drawn_numbers))]
+#[tactic(auto, using(crate::proofs::Readings::reads_numbers, crate::proofs::Readings::drawn_numbers, crate::proofs::Readings::spelled_numbers))]
 impl Problem for TspWindows {
     ghost use Rattle.std.specs.Prelude.{refl};
     ghost use Rattle.tsp_windows.specs.Shown.{instance_in};

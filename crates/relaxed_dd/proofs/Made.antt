@@ -7,7 +7,7 @@ use Rattle.dp_model.specs.Reached.{reached}
 use Rattle.dp_laws.specs.Rules.Compiling.{compiled, first_reduced_below, start_layer, with_suffixes}
 use Rattle.layer_build.specs.Layers.{SpaceView, IsPreparedFor}
 use Rattle.relaxed_dd.specs.Building.{HasCompiled, IsMade}
-use Rattle.relaxed_dd.specs.Lengths.{AreLayersWithin}
+use Rattle.relaxed_dd.specs.Numbers.{AreLayersWithin}
 use Rattle.relaxed_dd.proofs.Numbers.{compiled-within, compiled-length}
 
 -- a workspace in which a prefix is begun

@@ -20,7 +20,9 @@ use Rattle.dp_laws.specs.Rules.Within.{IsBetween, IsLayerWithin, ReachesWithin, 
 use Rattle.dp_laws.proofs.Rules.Expanded.{with_arcs_of}
 use Rattle.dp_laws.proofs.Rules.Redirecting.{followed_node}
 use Rattle.dp_laws.proofs.Rules.Within.{expand-within, prune-within, merge-within, start-within, suffixes-small}
-use Rattle.relaxed_dd.specs.Lengths.{ended, AreLayersWithin, MayAdd, MayFollow, IsThere, MayLead}
+use Rattle.layer_nodes.specs.Ending.{MayAdd, MayFollow, IsThere, MayLead}
+use Rattle.layer_build.specs.Ended.{ended}
+use Rattle.relaxed_dd.specs.Numbers.{AreLayersWithin}
 
 -- an arc is within for nodes of the same values
 
@@ -124,18 +126,21 @@ suffixes-within dp w k (layer ∷ next ∷ rest) h e =
 
 -- Sums fit.
 
+abbrev pub suffixes_of : List DdNode → List (Option ℤ)
+suffixes_of next = map (λ (node : DdNode). node.suffix) next
+
 follows : (dp : Dp) (k : ℕ) (x : DdNode) (o : Option ℤ) → dp.vars ≤ 1024 → k ≤ dp.vars → IsBetween (k + 1) (2 * k + 1) x.value → IsSuffixWithin dp k x o → MayFollow o
 follows dp k x None small low value h = tt
 follows dp k x (Some s) small low value h = let a = value.low in let b = h.0 in let c = h.1 in record { low = omega (arith, ints); high = omega (arith, ints) }
 
 there-within : (dp : Dp) (k : ℕ) (next : List DdNode) (i : ℕ) (reach : ℤ) → dp.vars ≤ 1024 → k ≤ dp.vars → Each (λ (node : DdNode). IsBetween (k + 1) (2 * k + 1) node.value) next → Each (λ (node : DdNode). IsSuffixWithin dp k node node.suffix) next
-    → ReachesWithin reach (slice_get next i) → IsThere (slice_get next i)
+    → ReachesWithin reach (slice_get next i) → IsThere (slice_get (suffixes_of next) i)
 there-within dp k [] i reach small low values suffixes h = h
 there-within dp k (x ∷ next) zero reach small low values suffixes h = follows dp k x x.suffix small low values.0 suffixes.0
 there-within dp k (x ∷ next) (suc i) reach small low values suffixes h = there-within dp k next i reach small low values.1 suffixes.1 h
 
 lead-within : (dp : Dp) (k : ℕ) (next : List DdNode) (o : Option ℕ) (reach : ℤ) → dp.vars ≤ 1024 → k ≤ dp.vars → Each (λ (node : DdNode). IsBetween (k + 1) (2 * k + 1) node.value) next → Each (λ (node : DdNode). IsSuffixWithin dp k node node.suffix) next
-    → LeadsWithin reach next o → MayLead next o
+    → LeadsWithin reach next o → MayLead (suffixes_of next) o
 lead-within dp k next None reach small low values suffixes h = tt
 lead-within dp k next (Some i) reach small low values suffixes h = there-within dp k next i reach small low values suffixes h
 
@@ -149,7 +154,7 @@ values-same f keeps k (x ∷ next) h = (subst (IsBetween (k + 1) (2 * k + 1)) (s
 -- what the suffixes of a layer need, where the next one has its own
 pub record MaySum (layer next : List DdNode) : Type 0 where
   pub arcs : Each (λ (node : DdNode). Each MayAdd node.arcs) layer
-  pub leads : Each (λ (node : DdNode). Each (λ (arc : DdArc). MayLead next arc.target) node.arcs) layer
+  pub leads : Each (λ (node : DdNode). Each (λ (arc : DdArc). MayLead (suffixes_of next) arc.target) node.arcs) layer
 
 first-within : (dp : Dp) (w k : ℕ) (next : List DdNode) (rest : List (List DdNode)) → AreLayersWithin dp w k (next ∷ rest) → IsLayerWithin dp k w next
 first-within dp w k next [] h = h
@@ -166,9 +171,9 @@ may-sum dp w k layer next rest small h e =
       arcs = each-of-all (λ (node : DdNode). Each MayAdd node.arcs) layer (λ x has.
           let own = each-has (λ (node : DdNode). Each (IsArcWithin k (map f next) node) node.arcs) layer x into has in
           each-of-all MayAdd x.arcs (λ arc listed. may-add k (map f next) x arc (omega arith) (each-has (IsArcWithin k (map f next) x) x.arcs arc own listed)));
-      leads = each-of-all (λ (node : DdNode). Each (λ (arc : DdArc). MayLead (map f next) arc.target) node.arcs) layer (λ x has.
+      leads = each-of-all (λ (node : DdNode). Each (λ (arc : DdArc). MayLead (suffixes_of (map f next)) arc.target) node.arcs) layer (λ x has.
           let own = each-has (λ (node : DdNode). Each (IsArcWithin k (map f next) node) node.arcs) layer x into has in
-          each-of-all (λ (arc : DdArc). MayLead (map f next) arc.target) x.arcs (λ arc listed.
+          each-of-all (λ (arc : DdArc). MayLead (suffixes_of (map f next)) arc.target) x.arcs (λ arc listed.
           let a = each-has (IsArcWithin k (map f next) x) x.arcs arc own listed in
           lead-within dp (k + 1) (map f next) arc.target (x.value +ℤ (arc.gain +ℤ arc.longer)) small (omega arith) values below a.leads));
     }

@@ -1,3 +1,3 @@
 pub mod Building
-pub mod Lengths
+pub mod Numbers
 pub mod Shown

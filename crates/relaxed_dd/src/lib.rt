@@ -8,7 +8,6 @@
 mod building;
 mod compiling;
 mod diagram;
-mod lengths;
 mod suffixes;
 
 pub use compiling::relaxed;

@@ -108,14 +108,6 @@ take-copies dp laws b g o first =
     (one-each (λ a. a ≡ o) (λ (a : Ticketed). IsOwn dp a.subproblem) b.open_ones one (each-back (λ (a : Ticketed). IsOwn dp a.subproblem) (full_slots b.slots) b.open_ones g.own)) in
     record { few = (let short = own.shorter in omega arith); cells = own-cells dp laws o.subproblem own }
 
-none-first : (os : List Ticketed) → 0 < length os → None ≡ first_taken os → ⊥
-none-first [] some none = absurd (omega arith)
-none-first (o ∷ os) some none = absurd (cc)
-
--- something is open where Take hands out
-pub take-some : (b : BoardState) → take_gives b ≡ Sub → None ≡ first_taken b.open_ones → ⊥
-take-some b may none = none-first b.open_ones (hands b may).some none
-
 -- Improve.
 
 -- a value and a distance fit

@@ -25,7 +25,8 @@ use Rattle.board_laws.specs.Bound.{board_bound}
 use Rattle.board_laws.specs.GoodBoard.{IncumbentHolds, IsBoard}
 use Rattle.solver_report.specs.declared.answer.Stop.{Stop}
 use Rattle.solver_report.specs.declared.answer.Stop.TheVariants.{Budget}
-use Rattle.solver_cli.specs.Job.Answers.{IsFeasible, IncumbentIsFeasible, NoneIsWorthMore, IsProved, IsInfeasible, StopHolds, IsStopped}
+use Rattle.solver_cli.specs.Job.Answers.{StopHolds, IsStopped}
+use Rattle.solver_cli.specs.Job.Reports.{IsFeasible, IncumbentIsFeasible, NoneIsWorthMore, IsProved, IsInfeasible}
 use Rattle.solver_cli.specs.Job.Over.{IsOver}
 use Rattle.solver_cli.specs.Job.Widths.{IsSearchWidth}
 use Rattle.solver_cli.specs.declared.job.text_job.Search.{Search}

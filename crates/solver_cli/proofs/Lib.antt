@@ -1,3 +1,4 @@
 pub mod Conclusions
+pub mod Covering
 pub mod Reports
 pub mod Widths

@@ -1,7 +1,7 @@
 -- What an accepted cover says of its report.
-use Rattle.std.proofs.Common.{◌≡◌, ℕ, ℤ, List, Option, Some, None, refl, sym, subst}
+use Rattle.std.proofs.Common.{ℕ, ℤ, List, Option, Some, None, refl, sym, subst}
 use Rattle.bound_cover.specs.Proved.{IsReportedBest}
-use Rattle.dp_model.specs.Best.{best, IsBest}
+use Rattle.dp_model.specs.Best.{IsBest}
 use Rattle.dp_model.specs.Dp.{Dp}
 use Rattle.dp_model.proofs.Solutions.{best-is_best}
 use Rattle.problems.specs.Theory.{Agrees}

@@ -1,5 +1,5 @@
 -- Widths that are refused.
-use Rattle.std.proofs.Common.{◌≡◌, ℕ, ◌*◌, ◌^◌, ◌≤◌, min, Option, Some, None, sym, subst, arith}
+use Rattle.std.proofs.Common.{ℕ, ◌*◌, ◌≤◌, min, Option, Some, None, sym, subst, arith}
 use Rattle.std.proofs.Math.Nat.{min-le_left, le-min, mul-le-mul_right}
 use Rattle.dp_model.specs.Dp.{Dp}
 use Rattle.dp_model.specs.Laws.{IsLawful}

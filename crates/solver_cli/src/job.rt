@@ -1,9 +1,10 @@
-//! A job on a text, and its answer: by the problem that it names a job reads the instance, searches it or digests it, checks a
-//! cover, or draws an instance.
+//! A job on a text, and its answer: by the problem that it names a job reads the instance, searches it, with a cover or without, or
+//! digests it, checks a cover, or draws an instance.
 
 mod answering;
 mod checking;
 mod concluding;
+mod covering;
 mod digesting;
 mod drawing;
 mod solving;

@@ -1,7 +1,8 @@
 -- The printed texts.
-use Rattle.std.specs.Prelude.{ℕ, ℤ, pos, codes, List, [], ◌∷◌, ◌++◌, Option, Some, None}
+use Rattle.std.specs.Prelude.{ℕ, ℤ, pos, codes, Bool, true, false, List, [], ◌∷◌, ◌++◌, Option, Some, None, Vec}
 use Rattle.std.specs.List.{flat_map}
 use Rattle.std.specs.Fmt.{decimal}
+use Rattle.std.specs.declared.alloc.Global.{Global}
 use Rattle.dd_text.specs.Decimal.{decimal_of}
 use Rattle.dd_text.specs.declared.instance_error.InstanceError.{InstanceError}
 use Rattle.dd_text.specs.declared.instance_error.InstanceFault.{InstanceFault}
@@ -90,6 +91,18 @@ outcome_lines (Proved best) = line (codes "proved") ++ solution_lines best
 outcome_lines Infeasible = line (codes "infeasible")
 outcome_lines (Stopped stop incumbent bound) = stop_line stop ++ incumbent_lines incumbent ++ number_line (codes "bound") bound
 
+-- whether a search went to its end
+abbrev pub is_final : Outcome → Bool
+is_final (Proved best) = true
+is_final Infeasible = true
+is_final (Stopped stop incumbent bound) = false
+
+-- the value that is told as best
+abbrev pub best_told : Outcome → Option ℤ
+best_told (Proved best) = Some best.value
+best_told Infeasible = None
+best_told (Stopped stop incumbent bound) = None
+
 -- a word and a count on a line
 abbrev pub count_line : List ℕ → ℕ → List ℕ
 count_line word n = line (word ++ 32 ∷ decimal n)
@@ -98,6 +111,11 @@ count_line word n = line (word ++ 32 ∷ decimal n)
 abbrev pub count_lines : Option Counts → List ℕ
 count_lines None = []
 count_lines (Some counts) = count_line (codes "taken") counts.taken ++ count_line (codes "finished") counts.finished
+
+-- the cover behind a report, or that memory ran out for it
+abbrev pub text_behind : Option (Vec ℕ Global) → List ℕ
+text_behind None = line (codes "out of memory")
+text_behind (Some cover) = cover.items
 
 abbrev pub words_line : WordsError → List ℕ
 words_line errors.Usage = line (codes "words usage")
@@ -109,6 +127,7 @@ words_line errors.OutOfMemory = line (codes "out of memory")
 -- the text of an answer
 abbrev pub report : Answer → List ℕ
 report (answers.Searched outcome counts) = outcome_lines outcome ++ count_lines counts
+report (answers.Covered outcome counts cover) = outcome_lines outcome ++ (count_lines counts ++ text_behind cover)
 report (answers.Digest digest) = line (encode_lower digest)
 report (answers.Drawn text) = text.items
 report (answers.Checked verdict) = verdict_line verdict
@@ -125,6 +144,11 @@ outcome_status (Proved best) = 0
 outcome_status Infeasible = 1
 outcome_status (Stopped stop incumbent bound) = 2
 
+-- want of memory for the cover behind a report goes before what the report says
+abbrev pub covered_status : Outcome → Option (Vec ℕ Global) → ℕ
+covered_status outcome None = 8
+covered_status outcome (Some cover) = outcome_status outcome
+
 abbrev pub words_status : WordsError → ℕ
 words_status errors.OutOfMemory = 8
 words_status _ = 4
@@ -136,6 +160,7 @@ verdict_status (verdicts.Refused why) = 9
 -- the status that goes with an answer
 abbrev pub status_of : Answer → ℕ
 status_of (answers.Searched outcome counts) = outcome_status outcome
+status_of (answers.Covered outcome counts cover) = covered_status outcome cover
 status_of (answers.Digest digest) = 0
 status_of (answers.Drawn text) = 0
 status_of (answers.Checked verdict) = verdict_status verdict

@@ -1,4 +1,5 @@
 ghost use Rattle.std.specs.Prelude.{◌≡◌, IfOk};
+ghost use Rattle.solver_report.specs.Report.{is_final, best_told};
 
 use bound_cover::Verdict;
 use dd_text::InstanceError;
@@ -69,6 +70,28 @@ pub enum Outcome {
     Stopped(Stop, Option<Solution>, i64),
 }
 
+impl Outcome {
+    /// Whether the search went to its end.
+    pub fn is_final(&self) -> bool
+        ensures { result ≡ is_final self.now }
+    {
+        match self {
+            Outcome::Proved(_) | Outcome::Infeasible => true,
+            Outcome::Stopped(_, _, _) => false,
+        }
+    }
+
+    /// The value that is told as best, where one is.
+    pub fn best(&self) -> Option<i64>
+        ensures { result ≡ best_told self.now }
+    {
+        match self {
+            Outcome::Proved(best) => Some(best.value()),
+            Outcome::Infeasible | Outcome::Stopped(_, _, _) => None,
+        }
+    }
+}
+
 /// The counts of a search.
 #[derive(Clone, Copy, Debug, PartialEq, Eq)]
 pub struct Counts {
@@ -83,6 +106,8 @@ pub struct Counts {
 pub enum Answer {
     /// How the search ended, and its counts where they are asked for.
     Searched(Outcome, Option<Counts>),
+    /// The same of a search that went to its end, and the text of its cover; none where memory ran out for that.
+    Covered(Outcome, Option<Counts>, Option<Vec<u8>>),
     /// The SHA-256 of the canonical text.
     Digest([u8; 32]),
     /// The canonical text of an instance that was drawn.

@@ -1,7 +1,7 @@
 ghost use Rattle.std.specs.Prelude.{◌≡◌, ◌∷◌, [], ◌++◌, pos, IfOk, OnOk, codes, option_map};
 ghost use Rattle.std.specs.Fmt.{decimal};
 ghost use Rattle.hex.specs.Hex.{encode_lower};
-ghost use Rattle.solver_report.specs.Report.{report, status_of, outcome_status, words_status, line, number_line, spaced, assignment_line, solution_lines, outcome_lines, count_line, count_lines, words_line, incumbent_lines, stop_line, fault_word, fault_line, why_words, verdict_line, verdict_status};
+ghost use Rattle.solver_report.specs.Report.{report, status_of, outcome_status, covered_status, text_behind, words_status, line, number_line, spaced, assignment_line, solution_lines, outcome_lines, count_line, count_lines, words_line, incumbent_lines, stop_line, fault_word, fault_line, why_words, verdict_line, verdict_status};
 
 use crate::answer::{Answer, Counts, Outcome, Solution, Stop};
 use bound_cover::{Verdict, Why};
@@ -17,6 +17,7 @@ pub fn status(answer: &Answer) -> u8
 {
     match answer {
         Answer::Searched(outcome, _) => outcome_status(outcome),
+        Answer::Covered(outcome, _, cover) => covered_status(outcome, cover),
         Answer::Digest(_) | Answer::Drawn(_) => 0,
         Answer::Checked(verdict) => verdict_status(*verdict),
         Answer::Refused(_) | Answer::CoverRefused(_) | Answer::TooLong => 3,
@@ -35,6 +36,16 @@ fn outcome_status(outcome: &Outcome) -> u8
         Outcome::Proved(_) => 0,
         Outcome::Infeasible => 1,
         Outcome::Stopped(_, _, _) => 2,
+    }
+}
+
+/// The exit status of a search with its cover, or with no memory for that.
+fn covered_status(outcome: &Outcome, cover: &Option<Vec<u8>>) -> u8
+    ensures { result ≡ covered_status outcome.now cover.now }
+{
+    match cover {
+        Some(_) => outcome_status(outcome),
+        None => 8,
     }
 }
 
@@ -65,6 +76,9 @@ pub fn report_text(alloc: Global, answer: &Answer) -> Result<Vec<u8>, OutOfMemor
     let mut out = Vec::new(alloc);
     match answer {
         Answer::Searched(outcome, counts) => push_search(&mut out, outcome, *counts)?,
+        Answer::Covered(outcome, counts, cover) => {
+            push_covered(&mut out, outcome, *counts, cover)?
+        }
         Answer::Digest(digest) => push_digest(&mut out, alloc, digest)?,
         Answer::Drawn(text) => out.extend_from_slice(text.as_slice())?,
         Answer::Checked(verdict) => push_verdict(&mut out, *verdict)?,
@@ -89,6 +103,29 @@ fn push_search(
 {
     push_outcome(out, outcome)?;
     push_counts(out, counts)
+}
+
+/// Appends the report of a search, and the cover behind it.
+fn push_covered(
+    out: &mut Vec<u8>,
+    outcome: &Outcome,
+    counts: Option<Counts>,
+    cover: &Option<Vec<u8>>,
+) -> Result<(), OutOfMemory>
+    ensures { OnOk result (out.new.items ≡ out.old.items ++ (outcome_lines outcome.now ++ (count_lines counts ++ text_behind cover.now))) }
+{
+    push_search(out, outcome, counts)?;
+    push_behind(out, cover)
+}
+
+/// Appends the text of a cover, or that memory ran out for it.
+fn push_behind(out: &mut Vec<u8>, cover: &Option<Vec<u8>>) -> Result<(), OutOfMemory>
+    ensures { OnOk result (out.new.items ≡ out.old.items ++ text_behind cover.now) }
+{
+    match cover {
+        Some(text) => out.extend_from_slice(text.as_slice()),
+        None => push_line(out, "out of memory"),
+    }
 }
 
 /// Appends how a search ended.

@@ -9,3 +9,4 @@ pub mod Printings
 pub mod TextLengths
 pub mod DrawnDistances
 pub mod Windows
+pub mod Late

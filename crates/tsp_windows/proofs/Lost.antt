@@ -1,10 +1,10 @@
 -- The least ways to the nodes that must be visited, as the code adds them up.
-use Rattle.std.proofs.Common.{◌≡◌, ℕ, zero, suc, ◌+◌, ◌*◌, ◌<◌, ◌≤◌, ℤ, Bool, true, false, cond, not, ◌&&◌, ◌||◌, nat_lt, nat_le, List, length, get_or, refl, sym, ap, ap₂, ◌∙◌, arith}
-use Rattle.std.proofs.lemmas.Bool.{or_left, or_right, lt-ltb, le-ltb}
+use Rattle.std.proofs.Common.{◌≡◌, ℕ, zero, suc, ◌+◌, ◌-◌, ◌*◌, ◌<◌, ◌≤◌, ℤ, Bool, true, false, cond, not, ◌&&◌, ◌||◌, nat_lt, nat_le, List, length, get_or, refl, sym, ap, ap₂, ◌∙◌, arith, inl, inr}
+use Rattle.std.proofs.lemmas.Bool.{cases_lt, or_left, or_right, lt-ltb, le-ltb, le-leb, lt-leb}
 use Rattle.node_sets.specs.Sums.{all_below, sum_below, count_below}
 use Rattle.node_sets.specs.Sets.{IsSet, has}
 use Rattle.node_sets.proofs.Below.{sum_below-skip, sum_below-same, count_below-le}
-use Rattle.tsp_windows.specs.Instance.{Instance, IsTourInstance, Window, no_window, closing, near}
+use Rattle.tsp_windows.specs.Instance.{Instance, IsTourInstance, closing, near}
 use Rattle.tsp_windows.specs.States.{TourState, must_of, shown, is_lost, way_left}
 use Rattle.tsp_windows.specs.Laws.Program.{way-most}
 use Rattle.tsp_windows.proofs.StateLemmas.{must-shown}
@@ -27,11 +27,18 @@ all_below-same zero p q h = refl
 all_below-same (suc n) p q h = ap₂ ◌&&◌ (h n (omega arith)) (all_below-same n p q (λ v l. h v (omega arith)))
 
 -- what the code asks of the nodes that must be visited is what the state is asked
-pub times_shown : (i : Instance) (w : ℕ) (s m : List ℤ) (nearest : List ℕ) (windows : List Window) (time : ℕ) → length nearest ≡ i.nodes → ((v : ℕ) → v < i.nodes → get_or nearest v 0 ≡ near i v) → windows ≡ i.windows → m ≡ must_of w s → time ≡ (shown w s).time → all_below (length nearest) (in_time nearest windows m time) ≡ all_below i.nodes (λ v. nat_le ((shown w s).time + near i v) (closing i v) || not ((shown w s).must v))
-times_shown i w s m nearest windows time l each ws e t =
-    ap (λ n. all_below n (in_time nearest windows m time)) l
-    ∙ all_below-same i.nodes (in_time nearest windows m time) (λ v. nat_le ((shown w s).time + near i v) (closing i v) || not ((shown w s).must v))
-    (λ v a. ap₂ (λ x y. x || not y) (ap₂ nat_le (ap₂ ◌+◌ t (each v a)) (ap (λ ws. (get_or ws v no_window).closing) ws)) (must-shown w s m v e))
+pub times_shown : (i : Instance) (w : ℕ) (s m : List ℤ) (n time : ℕ) (too_late : List ℕ) → n ≡ i.nodes → ((v : ℕ) → v < i.nodes → get_or too_late v 0 ≡ (closing i v + 1) - near i v) → m ≡ must_of w s → time ≡ (shown w s).time → all_below n (in_time too_late m time) ≡ all_below i.nodes (λ v. nat_le ((shown w s).time + near i v) (closing i v) || not ((shown w s).must v))
+times_shown i w s m n time too_late l each e t =
+    ap (λ n. all_below n (in_time too_late m time)) l
+    ∙ all_below-same i.nodes (in_time too_late m time) (λ v. nat_le ((shown w s).time + near i v) (closing i v) || not ((shown w s).must v))
+    (λ v a. ap₂ (λ x y. x || not y) (ap₂ nat_lt t (each v a) ∙ in_time_still (shown w s).time (near i v) (closing i v)) (must-shown w s m v e))
+  where
+    in_time_still : (time way close : ℕ) → nat_lt time ((close + 1) - way) ≡ nat_le (time + way) close
+    in_time_still time way close =
+        elim (cases_lt time ((close + 1) - way)) [
+          | inl a ↦ lt-ltb time ((close + 1) - way) a ∙ sym (le-leb (time + way) close (omega arith))
+          | inr a ↦ le-ltb time ((close + 1) - way) a ∙ sym (lt-leb (time + way) close (omega arith))
+        ]
 
 pub ways_shown : (i : Instance) (w : ℕ) (s m : List ℤ) (nearest : List ℕ) → length nearest ≡ i.nodes → ((v : ℕ) → v < i.nodes → get_or nearest v 0 ≡ near i v) → m ≡ must_of w s → sum_below (length nearest) (has m) (λ v. get_or nearest v 0) ≡ sum_below i.nodes (shown w s).must (near i)
 ways_shown i w s m nearest l each e =
@@ -55,16 +62,15 @@ pub record IsLeft (i : Instance) (k : ℕ) (t : TourState) (way : ℕ) : Type 0 
   pub left : way ≡ way_left i t
   pub small : way ≤ 301000000000
 
-pub left_is : (i : Instance) (k w : ℕ) (s m : List ℤ) (nearest : List ℕ) (windows : List Window) (time count ways home close : ℕ) → IsTourInstance i → length nearest ≡ i.nodes → ((v : ℕ) → v < i.nodes → get_or nearest v 0 ≡ near i v) → windows ≡ i.windows → m ≡ must_of w s → time ≡ (shown w s).time
-    → count ≡ count_below i.nodes (shown w s).must → count + k + 1 ≤ i.nodes → home ≡ get_or nearest 0 0 → close ≡ (get_or windows 0 no_window).closing → time + home ≤ close
-    → all_below (length nearest) (in_time nearest windows m time) ≡ true → ways ≡ sum_below (length nearest) (has m) (λ v. get_or nearest v 0) → IsLeft i k (shown w s) (ways + home)
-left_is i k w s m nearest windows time count ways home close small l each ws e t c few h cl late all sum =
+pub left_is : (i : Instance) (k w : ℕ) (s m : List ℤ) (nearest too_late : List ℕ) (time count ways home close : ℕ) → IsTourInstance i → length nearest ≡ i.nodes → ((v : ℕ) → v < i.nodes → get_or nearest v 0 ≡ near i v) → ((v : ℕ) → v < i.nodes → get_or too_late v 0 ≡ (closing i v + 1) - near i v) → m ≡ must_of w s → time ≡ (shown w s).time
+    → count ≡ count_below i.nodes (shown w s).must → count + k + 1 ≤ i.nodes → home ≡ get_or nearest 0 0 → close ≡ closing i 0 → time + home ≤ close
+    → all_below (length nearest) (in_time too_late m time) ≡ true → ways ≡ sum_below (length nearest) (has m) (λ v. get_or nearest v 0) → IsLeft i k (shown w s) (ways + home)
+left_is i k w s m nearest too_late time count ways home close small l each moments e t c few h shut late all sum =
     let at_home : home ≡ near i 0 = h ∙ each 0 (omega (arith, small.some)) in
-    let shut : close ≡ closing i 0 = cl ∙ ap (λ ws. (get_or ws 0 no_window).closing) ws in
     let total : ways + home ≡ way_left i (shown w s) = ap₂ ◌+◌ (sum ∙ ways_shown i w s m nearest l each e) at_home in
     let most = way-most i (shown w s) small in
     record {
-      found = not_lost i k (shown w s) count home c few (sym (times_shown i w s m nearest windows time l each ws e t) ∙ all) at_home (omega (arith, late, shut, t));
+      found = not_lost i k (shown w s) count home c few (sym (times_shown i w s m (length nearest) time too_late l moments e t) ∙ all) at_home (omega (arith, late, shut, t));
       left = total;
       small = omega (arith, total, most);
     }

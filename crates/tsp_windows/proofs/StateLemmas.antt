@@ -1,17 +1,17 @@
 -- What the code reads of a row that is a state.
-use Rattle.std.proofs.Common.{zero, suc, cond, min, Option, ◌≡◌, ℕ, ◌+◌, ◌*◌, ◌<◌, ◌≤◌, ℤ, pos, nat_abs, Bool, true, false, not, ◌&&◌, ◌||◌, nat_eq, nat_le, List, length, Some, ◌≢◌, refl, sym, ap, ap₂, ◌∙◌, arith, w64, to_z, of_z, FitsSigned, inl, inr, ◌⊎◌, eq-eqb}
+use Rattle.std.proofs.Common.{zero, suc, cond, min, Option, ◌≡◌, ℕ, ◌+◌, ◌-◌, ◌*◌, ◌<◌, ◌≤◌, ℤ, pos, nat_abs, Bool, true, false, not, ◌&&◌, ◌||◌, nat_eq, nat_le, List, length, Some, ◌≢◌, refl, sym, ap, ap₂, ◌∙◌, arith, w64, to_z, of_z, FitsSigned, inl, inr, ◌⊎◌, eq-eqb}
 use Rattle.std.specs.Prelude.{int_le, is_some, unwrap_or}
 use Rattle.std.proofs.lemmas.Int.{to_z-of_z}
-use Rattle.std.proofs.lemmas.Bool.{cases_eq, cases_lt, false≢true, or_cases, not-true, cases_Bool, ne_eqb}
+use Rattle.std.proofs.lemmas.Bool.{cases_eq, cases_lt, false≢true, or_cases, not-true, cases_Bool, ne_eqb, lt-leb}
 use Rattle.std.proofs.lemmas.Bool.Decides.{same_from_decides}
 use Rattle.node_sets.specs.Sums.{all_below, lesser, least_amount}
 use Rattle.node_sets.specs.Sets.{IsNext, IsSet, has, is_set, words_for}
 use Rattle.node_sets.proofs.Below.{all_below-gives, all_below-from, least_amount-same, least_amount-next, least_amount-none}
 use Rattle.node_sets.proofs.Counts.{is_set-gives}
-use Rattle.tsp_windows.specs.States.{TourState, positions_of, must_of, may_of, time_of, shown, leg, may_visit, may_return, is_open, covers, is_sound, is_state_row}
-use Rattle.tsp_windows.specs.Instance.{Instance, closing}
+use Rattle.tsp_windows.specs.States.{TourState, positions_of, must_of, may_of, time_of, shown, leg, arrival, may_visit, may_return, is_open, covers, is_sound, is_state_row}
+use Rattle.tsp_windows.specs.Instance.{Instance, closing, near}
 use Rattle.tsp_windows.specs.Apart.{IsApart}
-use Rattle.tsp_windows.specs.Laws.Moves.{all_below-not, sound-gives, sound-from}
+use Rattle.tsp_windows.specs.Laws.Moves.{IsSound, near-le-arrival, all_below-not, sound-gives, sound-from}
 use Rattle.tsp_windows.specs.Laws.Walks.{CoversTour, covers-gives, covers-from}
 
 pub fits_time : (t : ℕ) → t ≤ 1000000000000 → FitsSigned w64 (pos t)
@@ -132,6 +132,18 @@ time_last n s x z e f t g =
 
 pub visit_no : (i : Instance) (t : TourState) (d : ℕ) → (t.must d || t.may d) ≡ false → may_visit i t d ≡ false
 visit_no i t d e = and_no (not (nat_eq d 0)) _ (no_and (t.must d || t.may d) _ e)
+
+-- node 0 is none that must or may be visited
+pub open_elsewhere : (n : ℕ) (t : TourState) (d : ℕ) → IsSound n t → is_open t d ≡ true → d ≢ 0
+open_elsewhere n t d sound there home = false≢true (sym (ap₂ ◌||◌ sound.no_must sound.no_may) ∙ ap (is_open t) (sym home) ∙ there)
+
+-- a node that is not reached in time even on its least way
+pub visit_late : (i : Instance) (t : TourState) (d time moment : ℕ) → time ≡ t.time → moment ≡ (closing i d + 1) - near i d → moment ≤ time → may_visit i t d ≡ false
+visit_late i t d time moment e m late =
+    and_no (not (nat_eq d 0)) _ (and_no (t.must d || t.may d) _ (elim (cases_Bool (is_some (leg i t d))) [
+      | inl s ↦ and_no (is_some (leg i t d)) _ (let least = near-le-arrival i t d s in lt-leb (arrival i t d) (closing i d) (omega (arith, e, m, late, least)))
+      | inr s ↦ no_and (is_some (leg i t d)) _ s
+    ]))
 
 pub visit_some : (i : Instance) (t : TourState) (d way : ℕ) → d ≢ 0 → (t.must d || t.may d) ≡ true → leg i t d ≡ Some way → nat_le (t.time + way) (closing i d) ≡ may_visit i t d
 visit_some i t d way n e l =

@@ -1,11 +1,9 @@
 -- Loops over the members of a set: what the next member adds.
-use Rattle.std.proofs.Common.{◌≡◌, ◌≢◌, ℕ, ◌+◌, ◌*◌, ◌<◌, ◌≤◌, ℤ, Bool, true, false, not, ◌&&◌, ◌||◌, nat_eq, nat_le, List, get_or, Option, refl, sym, ap, ap₂, ◌∙◌, arith, inl, inr, eq-eqb}
-use Rattle.std.proofs.lemmas.Bool.{cases_eq, cases_lt, false≢true, or_left, or_right, ne_eqb, le-leb}
-use Rattle.std.proofs.lemmas.Bool.Decides.{nat_tests}
+use Rattle.std.proofs.Common.{◌≡◌, ◌≢◌, ℕ, ◌+◌, ◌*◌, ◌<◌, ◌≤◌, ℤ, Bool, true, false, not, ◌&&◌, ◌||◌, nat_eq, nat_lt, List, get_or, Option, refl, sym, ap, ap₂, ◌∙◌, arith, inl, inr, eq-eqb}
+use Rattle.std.proofs.lemmas.Bool.{cases_eq, cases_lt, false≢true, or_left, or_right, ne_eqb, lt-ltb, le-ltb}
 use Rattle.node_sets.specs.Sums.{all_below, sum_below, lesser, least_amount}
 use Rattle.node_sets.specs.Sets.{IsNext, IsSet, has}
 use Rattle.node_sets.proofs.Below.{all_below-gives, all_below-from, sum_below-skip, sum_below-next, sum_below-le, least_amount-skip, least_amount-next}
-use Rattle.tsp_windows.specs.Instance.{Window, no_window}
 
 -- a member is one of the nodes
 pub member_inside : (n : ℕ) (row : List ℤ) (from v : ℕ) → IsSet n row → IsNext (has row) from v → v < n
@@ -42,41 +40,34 @@ pub leg_ends : (n : ℕ) (row : List ℤ) (f : ℕ → ℕ) (from to : ℕ) (lea
 leg_ends n row f from to least inside none l =
     l ∙ sym (least_amount-skip from n (λ p. has row p && not (nat_eq p to)) f inside (λ u a b. ap (λ x. x && not (nat_eq u to)) (none u a)))
 
--- whether a member is reached on its least way
-abbrev pub in_time : List ℕ → List Window → List ℤ → ℕ → ℕ → Bool
-in_time nearest windows members time v = nat_le (time + get_or nearest v 0) (get_or windows v no_window).closing || not (has members v)
+-- whether it is not too late to leave for a member
+abbrev pub in_time : List ℕ → List ℤ → ℕ → ℕ → Bool
+in_time too_late members time v = nat_lt time (get_or too_late v 0) || not (has members v)
 
-late_one : (a b : ℕ) (x : Bool) → b < a → x ≡ true → (nat_le a b || not x) ≡ false
-late_one a b true l e = ap (λ y. y || false) (late a b l)
-  where
-    late : (a b : ℕ) → b < a → nat_le a b ≡ false
-    late a b l = grind (arith, nat_tests)
-late_one a b false l e = absurd (false≢true e)
-
--- a member that is reached too late
-pub members_late : (n : ℕ) (nearest : List ℕ) (windows : List Window) (members : List ℤ) (time from v way close : ℕ) → v < n → IsNext (has members) from v → way ≡ get_or nearest v 0 → close ≡ (get_or windows v no_window).closing → close < time + way → all_below n (in_time nearest windows members time) ≡ false
-members_late n nearest windows members time from v way close inside next e f late =
-    not_all (all_below n (in_time nearest windows members time)) (λ all. false≢true (sym (late_one (time + get_or nearest v 0) (get_or windows v no_window).closing (has members v) (omega (arith, e, f)) next.passes) ∙ all_below-gives n (in_time nearest windows members time) all v inside))
+-- a member for which it is too late to leave
+pub members_late : (n : ℕ) (too_late : List ℕ) (members : List ℤ) (time from v : ℕ) → v < n → IsNext (has members) from v → get_or too_late v 0 ≤ time → all_below n (in_time too_late members time) ≡ false
+members_late n too_late members time from v inside next late =
+    not_all (all_below n (in_time too_late members time)) (λ all. false≢true (sym (ap₂ (λ x y. x || not y) (le-ltb time (get_or too_late v 0) late) next.passes) ∙ all_below-gives n (in_time too_late members time) all v inside))
   where
     not_all : (b : Bool) → (b ≡ true → ⊥) → b ≡ false
     not_all true h = absurd (h refl)
     not_all false h = refl
 
-pub members_early : (nearest : List ℕ) (windows : List Window) (members : List ℤ) (time from v way close : ℕ) → IsNext (has members) from v → way ≡ get_or nearest v 0 → close ≡ (get_or windows v no_window).closing → time + way ≤ close → ((u : ℕ) → u < from → in_time nearest windows members time u ≡ true) → (u : ℕ) → u < v + 1 → in_time nearest windows members time u ≡ true
-members_early nearest windows members time from v way close next e f early before u l =
+pub members_early : (too_late : List ℕ) (members : List ℤ) (time from v : ℕ) → IsNext (has members) from v → time < get_or too_late v 0 → ((u : ℕ) → u < from → in_time too_late members time u ≡ true) → (u : ℕ) → u < v + 1 → in_time too_late members time u ≡ true
+members_early too_late members time from v next early before u l =
     elim (cases_lt u from) [
       | inl a ↦ before u a
       | inr a ↦ (elim (cases_eq u v) [
-        | inl s ↦ ap (in_time nearest windows members time) s ∙ or_left (nat_le (time + get_or nearest v 0) (get_or windows v no_window).closing) (not (has members v)) (le-leb (time + get_or nearest v 0) (get_or windows v no_window).closing (omega (arith, e, f)))
-        | inr s ↦ or_right (nat_le (time + get_or nearest u 0) (get_or windows u no_window).closing) (not (has members u)) (ap not (next.skipped u a (omega arith)))
+        | inl s ↦ ap (in_time too_late members time) s ∙ or_left (nat_lt time (get_or too_late v 0)) (not (has members v)) (lt-ltb time (get_or too_late v 0) early)
+        | inr s ↦ or_right (nat_lt time (get_or too_late u 0)) (not (has members u)) (ap not (next.skipped u a (omega arith)))
       ])
     ]
 
-pub members_end : (n : ℕ) (nearest : List ℕ) (windows : List Window) (members : List ℤ) (time from : ℕ) → ((v : ℕ) → from ≤ v → has members v ≡ false) → ((u : ℕ) → u < from → in_time nearest windows members time u ≡ true) → all_below n (in_time nearest windows members time) ≡ true
-members_end n nearest windows members time from none before =
-    all_below-from n (in_time nearest windows members time) (λ u l. elim (cases_lt u from) [
+pub members_end : (n : ℕ) (too_late : List ℕ) (members : List ℤ) (time from : ℕ) → ((v : ℕ) → from ≤ v → has members v ≡ false) → ((u : ℕ) → u < from → in_time too_late members time u ≡ true) → all_below n (in_time too_late members time) ≡ true
+members_end n too_late members time from none before =
+    all_below-from n (in_time too_late members time) (λ u l. elim (cases_lt u from) [
       | inl a ↦ before u a
-      | inr a ↦ or_right (nat_le (time + get_or nearest u 0) (get_or windows u no_window).closing) (not (has members u)) (ap not (none u a))
+      | inr a ↦ or_right (nat_lt time (get_or too_late u 0)) (not (has members u)) (ap not (none u a))
     ])
 
 pub members_add : (nearest : List ℕ) (members : List ℤ) (from v total way : ℕ) → IsNext (has members) from v → way ≡ get_or nearest v 0 → total ≡ sum_below from (has members) (λ v. get_or nearest v 0) → total + way ≡ sum_below (v + 1) (has members) (λ v. get_or nearest v 0)

@@ -1,4 +1,5 @@
 pub mod Instance
+pub mod Late
 pub mod States
 pub mod Program
 pub mod OwnWords

@@ -1,5 +1,6 @@
 ghost use Rattle.std.specs.Prelude.{◌≡◌, ℕ, ◌*◌, ◌<◌, ◌≤◌, IsTrue, length, get_or};
 ghost use Rattle.tsp_windows.specs.Instance.{is_small, near, no_window, instance_of, numbers_of};
+ghost use Rattle.tsp_windows.specs.Late.{are_too_late};
 
 use crate::window::Window;
 
@@ -13,6 +14,8 @@ pub struct TspWindows {
     pub(crate) windows: Vec<Window>,
     /// The least distance to each node from another one.
     pub(crate) nearest: Vec<u32>,
+    /// The first moment at which it is too late to leave for each node, even by the least distance to it.
+    pub(crate) too_late: Vec<u64>,
     ghost small: { IsTrue (is_small (record { nodes = nodes; distances = distances.items; windows = windows.items })) },
     ghost spelled: { instance_of (numbers_of (record { nodes = nodes; distances = distances.items; windows = windows.items })) ≡ (record { nodes = nodes; distances = distances.items; windows = windows.items }) },
     ghost some: { 1 ≤ nodes },
@@ -23,4 +26,6 @@ pub struct TspWindows {
     ghost closes: { (v : ℕ) → (get_or windows.items v no_window).closing ≤ 1000000000000 },
     ghost all_nearest: { length nearest.items ≡ nodes },
     ghost ways: { (v : ℕ) → v < nodes → get_or nearest.items v 0 ≡ near (record { nodes = nodes; distances = distances.items; windows = windows.items }) v },
+    ghost all_too_late: { length too_late.items ≡ nodes },
+    ghost late: { IsTrue (are_too_late (record { nodes = nodes; distances = distances.items; windows = windows.items }) too_late.items) },
 }

@@ -9,7 +9,7 @@ ghost use Rattle.tsp_windows.specs.Apart.{IsApart};
 ghost use Rattle.tsp_windows.specs.Shown.{instance_in};
 
 use crate::instance::TspWindows;
-use crate::parts::{parts_of, sets_of};
+use crate::parts::{few_words, parts_of, sets_of};
 use crate::ways::{least_leg, ways_within};
 use dp_model::{DpModel, Extended};
 use node_sets::{
@@ -149,7 +149,7 @@ impl TspWindows {
     }
 
     /// When a node other than 0 that must or may be visited is reached, or none where it is no such node or is not reached
-    /// in time.
+    /// in time. Node 0 never must or may be.
     fn visited(&self, s: &[i64], to: usize) -> Option<u64>
         requires state { IsTrue (is_state_row self.now.nodes s.now) }
         requires inside { to < self.now.nodes }
@@ -157,10 +157,10 @@ impl TspWindows {
         ensures arrival { IfSome result (λ at. at ≡ states.arrival (instance_in self.now) (shown (sets.words_for self.now.nodes) s.now) to) }
         ensures small { IfSome result (λ at. at < 2 ^ 62) }
     {
-        if to == 0 {
+        let state = parts_of(self.nodes, s);
+        if state.time >= self.too_late[to] {
             return None;
         }
-        let state = parts_of(self.nodes, s);
         let listed = is_listed(state.must, state.may, to);
         if !listed {
             return None;
@@ -289,7 +289,7 @@ impl TspWindows {
         if state.time + home > self.windows[0].closing {
             return None;
         }
-        let ways = ways_within(&self.nearest, &self.windows, state.must, state.time)?;
+        let ways = ways_within(&self.nearest, &self.too_late, state.must, state.time)?;
         Some(ways + home)
     }
 }
@@ -319,7 +319,7 @@ fn write_moved(out: &mut [i64], model: &TspWindows, s: &[i64], to: usize, depart
     requires small { departure < 2 ^ 62 }
     ensures { out.new ≡ row_for (sets.words_for model.now.nodes) (states.moved (instance_in model.now) (shown (sets.words_for model.now.nodes) s.now) to) }
 {
-    let words = words_for(model.nodes);
+    let words = few_words(model.nodes);
     let state = parts_of(model.nodes, s);
     let (positions, rest) = out.split_at_mut(words);
     let (must, rest) = rest.split_at_mut(words);
@@ -335,7 +335,7 @@ fn write_joined(acc: &mut [i64], nodes: usize, s: &[i64])
     requires state { IsTrue (is_state_row nodes s.now) }
     ensures { acc.new ≡ row_for (sets.words_for nodes) (states.joined (shown (sets.words_for nodes) acc.old) (shown (sets.words_for nodes) s.now)) }
 {
-    let words = words_for(nodes);
+    let words = few_words(nodes);
     let state = parts_of(nodes, s);
     let earlier = parts_of(nodes, acc).time.min(state.time);
     let (positions, rest) = acc.split_at_mut(words);

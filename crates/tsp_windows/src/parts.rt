@@ -16,6 +16,16 @@ pub(crate) struct Parts<'a> {
     pub(crate) time: u64,
 }
 
+/// How many words the nodes take. That they are at most 300 is said where it can be seen by a compiler, so that loops over so few
+/// words are not prepared for long ones.
+#[inline]
+pub(crate) fn few_words(nodes: usize) -> usize
+    requires { nodes ≤ 300 }
+    ensures { result ≡ sets.words_for nodes }
+{
+    words_for(nodes.min(300))
+}
+
 /// The three sets of a row.
 #[inline]
 pub(crate) fn sets_of(words: usize, s: &[i64]) -> (&[i64], &[i64], &[i64])

@@ -7,7 +7,7 @@ ghost use Rattle.tsp_windows.specs.Shown.{instance_in};
 ghost use Rattle.tsp_windows.specs.Texts.{distance_at, window_at, nodes_at, spelled};
 
 use crate::instance::TspWindows;
-use crate::ways::least_ways;
+use crate::ways::{least_ways, moments_too_late};
 use crate::window::Window;
 use dd_text::{Comment, InstanceError, InstanceFault, ReadModelError, Tokens};
 use std::alloc::{AllocError, Global};
@@ -97,11 +97,13 @@ pub(crate) fn problem_of(
     ensures { IfOk result (λ m. instance_in m ≡ record { nodes = nodes; distances = distances.items; windows = windows.items }) }
 {
     let nearest = least_ways(alloc, nodes, &distances)?;
+    let too_late = moments_too_late(alloc, &nearest, &windows)?;
     Ok(TspWindows {
         nodes,
         distances,
         windows,
         nearest,
+        too_late,
     })
 }
 

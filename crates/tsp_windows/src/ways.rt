@@ -1,6 +1,6 @@
 //! Least ways, over rows of distances.
 
-ghost use Rattle.std.specs.Prelude.{◌≡◌, ℕ, ◌+◌, ◌*◌, ◌^◌, ◌<◌, ◌≤◌, ◌&&◌, ◌||◌, not, nat_eq, nat_le, true, false, length, get_or, Option, unwrap_or, MatchOption, IfOk, IfSome};
+ghost use Rattle.std.specs.Prelude.{◌≡◌, ℕ, ◌+◌, ◌-◌, ◌*◌, ◌^◌, ◌<◌, ◌≤◌, ◌&&◌, ◌||◌, not, nat_eq, nat_lt, true, false, length, get_or, Option, unwrap_or, MatchOption, IfOk, IfSome};
 ghost use Rattle.node_sets.specs.Sums.{all_below, sum_below, lesser, least_amount};
 ghost use Rattle.node_sets.specs.Sets.{IsSet, has};
 ghost use Rattle.tsp_windows.specs.Instance as instance;
@@ -78,31 +78,49 @@ pub(crate) fn least_ways(
     Ok(ways)
 }
 
-/// The sum of the least ways to all members, or none where one of them can't be reached in time.
-pub(crate) fn ways_within(
+/// The first moment at which it is too late to leave for each node by the least way to it: the first one behind its closing, less
+/// the way.
+pub(crate) fn moments_too_late(
+    alloc: Global,
     nearest: &[u32],
     windows: &[Window],
+) -> Result<Vec<u64>, AllocError>
+    requires same { length windows.now ≡ length nearest.now }
+    requires closes { (v : ℕ) → (get_or windows.now v no_window).closing ≤ 1000000000000 }
+    ensures all { IfOk result (λ moments. length moments.items ≡ length nearest.now) }
+    ensures each { IfOk result (λ moments. (v : ℕ) → v < length nearest.now → get_or moments.items v 0 ≡ ((get_or windows.now v no_window).closing + 1) - get_or nearest.now v 0) }
+{
+    let mut moments = Vec::with_capacity(alloc, nearest.len())?;
+    'nodes: for to in 0..nearest.len() {
+        let behind = windows[to].closing + 1;
+        moments.push(behind.saturating_sub(u64::from(nearest[to])))?;
+    }
+    Ok(moments)
+}
+
+/// The sum of the least ways to all members, or none where it is too late to leave for one of them.
+pub(crate) fn ways_within(
+    nearest: &[u32],
+    too_late: &[u64],
     members: &[i64],
     time: u64,
 ) -> Option<u64>
     requires few { length nearest.now ≤ 300 }
-    requires same { length windows.now ≡ length nearest.now }
+    requires same { length too_late.now ≡ length nearest.now }
     requires set { IsSet (length nearest.now) members.now }
-    requires early { time ≤ 1000000000000 }
     ensures total { MatchOption result
-        (all_below (length nearest.now) (λ v. nat_le (time + get_or nearest.now v 0) (get_or windows.now v no_window).closing || not (has members.now v)) ≡ false)
-        (λ total. (all_below (length nearest.now) (λ v. nat_le (time + get_or nearest.now v 0) (get_or windows.now v no_window).closing || not (has members.now v)) ≡ true)
+        (all_below (length nearest.now) (λ v. nat_lt time (get_or too_late.now v 0) || not (has members.now v)) ≡ false)
+        (λ total. (all_below (length nearest.now) (λ v. nat_lt time (get_or too_late.now v 0) || not (has members.now v)) ≡ true)
         × (total ≡ sum_below (length nearest.now) (has members.now) (λ v. get_or nearest.now v 0))) }
     ensures small { IfSome result (λ total. total ≤ 300 * 2 ^ 32) }
 {
     let mut total = 0;
     let mut rest = Members::of(members);
     'members: while let Some(member) = rest.next() {
-        let way = u64::from(nearest[member]);
-        if time + way > windows[member].closing {
+        if time >= too_late[member] {
             return None;
         }
-        total += way;
+        total += u64::from(nearest[member]);
     }
     Some(total)
 }

@@ -1,15 +1,12 @@
 -- What a Finish asks.
 use Rattle.std.proofs.Common.{◌≡◌, ◌≤◌, ℤ, List, [], ◌∷◌, length, Option, Some, None, option_map, refl, sym, ap, subst, arith}
 use Rattle.dp_model.specs.Dp.{Dp}
-use Rattle.dp_model.specs.Numbers.{OptionAtMost}
 use Rattle.dp_model.specs.Subproblem.{Subproblem, SubView}
 use Rattle.shared_fringe.specs.Tickets.{Ticketed}
-use Rattle.board_laws.specs.Board.{BoardState, incumbent_value, reach, full_slots, slot_at}
+use Rattle.board_laws.specs.Board.{BoardState, full_slots, slot_at}
 use Rattle.board_laws.specs.Fates.{fates_on}
 use Rattle.board_laws.specs.Finishing.{MayFinish}
-use Rattle.board_laws.specs.GoodBoard.{IsBoard}
 use Rattle.board_laws.specs.declared.fate.Fate.{Fate}
-use Rattle.board_laws.proofs.Carrying.{reach-above}
 use Rattle.search_core.specs.Contents.{contents}
 use Rattle.worker_gate.specs.Branched.{IsBranched}
 use Rattle.worker_gate.proofs.Taking.{first_full}
@@ -40,10 +37,6 @@ may_finish dp b c threshold cs fs is branched fates =
       deep = here.deep;
       fates = fates;
     }
-
--- the incumbent's value is at most the reach
-pub incumbent_below : (dp : Dp) (b : BoardState) → IsBoard dp b → OptionAtMost (incumbent_value b) (reach b)
-incumbent_below dp b g = reach-above b.settings.within (incumbent_value b) g.settings.within_least
 
 pub contents-long : (held : List SubView) → length (contents held) ≡ length held
 contents-long [] = refl

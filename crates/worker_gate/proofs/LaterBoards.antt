@@ -68,10 +68,6 @@ finished_later dp b now after c cs steps way empty run step = record {
   cause = subst (λ o. IsCauseAfter o after.cause) (sym way.began_without) (subst (IsCauseAfter None) (sym (ap (λ l. l.cause) step ∙ way.without_cause)) tt);
 }
 
--- it took one more
-pub finished_taken : (dp : Dp) (b now after : BoardState) (c : Subproblem) (cs : List Subproblem) → IsRoundUnderWay dp b now c → after ≡ finished_by dp now 0 cs → b.taken + 1 ≤ after.taken
-finished_taken dp b now after c cs way step = let same = ap (λ l. l.taken) step in let more = way.taken in omega arith
-
 -- a round that gives up
 pub given_up_later : (dp : Dp) (b now after : BoardState) (c : Subproblem) → IsRoundUnderWay dp b now c → slice_get b.slots 0 ≡ Some None → after ≡ given_back (halted now Memory) 0 → IsLater dp b after
 given_up_later dp b now after c way empty step =

@@ -1,23 +1,12 @@
 -- What offers keep.
-use Rattle.std.proofs.Common.{◌≡◌, ℕ, ℤ, ◌≤ℤ◌, List, [], ◌++◌, Option, Some, None, refl, sym, ◌∙◌, subst, arith}
-use Rattle.std.proofs.lemmas.Int.{ints}
+use Rattle.std.proofs.Common.{◌≡◌, ℕ, List, [], ◌++◌, refl, sym, ◌∙◌, subst}
 use Rattle.dp_model.specs.Dp.{Dp}
-use Rattle.dp_model.specs.Numbers.{AtMost, OptionAtMost}
-use Rattle.dp_model.specs.Prefixes.{IsSolution, value_of}
-use Rattle.dp_model.specs.Solution.{IsSolutionWith}
-use Rattle.dp_laws.proofs.Reaches.{at-most-raised}
-use Rattle.board_laws.specs.Board.{BoardState, incumbent_value, reach}
-use Rattle.board_laws.specs.GoodBoard.{IsBoard}
+use Rattle.board_laws.specs.Board.{BoardState}
 use Rattle.board_laws.specs.Improving.{ImproveGives, after_offer}
 use Rattle.board_laws.specs.declared.improved.Improved.{Improved}
 use Rattle.board_laws.specs.declared.improved.Improved.TheVariants.{Yes, NotBetter, NoSolution}
-use Rattle.board_laws.proofs.Running.{run-then, run-follows, offer-runs}
+use Rattle.board_laws.proofs.Running.{run-then, offer-runs}
 use Rattle.worker_gate.specs.Offered.{IsOffered}
-use Rattle.worker_gate.proofs.Finishing.{incumbent_below}
-
-pub option-at-most-then : (a b c : Option ℤ) → OptionAtMost a b → OptionAtMost b c → OptionAtMost a c
-option-at-most-then None b c low up = tt
-option-at-most-then (Some z) b c low up = at-most-raised z b c up low
 
 pub IsOffered-refl : (dp : Dp) (b : BoardState) → IsOffered dp b b
 IsOffered-refl dp b = record { steps = []; run = refl; slots = refl; taken = refl; finished = refl; next_ticket = refl; cause = refl }
@@ -32,11 +21,6 @@ IsOffered-trans dp a b c f g = record {
   next_ticket = g.next_ticket ∙ f.next_ticket;
   cause = g.cause ∙ f.cause;
 }
-
--- what was the incumbent is at most the reach after offers
-pub offered-below : (dp : Dp) (b later : BoardState) → IsBoard dp later → IsOffered dp b later → OptionAtMost (incumbent_value b) (reach later)
-offered-below dp b later g o =
-    option-at-most-then (incumbent_value b) (incumbent_value later) (reach later) ((run-follows dp b o.steps later o.run).better) (incumbent_below dp later g)
 
 -- what an offer leaves as it is
 record IsLike (b later : BoardState) : Type 0 where
@@ -57,14 +41,3 @@ offered_by dp b later answer x gives step =
     let run = offer-runs dp b later x answer gives step in
     let like = subst (IsLike b) (sym step) (offer-like dp b x answer) in
     record { steps = run.steps; run = run.run; slots = like.slots; taken = like.taken; finished = like.finished; next_ticket = like.next_ticket; cause = like.cause }
-
--- where a solution was offered, it is at most the incumbent
-offered_best : (dp : Dp) (b : BoardState) (x : List ℕ) (answer : Improved) (later : BoardState) → ImproveGives dp b x answer → later ≡ after_offer dp answer b x → IsSolution dp x → AtMost (value_of dp x) (incumbent_value later)
-offered_best dp b x Yes later gives step s = subst (λ l. AtMost (value_of dp x) (incumbent_value l)) (sym step) (let same : value_of dp x ≤ℤ value_of dp x = omega (arith, ints) in same)
-offered_best dp b x NotBetter later gives step s = subst (λ l. AtMost (value_of dp x) (incumbent_value l)) (sym step) gives.1
-offered_best dp b x NoSolution later gives step s = absurd (gives s)
-
--- and at most the reach
-pub offered_reach : (dp : Dp) (b : BoardState) (x : List ℕ) (v : ℤ) (answer : Improved) (later : BoardState) → IsBoard dp later → ImproveGives dp b x answer → later ≡ after_offer dp answer b x → IsSolutionWith dp x v → AtMost v (reach later)
-offered_reach dp b x v answer later g gives step s =
-    at-most-raised v (incumbent_value later) (reach later) (incumbent_below dp later g) (subst (λ z. AtMost z (incumbent_value later)) (sym s.value) (offered_best dp b x answer later gives step s.solution))

@@ -90,8 +90,8 @@ impl CoverBuilder {
 
     /// Adds the open row to the last layer, with a bound, and with an arc part or none, and opens the next row.
     ///
-    /// There is a layer, and the last one has fewer than `2^32 - 1` rows. It fails only for want of memory, and then changes
-    /// nothing. Without an arc part the arcs that were added are left out.
+    /// There is a layer, and the last one has fewer than `2^32 - 1` rows. It fails only for want of memory or of a cover's room, and
+    /// then changes nothing. Without an arc part the arcs that were added are left out.
     #[inline(always)]
     pub fn end_row(&mut self, bound: Option<i64>, has_arcs: bool) -> Result<(), OutOfMemory>
         requires layer { 0 < length self.old.cover }
@@ -99,11 +99,11 @@ impl CoverBuilder {
         ensures ok { OnOk result (self.new ≡ with_open_row self.old bound has_arcs) }
         ensures err { OnErr result (self.new ≡ self.old) }
     {
-        self.heads.reserve(1)?;
         let words_to = self.words.len();
         let arcs_to = self.arcs.len();
-        self.heads
-            .push_reserved(head_of(bound, has_arcs, words_to, arcs_to));
+        let head = head_of(bound, has_arcs, words_to, arcs_to)?;
+        self.heads.reserve(1)?;
+        self.heads.push_reserved(head);
         self.words_from = words_to;
         self.arcs_from = arcs_to;
         Ok(())

@@ -12,6 +12,7 @@ use Rattle.solver_report.specs.declared.answer.Answer.TheVariants as answers
 use Rattle.solver_report.specs.Report.{report, status_of}
 use Rattle.solver_cli.specs.Job.Answers.{IsReply, Draws}
 use Rattle.solver_cli.specs.Job.Checks.{IsChecked}
+use Rattle.solver_cli.specs.Job.Covers.{cover_limit}
 use Rattle.solver_cli.specs.declared.call.tasks.Task.{Task}
 use Rattle.solver_cli.specs.declared.call.tasks.Task.TheVariants.{OnInput, OnCover, Draw}
 use Rattle.solver_cli.specs.Call.Tasks.{task_asked}
@@ -43,10 +44,6 @@ writings taken faults idle old new = record { before = taken old; now = taken ne
 -- how many bytes the text of an instance has at most
 abbrev pub text_limit : ℕ
 text_limit = 2 ^ 26
-
--- how many bytes a whole output with its cover has at most
-abbrev pub cover_limit : ℕ
-cover_limit = 2 ^ 28
 
 -- these bytes are all that was left, nothing is left now, no call failed, and they are within the limit
 pub record WasRead (limit : ℕ) (r : Readings) (bytes : List ℕ) : Type 0 where

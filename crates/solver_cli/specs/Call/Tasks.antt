@@ -10,17 +10,17 @@ use Rattle.solver_words.specs.declared.job.JobSettings.{JobSettings}
 use Rattle.solver_cli.specs.declared.call.tasks.Task.{Task}
 use Rattle.solver_cli.specs.declared.call.tasks.Task.TheVariants.{OnInput, OnCover, Draw}
 
--- a search by 1 to 16 workers, as the grammar leaves it, without a journal and a cover
-abbrev pub is_plain : JobSettings → Option Text → Option ℕ → Bool
-is_plain settings journal cover = nat_le 1 settings.workers && (nat_le settings.workers 16 && (not (is_some journal) && not (is_some cover)))
+-- a search by 1 to 16 workers, as the grammar leaves it, without a journal
+abbrev pub is_plain : JobSettings → Option Text → Bool
+is_plain settings journal = nat_le 1 settings.workers && (nat_le settings.workers 16 && not (is_some journal))
 
--- what a search is asked for
-abbrev pub search_of : JobSettings → Search
-search_of settings = record { width = settings.width; workers = settings.workers; budget = settings.budget; cutset = settings.cutset; stats = settings.stats }
+-- what a search is asked for; how many words a cover may keep has no effect
+abbrev pub search_of : JobSettings → Option ℕ → Search
+search_of settings cover = record { width = settings.width; workers = settings.workers; budget = settings.budget; cutset = settings.cutset; stats = settings.stats; cover = is_some cover }
 
 -- the task of a job; what is still to come is refused as outside the grammar
 abbrev pub task_of : JobView → Result Task Refusal
-task_of (solve model settings journal cover) = cond (is_plain settings journal cover) (Ok (OnInput (Solve model (search_of settings)))) (Err usage)
+task_of (solve model settings journal cover) = cond (is_plain settings journal) (Ok (OnInput (Solve model (search_of settings cover)))) (Err usage)
 task_of (resume path settings) = Err usage
 task_of check = Ok OnCover
 task_of (digest model) = Ok (OnInput (Digest model))

@@ -1,8 +1,6 @@
 -- When what a job answers for an instance is right.
-use Rattle.std.specs.Prelude.{◌≡◌, ◌≢◌, ℕ, ◌-◌, ◌^◌, ◌≤◌, Bool, true, false, ℤ, pos, ◌≤ℤ◌, List, [], Option, Some, None, MatchResult, IsTrue}
-use Rattle.dd_text.specs.declared.instance_error.InstanceError.{InstanceError}
+use Rattle.std.specs.Prelude.{◌≡◌, ◌≢◌, ℕ, ◌-◌, ◌^◌, ◌<◌, ◌≤◌, Bool, true, false, ◌&&◌, ℤ, pos, List, [], Option, Some, None, MatchResult, IsTrue}
 use Rattle.dp_model.specs.Solution.{Solution}
-use Rattle.dp_model.specs.Best.{best}
 use Rattle.dp_model.specs.Counts.{tree}
 use Rattle.dp_model.specs.Dp.{Dp}
 use Rattle.dp_model.specs.declared.cut_kind.CutKind.TheVariants.{LastExactLayer}
@@ -30,33 +28,11 @@ use Rattle.solver_report.specs.declared.answer.Answer.TheVariants as answers
 use Rattle.solver_cli.specs.declared.job.text_job.Search.{Search}
 use Rattle.solver_cli.specs.declared.job.text_job.TextJob.{TextJob}
 use Rattle.solver_cli.specs.declared.job.text_job.TextJob.TheVariants.{Solve, Digest}
+use Rattle.solver_cli.specs.Job.Checks.{RefusesInstance}
+use Rattle.solver_cli.specs.Job.Covers.{IsCovered}
+use Rattle.solver_cli.specs.Job.Reports.{IncumbentIsFeasible, IsInfeasible, IsProved, NoneIsWorthMore}
 use Rattle.solver_cli.specs.Job.Widths.{IsSearchWidth, IsRefusedWidth}
-
--- a feasible solution with its value, in the states and gains and in the problem's own words
-pub record IsFeasible (dp : Dp) (own : List ℕ → Option ℤ) (found : Solution) : Type 0 where
-  pub solution : IsSolution dp found.decisions
-  pub value : found.value ≡ value_of dp found.decisions
-  pub own_words : own found.decisions ≡ Some found.value
-
-abbrev pub IncumbentIsFeasible : Dp → (List ℕ → Option ℤ) → Option Solution → Type 0
-IncumbentIsFeasible dp own None = Unit {0}
-IncumbentIsFeasible dp own (Some found) = IsFeasible dp own found
-
--- no list that is a solution in the problem's own words is worth more than this
-abbrev pub NoneIsWorthMore : (List ℕ → Option ℤ) → ℤ → Type 0
-NoneIsWorthMore own value = (x : List ℕ) (worth : ℤ) → own x ≡ Some worth → worth ≤ℤ value
-
--- a feasible solution of the greatest value, in both senses
-pub record IsProved (dp : Dp) (own : List ℕ → Option ℤ) (found : Solution) : Type 0 where
-  pub found_one : IsFeasible dp own found
-  pub is_best : best dp ≡ Some found.value
-  pub own_best : NoneIsWorthMore own found.value
-
--- there is no feasible solution, and no list is one in the problem's own words
-pub record IsInfeasible (dp : Dp) (own : List ℕ → Option ℤ) : Type 0 where
-  pub no_best : best dp ≡ None
-  pub no_solution : (x : List ℕ) → IsSolution dp x → ⊥
-  pub no_own : (x : List ℕ) → own x ≡ None
+use Rattle.solver_report.specs.Report.{is_final}
 
 -- why a board is not explored: the budget is taken up and no cause is held, or want of memory is held
 abbrev pub StopHolds : BoardState → Stop → Type 0
@@ -81,10 +57,11 @@ IsOutcomeOf dp own budget board (Proved found) = IsProved dp own found
 IsOutcomeOf dp own budget board Infeasible = IsInfeasible dp own
 IsOutcomeOf dp own budget board (Stopped stop incumbent bound) = IsStopped dp own budget board stop incumbent bound
 
--- the counts of a board: no more finished than taken, no more taken than the budget, and no more finished than there are prefixes
+-- the counts of a board, of 64 bits: no more finished than taken, no more taken than the budget, and no more finished than there are prefixes
 pub record AreCounts (dp : Dp) (board : BoardState) (counts : Counts) : Type 0 where
   pub taken : counts.taken ≡ board.taken
   pub finished : counts.finished ≡ board.finished
+  pub sized : counts.taken < 2 ^ 64
   pub in_order : counts.finished ≤ counts.taken
   pub within : counts.taken ≤ board.settings.budget
   pub few : counts.finished ≤ tree dp
@@ -112,16 +89,17 @@ pub record HasSearched (dp : Dp) (own : List ℕ → Option ℤ) (search : Searc
   pub ends : IsOutcomeOf dp own search.budget board outcome
   pub counted : IsCounted dp board search.stats counts
 
--- what a search of an instance may answer
+-- what a search of an instance may answer: a cover exactly where it is asked for and the search went to its end
 abbrev pub Solves : Dp → (List ℕ → Option ℤ) → Search → Answer → Type 0
-Solves dp own search (answers.Searched outcome counts) = HasSearched dp own search outcome counts
+Solves dp own search (answers.Searched outcome counts) = HasSearched dp own search outcome counts × ((search.cover && is_final outcome) ≡ false)
+Solves dp own search (answers.Covered outcome counts cover) = HasSearched dp own search outcome counts × ((search.cover && is_final outcome) ≡ true)
 Solves dp own search answers.Width = IsRefusedWidth dp search.width
 Solves dp own search answers.OutOfMemory = Unit {0}
 Solves dp own search _ = ⊥
 
--- how an instance that is drawn is searched: with the default width, one worker, the greatest budget, and its counts
+-- how an instance that is drawn is searched: with the default width, one worker, the greatest budget, its counts, and without a cover
 abbrev pub by_default : Search
-by_default = record { width = None; workers = 1; budget = 2 ^ 64 - 1; cutset = LastExactLayer; stats = true }
+by_default = record { width = None; workers = 1; budget = 2 ^ 64 - 1; cutset = LastExactLayer; stats = true; cover = false }
 
 -- what a digest may answer
 abbrev pub Digests : List ℕ → Answer → Type 0
@@ -154,16 +132,10 @@ abbrev pub model_in : TextJob → ModelName
 model_in (Solve model search) = model
 model_in (Digest model) = model
 
--- what the job may answer for an instance
+-- what the job may answer for an instance; a cover behind a report is accepted by `check`
 abbrev pub Does : Theory → TextJob → List ℤ → Answer → Type 0
-Does t (Solve model search) numbers answer = Solves (t.program numbers) (t.own_value numbers) search answer
+Does t (Solve model search) numbers answer = Solves (t.program numbers) (t.own_value numbers) search answer × IsCovered model (t.canonical numbers) answer
 Does t (Digest model) numbers answer = Digests (t.canonical numbers) answer
-
--- the first fault is answered, or want of memory
-abbrev pub RefusesInstance : InstanceError → Answer → Type 0
-RefusesInstance e (answers.Refused given) = given ≡ e
-RefusesInstance e answers.OutOfMemory = Unit {0}
-RefusesInstance e _ = ⊥
 
 -- what the job may answer for a text: for the instance that it spells, or its first fault
 abbrev pub Replies : Theory → TextJob → List ℕ → Answer → Type 0

@@ -14,7 +14,7 @@ use Rattle.problems.specs.Theories.{theory_of}
 use Rattle.problems.specs.Theory.{Theory}
 use Rattle.solver_report.specs.declared.answer.Answer.{Answer}
 use Rattle.solver_report.specs.declared.answer.Answer.TheVariants as answers
-use Rattle.solver_cli.specs.Job.Answers.{IsProved, IsInfeasible, RefusesInstance}
+use Rattle.solver_cli.specs.Job.Reports.{IsProved, IsInfeasible}
 
 -- a report is true: its solution is feasible and of the greatest value, or there is none, in both senses
 abbrev pub IsTrueReport : Dp → (List ℕ → Option ℤ) → Option ℤ → List ℕ → Type 0
@@ -31,6 +31,12 @@ abbrev pub Checks : Dp → (List ℕ → Option ℤ) → CoverTextView → Answe
 Checks dp own held (answers.Checked given) = IsVerdict dp own held given
 Checks dp own held answers.OutOfMemory = Unit {0}
 Checks dp own held _ = ⊥
+
+-- the first fault of an instance is answered, or want of memory
+abbrev pub RefusesInstance : InstanceError → Answer → Type 0
+RefusesInstance e (answers.Refused given) = given ≡ e
+RefusesInstance e answers.OutOfMemory = Unit {0}
+RefusesInstance e _ = ⊥
 
 -- what may be answered for what a text holds: for its instance, or the first fault of that
 abbrev pub ChecksText : Theory → CoverTextView → Answer → Type 0

@@ -1,7 +1,8 @@
 ghost use Rattle.std.specs.Prelude.{◌≡◌, map, string_bytes};
 ghost use Rattle.solver_cli.specs.Job.Answers.{IsCrewed, IsReply};
 ghost use Rattle.solver_cli.specs.Job.Checks.{IsChecked};
-ghost use Rattle.solver_cli.specs.Call.Ended.{IsRight, IsInputAnswer, readings, unread, text_limit, cover_limit};
+ghost use Rattle.solver_cli.specs.Job.Covers.{cover_limit};
+ghost use Rattle.solver_cli.specs.Call.Ended.{IsRight, IsInputAnswer, readings, unread, text_limit};
 
 use crate::call::tasks::{Task, task_asked};
 use crate::job::{TextJob, check, generate, reply};

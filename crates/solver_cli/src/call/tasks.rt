@@ -32,8 +32,8 @@ pub fn task_asked(alloc: Global, words: &[String]) -> Result<Task, WordsError>
     task_of(&job)
 }
 
-/// The task of a job. This is the one place that tells which words are still to come: a search with a journal or with a cover, and the
-/// command `resume`. They are answered as words outside the grammar.
+/// The task of a job. This is the one place that tells which words are still to come: a search with a journal, and the command `resume`.
+/// They are answered as words outside the grammar.
 fn task_of(job: &Job) -> Result<Task, WordsError>
     requires { IsDrawable job.now }
     ensures answer { IsAnswer (λ task. task) (task_of (job_view job.now)) result }
@@ -45,7 +45,7 @@ fn task_of(job: &Job) -> Result<Task, WordsError>
             settings,
             journal,
             cover_words,
-        } if is_plain(*settings, journal, *cover_words) => Ok(Task::OnInput(TextJob::Solve {
+        } if is_plain(*settings, journal) => Ok(Task::OnInput(TextJob::Solve {
             model: *model,
             search: Search {
                 width: settings.width,
@@ -53,6 +53,7 @@ fn task_of(job: &Job) -> Result<Task, WordsError>
                 budget: settings.budget,
                 cutset: settings.cutset,
                 stats: settings.stats,
+                cover: cover_words.is_some(),
             },
         })),
         Job::Check => Ok(Task::OnCover),
@@ -73,8 +74,8 @@ fn task_of(job: &Job) -> Result<Task, WordsError>
 }
 
 /// Whether a search asks for nothing that is still to come. It has from 1 to 16 workers, as the grammar leaves it.
-fn is_plain(settings: JobSettings, journal: &Option<String>, cover_words: Option<u64>) -> bool
-    ensures { result ≡ is_plain settings (option_map string_bytes journal.now) cover_words }
+fn is_plain(settings: JobSettings, journal: &Option<String>) -> bool
+    ensures { result ≡ is_plain settings (option_map string_bytes journal.now) }
 {
-    settings.workers >= 1 && settings.workers <= 16 && journal.is_none() && cover_words.is_none()
+    settings.workers >= 1 && settings.workers <= 16 && journal.is_none()
 }

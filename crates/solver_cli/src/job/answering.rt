@@ -1,5 +1,6 @@
-ghost use Rattle.std.specs.Prelude.{ℕ, ◌^◌, ◌-◌, ◌<◌, length};
-ghost use Rattle.solver_cli.specs.Job.Answers.{Replies, IsReply, IsCrewed};
+ghost use Rattle.std.specs.Prelude.{◌≡◌, ℕ, ◌^◌, ◌-◌, ◌<◌, length};
+ghost use Rattle.problems.specs.Theories.{theory_of};
+ghost use Rattle.solver_cli.specs.Job.Answers.{Replies, IsReply, IsCrewed, model_in};
 
 use crate::job::digesting::digest;
 use crate::job::solving::solve;
@@ -44,11 +45,15 @@ fn answer_text<P: Problem, G: Gate + Sync, R: Threads + Wait + Sync>(
 ) -> Answer
     requires short { length text.now < 2 ^ 32 - 1 }
     requires crewed { IsCrewed job }
+    requires named { theory_of (model_in job) ≡ P.theory }
     ensures { Replies P.theory job text.now result }
 {
     match P::read(alloc, text) {
         Ok(model) => match job {
-            TextJob::Solve { model: _, search } => solve(rt, alloc, model, search, gate),
+            TextJob::Solve {
+                model: name,
+                search,
+            } => solve(rt, alloc, name, model, search, gate),
             TextJob::Digest { model: _ } => digest(alloc, &model),
         },
         Err(ReadModelError::Text(error)) => Answer::Refused(error),

@@ -1,31 +1,31 @@
 ghost use Rattle.std.specs.Prelude.{◌≡◌, ℕ, pos, true, false, IfOk};
 ghost use Rattle.board_laws.specs.Board.{is_explored};
 ghost use Rattle.board_laws.specs.GoodBoard.{IsBoard, IsGood};
-ghost use Rattle.solver_cli.specs.Job.Answers.{Solves, IsOutcomeOf, IsCounted};
+ghost use Rattle.solver_cli.specs.Job.Answers.{HasSearched, IsOutcomeOf, IsCounted};
 ghost use Rattle.solver_cli.specs.Job.Over.{IsOver};
 
 use crate::job::text_job::Search;
 use dp_model::{DpModel, OutOfMemory};
 use problems::Problem;
 use search_core::Board;
-use solver_report::{Answer, Counts, Outcome, Solution, Stop};
+use solver_report::{Counts, Outcome, Solution, Stop};
 use std::alloc::Global;
 
-/// The answer of a search that is over, with its counts where they are asked for. Fails only for want of memory.
+/// How a search that is over ended, with its counts where they are asked for. Fails only for want of memory.
 pub fn conclude<P: Problem>(
     alloc: Global,
     board: &Board<P>,
     model: &P,
     search: Search,
-) -> Result<Answer, OutOfMemory>
+) -> Result<(Outcome, Option<Counts>), OutOfMemory>
     requires numbers { board.now.numbers ≡ P.numbers model.now }
     requires over { IsOver (P.meaning (P.numbers model.now)) search board.now.board }
-    ensures { IfOk result (Solves (P.meaning (P.numbers model.now)) (P.theory.own_value (P.numbers model.now)) search) }
+    ensures { IfOk result (λ told. HasSearched (P.meaning (P.numbers model.now)) (P.theory.own_value (P.numbers model.now)) search told.0 told.1) }
 {
     let found = held_solution(alloc, board)?;
     let outcome = outcome_of(board, model, found, search);
     let counts = counts_of(board, search.stats);
-    Ok(Answer::Searched(outcome, counts))
+    Ok((outcome, counts))
 }
 
 /// A copy of the incumbent. Fails only for want of memory.

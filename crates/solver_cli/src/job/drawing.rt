@@ -1,4 +1,4 @@
-ghost use Rattle.std.specs.Prelude.{◌^◌, ◌<◌, ◌≤◌};
+ghost use Rattle.std.specs.Prelude.{◌≡◌, ◌^◌, ◌<◌, ◌≤◌};
 ghost use Rattle.problems.specs.Theories.{theory_of};
 ghost use Rattle.solver_cli.specs.Job.Answers.{Prints, Draws};
 
@@ -20,6 +20,7 @@ const BY_DEFAULT: Search = Search {
     budget: u64::MAX,
     cutset: CutKind::LastExactLayer,
     stats: true,
+    cover: false,
 };
 
 /// Draws an instance of the problem, of size `n` from the seed. Its canonical text is answered, or where `solved` how a search of it ends,
@@ -39,10 +40,12 @@ pub fn generate<G: Gate + Sync, R: Threads + Wait + Sync>(
     ensures { Draws (theory_of problem) n seed solved result }
 {
     match problem {
-        ModelName::Knapsack => draw::<Knapsack, G, R>(rt, alloc, n, seed, solved, gate),
-        ModelName::MaxCut => draw::<MaxCut, G, R>(rt, alloc, n, seed, solved, gate),
-        ModelName::MaxTwoSat => draw::<MaxTwoSat, G, R>(rt, alloc, n, seed, solved, gate),
-        ModelName::TspWindows => draw::<TspWindows, G, R>(rt, alloc, n, seed, solved, gate),
+        ModelName::Knapsack => draw::<Knapsack, G, R>(rt, alloc, problem, n, seed, solved, gate),
+        ModelName::MaxCut => draw::<MaxCut, G, R>(rt, alloc, problem, n, seed, solved, gate),
+        ModelName::MaxTwoSat => draw::<MaxTwoSat, G, R>(rt, alloc, problem, n, seed, solved, gate),
+        ModelName::TspWindows => draw::<TspWindows, G, R>(
+            rt, alloc, problem, n, seed, solved, gate,
+        ),
     }
 }
 
@@ -50,18 +53,20 @@ pub fn generate<G: Gate + Sync, R: Threads + Wait + Sync>(
 fn draw<P: Problem, G: Gate + Sync, R: Threads + Wait + Sync>(
     rt: &R,
     alloc: Global,
+    problem: ModelName,
     n: u32,
     seed: u32,
     solved: bool,
     gate: &G,
 ) -> Answer
+    requires named { theory_of problem ≡ P.theory }
     requires least { P.theory.least_size ≤ n }
     requires most { n ≤ P.theory.most_size }
     requires seed { seed < 2 ^ 31 }
     ensures { Draws P.theory n seed solved result }
 {
     match P::generate(alloc, n, seed) {
-        Ok(model) if solved => solve(rt, alloc, model, BY_DEFAULT, gate),
+        Ok(model) if solved => solve(rt, alloc, problem, model, BY_DEFAULT, gate),
         Ok(model) => printed(alloc, &model),
         Err(_) => Answer::OutOfMemory,
     }

@@ -14,6 +14,8 @@ pub struct Search {
     pub cutset: CutKind,
     /// Whether the counts of the search are told.
     pub stats: bool,
+    /// Whether a cover is told behind the report of a search that went to its end.
+    pub cover: bool,
 }
 
 /// What is done with an instance that a text spells.

@@ -1,4 +1,4 @@
-use super::prints;
+use super::{DRAWN_CLAUSES, TEN_ITEMS, THREE_ITEMS, prints, run_line};
 use crate::run;
 use dd_io::{MemSink, MemSource};
 use std::alloc::{AllocError, Global};
@@ -233,4 +233,100 @@ fn tells_each_flipped_byte(rt: HostRuntime) -> Result<(), Fail> {
         tells_flips(&rt, rt.alloc(), *flips)?;
     }
     Ok(())
+}
+
+/// Distances and windows of three nodes, of which the last one is due at 8.
+const TOUR: &str = "3\n0 2 9\n2 0 3\n4 3 0\n0 100\n5 20\n0 8\n";
+
+/// The same where it is due too early for every tour.
+const NO_TOUR: &str = "3\n0 2 9\n2 0 3\n4 3 0\n0 100\n5 20\n0 1\n";
+
+/// Words, an instance, how what is printed begins, and the status.
+const COVERED: &[(&str, &str, &str, u8)] = &[
+    (
+        "solve knapsack --cover",
+        TEN_ITEMS,
+        "proved\nvalue 709\nassignment 1 3 0 3 3 0 1 0 1 0\ncover knapsack\ninstance ",
+        0,
+    ),
+    (
+        "solve knapsack --cover --stats --width 1 --budget 50 --cover-words 0",
+        THREE_ITEMS,
+        "proved\nvalue 120\nassignment 0 1 1\ntaken ",
+        0,
+    ),
+    (
+        "solve knapsack --cover",
+        "0 5\n",
+        "proved\nvalue 0\nassignment\ncover knapsack\ninstance 4\n0 5\nlayer 0 1\n0 ; 5\nend\n",
+        0,
+    ),
+    (
+        "solve maxcut --cover --workers 2",
+        "3 3\n1 2 3\n2 3 1\n1 3 2\n",
+        "proved\nvalue 5\nassignment 0 1 1\ncover maxcut\ninstance ",
+        0,
+    ),
+    ("solve max2sat --cover", DRAWN_CLAUSES, "proved\nvalue ", 0),
+    (
+        "solve tsptw --cover",
+        TOUR,
+        "proved\nvalue -12\nassignment 1 2 0\ncover tsptw\ninstance ",
+        0,
+    ),
+    (
+        "solve tsptw --cover",
+        NO_TOUR,
+        "infeasible\ncover tsptw\ninstance ",
+        1,
+    ),
+    (
+        "solve tsptw --cover --stats",
+        NO_TOUR,
+        "infeasible\ntaken ",
+        1,
+    ),
+];
+
+#[test]
+fn printed_covers_are_accepted(rt: HostRuntime) -> Result<(), Fail> {
+    for (line, input, begins, status) in COVERED.iter().copied() {
+        let printed = run_line(&rt, rt.alloc(), line, input, &[], &[])?;
+        let text = printed.text.taken();
+        assert!(rt; text.starts_with(begins.as_bytes()), "{line} on {input}");
+        assert_eq!(rt; printed.status, status, "{line} on {input}");
+        let (verdict, own) = checked(&rt, rt.alloc(), text.to_vec(rt.alloc())?)?;
+        assert_eq!(rt;
+            verdict.taken(),
+            "accepted\n".as_bytes(),
+            "{line} on {input}"
+        );
+        assert_eq!(rt; own, 0, "{line} on {input}");
+    }
+    Ok(())
+}
+
+#[test]
+fn a_stopped_search_prints_no_cover(rt: HostRuntime) -> Result<(), Fail> {
+    let cases = [
+        (
+            "solve knapsack --cover --budget 0",
+            THREE_ITEMS,
+            "stopped budget\nvalue none\nbound 121\n",
+            2u8,
+        ),
+        (
+            "solve knapsack --cover-words 5",
+            THREE_ITEMS,
+            "proved\nvalue 120\nassignment 0 1 1\n",
+            0,
+        ),
+        (
+            "solve knapsack --cover --journal j",
+            THREE_ITEMS,
+            "words usage\n",
+            4,
+        ),
+    ];
+    prints(&rt, rt.alloc(), &cases)
 }

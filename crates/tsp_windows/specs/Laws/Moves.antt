@@ -1,7 +1,7 @@
 -- One step of a tour: the tests that allow it, the way and the state behind it.
-use Rattle.std.proofs.Common.{◌≡◌, ◌≢◌, ℕ, zero, suc, ◌+◌, ◌<◌, ◌≤◌, Bool, true, false, cond, not, ◌&&◌, ◌||◌, nat_eq, nat_lt, nat_le, Option, Some, None, refl, sym, ap, ap₂, ◌∙◌, subst, arith, inl, inr, ◌⊎◌, eq-eqb}
+use Rattle.std.proofs.Common.{◌≡◌, ◌≢◌, ℕ, zero, suc, ◌+◌, ◌<◌, ◌≤◌, Bool, true, false, cond, not, ◌&&◌, ◌||◌, nat_eq, nat_lt, nat_le, Option, Some, None, refl, sym, ap, ap₂, ◌∙◌, arith, inl, inr, ◌⊎◌, eq-eqb}
 use Rattle.std.specs.Prelude.{is_some, unwrap_or}
-use Rattle.std.proofs.lemmas.Bool.{cases_eq, false≢true, eqb-true, and_parts, and_from, or_left, or_right, or_cases, not-true, cases_Bool, ne_eqb, leb-true, le-leb, lt-ltb, le-ltb, eqb-false}
+use Rattle.std.proofs.lemmas.Bool.{false≢true, eqb-true, and_parts, and_from, or_left, or_right, or_cases, not-true, cases_Bool, ne_eqb, leb-true, le-leb, lt-ltb, le-ltb, eqb-false}
 use Rattle.node_sets.specs.Sums.{all_below, lesser, least_amount}
 use Rattle.node_sets.proofs.Below.{all_below-gives, all_below-from}
 use Rattle.tsp_windows.specs.Instance.{Instance, distance, closing, near, least_way}

@@ -1,4 +1,4 @@
-use Rattle.std.proofs.Common.{◌≡◌, ◌≢◌, ◌∙◌, ◌<◌, ◌^◌, rules, arith, pos, sym}
+use Rattle.std.proofs.Common.{◌≡◌, ◌<◌, ◌^◌, rules, arith, pos}
 use Rattle.std.specs.Prelude.{int_le, ◌&&◌, true}
 use Rattle.dd_text.proofs.Windows.{window_value, window_behind}
 use Rattle.dd_text.proofs.scan.short_number.Goals as goal

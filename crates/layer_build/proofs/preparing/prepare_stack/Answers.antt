@@ -1,7 +1,5 @@
-use Rattle.std.proofs.Common.{◌≡◌, ℕ, ◌+◌, ◌*◌, ◌≤◌, ◌∷◌, ◌++◌, [], List, map, length, vec_len, rules, sym, ap, ap₂, ◌∙◌, subst, arith, append_assoc, length-append}
-use Rattle.dp_model.specs.Decisions.{below}
+use Rattle.std.proofs.Common.{◌≡◌, ℕ, ◌*◌, ◌∷◌, ◌++◌, [], List, length, vec_len, rules, ap, ap₂, ◌∙◌, arith, append_assoc}
 use Rattle.layer_nodes.specs.Nodes.{LayerView}
-use Rattle.layer_build.specs.Layers.{IsWidth}
 use Rattle.layer_build.specs.Stacked.{empty_layer}
 use Rattle.layer_build.proofs.Memory.{count-below}
 use Rattle.layer_build.proofs.Ready.{width-one}

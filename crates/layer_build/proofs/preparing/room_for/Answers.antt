@@ -1,4 +1,4 @@
-use Rattle.std.proofs.Common.{rules, ◌≡◌, ◌*◌, ◌^◌, ◌<◌, ◌≤◌, ℕ, subst, sym, ap, ◌∙◌, arith}
+use Rattle.std.proofs.Common.{◌≡◌, ◌*◌, ◌^◌, ◌<◌, ◌≤◌, ℕ, subst, sym, arith}
 use Rattle.dp_model.specs.Laws.{IsLawful}
 use Rattle.layer_build.proofs.Rooms.{choice-few, product-few, enough-more}
 use Rattle.layer_build.proofs.preparing.room_for.Given as given

@@ -4,7 +4,6 @@ use Rattle.std.proofs.lemmas.List.{length-drop}
 use Rattle.dp_model.specs.Lists.{Each}
 use Rattle.dp_model.specs.Numbers.{greatest}
 use Rattle.dp_laws.specs.Rules.Reducing.{row_of_all, merge_redirect}
-use Rattle.dp_laws.proofs.Rules.Merged.{length-staying}
 use Rattle.layer_candidates.specs.Rows.{row_at}
 use Rattle.layer_nodes.specs.Leading.{IsNodeIn, bare}
 use Rattle.layer_nodes.specs.Merging.{lifted}
@@ -27,11 +26,11 @@ pub merge_targets-best-requires-clause-redirects_room : goal.merge_targets-best-
 merge_targets-best-requires-clause-redirects_room g c =
     let a = c.args in
     let first = a.width - 1 in
-    let stayed = ap length c.stay_first.ensures.redirects ∙ length-staying first in
     let last = ap length c.nodes_from-last.ensures ∙ (ap (λ l. length (drop first l)) c.as_slice.ensures.value ∙ length-drop first a.nodes.now.items) in
     let room = c.requires.redirects_room in
     let wide = c.requires.wide in
-    let capacity = c.stay_first.ensures.capacity in
+    let capacity = c.clear.ensures.capacity in
+    let none = ap length c.clear.ensures.items in
     omega arith
 
 pub returns-clause-merged : goal.returns-clause-merged
@@ -43,15 +42,14 @@ returns-clause-merged g c =
     let row = row_at rows2 a.words a.place in
     let last : c.nodes_from-last.result.now ≡ drop first a.nodes.now.items = c.nodes_from-last.ensures ∙ ap (drop first) c.as_slice.ensures.value in
     let rank : c.rank-rank.result ≡ dp.rank a.k row = c.rank-rank.ensures ∙ ap (dp.rank a.k) c.row.ensures in
-    has-merged dp a.k a.width a.words a.place a.rows.now a.nodes.now.items rows2 c.push_reserved.new.self.items c.stay_first.new.redirects.items c.merge_targets-best.new.redirects.items c.merge_targets-best.result c.merged_node.result
+    has-merged dp a.k a.width a.words a.place a.rows.now a.nodes.now.items rows2 c.push_reserved.new.self.items c.merge_targets-best.new.redirects.items c.merge_targets-best.result c.merged_node.result
     c.merge_rows.ensures.before
     (c.merge_rows.ensures.merged ∙ ap (λ l. row_of_all dp a.k (map (bare a.rows.now a.words) l)) last)
     c.merge_rows.ensures.state
     c.merge_rows.ensures.size
     c.requires.before
-    c.stay_first.ensures.redirects
     (c.merge_targets-best.ensures.value ∙ ap (λ l. greatest (lifted dp a.k row (map (bare rows2 a.words) l))) last)
-    (c.merge_targets-best.ensures.redirects ∙ ap (λ l. c.stay_first.new.redirects.items ++ map (merge_redirect dp a.k first row) (map (bare rows2 a.words) l)) last)
+    (c.merge_targets-best.ensures.redirects ∙ ap₂ (λ s l. s ++ map (merge_redirect dp a.k first row) (map (bare rows2 a.words) l)) c.clear.ensures.items last)
     c.merge_targets-best.ensures.short
     (c.merged_node.ensures ∙ ap₂ (λ v r. record { value = v; rank = r; suffix = None; parent = None; row = a.place; decision = 0; first_arc = 0; arcs = 0; exact = false }) (to_z-of_z w64 c.unwrap_or.result (record { sfits = c.unwrap_or.type_inv }) ∙ c.unwrap_or.ensures) (to_z-of_z w64 c.rank-rank.result (record { sfits = c.rank-rank.type_inv }) ∙ rank))
     (c.push_reserved.ensures.items ∙ ap (λ l. l ++ c.merged_node.result ∷ []) c.truncate.ensures.items)

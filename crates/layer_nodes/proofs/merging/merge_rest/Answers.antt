@@ -1,8 +1,8 @@
-use Rattle.std.proofs.Common.{rules, ◌≡◌, ◌+◌, ◌*◌, ◌≤◌, IsSome, length, map, sym, ◌∙◌, ap, subst, arith}
+use Rattle.std.proofs.Common.{rules, ◌≡◌, ◌++◌, ◌+◌, ◌-◌, ◌*◌, ◌≤◌, IsSome, length, map, sym, ◌∙◌, ap, subst, arith}
 use Rattle.std.proofs.lemmas.List.{with_items_is, length-map}
 use Rattle.dp_model.specs.Lists.{Each}
 use Rattle.dp_laws.specs.Rules.Redirects.{with_redirected}
-use Rattle.dp_laws.specs.Rules.Reducing.{merged_layer, merge_redirects}
+use Rattle.dp_laws.specs.Rules.Reducing.{staying, merged_layer, merge_redirects}
 use Rattle.layer_nodes.specs.Leading.{IsNodeIn}
 use Rattle.layer_nodes.specs.Nodes.{LayerView, shown_layer, shown_below}
 use Rattle.layer_nodes.specs.Steps.{IsNodeOf, IsRanked}
@@ -76,8 +76,8 @@ returns-clause-above g c = λ paths below.
     let s = c.next.inside in
     let cells = c.as_mut_slice.result.now in
     let h = c.merge_nodes.ensures.merged in
-    c.redirect_layer.ensures.nodes paths
-    ∙ ap (λ x. with_redirected x (shown_layer paths a.above.now.nodes)) (c.as_slice.ensures.value
+    c.redirect_layer_behind.ensures.nodes paths
+    ∙ ap (λ x. with_redirected x (shown_layer paths a.above.now.nodes)) (ap (λ l. staying (a.width - 1) ++ l) c.as_slice.ensures.value
     ∙ (merged-targets dp a.k a.width s.words s.room cells s.nodes.items c.merge_nodes.new.rows c.merge_nodes.new.nodes.items c.merge_nodes.new.redirects.items s.arcs.items h below
     ∙ ap (merge_redirects dp a.k a.width) (ap (λ r. shown_below below (map (node_view s.words r s.arcs.items) s.nodes.items)) c.as_mut_slice.ensures.value ∙ ap (λ (l : LayerView). shown_below below l.nodes) c.next.view_is)))
 

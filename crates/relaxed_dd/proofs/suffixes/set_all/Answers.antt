@@ -1,6 +1,6 @@
-use Rattle.std.proofs.Common.{◌≡◌, ◌+◌, ◌-◌, ◌<◌, suc, length, sym, ◌∙◌, ap, arith}
+use Rattle.std.proofs.Common.{◌≡◌, ◌+◌, ◌-◌, length, arith}
 use Rattle.dp_model.specs.Laws.{IsLawful}
-use Rattle.relaxed_dd.proofs.Halves.{half_space, half-starts, may-set, half-further}
+use Rattle.relaxed_dd.proofs.Halves.{half-starts, sets-next, sets-further, sets-all}
 use Rattle.relaxed_dd.proofs.suffixes.set_all.Given as given
 use Rattle.relaxed_dd.proofs.suffixes.set_all.Goals as goal
 
@@ -9,134 +9,44 @@ laws_of g m = (g.met.M.DpModel g.world.𝓛 g.world.𝓜 g.world.𝓡 ((λ s x. 
 
 pub layers-init : goal.layers-init
 layers-init g c =
-    let dp = g.M.DpModel.meaning (g.M.DpModel.numbers c.args.model.now) in
     let a = c.args in
-    let all : c.last_depth-last.result - c.first_depth.result + 1 - 0 ≡ length a.space.now.layers = (let e = c.last_depth-last.ensures in let f = c.first_depth.ensures in let s = c.requires.some in omega arith) in
-    half-starts dp (c.last_depth-last.result - c.first_depth.result + 1 - 0) a.space.now all
+    let last = c.vars-last.ensures in
+    let first = c.first_depth.ensures in
+    let whole = c.requires.whole in
+    let some = c.requires.some in
+    let below : c.vars-last.result - c.first_depth.result + 1 ≡ length a.space.now.layers = omega arith in
+    record {
+      small = (laws_of g a.model.now).sizes.vars;
+      numbers = c.requires.numbers;
+      whole = whole;
+      vars = c.requires.vars;
+      last_is = last;
+      below_is = below;
+      half_is = half-starts (g.M.DpModel.meaning (g.M.DpModel.numbers a.model.now)) (c.vars-last.result - c.first_depth.result + 1 - 0) a.space.now (omega arith);
+    }
 
-pub set_layer-requires-clause-first : goal.set_layer-requires-clause-first
-set_layer-requires-clause-first g c κs within =
-    let dp = g.M.DpModel.meaning (g.M.DpModel.numbers c.args.model.now) in
-    let a = c.args in
-    let r = c.requires in
-    let l = c.layers in
-    let last = c.last_depth-last.result in
-    let e1 = c.last_depth-last.ensures in
-    let e2 = c.first_depth.ensures in
-    let some = r.some in
-    let test = c.layers-test.true in
-    let n = length a.space.now.layers in
-    let j = last - c.first_depth.result - l.above in
-    let left : last - c.first_depth.result + 1 - l.above ≡ j + 1 = omega arith in
-    let less : j < n = omega arith in
-    let at : last - l.above ≡ length a.space.now.prefix + j = omega arith in
-    let next : j + 1 ≡ suc j = omega arith in
-    let is : l.space ≡ half_space dp (suc j) a.space.now = l.invariant ∙ ap (λ i. half_space dp i a.space.now) (left ∙ next) in
-    (may-set dp a.space.now l.space j (last - l.above) (laws_of g a.model.now).sizes.vars r.numbers r.whole less at is).first
+pub set_suffixes-requires-clause-last : goal.set_suffixes-requires-clause-last
+set_suffixes-requires-clause-last g c =
+    (sets-next (g.M.DpModel.meaning (g.M.DpModel.numbers c.args.model.now)) c.args.space.now c.layers.space c.vars-last.result (c.vars-last.result - c.first_depth.result) c.layers.above c.layers.invariant c.layers-test.true).last
 
-pub set_layer-requires-clause-last : goal.set_layer-requires-clause-last
-set_layer-requires-clause-last g c κs within =
-    let dp = g.M.DpModel.meaning (g.M.DpModel.numbers c.args.model.now) in
-    let a = c.args in
-    let r = c.requires in
-    let l = c.layers in
-    let last = c.last_depth-last.result in
-    let e1 = c.last_depth-last.ensures in
-    let e2 = c.first_depth.ensures in
-    let some = r.some in
-    let test = c.layers-test.true in
-    let n = length a.space.now.layers in
-    let j = last - c.first_depth.result - l.above in
-    let left : last - c.first_depth.result + 1 - l.above ≡ j + 1 = omega arith in
-    let less : j < n = omega arith in
-    let at : last - l.above ≡ length a.space.now.prefix + j = omega arith in
-    let next : j + 1 ≡ suc j = omega arith in
-    let is : l.space ≡ half_space dp (suc j) a.space.now = l.invariant ∙ ap (λ i. half_space dp i a.space.now) (left ∙ next) in
-    (may-set dp a.space.now l.space j (last - l.above) (laws_of g a.model.now).sizes.vars r.numbers r.whole less at is).last
+pub set_suffixes-requires-clause-whole : goal.set_suffixes-requires-clause-whole
+set_suffixes-requires-clause-whole g c =
+    (sets-next (g.M.DpModel.meaning (g.M.DpModel.numbers c.args.model.now)) c.args.space.now c.layers.space c.vars-last.result (c.vars-last.result - c.first_depth.result) c.layers.above c.layers.invariant c.layers-test.true).whole
 
-pub set_layer-requires-clause-some : goal.set_layer-requires-clause-some
-set_layer-requires-clause-some g c κs within =
-    let dp = g.M.DpModel.meaning (g.M.DpModel.numbers c.args.model.now) in
-    let a = c.args in
-    let r = c.requires in
-    let l = c.layers in
-    let last = c.last_depth-last.result in
-    let e1 = c.last_depth-last.ensures in
-    let e2 = c.first_depth.ensures in
-    let some = r.some in
-    let test = c.layers-test.true in
-    let n = length a.space.now.layers in
-    let j = last - c.first_depth.result - l.above in
-    let left : last - c.first_depth.result + 1 - l.above ≡ j + 1 = omega arith in
-    let less : j < n = omega arith in
-    let at : last - l.above ≡ length a.space.now.prefix + j = omega arith in
-    let next : j + 1 ≡ suc j = omega arith in
-    let is : l.space ≡ half_space dp (suc j) a.space.now = l.invariant ∙ ap (λ i. half_space dp i a.space.now) (left ∙ next) in
-    (may-set dp a.space.now l.space j (last - l.above) (laws_of g a.model.now).sizes.vars r.numbers r.whole less at is).some
+pub set_suffixes-requires-clause-arcs : goal.set_suffixes-requires-clause-arcs
+set_suffixes-requires-clause-arcs g c =
+    (sets-next (g.M.DpModel.meaning (g.M.DpModel.numbers c.args.model.now)) c.args.space.now c.layers.space c.vars-last.result (c.vars-last.result - c.first_depth.result) c.layers.above c.layers.invariant c.layers-test.true).arcs
 
-pub set_layer-requires-clause-arcs : goal.set_layer-requires-clause-arcs
-set_layer-requires-clause-arcs g c κs within =
-    let dp = g.M.DpModel.meaning (g.M.DpModel.numbers c.args.model.now) in
-    let a = c.args in
-    let r = c.requires in
-    let l = c.layers in
-    let last = c.last_depth-last.result in
-    let e1 = c.last_depth-last.ensures in
-    let e2 = c.first_depth.ensures in
-    let some = r.some in
-    let test = c.layers-test.true in
-    let n = length a.space.now.layers in
-    let j = last - c.first_depth.result - l.above in
-    let left : last - c.first_depth.result + 1 - l.above ≡ j + 1 = omega arith in
-    let less : j < n = omega arith in
-    let at : last - l.above ≡ length a.space.now.prefix + j = omega arith in
-    let next : j + 1 ≡ suc j = omega arith in
-    let is : l.space ≡ half_space dp (suc j) a.space.now = l.invariant ∙ ap (λ i. half_space dp i a.space.now) (left ∙ next) in
-    (may-set dp a.space.now l.space j (last - l.above) (laws_of g a.model.now).sizes.vars r.numbers r.whole less at is).arcs
-
-pub set_layer-requires-clause-leads : goal.set_layer-requires-clause-leads
-set_layer-requires-clause-leads g c κs within =
-    let dp = g.M.DpModel.meaning (g.M.DpModel.numbers c.args.model.now) in
-    let a = c.args in
-    let r = c.requires in
-    let l = c.layers in
-    let last = c.last_depth-last.result in
-    let e1 = c.last_depth-last.ensures in
-    let e2 = c.first_depth.ensures in
-    let some = r.some in
-    let test = c.layers-test.true in
-    let n = length a.space.now.layers in
-    let j = last - c.first_depth.result - l.above in
-    let left : last - c.first_depth.result + 1 - l.above ≡ j + 1 = omega arith in
-    let less : j < n = omega arith in
-    let at : last - l.above ≡ length a.space.now.prefix + j = omega arith in
-    let next : j + 1 ≡ suc j = omega arith in
-    let is : l.space ≡ half_space dp (suc j) a.space.now = l.invariant ∙ ap (λ i. half_space dp i a.space.now) (left ∙ next) in
-    (may-set dp a.space.now l.space j (last - l.above) (laws_of g a.model.now).sizes.vars r.numbers r.whole less at is).leads
+pub set_suffixes-requires-clause-leads : goal.set_suffixes-requires-clause-leads
+set_suffixes-requires-clause-leads g c =
+    (sets-next (g.M.DpModel.meaning (g.M.DpModel.numbers c.args.model.now)) c.args.space.now c.layers.space c.vars-last.result (c.vars-last.result - c.first_depth.result) c.layers.above c.layers.invariant c.layers-test.true).leads
 
 pub layers-preserved : goal.layers-preserved
 layers-preserved g c =
-    let dp = g.M.DpModel.meaning (g.M.DpModel.numbers c.args.model.now) in
-    let a = c.args in
-    let r = c.requires in
-    let l = c.layers in
-    let last = c.last_depth-last.result in
-    let e1 = c.last_depth-last.ensures in
-    let e2 = c.first_depth.ensures in
-    let some = r.some in
-    let test = c.layers-test.true in
-    let n = length a.space.now.layers in
-    let j = last - c.first_depth.result - l.above in
-    let left : last - c.first_depth.result + 1 - l.above ≡ j + 1 = omega arith in
-    let less : j < n = omega arith in
-    let at : last - l.above ≡ length a.space.now.prefix + j = omega arith in
-    let next : j + 1 ≡ suc j = omega arith in
-    let is : l.space ≡ half_space dp (suc j) a.space.now = l.invariant ∙ ap (λ i. half_space dp i a.space.now) (left ∙ next) in
-    let after : last - c.first_depth.result + 1 - (l.above + 1) ≡ j = omega arith in
-    half-further dp a.space.now l.space c.set_layer.new.space j (last - l.above) at is c.set_layer.ensures ∙ ap (λ i. half_space dp i a.space.now) (sym after)
+    sets-further (g.M.DpModel.meaning (g.M.DpModel.numbers c.args.model.now)) c.args.space.now c.layers.space c.set_suffixes.new.self c.vars-last.result (c.vars-last.result - c.first_depth.result) c.layers.above c.layers.invariant c.layers-test.true
+    c.set_suffixes.ensures.layers
 
 pub returns : goal.returns
 returns g c =
-    let dp = g.M.DpModel.meaning (g.M.DpModel.numbers c.args.model.now) in
-    let none : c.last_depth-last.result - c.first_depth.result + 1 - c.layers.above ≡ 0 = (let t = c.layers-test.false in omega arith) in
-    c.layers.invariant ∙ ap (λ i. half_space dp i c.args.space.now) none
+    sets-all (g.M.DpModel.meaning (g.M.DpModel.numbers c.args.model.now)) c.args.space.now c.layers.space c.vars-last.result (c.vars-last.result - c.first_depth.result) c.layers.above c.layers.invariant
+    (let t = c.layers-test.false in omega arith)

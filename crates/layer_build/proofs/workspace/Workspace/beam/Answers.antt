@@ -1,4 +1,4 @@
-use Rattle.std.proofs.Common.{◌≡◌, ℕ, List, Bool, is_some, length, rules, sym, ap, ◌∙◌}
+use Rattle.std.proofs.Common.{ℕ, List, is_some, sym, ap, ◌∙◌}
 use Rattle.std.specs.Vec.{with_items}
 use Rattle.dp_model.specs.Subproblem.{SubView}
 use Rattle.dp_laws.specs.Restricted.Beams.{wide}

@@ -1,6 +1,5 @@
-use Rattle.std.proofs.Common.{◌≡◌, ℕ, ◌+◌, ◌≤◌, ℤ, List, [], ◌∷◌, None, map, length, vec_capacity, to_z, of_z, w64, FitsSigned, refl, rules, sym, ap, ap₂, ◌∙◌, subst, arith}
+use Rattle.std.proofs.Common.{◌≡◌, ℕ, ℤ, List, [], ◌∷◌, None, map, length, vec_capacity, to_z, of_z, w64, FitsSigned, rules, sym, ap, ap₂, ◌∙◌, subst, arith}
 use Rattle.std.proofs.lemmas.Int.{to_z-of_z}
-use Rattle.dp_model.specs.Dp.{Dp}
 use Rattle.dp_model.specs.Gaps.{IsStateOf}
 use Rattle.dp_model.specs.Laws.{IsLawful}
 use Rattle.dp_model.specs.Prefixes.{state_of, value_of}
@@ -10,12 +9,12 @@ use Rattle.dp_model.proofs.Paths.{state_of-state, IsPrefix-length}
 use Rattle.dp_laws.specs.Diagrams.Nodes.{DdNode}
 use Rattle.dp_laws.specs.Rules.Compiling.{start_layer}
 use Rattle.layer_nodes.specs.Nodes.{NodeView}
-use Rattle.layer_build.specs.Layers.{SpaceView, IsPreparedFor}
+use Rattle.layer_build.specs.Layers.{SpaceView}
 use Rattle.layer_build.specs.Stacked.{HasSpace, shown_stack}
 use Rattle.layer_build.specs.UnderWay.{IsUnderWay}
 use Rattle.layer_build.specs.contracts.workspace.Workspace.{the_view}
 use Rattle.layer_build.proofs.Kept.{start-under-way}
-use Rattle.layer_build.proofs.Starting.{started, started-layers, started-space, start_node}
+use Rattle.layer_build.proofs.Starting.{started, started-layers, started-space}
 use Rattle.layer_build.proofs.workspace.Workspace.begin.Given as given
 use Rattle.layer_build.proofs.workspace.Workspace.begin.Goals as goal
 

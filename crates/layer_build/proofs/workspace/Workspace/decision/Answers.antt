@@ -1,4 +1,4 @@
-use Rattle.std.proofs.Common.{◌≡◌, ◌<◌, ◌≤◌, true, ℕ, List, length, slice_get, Option, Some, option_map, sym, ap, ◌∙◌, subst, arith}
+use Rattle.std.proofs.Common.{◌<◌, true, length, slice_get, option_map, sym, ap, ◌∙◌, subst, arith}
 use Rattle.dp_laws.specs.Diagrams.Nodes.{DdNode, node_at}
 use Rattle.layer_nodes.specs.Nodes.{NodeView, LayerView}
 use Rattle.layer_build.specs.Layers.{SpaceView, diagram_of}

@@ -1,19 +1,16 @@
-use Rattle.std.proofs.Common.{◌≡◌, ℕ, ◌+◌, ◌-◌, ◌*◌, ◌<◌, ◌≤◌, ℤ, Option, List, [], ◌∷◌, map, length, set, slice_index_or, vec_len, refl, rules, sym, ap, ◌∙◌, subst, arith}
-use Rattle.dp_model.specs.Dp.{Dp}
+use Rattle.std.proofs.Common.{◌≡◌, ℕ, ◌<◌, Option, map, length, vec_len, refl, rules, sym, ap, ◌∙◌, subst, arith}
 use Rattle.dp_model.specs.Lists.{Each}
-use Rattle.dp_laws.specs.Diagrams.Nodes.{DdNode}
 use Rattle.dp_laws.specs.Rules.Compiling.{keep_first}
 use Rattle.layer_nodes.specs.Nodes.{NodeView, LayerView}
 use Rattle.layer_nodes.specs.Steps.{IsRanked, MayBeLengthened}
-use Rattle.layer_build.specs.contracts.workspace.Workspace.{the_view, the_invariant}
-use Rattle.layer_build.specs.declared.workspace.Workspace.TheInside.{Inside}
+use Rattle.layer_build.specs.contracts.workspace.Workspace.{the_view}
 use Rattle.layer_build.specs.Layers.{SpaceView, last_depth, last_layer, on_last_two, reduced_first}
-use Rattle.layer_build.specs.Stacked.{no_layer, place_above, HaveDepths}
+use Rattle.layer_build.specs.Stacked.{place_above, HaveDepths}
 use Rattle.layer_build.specs.UnderWay.{IsUnderWay}
 use Rattle.layer_build.proofs.Kept.{kept-under-way}
 use Rattle.layer_build.proofs.Depths.{keep-depths}
 use Rattle.layer_build.proofs.Shown.{stays, ranked-of}
-use Rattle.layer_build.proofs.Going.{deep, count-seen, nodes-seen, lengths-seen, unmerged-seen, words-seen, words-of, under, lent, above-within, wide-less}
+use Rattle.layer_build.proofs.Going.{deep, count-seen, nodes-seen, lengths-seen, under, lent, above-within, wide-less}
 use Rattle.layer_build.proofs.Changing.{HasChanged, changed, changed-space, changed-seen, changed-ranks, changed-layers}
 use Rattle.layer_build.proofs.workspace.Workspace.keep_first.Goals as goal
 

@@ -1,7 +1,5 @@
-use Rattle.std.proofs.Common.{◌≡◌, ℕ, ◌+◌, ◌-◌, ◌≤◌, [], ◌∷◌, List, map, length, vec_capacity, rules, refl, sym, ap, ◌∙◌, subst, arith}
-use Rattle.dp_model.specs.Decisions.{below}
+use Rattle.std.proofs.Common.{◌≡◌, ℕ, ◌-◌, [], ◌∷◌, List, length, vec_capacity, rules, refl, sym, ap, ◌∙◌, subst, arith}
 use Rattle.dp_model.specs.Laws.{IsLawful}
-use Rattle.dp_laws.specs.Diagrams.Nodes.{DdNode}
 use Rattle.layer_nodes.specs.Nodes.{NodeView, LayerView, shown_layer}
 use Rattle.layer_build.specs.Layers.{AreEnough}
 use Rattle.layer_build.specs.Stacked.{HaveDepths, path_in, shown_down, nodes_in}

@@ -1,13 +1,11 @@
-use Rattle.std.proofs.Common.{◌≡◌, ℕ, ◌+◌, ◌-◌, ◌*◌, ◌<◌, ◌≤◌, ℤ, List, [], ◌∷◌, map, length, set, slice_index_or, vec_len, refl, rules, sym, ap, ◌∙◌, subst, arith}
-use Rattle.dp_model.specs.Dp.{Dp}
+use Rattle.std.proofs.Common.{◌≡◌, ℕ, map, length, vec_len, rules, sym, ap, ◌∙◌, subst, arith}
 use Rattle.dp_model.specs.Lists.{Each}
-use Rattle.dp_laws.specs.Diagrams.Nodes.{DdNode}
 use Rattle.dp_laws.specs.Rules.Compiling.{prune}
 use Rattle.layer_nodes.specs.Nodes.{NodeView, LayerView}
 use Rattle.layer_nodes.specs.Steps.{IsRanked, MayBeLengthened}
 use Rattle.layer_build.specs.contracts.workspace.Workspace.{the_view}
 use Rattle.layer_build.specs.Layers.{SpaceView, last_depth, on_last_two}
-use Rattle.layer_build.specs.Stacked.{no_layer, place_above, HaveDepths}
+use Rattle.layer_build.specs.Stacked.{place_above, HaveDepths}
 use Rattle.layer_build.specs.UnderWay.{IsUnderWay}
 use Rattle.layer_build.proofs.Kept.{pruned-under-way}
 use Rattle.layer_build.proofs.Depths.{prune-depths}

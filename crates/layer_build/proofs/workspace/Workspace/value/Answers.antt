@@ -1,12 +1,9 @@
-use Rattle.std.proofs.Common.{◌≡◌, ℕ, ◌+◌, ◌≤◌, ◌<◌, ℤ, Bool, List, length, slice_get, Option, Some, IsSome, option_map, option_and_then, to_z, of_z, w64, FitsSigned, refl, rules, sym, ap, ◌∙◌, subst, arith}
+use Rattle.std.proofs.Common.{◌≡◌, ◌<◌, ℤ, length, slice_get, Some, IsSome, option_map, to_z, of_z, w64, FitsSigned, rules, sym, ap, ◌∙◌, subst}
 use Rattle.std.proofs.lemmas.Int.{to_z-of_z}
-use Rattle.dp_laws.specs.declared.arc.DdArc.{DdArc}
 use Rattle.dp_laws.specs.Diagrams.Nodes.{DdNode, node_at}
-use Rattle.layer_nodes.specs.Nodes.{NodeView, LayerView, shown}
-use Rattle.layer_build.specs.contracts.workspace.Workspace.{the_view}
-use Rattle.layer_build.specs.Layers.{SpaceView, diagram_of, last_depth, layer_at}
-use Rattle.layer_build.proofs.Going.{deep}
-use Rattle.layer_build.proofs.Reading.{depth-within, node-within, read-seen, then-seen, arc-place, begun-low, small-first, layer-within, layer-seen, path_of}
+use Rattle.layer_nodes.specs.Nodes.{NodeView, LayerView}
+use Rattle.layer_build.specs.Layers.{SpaceView, diagram_of}
+use Rattle.layer_build.proofs.Reading.{depth-within, node-within, read-seen, begun-low, small-first, layer-within}
 use Rattle.layer_build.proofs.workspace.Workspace.value.Goals as goal
 
 pub layer_at-requires-clause-few : goal.layer_at-requires-clause-few

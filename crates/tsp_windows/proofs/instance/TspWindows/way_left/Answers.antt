@@ -1,4 +1,4 @@
-use Rattle.std.proofs.Common.{List, length, get_or, sym, ap, ◌∙◌, arith}
+use Rattle.std.proofs.Common.{length, get_or, sym, ap, ◌∙◌, arith}
 use Rattle.std.proofs.lemmas.Int.{ints}
 use Rattle.std.proofs.lemmas.List.{get_or_read}
 use Rattle.node_sets.specs.Sets.{words_for}
@@ -7,6 +7,7 @@ use Rattle.tsp_windows.specs.States.{shown}
 use Rattle.tsp_windows.specs.Shown.{instance_in}
 use Rattle.tsp_windows.specs.Laws.Limits.{is_small-gives}
 use Rattle.tsp_windows.specs.Instance.{Window, no_window}
+use Rattle.tsp_windows.proofs.Late.{too_late-gives}
 use Rattle.tsp_windows.proofs.Behind.{read_count}
 use Rattle.tsp_windows.proofs.Lost.{times_shown, lost_many, lost_late, left_is}
 use Rattle.tsp_windows.proofs.instance.TspWindows.way_left.Goals as goal
@@ -36,17 +37,17 @@ returns-then-wanted-k-clause-lost c =
 pub returns-in_err-ways-clause-lost : goal.returns-in_err-ways-clause-lost
 returns-in_err-ways-clause-lost c =
     λ _. lost_late (instance_in c.args.self.now) c.args.k (shown (words_for c.args.self.now.nodes) c.args.s.now)
-    (sym (times_shown (instance_in c.args.self.now) (words_for c.args.self.now.nodes) c.args.s.now c.parts_of-state.result.must.now c.deref.result.now c.deref-2.result.now c.parts_of-state.result.time
-    (ap length c.deref.ensures.value ∙ c.args.self.now.all_nearest) (λ v l. ap (λ xs. get_or xs v 0) c.deref.ensures.value ∙ c.args.self.now.ways v l) c.deref-2.ensures.value c.parts_of-state.ensures.must c.parts_of-state.ensures.time)
+    (sym (times_shown (instance_in c.args.self.now) (words_for c.args.self.now.nodes) c.args.s.now c.parts_of-state.result.must.now (length c.deref.result.now) c.parts_of-state.result.time c.deref-2.result.now
+    (ap length c.deref.ensures.value ∙ c.args.self.now.all_nearest) (λ v l. ap (λ xs. get_or xs v 0) c.deref-2.ensures.value ∙ too_late-gives (instance_in c.args.self.now) c.args.self.now.too_late.items c.args.self.now.late v l) c.parts_of-state.ensures.must c.parts_of-state.ensures.time)
     ∙ c.in_err-ways.ensures.total)
 
 pub returns-clause-left : goal.returns-clause-left
 returns-clause-left c =
     let left = left_is (instance_in c.args.self.now) c.args.k (words_for c.args.self.now.nodes) c.args.s.now c.parts_of-state.result.must.now c.deref.result.now c.deref-2.result.now c.parts_of-state.result.time c.counted-wanted.result c.in_ok-ways.ways c.from-home.result c.index-2.result.now.closing
-    (is_small-gives (instance_in c.args.self.now) c.args.self.now.small) (ap length c.deref.ensures.value ∙ c.args.self.now.all_nearest) (λ v l. ap (λ xs. get_or xs v 0) c.deref.ensures.value ∙ c.args.self.now.ways v l) c.deref-2.ensures.value
+    (is_small-gives (instance_in c.args.self.now) c.args.self.now.small) (ap length c.deref.ensures.value ∙ c.args.self.now.all_nearest) (λ v l. ap (λ xs. get_or xs v 0) c.deref.ensures.value ∙ c.args.self.now.ways v l) (λ v l. ap (λ xs. get_or xs v 0) c.deref-2.ensures.value ∙ too_late-gives (instance_in c.args.self.now) c.args.self.now.too_late.items c.args.self.now.late v l)
     c.parts_of-state.ensures.must c.parts_of-state.ensures.time
     (c.counted-wanted.ensures _ (read_count c.args.rank c.args.self.now.nodes (shown (words_for c.args.self.now.nodes) c.args.s.now).must c.requires.rank c.args.self.now.few)) c.if-wanted-k.false
     (c.from-home.ensures ∙ get_or_read c.args.self.now.nearest.items 0 _ (omega (arith, c.args.self.now.all_nearest, c.args.self.now.some)) c.index.ensures 0 ∙ sym (ap (λ xs. get_or xs 0 0) c.deref.ensures.value))
-    (ap (λ (w : Window). w.closing) (get_or_read c.args.self.now.windows.items 0 _ (omega (arith, c.args.self.now.each_window, c.args.self.now.some)) c.index-2.ensures no_window) ∙ sym (ap (λ (ws : List Window). (get_or ws 0 no_window).closing) c.deref-2.ensures.value))
+    (ap (λ (w : Window). w.closing) (get_or_read c.args.self.now.windows.items 0 _ (omega (arith, c.args.self.now.each_window, c.args.self.now.some)) c.index-2.ensures no_window))
     c.if-state-home.false c.in_ok-ways.ensures.total.0 c.in_ok-ways.ensures.total.1 in
     (left.found, left.left)

@@ -1,0 +1,129 @@
+-- Suffixes of nodes in memory, one after another.
+use Rattle.std.proofs.Common.{◌≡◌, ℕ, zero, suc, ◌+◌, ◌<◌, ◌≤◌, ℤ, pos, ◌+ℤ◌, List, [], ◌∷◌, length, map, take, set, get_or, Option, Some, refl, sym, ◌∙◌, ap, ap₂, subst, arith}
+use Rattle.std.proofs.lemmas.List.{take_more}
+use Rattle.std.proofs.lemmas.List.Elements.{filter_map-append}
+use Rattle.dp_model.specs.Lists.{Each}
+use Rattle.dp_model.specs.Numbers.{add_some, greatest}
+use Rattle.dp_laws.specs.declared.arc.DdArc.{DdArc}
+use Rattle.layer_nodes.specs.declared.node.Node.{Node}
+use Rattle.layer_nodes.specs.Nodes.{NodeView}
+use Rattle.layer_nodes.specs.Ending.{suffix_of, lengths, MayAdd, MayFollow, MayLead, MayEnd, ended, at_end, suffixes_in, arcs_in, ended_in, at_end_in}
+use Rattle.layer_nodes.specs.Merging.{greater}
+use Rattle.layer_nodes.specs.Stored.{node_view, IsStored}
+use Rattle.layer_nodes.proofs.Merged.{greatest-option}
+use Rattle.layer_nodes.proofs.Stored.{each-get}
+
+-- ---- a target
+
+-- one that may be led to is there, with its suffix
+pub lead-less : (nodes : List Node) (i : ℕ) → MayLead (suffixes_in nodes) (Some i) → i < length nodes
+lead-less [] i h = absurd h
+lead-less (n ∷ nodes) zero h = omega arith
+lead-less (n ∷ nodes) (suc i) h = let rest = lead-less nodes i h in omega arith
+
+pub lead-follows : (nodes : List Node) (i : ℕ) (d : Node) → MayLead (suffixes_in nodes) (Some i) → MayFollow (get_or nodes i d).suffix
+lead-follows [] i d h = absurd h
+lead-follows (n ∷ nodes) zero d h = h
+lead-follows (n ∷ nodes) (suc i) d h = lead-follows nodes i d h
+
+pub lead-suffix : (nodes : List Node) (i : ℕ) (d : Node) → i < length nodes → (get_or nodes i d).suffix ≡ suffix_of (suffixes_in nodes) (Some i)
+lead-suffix [] i d less = absurd (omega arith)
+lead-suffix (n ∷ nodes) zero d less = refl
+lead-suffix (n ∷ nodes) (suc i) d less = lead-suffix nodes i d (omega arith)
+
+-- ---- the arcs of a node
+
+-- one arc more
+pub longer-more : (suffixes : List (Option ℤ)) (arcs : List DdArc) (i : ℕ) (d : DdArc) (best best2 : Option ℤ) → i < length arcs → best ≡ greatest (lengths suffixes (take i arcs))
+    → best2 ≡ greater best (add_some ((get_or arcs i d).gain +ℤ (get_or arcs i d).longer) (suffix_of suffixes (get_or arcs i d).target)) → best2 ≡ greatest (lengths suffixes (take (i + 1) arcs))
+longer-more suffixes arcs i d best best2 less h e =
+    let arc = get_or arcs i d in
+    let length_of : DdArc → Option ℤ = λ a. add_some (a.gain +ℤ a.longer) (suffix_of suffixes a.target) in
+    e ∙ (ap (λ b. greater b (length_of arc)) h
+    ∙ sym (ap (λ l. greatest (lengths suffixes l)) (take_more arcs i d less)
+    ∙ (ap greatest (filter_map-append length_of (take i arcs) (arc ∷ [])) ∙ greatest-option (lengths suffixes (take i arcs)) (length_of arc))))
+
+-- ---- the nodes of a layer
+
+-- the first i of them are mapped
+abbrev pub mapped_to : (Node → Node) → ℕ → List Node → List Node
+mapped_to f zero xs = xs
+mapped_to f (suc i) [] = []
+mapped_to f (suc i) (x ∷ xs) = f x ∷ mapped_to f i xs
+
+pub mapped-length : (f : Node → Node) (i : ℕ) (xs : List Node) → length (mapped_to f i xs) ≡ length xs
+mapped-length f zero xs = refl
+mapped-length f (suc i) [] = refl
+mapped-length f (suc i) (x ∷ xs) = ap suc (mapped-length f i xs)
+
+pub mapped-at : (f : Node → Node) (i : ℕ) (xs : List Node) (d : Node) → get_or (mapped_to f i xs) i d ≡ get_or xs i d
+mapped-at f zero xs d = refl
+mapped-at f (suc i) [] d = refl
+mapped-at f (suc i) (x ∷ xs) d = mapped-at f i xs d
+
+mapped-set : (f : Node → Node) (i : ℕ) (xs : List Node) (d y : Node) → i < length xs → y ≡ f (get_or xs i d) → set (mapped_to f i xs) i y ≡ mapped_to f (suc i) xs
+mapped-set f i [] d y less is = absurd (omega arith)
+mapped-set f zero (x ∷ xs) d y less is = ap (λ z. z ∷ xs) is
+mapped-set f (suc i) (x ∷ xs) d y less is = ap (λ l. f x ∷ l) (mapped-set f i xs d y (omega arith) is)
+
+pub mapped-more : (f : Node → Node) (i : ℕ) (xs : List Node) (d y : Node) → i < length xs → y ≡ f (get_or xs i d) → set (mapped_to f i xs) i y ≡ mapped_to f (i + 1) xs
+mapped-more f i xs d y less is = let one : suc i ≡ i + 1 = omega arith in mapped-set f i xs d y less is ∙ ap (λ n. mapped_to f n xs) one
+
+pub mapped-all : (f : Node → Node) (i : ℕ) (xs : List Node) → length xs ≤ i → mapped_to f i xs ≡ map f xs
+mapped-all f zero [] end = refl
+mapped-all f zero (x ∷ xs) end = absurd (omega arith)
+mapped-all f (suc i) [] end = refl
+mapped-all f (suc i) (x ∷ xs) end = ap (λ l. f x ∷ l) (mapped-all f i xs (omega arith))
+
+-- the node that is next
+pub end-may : (arcs : List DdArc) (suffixes : List (Option ℤ)) (old now : List Node) (i : ℕ) (d : Node) → Each (MayEnd arcs suffixes) old → i < length old → now ≡ mapped_to (ended_in arcs suffixes) i old → MayEnd arcs suffixes (get_or now i d)
+end-may arcs suffixes old now i d h less e =
+    subst (MayEnd arcs suffixes) (sym (ap (λ l. get_or l i d) e ∙ mapped-at (ended_in arcs suffixes) i old d)) (each-get (MayEnd arcs suffixes) old i d h less)
+
+-- it gets its suffix
+pub end-more : (arcs : List DdArc) (suffixes : List (Option ℤ)) (old now : List Node) (i : ℕ) (d : Node) (own : List DdArc) (suffix : Option ℤ) → i < length old → now ≡ mapped_to (ended_in arcs suffixes) i old
+    → own ≡ arcs_in arcs (get_or now i d) → suffix ≡ greatest (lengths suffixes own) → set now i (record (get_or now i d) { suffix = suffix }) ≡ mapped_to (ended_in arcs suffixes) (i + 1) old
+end-more arcs suffixes old now i d own suffix less e lie is =
+    let f = ended_in arcs suffixes in
+    let at : get_or now i d ≡ get_or old i d = ap (λ l. get_or l i d) e ∙ mapped-at f i old d in
+    let value : suffix ≡ greatest (lengths suffixes (arcs_in arcs (get_or old i d))) = is ∙ ap (λ l. greatest (lengths suffixes l)) (lie ∙ ap (arcs_in arcs) at) in
+    let done : record (get_or now i d) { suffix = suffix } ≡ f (get_or old i d) = ap₂ (λ (n : Node) (s : Option ℤ). record n { suffix = s }) at value in
+    ap (λ l. set l i (record (get_or now i d) { suffix = suffix })) e ∙ mapped-more f i old d (record (get_or now i d) { suffix = suffix }) less done
+
+pub last-more : (old now : List Node) (i : ℕ) (d : Node) (suffix : Option ℤ) → i < length old → now ≡ mapped_to at_end_in i old → suffix ≡ Some (pos 0) → set now i (record (get_or now i d) { suffix = suffix }) ≡ mapped_to at_end_in (i + 1) old
+last-more old now i d suffix less e is =
+    let at : get_or now i d ≡ get_or old i d = ap (λ l. get_or l i d) e ∙ mapped-at at_end_in i old d in
+    let done : record (get_or now i d) { suffix = suffix } ≡ at_end_in (get_or old i d) = ap₂ (λ (n : Node) (s : Option ℤ). record n { suffix = s }) at is in
+    ap (λ l. set l i (record (get_or now i d) { suffix = suffix })) e ∙ mapped-more at_end_in i old d (record (get_or now i d) { suffix = suffix }) less done
+
+-- ---- as they are seen
+
+pub may-end : (words room : ℕ) (rows : List ℤ) (arcs : List DdArc) (suffixes : List (Option ℤ)) (nodes : List Node) → Each (IsStored room arcs) nodes
+    → Each (λ (node : NodeView). Each MayAdd node.arcs) (map (node_view words rows arcs) nodes) → Each (λ (node : NodeView). Each (λ (arc : DdArc). MayLead suffixes arc.target) node.arcs) (map (node_view words rows arcs) nodes)
+    → Each (MayEnd arcs suffixes) nodes
+may-end words room rows arcs suffixes [] stored add lead = tt
+may-end words room rows arcs suffixes (node ∷ nodes) stored add lead =
+    (record { lie = stored.0.arcs_lie; add = add.0; lead = lead.0 }, may-end words room rows arcs suffixes nodes stored.1 add.1 lead.1)
+
+-- the suffixes of nodes in memory
+pub suffixes-seen : (words : ℕ) (rows : List ℤ) (arcs : List DdArc) (nodes : List Node) → suffixes_in nodes ≡ map (λ (b : NodeView). b.suffix) (map (node_view words rows arcs) nodes)
+suffixes-seen words rows arcs [] = refl
+suffixes-seen words rows arcs (node ∷ nodes) = ap (λ l. node.suffix ∷ l) (suffixes-seen words rows arcs nodes)
+
+pub ended-views : (words : ℕ) (rows : List ℤ) (arcs : List DdArc) (suffixes : List (Option ℤ)) (nodes : List Node)
+    → map (node_view words rows arcs) (map (ended_in arcs suffixes) nodes) ≡ map (ended suffixes) (map (node_view words rows arcs) nodes)
+ended-views words rows arcs suffixes [] = refl
+ended-views words rows arcs suffixes (node ∷ nodes) = ap (λ l. ended suffixes (node_view words rows arcs node) ∷ l) (ended-views words rows arcs suffixes nodes)
+
+pub last-views : (words : ℕ) (rows : List ℤ) (arcs : List DdArc) (nodes : List Node) → map (node_view words rows arcs) (map at_end_in nodes) ≡ map at_end (map (node_view words rows arcs) nodes)
+last-views words rows arcs [] = refl
+last-views words rows arcs (node ∷ nodes) = ap (λ l. at_end (node_view words rows arcs node) ∷ l) (last-views words rows arcs nodes)
+
+-- a node lies where it lay
+pub ended-stored : (room : ℕ) (arcs : List DdArc) (suffixes : List (Option ℤ)) (nodes : List Node) → Each (IsStored room arcs) nodes → Each (IsStored room arcs) (map (ended_in arcs suffixes) nodes)
+ended-stored room arcs suffixes [] h = tt
+ended-stored room arcs suffixes (node ∷ nodes) h = (record { row = h.0.row; fresh = h.0.fresh; arcs_lie = h.0.arcs_lie }, ended-stored room arcs suffixes nodes h.1)
+
+pub last-stored : (room : ℕ) (arcs : List DdArc) (nodes : List Node) → Each (IsStored room arcs) nodes → Each (IsStored room arcs) (map at_end_in nodes)
+last-stored room arcs [] h = tt
+last-stored room arcs (node ∷ nodes) h = (record { row = h.0.row; fresh = h.0.fresh; arcs_lie = h.0.arcs_lie }, last-stored room arcs nodes h.1)
