@@ -16,3 +16,4 @@ pub mod Merged
 pub mod MergedLayers
 pub mod Ended
 pub mod Behind
+pub mod Holding
