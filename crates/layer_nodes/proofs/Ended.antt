@@ -9,7 +9,7 @@ use Rattle.layer_nodes.specs.declared.node.Node.{Node}
 use Rattle.layer_nodes.specs.Nodes.{NodeView}
 use Rattle.layer_nodes.specs.Ending.{suffix_of, lengths, MayAdd, MayFollow, MayLead, MayEnd, ended, at_end, suffixes_in, arcs_in, ended_in, at_end_in}
 use Rattle.layer_nodes.specs.Merging.{greater}
-use Rattle.layer_nodes.specs.Stored.{node_view, IsStored}
+use Rattle.layer_nodes.specs.Stored.{node_view_by, node_view, IsStored}
 use Rattle.layer_nodes.proofs.Merged.{greatest-option}
 use Rattle.layer_nodes.proofs.Stored.{each-get}
 
@@ -98,22 +98,22 @@ last-more old now i d suffix less e is =
 
 -- ---- as they are seen
 
-pub may-end : (words room : ℕ) (rows : List ℤ) (arcs : List DdArc) (suffixes : List (Option ℤ)) (nodes : List Node) → Each (IsStored room arcs) nodes
-    → Each (λ (node : NodeView). Each MayAdd node.arcs) (map (node_view words rows arcs) nodes) → Each (λ (node : NodeView). Each (λ (arc : DdArc). MayLead suffixes arc.target) node.arcs) (map (node_view words rows arcs) nodes)
+pub may-end : (row : ℕ → List ℤ) (room : ℕ) (arcs : List DdArc) (suffixes : List (Option ℤ)) (nodes : List Node) → Each (IsStored room arcs) nodes
+    → Each (λ (node : NodeView). Each MayAdd node.arcs) (map (node_view_by row arcs) nodes) → Each (λ (node : NodeView). Each (λ (arc : DdArc). MayLead suffixes arc.target) node.arcs) (map (node_view_by row arcs) nodes)
     → Each (MayEnd arcs suffixes) nodes
-may-end words room rows arcs suffixes [] stored add lead = tt
-may-end words room rows arcs suffixes (node ∷ nodes) stored add lead =
-    (record { lie = stored.0.arcs_lie; add = add.0; lead = lead.0 }, may-end words room rows arcs suffixes nodes stored.1 add.1 lead.1)
+may-end row room arcs suffixes [] stored add lead = tt
+may-end row room arcs suffixes (node ∷ nodes) stored add lead =
+    (record { lie = stored.0.arcs_lie; add = add.0; lead = lead.0 }, may-end row room arcs suffixes nodes stored.1 add.1 lead.1)
 
 -- the suffixes of nodes in memory
-pub suffixes-seen : (words : ℕ) (rows : List ℤ) (arcs : List DdArc) (nodes : List Node) → suffixes_in nodes ≡ map (λ (b : NodeView). b.suffix) (map (node_view words rows arcs) nodes)
-suffixes-seen words rows arcs [] = refl
-suffixes-seen words rows arcs (node ∷ nodes) = ap (λ l. node.suffix ∷ l) (suffixes-seen words rows arcs nodes)
+pub suffixes-seen : (row : ℕ → List ℤ) (arcs : List DdArc) (nodes : List Node) → suffixes_in nodes ≡ map (λ (b : NodeView). b.suffix) (map (node_view_by row arcs) nodes)
+suffixes-seen row arcs [] = refl
+suffixes-seen row arcs (node ∷ nodes) = ap (λ l. node.suffix ∷ l) (suffixes-seen row arcs nodes)
 
-pub ended-views : (words : ℕ) (rows : List ℤ) (arcs : List DdArc) (suffixes : List (Option ℤ)) (nodes : List Node)
-    → map (node_view words rows arcs) (map (ended_in arcs suffixes) nodes) ≡ map (ended suffixes) (map (node_view words rows arcs) nodes)
-ended-views words rows arcs suffixes [] = refl
-ended-views words rows arcs suffixes (node ∷ nodes) = ap (λ l. ended suffixes (node_view words rows arcs node) ∷ l) (ended-views words rows arcs suffixes nodes)
+pub ended-views : (row : ℕ → List ℤ) (arcs : List DdArc) (suffixes : List (Option ℤ)) (nodes : List Node)
+    → map (node_view_by row arcs) (map (ended_in arcs suffixes) nodes) ≡ map (ended suffixes) (map (node_view_by row arcs) nodes)
+ended-views row arcs suffixes [] = refl
+ended-views row arcs suffixes (node ∷ nodes) = ap (λ l. ended suffixes (node_view_by row arcs node) ∷ l) (ended-views row arcs suffixes nodes)
 
 pub last-views : (words : ℕ) (rows : List ℤ) (arcs : List DdArc) (nodes : List Node) → map (node_view words rows arcs) (map at_end_in nodes) ≡ map at_end (map (node_view words rows arcs) nodes)
 last-views words rows arcs [] = refl

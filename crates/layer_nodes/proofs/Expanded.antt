@@ -167,6 +167,11 @@ rest-stays dp k cells words old new first [] = refl
 rest-stays dp k cells words old new first (node ∷ nodes) =
     ap (λ l. without_arcs (node_view words cells old node) ∷ l) (rest-stays dp k cells words old new (first + length (trials_at dp k cells words node)) nodes)
 
+-- the places of their rows too
+pub places-stay : (dp : Dp) (k : ℕ) (cells : List ℤ) (words first : ℕ) (nodes : List Node) → map (λ (node : Node). node.row) (all_spanned dp k cells words first nodes) ≡ map (λ (node : Node). node.row) nodes
+places-stay dp k cells words first [] = refl
+places-stay dp k cells words first (node ∷ nodes) = ap (λ l. node.row ∷ l) (places-stay dp k cells words (first + length (trials_at dp k cells words node)) nodes)
+
 pub get_or-any : {X : Type 0} (xs : List X) (j : ℕ) (a b : X) → j < length xs → get_or xs j a ≡ get_or xs j b
 get_or-any [] j a b less = absurd (omega arith)
 get_or-any (x ∷ xs) zero a b less = refl
@@ -319,6 +324,7 @@ pub whole : (dp : Dp) (k : ℕ) → k < dp.vars → (cells : List ℤ) (words : 
 whole dp k low cells words nodes rows ways marks arcs led_arcs nodes2 below distinct list tried spans few few_arcs arranged = record {
   above_is = λ before paths. above-shown dp k low cells words before nodes rows ways marks arcs led_arcs nodes2 below distinct list tried spans arranged paths;
   next_is = λ before any paths. next-shown dp k low cells words before nodes rows ways marks arcs led_arcs nodes2 below distinct list tried spans arranged paths any;
+  places = ap (map (λ (node : Node). node.row)) spans ∙ places-stay dp k cells words 0 nodes;
   rest = λ before. above-rest dp k low cells words before nodes rows ways marks arcs led_arcs nodes2 below distinct list tried spans arranged;
   ranked = λ any. next-ranked dp k low cells words any nodes rows ways marks arcs led_arcs nodes2 below distinct list tried spans arranged any;
   unmerged = λ any. next-unmerged dp k low cells words any nodes rows ways marks arcs led_arcs nodes2 below distinct list tried spans arranged any;

@@ -41,7 +41,7 @@ use Rattle.layer_nodes.specs.Expanding.{trial, trials_of, all_spanned, arc_to, L
 use Rattle.layer_nodes.specs.Sifting.{sifted_nodes, sift_redirects, expand_sifted, number_in, led_in, AreSifted}
 use Rattle.layer_nodes.proofs.Spans.{length-spanned}
 use Rattle.layer_nodes.proofs.Tried.{length-arcs}
-use Rattle.layer_nodes.proofs.Expanded.{map-map, members-shown, place-of, row-found, get_or-any, above-from, keys-shown, rows-of, rest-stays, stored-above, keys-ranked, keys-unmerged, keys-stored}
+use Rattle.layer_nodes.proofs.Expanded.{map-map, members-shown, place-of, row-found, get_or-any, above-from, keys-shown, rows-of, rest-stays, places-stay, stored-above, keys-ranked, keys-unmerged, keys-stored}
 
 -- What is left of nodes.
 
@@ -283,6 +283,7 @@ pub whole-sifted : (dp : Dp) (k : ℕ) (t : Option ℤ) → k < dp.vars → (cel
 whole-sifted dp k t low cells words nodes rows ways marks arcs led_arcs nodes2 below distinct list tried spans few few_arcs arranged = record {
   above_is = λ before paths. above-shown dp k t low cells words before nodes rows ways marks arcs led_arcs nodes2 below distinct list tried spans arranged paths;
   next_is = λ before any paths. next-shown dp k t low cells words before nodes rows ways marks arcs led_arcs nodes2 below distinct list tried spans arranged paths any;
+  places = ap (map (λ (node : Node). node.row)) spans ∙ places-stay dp k cells words 0 nodes;
   rest = λ before. ap (λ m. map without_arcs (map (node_view words cells led_arcs) m)) spans ∙ rest-stays dp k cells words before led_arcs 0 nodes;
   ranked = λ any. next-ranked dp k t low cells words any nodes rows ways marks arcs led_arcs nodes2 below distinct list tried spans arranged any;
   unmerged = λ any. next-unmerged dp k t low cells words any nodes rows ways marks arcs led_arcs nodes2 below distinct list tried spans arranged any;

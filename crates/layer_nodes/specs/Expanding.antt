@@ -153,6 +153,7 @@ pub record IsExpanded (rule : List DdNode → TwoLayers) (dp : Dp) (k words : �
   pub next_is : (before any : List DdArc) (paths : ℕ → List ℕ) → shown_below paths (map (node_view words rows any) below)
       ≡ (rule (shown_layer paths (map (node_view words cells before) old))).next
   pub rest : (before : List DdArc) → map without_arcs (map (node_view words cells arcs) new) ≡ map without_arcs (map (node_view words cells before) old)
+  pub places : map (λ (node : Node). node.row) new ≡ map (λ (node : Node). node.row) old
   pub ranked : (any : List DdArc) → Each (IsRanked dp (k + 1)) (map (node_view words rows any) below)
   pub unmerged : (any : List DdArc) → Each (λ (n : NodeView). IsSome n.parent) (map (node_view words rows any) below)
   pub stored : (before : List DdArc) (room : ℕ) → Each (IsStored room before) old → Each (IsStored room arcs) new

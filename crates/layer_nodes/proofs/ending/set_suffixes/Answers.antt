@@ -2,6 +2,7 @@ use Rattle.std.proofs.Common.{rules, ◌≡◌, ◌≤◌, List, length, map, sy
 use Rattle.std.proofs.lemmas.List.{with_items_is, length-map}
 use Rattle.dp_model.specs.Lists.{Each}
 use Rattle.dp_laws.specs.declared.arc.DdArc.{DdArc}
+use Rattle.layer_candidates.specs.Rows.{row_at}
 use Rattle.layer_nodes.specs.declared.node.Node.{Node}
 use Rattle.layer_nodes.specs.Nodes.{NodeView, LayerView}
 use Rattle.layer_nodes.specs.Ending.{MayAdd, MayLead, MayEnd, ended_layer, suffixes_in, ended_in}
@@ -14,10 +15,10 @@ end_nodes-requires c =
     let l = c.layer.inside in
     let n = c.next.inside in
     let below : suffixes_in c.as_slice-2.result.now ≡ map (λ (b : NodeView). b.suffix) c.args.next.now.nodes =
-    ap suffixes_in c.as_slice-2.ensures.value ∙ (suffixes-seen n.words n.rows.items n.arcs.items n.nodes.items ∙ ap (λ (v : LayerView). map (λ (b : NodeView). b.suffix) v.nodes) c.next.view_is) in
+    ap suffixes_in c.as_slice-2.ensures.value ∙ (suffixes-seen (row_at n.rows.items n.words) n.arcs.items n.nodes.items ∙ ap (λ (v : LayerView). map (λ (b : NodeView). b.suffix) v.nodes) c.next.view_is) in
     let suffixes = map (λ (b : NodeView). b.suffix) c.args.next.now.nodes in
     let nodes = sym (ap (λ (v : LayerView). v.nodes) c.layer.view_is) in
-    let all = may-end l.words l.room l.rows.items l.arcs.items suffixes l.nodes.items c.layer.invariant.stored
+    let all = may-end (row_at l.rows.items l.words) l.room l.arcs.items suffixes l.nodes.items c.layer.invariant.stored
     (subst (Each (λ (node : NodeView). Each MayAdd node.arcs)) nodes c.requires.arcs)
     (subst (Each (λ (node : NodeView). Each (λ (arc : DdArc). MayLead suffixes arc.target) node.arcs)) nodes c.requires.leads) in
     subst (Each (MayEnd c.as_slice.result.now (suffixes_in c.as_slice-2.result.now))) (sym c.as_mut_slice.ensures.value)
@@ -49,10 +50,10 @@ returns c =
     let new = c.end_nodes.new.nodes in
     let suffixes = suffixes_in c.as_slice-2.result.now in
     let below : suffixes ≡ map (λ (b : NodeView). b.suffix) c.args.next.now.nodes =
-    ap suffixes_in c.as_slice-2.ensures.value ∙ (suffixes-seen n.words n.rows.items n.arcs.items n.nodes.items ∙ ap (λ (v : LayerView). map (λ (b : NodeView). b.suffix) v.nodes) c.next.view_is) in
+    ap suffixes_in c.as_slice-2.ensures.value ∙ (suffixes-seen (row_at n.rows.items n.words) n.arcs.items n.nodes.items ∙ ap (λ (v : LayerView). map (λ (b : NodeView). b.suffix) v.nodes) c.next.view_is) in
     let is : new ≡ map (ended_in l.arcs.items suffixes) l.nodes.items = c.end_nodes.ensures ∙ (ap (λ a. map (ended_in a suffixes) c.as_mut_slice.result.now) c.as_slice.ensures.value ∙ ap (map (ended_in l.arcs.items suffixes)) c.as_mut_slice.ensures.value) in
     let size : length new ≡ l.nodes.len = ap length is ∙ (length-map l.nodes.items (ended_in l.arcs.items suffixes) ∙ search rules) in
     let view : List Node → LayerView = λ ns. record { words = l.words; nodes = map (node_view l.words l.rows.items l.arcs.items) ns; nodes_room = l.room; arcs_room = l.arcs.cap } in
     ap view (with_items_is l.nodes new size ∙ is)
-    ∙ (ap (λ ns. record (view l.nodes.items) { nodes = ns }) (ended-views l.words l.rows.items l.arcs.items suffixes l.nodes.items)
+    ∙ (ap (λ ns. record (view l.nodes.items) { nodes = ns }) (ended-views (row_at l.rows.items l.words) l.arcs.items suffixes l.nodes.items)
     ∙ (ap (λ s. ended_layer s (view l.nodes.items)) below ∙ ap (ended_layer (map (λ (b : NodeView). b.suffix) c.args.next.now.nodes)) c.layer.view_is))

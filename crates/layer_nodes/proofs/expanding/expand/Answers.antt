@@ -2,10 +2,13 @@ use Rattle.std.proofs.Common.{rules, ◌≡◌, ◌*◌, ◌≤◌, length, map,
 use Rattle.std.proofs.lemmas.List.{with_items_is, length-map}
 use Rattle.dp_model.specs.Lists.{Each}
 use Rattle.dp_laws.specs.Rules.Compiling.{expand}
-use Rattle.layer_nodes.specs.Nodes.{LayerView, shown_layer, shown_below}
+use Rattle.layer_candidates.specs.Rows.{row_at}
+use Rattle.layer_nodes.specs.declared.node.Node.{Node}
+use Rattle.layer_nodes.specs.Nodes.{NodeView, LayerView, shown_layer, shown_below, without_arcs}
 use Rattle.layer_nodes.specs.Steps.{IsParent}
-use Rattle.layer_nodes.specs.Stored.{node_view, HasLayer}
+use Rattle.layer_nodes.specs.Stored.{node_view_by, node_view, HasLayer}
 use Rattle.layer_nodes.proofs.Expanded.{members-of, expanded-by, each-by}
+use Rattle.layer_nodes.proofs.Shown.{places-seen}
 use Rattle.layer_nodes.proofs.expanding.expand.Goals as goal
 
 pub expand_rows-requires-clause-members : goal.expand_rows-requires-clause-members
@@ -95,3 +98,20 @@ invariant_of-next g c =
       few_arcs = old.few_arcs;
       stored = h.below_stored N.arcs.items N.room hold;
     })
+
+pub returns-clause-rest : goal.returns-clause-rest
+returns-clause-rest g c =
+    let dp = g.M.DpModel.meaning (g.M.DpModel.numbers c.args.model.now) in
+    let A = c.above.inside in
+    let e = c.expand_rows in
+    let size : length e.new.above ≡ A.nodes.len = search rules in
+    let nodes = with_items_is A.nodes e.new.above size in
+    let h = expanded-by (expand dp c.args.k) dp c.args.k A.words _ _ _ _ e.new.above e.new.arcs.items e.new.rows e.new.below.items e.ensures.expanded c.as_slice.ensures.value c.as_mut_slice.ensures.value in
+    let row = row_at A.rows.items A.words in
+    record {
+      words = ap (λ (l : LayerView). l.words) c.above.view_is;
+      nodes = ap (λ l. map without_arcs (map (node_view_by row e.new.arcs.items) l)) nodes ∙ (h.rest A.arcs.items ∙ ap (λ (l : LayerView). map without_arcs l.nodes) c.above.view_is);
+      places = places-seen row e.new.arcs.items _ ∙ (ap (map (λ (node : Node). node.row)) nodes ∙ (h.places ∙ (sym (places-seen row A.arcs.items A.nodes.items) ∙ ap (λ (l : LayerView). map (λ (n : NodeView). n.place) l.nodes) c.above.view_is)));
+      nodes_room = ap (λ (l : LayerView). l.nodes_room) c.above.view_is;
+      arcs_room = search rules;
+    }
