@@ -37,11 +37,11 @@ pub put_others : (old new : RegionView) (p q : ℕ) (row other : List ℤ) → H
 put_others old new p q row other put live =
     ap (λ (rows : List (Option (List ℤ))). slice_get rows q) put.rows ∙ get-other old.rows p q None (Some row) (Some other) put.was_free live none_some
 
-pub taken_row : (old new : RegionView) (p : ℕ) → HasTaken old p new → IsRow new p (replicate old.words (pos 0))
-taken_row old new p taken = put_row old new p (replicate old.words (pos 0)) taken (length-replicate old.words (pos 0))
+pub put_live : (old new : RegionView) (p : ℕ) (row : List ℤ) → HasPut old p row new → length row ≡ old.words → IsLive new p
+put_live old new p row put long = (row, (put_row old new p row put long).found)
 
 pub taken_live : (old new : RegionView) (p : ℕ) → HasTaken old p new → IsLive new p
-taken_live old new p taken = (replicate old.words (pos 0), (taken_row old new p taken).found)
+taken_live old new p taken = put_live old new p (replicate old.words (pos 0)) taken (length-replicate old.words (pos 0))
 
 pub with_row_live : (r : RegionView) (p : ℕ) (w : List ℤ) → IsLive r p → IsLive (with_row r p w) p
 with_row_live r p w live =
