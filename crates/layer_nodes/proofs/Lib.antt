@@ -17,3 +17,4 @@ pub mod Merged
 pub mod MergedLayers
 pub mod Ended
 pub mod Behind
+pub mod Holding
