@@ -139,23 +139,25 @@ module _ (words room nodes_room arcs_room : ℕ) (row : ℕ → List ℤ) (arcs 
       (subst (Each (λ (node : NodeView). Each (λ (arc : DdArc). MayLead suffixes arc.target) node.arcs)) views lead) in
       subst (Each (MayEnd arcs2 (suffixes_in below))) (sym nodes_are) (subst (λ s. Each (MayEnd arcs2 s) nodes) (sym below_are) (subst (λ a. Each (MayEnd a suffixes) nodes) (sym arcs_are) all))
 
-  module _ (new : List Node) (ends : new ≡ map (ended_in arcs2 (suffixes_in below)) nodes2) where
-    new-are : new ≡ map (ended_in arcs suffixes) nodes
-    new-are = ends ∙ (ap₂ (λ a s. map (ended_in a s) nodes2) arcs_are below_are ∙ ap (map (ended_in arcs suffixes)) nodes_are)
+  -- the nodes became these, and the layer is that of the rules
+  pub record IsEnded (new : List Node) : Type 0 where
+    pub size : length new ≡ length nodes
+    pub stays : HasKeptLayer room new nodes_room arcs
+    pub ended : record { words = words; nodes = map (node_view_by row arcs) new; nodes_room = room; arcs_room = arcs_room } ≡ ended_layer suffixes layer
 
-    pub layer-length : length new ≡ length nodes
-    layer-length = ap length new-are ∙ length-map nodes (ended_in arcs suffixes)
-
-    pub layer-kept : HasKeptLayer room new nodes_room arcs
-    layer-kept = subst (λ l. HasKeptLayer room l nodes_room arcs) (sym new-are) (record {
-      small = kept.small;
-      fits = (let fit = kept.fits in let long = length-map nodes (ended_in arcs suffixes) in omega arith);
-      nodes_hold = kept.nodes_hold;
-      few_arcs = kept.few_arcs;
-      arcs_lie = ended-lie arcs suffixes nodes kept.arcs_lie;
-    })
-
-    pub layer-ended : record { words = words; nodes = map (node_view_by row arcs) new; nodes_room = room; arcs_room = arcs_room } ≡ ended_layer suffixes layer
-    layer-ended =
-        let with_nodes : List NodeView → LayerView = λ ns. record { words = words; nodes = ns; nodes_room = room; arcs_room = arcs_room } in
-        ap with_nodes (ap (map (node_view_by row arcs)) new-are ∙ ended-views row arcs suffixes nodes) ∙ ap (ended_layer suffixes) seen
+  pub layer-ended : (new : List Node) → new ≡ map (ended_in arcs2 (suffixes_in below)) nodes2 → IsEnded new
+  layer-ended new is =
+      let mapped : new ≡ map (ended_in arcs suffixes) nodes = is ∙ (ap₂ (λ a s. map (ended_in a s) nodes2) arcs_are below_are ∙ ap (map (ended_in arcs suffixes)) nodes_are) in
+      let long = length-map nodes (ended_in arcs suffixes) in
+      let with_nodes : List NodeView → LayerView = λ ns. record { words = words; nodes = ns; nodes_room = room; arcs_room = arcs_room } in
+      record {
+        size = ap length mapped ∙ long;
+        stays = subst (λ l. HasKeptLayer room l nodes_room arcs) (sym mapped) (record {
+          small = kept.small;
+          fits = (let fit = kept.fits in omega arith);
+          nodes_hold = kept.nodes_hold;
+          few_arcs = kept.few_arcs;
+          arcs_lie = ended-lie arcs suffixes nodes kept.arcs_lie;
+        });
+        ended = ap with_nodes (ap (map (node_view_by row arcs)) mapped ∙ ended-views row arcs suffixes nodes) ∙ ap (ended_layer suffixes) seen;
+      }

@@ -36,7 +36,7 @@ use Rattle.layer_nodes.specs.Nodes.{NodeView, shown, shown_from, shown_layer, sh
 use Rattle.layer_nodes.specs.Stored.{node_view_by, node_view, IsStored}
 use Rattle.layer_nodes.specs.Steps.{IsParent, IsRanked}
 use Rattle.layer_nodes.specs.Expanding.{Trial, trial, trials_at, trials_of, all_spanned, arc_to, LeadsToRow, AreArcsOf, all_exact, mark_at, AreTried, key_in, IsNumbered, led, node_of, member_of, members_from, AreArranged, IsExpanded}
-use Rattle.layer_nodes.proofs.Held.{LieIn, LiesIn, views-same}
+use Rattle.layer_nodes.proofs.Cells.{LieIn, LiesIn, views-same}
 use Rattle.layer_nodes.proofs.Spans.{length-spanned}
 use Rattle.layer_nodes.proofs.Tried.{length-arcs}
 

@@ -120,9 +120,9 @@ fn expand_rows<M: DpModel>(
     );
 }
 
-/// Expands the layer at depth `k`, whose rows the region holds: its nodes get an arc for each allowed decision, and of each state the best candidate, in the
-/// reduction order, is a node of the next layer, exact where all arcs to its state come from exact nodes; whatever the paths
-/// of the nodes above are. Nothing else of them changes. It takes no memory.
+/// Expands the layer at depth `k`, whose rows the region holds: its nodes get an arc for each allowed decision, and of each
+/// state the best candidate, in the reduction order, is a node of the next layer, exact where all arcs to its state come from
+/// exact nodes; whatever the paths of the nodes above are. Nothing else of them changes. It takes no memory.
 pub fn expand<M: DpModel>(
     model: &M,
     k: usize,

@@ -3,14 +3,13 @@ use Rattle.std.proofs.lemmas.List.{with_items_is, length-map}
 use Rattle.dp_model.specs.Laws.{IsLawful}
 use Rattle.dp_model.specs.Lists.{Each}
 use Rattle.layer_nodes.specs.declared.node.Node.{Node}
-use Rattle.layer_nodes.specs.Expanding.{IsExpanded}
 use Rattle.layer_nodes.specs.Holding.{held_row, HasKeptLayer}
 use Rattle.layer_nodes.specs.Nodes.{NodeView, LayerView, shown_layer, shown_below, without_arcs}
 use Rattle.layer_nodes.specs.Sifting.{expand_sifted}
 use Rattle.layer_nodes.specs.Steps.{IsParent}
 use Rattle.layer_nodes.specs.Stored.{node_view_by, node_view, HasLayer}
 use Rattle.layer_nodes.proofs.Expanded.{members-of, expanded-by, each-by, above-by, next-by, rest-by}
-use Rattle.layer_nodes.proofs.Held.{layer-lies}
+use Rattle.layer_nodes.proofs.Cells.{layer-lies}
 use Rattle.layer_nodes.proofs.Shown.{places-seen}
 use Rattle.layer_nodes.proofs.expanding.expand_sifted.Given as given
 use Rattle.layer_nodes.proofs.expanding.expand_sifted.Goals as goal
