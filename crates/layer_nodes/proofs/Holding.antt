@@ -1,5 +1,5 @@
 -- Layers whose rows stand in a region.
-use Rattle.std.proofs.Common.{◌≡◌, ℕ, zero, suc, ◌+◌, ◌<◌, ℤ, List, [], ◌∷◌, ◌++◌, length, map, take, drop, slice_get, get_or, option_map, Some, None, refl, sym, ◌∙◌, ap, ap₂, subst, arith}
+use Rattle.std.proofs.Common.{◌≡◌, ℕ, zero, suc, ◌+◌, ◌<◌, ℤ, List, [], ◌∷◌, ◌++◌, length, map, take, drop, slice_get, get_or, Option, option_map, Some, None, refl, sym, ◌∙◌, ap, ap₂, subst, arith}
 use Rattle.std.proofs.lemmas.List.{length-set, take_more}
 use Rattle.std.proofs.lemmas.Option.{get_or_from_slice_get}
 use Rattle.dp_model.specs.Lists.{Each}
@@ -11,14 +11,12 @@ use Rattle.row_region.specs.Region.{RegionView, IsRow, HasPut, row_or}
 use Rattle.row_region.proofs.Callers.{put_row, put_others}
 use Rattle.layer_nodes.specs.declared.node.Node.{Node}
 use Rattle.layer_nodes.specs.Holding.{AreHeld, HoldsMore, held_row, HasArcsIn, IsPut, ArePut}
-use Rattle.layer_nodes.specs.Nodes.{NodeView, without_arcs}
+use Rattle.layer_nodes.specs.Nodes.{NodeView, LayerView, without_arcs, suffix_set}
+use Rattle.layer_nodes.specs.Steps.{KeepsNodes}
 use Rattle.layer_nodes.specs.Stored.{node_view_by, node_view, HasRow}
 use Rattle.layer_nodes.proofs.Stored.{each-get}
 
 -- ---- the rows stay
-
-pub more-self : (region : RegionView) → HoldsMore region region
-more-self region = record { words = refl; count = refl; same = λ place row e. e }
 
 pub more-then : (old now new : RegionView) → HoldsMore old now → HoldsMore now new → HoldsMore old new
 more-then old now new first second = record {
@@ -38,23 +36,32 @@ more-put old new place row put = record {
 is-row-more : (old new : RegionView) → HoldsMore old new → (place : ℕ) (row : List ℤ) → IsRow old place row → IsRow new place row
 is-row-more old new more place row here = record { found = more.same place row here.found; size = here.size ∙ sym more.words }
 
-pub held-more : (old new : RegionView) (nodes : List NodeView) → HoldsMore old new → AreHeld old nodes → AreHeld new nodes
-held-more old new nodes more held =
+pub held-more : (old new : RegionView) → HoldsMore old new → (nodes : List NodeView) → AreHeld old nodes → AreHeld new nodes
+held-more old new more nodes held =
     Each-then (λ (node : NodeView). IsRow old node.place node.row) (λ (node : NodeView). IsRow new node.place node.row) nodes (λ node here. is-row-more old new more node.place node.row here) held
 
--- nodes that differ in their arcs have the same rows
-pub held-kept : (region : RegionView) (old new : List NodeView) → map without_arcs new ≡ map without_arcs old → map (λ (n : NodeView). n.place) new ≡ map (λ (n : NodeView). n.place) old → AreHeld region old → AreHeld region new
-held-kept region old [] nodes places held = tt
-held-kept region [] (new ∷ news) nodes places held = absurd (cc)
-held-kept region (old ∷ olds) (new ∷ news) nodes places held =
+-- nodes that differ in their arcs alone have the same rows
+held-alike : (region : RegionView) (old new : List NodeView) → map without_arcs new ≡ map without_arcs old → map (λ (n : NodeView). n.place) new ≡ map (λ (n : NodeView). n.place) old → AreHeld region old → AreHeld region new
+held-alike region old [] nodes places held = tt
+held-alike region [] (new ∷ news) nodes places held = absurd (cc)
+held-alike region (old ∷ olds) (new ∷ news) nodes places held =
     let same : without_arcs new ≡ without_arcs old = cc in
     let rest : map without_arcs news ≡ map without_arcs olds = cc in
     let place : new.place ≡ old.place = cc in
     let later : map (λ (n : NodeView). n.place) news ≡ map (λ (n : NodeView). n.place) olds = cc in
     let row : new.row ≡ old.row = ap (λ (n : NodeView). n.row) same in (
       subst (λ p. IsRow region p new.row) (sym place) (subst (λ r. IsRow region old.place r) (sym row) held.0),
-      held-kept region olds news rest later held.1,
+      held-alike region olds news rest later held.1,
     )
+
+pub held-nodes : (region : RegionView) (old new : LayerView) → KeepsNodes old new → AreHeld region old.nodes → AreHeld region new.nodes
+held-nodes region old new kept held = held-alike region old.nodes new.nodes kept.nodes kept.places held
+
+-- so have those of which one gets a suffix
+pub held-set : (region : RegionView) (nodes : List NodeView) (i : ℕ) (suffix : Option ℤ) → AreHeld region nodes → AreHeld region (suffix_set nodes i suffix)
+held-set region [] i suffix held = tt
+held-set region (node ∷ nodes) zero suffix held = (record { found = held.0.found; size = held.0.size }, held.1)
+held-set region (node ∷ nodes) (suc i) suffix held = (held.0, held-set region nodes i suffix held.1)
 
 -- ---- the rows are put
 
