@@ -35,11 +35,13 @@ module _ (dp : Dp) (laws : IsLawful dp) (k : ℕ) (region : RegionView) (cells :
   held-lie words row arcs [] is h p = tt
   held-lie words row arcs (node ∷ nodes) is h p =
       let place = node.row in
-      let wide : region.words ≡ words = sym h.0.size ∙ (laws.sizes.cells k (row place) p.0.state ∙ sym is) in
-      (record {
-        within = subst (λ w. place * w + w ≤ length cells) wide (fits place (row place) h.0.found);
-        same = subst (λ w. take w (drop (place * w) cells) ≡ row place) wide (rows place (row place) h.0.found);
-      }, held-lie words row arcs nodes is h.1 p.1)
+      let wide : region.words ≡ words = sym h.0.size ∙ (laws.sizes.cells k (row place) p.0.state ∙ sym is) in (
+        record {
+          within = subst (λ w. place * w + w ≤ length cells) wide (fits place (row place) h.0.found);
+          same = subst (λ w. take w (drop (place * w) cells) ≡ row place) wide (rows place (row place) h.0.found);
+        },
+        held-lie words row arcs nodes is h.1 p.1,
+      )
 
   pub layer-lies : (words room arcs_room : ℕ) (row : ℕ → List ℤ) (arcs : List DdArc) (nodes : List Node) (layer : LayerView)
       → record { words = words; nodes = map (node_view_by row arcs) nodes; nodes_room = room; arcs_room = arcs_room } ≡ layer → layer.words ≡ dp.words → AreHeld region layer.nodes → Each (IsParent dp k) layer.nodes → LieIn words cells row nodes

@@ -193,9 +193,10 @@ pub members-of : (dp : Dp) (k : ℕ) (cells : List ℤ) (words i : ℕ) (row : �
     → Each (IsParent dp k) (map (node_view_by row arcs) nodes) → Each (IsMemberOf dp k cells words) (members_from i nodes)
 members-of dp k cells words i row arcs [] lie h = tt
 members-of dp k cells words i row arcs (node ∷ nodes) lie h =
-    let same = sym lie.0.same in
-    (record { within = lie.0.within; state = subst (IsStateOf dp k) same h.0.state; rank = h.0.rank ∙ ap (dp.rank k) same; value = h.0.value },
-    members-of dp k cells words (i + 1) row arcs nodes lie.1 h.1)
+    let same = sym lie.0.same in (
+      record { within = lie.0.within; state = subst (IsStateOf dp k) same h.0.state; rank = h.0.rank ∙ ap (dp.rank k) same; value = h.0.value },
+      members-of dp k cells words (i + 1) row arcs nodes lie.1 h.1,
+    )
 
 -- The nodes of keys.
 

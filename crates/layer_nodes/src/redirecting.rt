@@ -148,7 +148,11 @@ fn redirect_arcs_behind(arcs: &mut [DdArc], first: usize, redirects: &[Option<Re
 }
 
 /// The arcs of the layer whose targets stand at `first` or behind it get new ones, and nothing else of it changes.
-pub(crate) fn redirect_layer_behind(layer: &mut KeptLayer, first: usize, redirects: &[Option<Redirect>])
+pub(crate) fn redirect_layer_behind(
+    layer: &mut KeptLayer,
+    first: usize,
+    redirects: &[Option<Redirect>],
+)
     requires short { Each IsShort redirects.now }
     requires lengths { Each MayBeLengthened layer.old.nodes }
     ensures nodes { (paths : ℕ → List ℕ) → shown_layer paths layer.new.nodes ≡ with_redirected (staying first ++ redirects.now) (shown_layer paths layer.old.nodes) }
