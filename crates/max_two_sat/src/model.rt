@@ -1,4 +1,3 @@
-
 use crate::instance::MaxTwoSat;
 use crate::limits::are_within_limits;
 use crate::row::{extend_row, is_zero_row, lesser_sum, step_gain, write_root, write_step};
