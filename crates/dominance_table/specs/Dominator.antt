@@ -17,7 +17,7 @@ least [] = None
 least (n ∷ ns) = lesser (Some n) (least ns)
 
 -- an entry of the depth and of the state's bucket, whose value is no less than the new one and the entry's gap to the state
-abbrev pub dominates : Dp → ℕ → List ℤ → ℤ → TableEntry → Bool
+abbrev pub entry_dominates : Dp → ℕ → List ℤ → ℤ → TableEntry → Bool
 entry_dominates dp depth row value e =
     nat_eq e.depth depth && (nat_eq e.bucket (dp.bucket depth row) && covers_at (dp.gap depth e.row row) e.value value)
 
