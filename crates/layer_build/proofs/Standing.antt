@@ -20,12 +20,12 @@ use Rattle.layer_build.specs.contracts.workspace.Workspace.{the_view, the_invari
 use Rattle.layer_build.specs.declared.workspace.Workspace.TheInside.{Inside}
 use Rattle.layer_build.specs.Layers.{SpaceView, diagram_of, last_depth, last_layer, suffix_in}
 use Rattle.layer_build.specs.UnderWay.{IsUnderWay}
-use Rattle.layer_build.specs.Stacked.{no_layer, place_of, room_of, nodes_in, path_in, shown_down, shown_stack, HoldFew, HaveDepth, HaveDepths, HaveRooms}
+use Rattle.layer_build.specs.Stacked.{no_layer, place_of, room_of, nodes_in, path_in, shown_down, shown_stack, HasDepth, HoldFew, HaveDepth, HaveDepths, HaveRooms}
 use Rattle.layer_build.proofs.Going.{deep, last_paths, last-seen, lent}
 use Rattle.layer_build.proofs.Shown.{length-down, length-shown}
 use Rattle.layer_build.proofs.Stacks.{at_depth, newest-at, above-at, kept-at, put-at, place-low, places-apart, count-of, rooms-set}
 use Rattle.layer_build.proofs.Suffixed.{like-in, depths-like, like-under-way, set-down, set-ranks}
-use Rattle.layer_build.proofs.Walked.{no_node, NoneExact, path_of, layer-seen}
+use Rattle.layer_build.proofs.Walked.{no_node, NoneExact, path_of, layer-seen, place-held}
 
 -- its layers are few and have few nodes
 pub held-few : (i : Inside) → the_invariant i → HoldFew i.stack
@@ -39,6 +39,15 @@ held-few i h =
       few = λ k low. subst (λ (l : LayerView). l.nodes_room ≤ 2 ^ 25) (get_or-map room_of items k no_layer) (h.stack.rooms.few k (omega arith));
       newest_few = h.stack.rooms.newest_few;
     }
+
+-- and there is one for each depth down to the last one
+pub has-depth : (i : Inside) → the_invariant i → (depth : ℕ) → depth ≤ i.stack.last → HasDepth i.stack depth
+has-depth i h depth low =
+    let few = held-few i h in
+    let small = h.stack.small in
+    let ordered = h.stack.first in
+    let deep = h.stack.last in
+    record { first = omega arith; place = place-held i.stack depth few low }
 
 -- ---- one node
 

@@ -30,7 +30,7 @@ abbrev pub with_suffix : (List DdArc → Option ℤ) → NodeView → NodeView
 with_suffix rule node = record node { suffix = rule node.arcs }
 
 -- only the suffixes of the nodes at the depth change
-pub record HasEnded (depth : ℕ) (old new : Stack) : Type 0 where
+pub record HasSuffixesAt (depth : ℕ) (old new : Stack) : Type 0 where
   pub vars : new.vars ≡ old.vars
   pub first : new.first ≡ old.first
   pub last : new.last ≡ old.last

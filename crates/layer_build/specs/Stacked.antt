@@ -32,6 +32,11 @@ layer_in s depth = cond (nat_eq depth s.last) s.newest (slice_index_or s.layers.
 abbrev pub nodes_in : Stack → ℕ → List NodeView
 nodes_in s depth = (layer_in s depth).nodes
 
+-- there is a layer at the depth
+pub record HasDepth (s : Stack) (depth : ℕ) : Type 0 where
+  pub first : s.first ≤ 1024
+  pub place : place_of s.vars s.first depth < length s.layers.items
+
 -- the path of the node at the place
 abbrev pub path_in : List (List ℕ) → ℕ → List ℕ
 path_in paths i = slice_index_or paths i []

@@ -3,7 +3,7 @@
 ghost use Rattle.std.specs.Prelude.{◌≡◌, ◌≢◌, ◌+◌, ◌<◌, ◌≤◌, length, map, set, slice_index_or};
 ghost use Rattle.dp_model.specs.Lists.{Each};
 ghost use Rattle.layer_nodes.specs.Ending.{MayAdd, MayLead, ended_layer};
-ghost use Rattle.layer_build.specs.Ended.{HasEnded};
+ghost use Rattle.layer_build.specs.Ended.{HasSuffixesAt};
 ghost use Rattle.layer_build.specs.Stacked.{no_layer, nodes_in, HoldFew};
 
 use crate::stack::{Stack, place_of};
@@ -34,7 +34,7 @@ pub(crate) fn end_layer(stack: &mut Stack, depth: usize)
     requires first { stack.old.first ≤ 1024 }
     requires arcs { depth < stack.old.last → Each (λ node. Each MayAdd node.arcs) (nodes_in stack.old depth) }
     requires leads { depth < stack.old.last → Each (λ node. Each (λ arc. MayLead (map (λ other. other.suffix) (nodes_in stack.old (depth + 1))) arc.target) node.arcs) (nodes_in stack.old depth) }
-    ensures { HasEnded depth stack.old stack.new }
+    ensures { HasSuffixesAt depth stack.old stack.new }
 {
     if depth == stack.last {
         set_last_suffixes(&mut stack.newest);

@@ -10,6 +10,7 @@
 #![tactic(auto)]
 
 mod ending;
+mod lookup;
 mod preparing;
 mod readers;
 mod stack;

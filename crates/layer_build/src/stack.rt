@@ -1,12 +1,12 @@
 //! The layers of a diagram in memory.
 
-ghost use Rattle.std.specs.Prelude.{◌≡◌, ◌≢◌, ◌+◌, ◌-◌, ◌*◌, ◌<◌, ◌≤◌, ℕ, List, IsSome, length, map};
+ghost use Rattle.std.specs.Prelude.{◌≡◌, ◌+◌, ◌-◌, ◌*◌, ◌<◌, ◌≤◌, ℕ, List, IsSome, length, map};
 ghost use Rattle.dp_model.specs.Lists.{Each};
 ghost use Rattle.dp_laws.specs.Rules.Compiling.{expand};
 ghost use Rattle.layer_nodes.specs.Nodes.{shown_layer, shown_below, without_arcs};
 ghost use Rattle.layer_nodes.specs.Sifting.{expand_sifted};
 ghost use Rattle.layer_nodes.specs.Steps.{IsParent, IsRanked, KeepsRoom};
-ghost use Rattle.layer_build.specs.Stacked.{place_of, place_above, layer_in};
+ghost use Rattle.layer_build.specs.Stacked.{place_of, place_above};
 
 use dp_model::DpModel;
 use layer_nodes::{Expansion, Layer, expand, expand_sifted};
@@ -41,19 +41,6 @@ pub(crate) fn place_above(vars: usize, first: usize, last: usize) -> usize
         vars + 1
     } else {
         place_of(vars, first, last - 1)
-    }
-}
-
-/// The layer at the depth.
-pub(crate) fn layer_at(stack: &Stack, depth: usize) -> &Layer
-    requires few { stack.now.first ≤ 1024 }
-    requires place { depth ≢ stack.now.last → place_of stack.now.vars stack.now.first depth < length stack.now.layers.items }
-    ensures { result.now ≡ layer_in stack.now depth }
-{
-    if depth == stack.last {
-        &stack.newest
-    } else {
-        &stack.layers[place_of(stack.vars, stack.first, depth)]
     }
 }
 
