@@ -1,7 +1,7 @@
 -- For callers: what becomes of a row, and of the others, when one is taken, given back or written.
-use Rattle.std.proofs.Common.{◌≡◌, ◌≢◌, ℕ, ℤ, pos, List, length, set, drop, replicate, Option, Some, None, slice_get, get_or, sym, ap, ◌∙◌, arith}
-use Rattle.std.proofs.lemmas.List.{take_at, get_or-set_same, get_or-set_other, length-set, length-replicate}
-use Rattle.std.proofs.lemmas.Option.{slice_get_within, slice_get-get_or, get_or_from_slice_get}
+use Rattle.std.proofs.Common.{◌≡◌, ℕ, ℤ, pos, List, set, replicate, Option, Some, None, slice_get, get_or, sym, ap, ◌∙◌, arith}
+use Rattle.std.proofs.lemmas.List.{get_or-set_same, length-set, length-replicate}
+use Rattle.std.proofs.lemmas.Option.{slice_get_within, slice_get-get_or}
 use Rattle.row_region.specs.Region.{RegionView, IsRow, IsLive, HasTaken, with_row, refilled, row_or}
 
 module _ {X : Type 0} where

@@ -1,10 +1,9 @@
 -- What is known of a live row.
-use Rattle.std.proofs.Common.{◌≡◌, ℕ, zero, suc, ◌+◌, ◌*◌, ◌<◌, ◌≤◌, ◌-◌, ℤ, pos, negsuc, ◌≤ℤ◌, false, List, length, set, Some, None, slice_get, get_or, replicate, refl, sym, ap, ◌∙◌, arith}
-use Rattle.std.proofs.lemmas.Int.{ints}
+use Rattle.std.proofs.Common.{◌≡◌, ℕ, zero, suc, ◌+◌, ◌*◌, ◌<◌, ◌≤◌, ◌-◌, ℤ, pos, false, List, length, set, Some, None, slice_get, get_or, replicate, refl, sym, ap, ◌∙◌, arith}
 use Rattle.std.proofs.lemmas.List.{ext_get_or, length-replicate, get_or-replicate, get_or-set_same}
 use Rattle.row_region.specs.Layout.{free_from, has, row_at, live_row_at, slots, first_cell, named, IsFreeRow, HasFreeChain, IsSound}
 use Rattle.row_region.proofs.Changes.{SameBut}
-use Rattle.row_region.specs.Region.{HasTaken}
+use Rattle.row_region.specs.Region.{HasPut}
 use Rattle.row_region.proofs.Rows.{row_within, length-row, get-row, get-table, table-get}
 use Rattle.row_region.proofs.Chains.{live_slot, head_none, pop_chained, pop_slots}
 
@@ -63,24 +62,20 @@ none_at cells words count free (suc n) s some =
     let ps = free_from cells words (suc n) free in
     table-get (live_row_at cells words ps) count free s.chained.free_rows.0.within ∙ ap Some (head_none cells words free (free_from cells words n (named (first_cell cells words free))))
 
-pub link_is : (z : ℤ) → pos 0 ≤ℤ z → z ≡ pos (named z)
-link_is (pos n) h = refl
-link_is (negsuc n) h = absurd (omega (arith, ints))
-
 pub take_sound : (cells new : List ℤ) (words count free spare next : ℕ) → IsSound cells words count free spare → (spare ≡ 0 → ⊥) → SameBut cells new words free → next ≡ named (first_cell cells words free) → IsSound new words count next (spare - 1)
 take_sound cells new words count free zero next s some but e = absurd (some refl)
 take_sound cells new words count free (suc n) next s some but e =
     let one : suc n - 1 ≡ n = omega arith in
     rw (one, e) (record { chained = pop_chained cells new words count free n s.chained but; size = but.size ∙ s.size })
 
-pub take_taken : (cells new : List ℤ) (words count free spare next : ℕ) → IsSound cells words count free spare → (spare ≡ 0 → ⊥) → SameBut cells new words free → next ≡ named (first_cell cells words free) → row_at new words free ≡ replicate words (pos 0)
-    → HasTaken (record { words = words; rows = slots cells words count free spare; spare = spare }) free (record { words = words; rows = slots new words count next (spare - 1); spare = spare - 1 })
-take_taken cells new words count free zero next s some but e row = absurd (some refl)
-take_taken cells new words count free (suc n) next s some but e row =
+pub put_taken : (cells new row : List ℤ) (words count free spare next : ℕ) → IsSound cells words count free spare → (spare ≡ 0 → ⊥) → SameBut cells new words free → next ≡ named (first_cell cells words free) → row_at new words free ≡ row
+    → HasPut (record { words = words; rows = slots cells words count free spare; spare = spare }) free row (record { words = words; rows = slots new words count next (spare - 1); spare = spare - 1 })
+put_taken cells new row words count free zero next s some but e is = absurd (some refl)
+put_taken cells new row words count free (suc n) next s some but e is =
     let one : suc n - 1 ≡ n = omega arith in
     record {
       was_free = none_at cells words count free (suc n) s some;
       words = refl;
-      rows = rw (one, e) (pop_slots cells new words count free n s.chained but ∙ ap (λ (l : List ℤ). set (slots cells words count free (suc n)) free (Some l)) row);
+      rows = rw (one, e) (pop_slots cells new words count free n s.chained but ∙ ap (λ (l : List ℤ). set (slots cells words count free (suc n)) free (Some l)) is);
       spare = omega arith;
     }

@@ -1,10 +1,10 @@
-ghost use Rattle.std.specs.Prelude.{◌≡◌, ℕ, ℤ, List, [], ◌+◌, ◌-◌, ◌*◌, ◌^◌, ◌<◌, ◌≤◌, ◌↔◌, ◌++◌, length, replicate, count_by, is_none, slice_get, slice_set, pos, Some, None, IsNone, IfSome, IfNone, IfOk, OnErr, OnOk};
+ghost use Rattle.std.specs.Prelude.{◌≡◌, ℕ, ℤ, List, [], ◌+◌, ◌-◌, ◌*◌, ◌^◌, ◌<◌, ◌≤◌, ◌↔◌, ◌++◌, length, replicate, count_by, is_none, take, drop, slice_get, slice_set, pos, Some, None, IsNone, IfSome, IfNone, IfOk, OnErr, OnOk};
 ghost use Rattle.std.specs.Borrow.{sem};
-ghost use Rattle.row_region.specs.Region.{IsLive, IsRow, HasTaken};
+ghost use Rattle.row_region.specs.Region.{IsLive, IsRow, HasTaken, HasPut};
 ghost use Rattle.row_region.specs.Lending.{LendsRow};
 
 use crate::parting::part_of;
-use crate::threading::{thread, zero};
+use crate::threading::{next, thread, write, zero};
 use std::alloc::{AllocError, Global};
 use std::marker::Model;
 
@@ -81,8 +81,28 @@ impl Region {
         }
         let place = self.free;
         let at = place * self.words;
-        self.free = self.cells[at] as usize;
+        self.free = next(&self.cells, at);
         zero(&mut self.cells, at, at + self.words);
+        self.spare -= 1;
+        Some(RowId {
+            place: place as u32,
+        })
+    }
+
+    /// Takes a free row and writes these cells to it; `None` exactly where no row is free.
+    pub fn put(&mut self, row: &[i64]) -> Option<RowId>
+        requires { length row.now ≡ self.old.words }
+        ensures none { IsNone result ↔ (self.old.spare ≡ 0) }
+        ensures same { IfNone result (self.new ≡ self.old) }
+        ensures taken { IfSome result (λ id. HasPut self.old id.place row.now self.new) }
+    {
+        if self.spare == 0 {
+            return None;
+        }
+        let place = self.free;
+        let at = place * self.words;
+        self.free = next(&self.cells, at);
+        write(&mut self.cells, at, row);
         self.spare -= 1;
         Some(RowId {
             place: place as u32,
@@ -107,6 +127,14 @@ impl Region {
     {
         let at = id.place as usize * self.words;
         &self.cells[at..at + self.words]
+    }
+
+    /// All cells. A live row has those from its place times the cells of a row on.
+    pub fn cells(&self) -> &[i64]
+        ensures rows { (place : ℕ) (row : List ℤ) → slice_get self.now.rows place ≡ Some (Some row) → take self.now.words (drop (place * self.now.words) result.now) ≡ row }
+        ensures fits { (place : ℕ) (row : List ℤ) → slice_get self.now.rows place ≡ Some (Some row) → place * self.now.words + self.now.words ≤ length result.now }
+    {
+        self.cells.as_slice()
     }
 
     /// The cells of a live row, to be written. What is left in them is the row from then on.
