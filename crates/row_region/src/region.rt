@@ -17,7 +17,7 @@ pub struct RowId {
     pub place: u32,
 }
 
-/// Rows of one length in one block of cells. EachNumber is live or free.
+/// Rows of one length in one block of cells. Each is live or free.
 #[derive(Debug, Drop)]
 pub struct Region {
     // the rows, one behind the other; the first cell of a free one is the place of the next free one
