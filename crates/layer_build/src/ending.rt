@@ -7,10 +7,10 @@ ghost use Rattle.layer_build.specs.Ended.{HasSuffixesAt};
 ghost use Rattle.layer_build.specs.Stacked.{no_layer, nodes_in, HoldFew};
 
 use crate::stack::{Stack, place_of};
-use layer_nodes::{Layer, set_last_suffixes, set_suffixes};
+use layer_nodes::{KeptLayer, set_last_suffixes, set_suffixes, set_suffixes_above};
 
 /// Sets the suffixes of the layer at a place, which is above the one at another place.
-fn end_at(layers: &mut [Layer], at: usize, below: usize)
+fn end_at(layers: &mut [KeptLayer], at: usize, below: usize)
     requires at { at < length layers.old }
     requires below { below < length layers.old }
     requires apart { at ≢ below }
@@ -42,7 +42,7 @@ pub(crate) fn end_layer(stack: &mut Stack, depth: usize)
     }
     let at = place_of(stack.vars, stack.first, depth);
     if depth + 1 == stack.last {
-        set_suffixes(&mut stack.layers[at], &stack.newest);
+        set_suffixes_above(&mut stack.layers[at], &stack.newest);
         return;
     }
     let below = place_of(stack.vars, stack.first, depth + 1);

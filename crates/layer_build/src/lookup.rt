@@ -1,6 +1,7 @@
 //! What is read of a layer at a depth, and of a node by the place in its layer.
 
-ghost use Rattle.std.specs.Prelude.{◌≡◌, ◌<◌, ◌≤◌, Some, IsSome, length, slice_get, option_map, option_and_then};
+ghost use Rattle.std.specs.Prelude.{◌≡◌, ◌≢◌, ◌<◌, ◌≤◌, Some, IsSome, length, slice_get, option_map, option_and_then};
+ghost use Rattle.layer_nodes.specs.Holding.{AreHeld};
 ghost use Rattle.layer_build.specs.Stacked.{layer_in, nodes_in, HasDepth};
 
 use crate::stack::{Stack, place_of};
@@ -19,16 +20,17 @@ pub(crate) fn len_at(stack: &Stack, depth: usize) -> usize
     }
 }
 
-/// The state of a node.
+/// The state of a node, where the region holds the rows of its layer.
 pub(crate) fn row_at(stack: &Stack, depth: usize, node: usize) -> &[i64]
     requires depth { HasDepth stack.now depth }
     requires place { node < length (nodes_in stack.now depth) }
+    requires held { depth ≢ stack.now.last → AreHeld stack.now.region (nodes_in stack.now depth) }
     ensures { option_map (λ n. n.row) (slice_get (nodes_in stack.now depth) node) ≡ Some result.now }
 {
     if depth == stack.last {
         stack.newest.row(node)
     } else {
-        stack.layers[place_of(stack.vars, stack.first, depth)].row(node)
+        stack.layers[place_of(stack.vars, stack.first, depth)].row(&stack.region, node)
     }
 }
 
