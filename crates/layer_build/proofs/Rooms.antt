@@ -2,7 +2,7 @@
 use Rattle.std.proofs.Common.{◌≡◌, ℕ, zero, suc, ◌+◌, ◌*◌, ◌^◌, ◌<◌, ◌≤◌, max, vec_capacity, mul-le-mul_left, mul-le-mul_right, sym, ap, subst, ◌∙◌, ◌⊎◌, inl, inr, arith}
 use Rattle.dp_model.specs.Dp.{Dp}
 use Rattle.dp_model.specs.Laws.{IsLawful}
-use Rattle.dp_laws.specs.Width.{cost_below, FitsWidth, IsGreatestWidth}
+use Rattle.dp_laws.specs.Width.{cost_below}
 use Rattle.layer_candidates.specs.declared.beam.Beam.{Beam}
 use Rattle.layer_candidates.specs.Beaming.{HasLayers, HasMade}
 use Rattle.layer_build.specs.Layers.{IsWidth, AreEnough}

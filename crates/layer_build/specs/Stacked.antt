@@ -7,6 +7,7 @@ use Rattle.dp_laws.specs.Diagrams.Nodes.{DdNode, path_below}
 use Rattle.layer_candidates.specs.Beaming.{HasLayers}
 use Rattle.layer_candidates.specs.declared.beam.Beam.{Beam}
 use Rattle.layer_nodes.specs.Nodes.{NodeView, LayerView, shown_layer}
+use Rattle.layer_nodes.specs.Holding.{AreHeld}
 use Rattle.layer_build.specs.declared.stack.Stack.{Stack}
 
 -- no layer
@@ -31,6 +32,11 @@ layer_in s depth = cond (nat_eq depth s.last) s.newest (slice_index_or s.layers.
 -- the nodes of the layer at the depth
 abbrev pub nodes_in : Stack → ℕ → List NodeView
 nodes_in s depth = (layer_in s depth).nodes
+
+-- there is a layer at the depth
+pub record HasDepth (s : Stack) (depth : ℕ) : Type 0 where
+  pub first : s.first ≤ 1024
+  pub place : place_of s.vars s.first depth < length s.layers.items
 
 -- the path of the node at the place
 abbrev pub path_in : List (List ℕ) → ℕ → List ℕ
@@ -96,9 +102,23 @@ pub record HasStack (words width : ℕ) (choices : List ℕ) (s : Stack) : Type 
   pub newest_words : s.newest.words ≡ words
   pub top : (slice_index_or s.layers.items (s.vars + 1) no_layer).nodes ≡ []
 
+-- for how many nodes there is room just below the first layer
+abbrev pub second_room : ℕ → List LayerView → ℕ
+second_room vars layers = (slice_index_or layers vars no_layer).nodes_room
+
+-- the region holds the rows of the layers from the depth `held` on that stand above the last one, and has rows to spare for
+-- those that are still to be kept: at each depth as many as the width, and just below the first layer as many as there is room for
+pub record HasRows (words width held : ℕ) (s : Stack) : Type 0 where
+  pub words_are : s.region.words ≡ words
+  pub held_rows : (k : ℕ) → held ≤ k → s.first ≤ k → k < s.last → AreHeld s.region (nodes_in s k)
+  pub spare : (s.vars - s.last) * width ≤ s.region.spare
+  pub second_spare : s.last ≤ s.first + 1 → (s.vars - s.last) * width + second_room s.vars s.layers.items ≤ s.region.spare
+  pub enough : s.vars * width + second_room s.vars s.layers.items ≤ length s.region.rows
+
 -- a workspace has room for all that it was prepared for, and its exact nodes have paths of their depth
-pub record HasSpace (words width : ℕ) (choices : List ℕ) (prefix : List ℕ) (prefix_room : ℕ) (s : Stack) (expansion redirects : ℕ) (buffer : List ℕ) (beam : Beam) : Type 0 where
+pub record HasSpace (words width held : ℕ) (choices : List ℕ) (prefix : List ℕ) (prefix_room : ℕ) (s : Stack) (expansion redirects : ℕ) (buffer : List ℕ) (beam : Beam) : Type 0 where
   pub stack : HasStack words width choices s
+  pub rows : HasRows words width held s
   pub first : s.first ≡ length prefix
   pub prefix_fits : s.vars ≤ prefix_room
   pub expands : expansion ≡ s.newest.nodes_room

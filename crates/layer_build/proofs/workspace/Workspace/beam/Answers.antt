@@ -14,6 +14,7 @@ invariant_of-self g c =
     let long = (with_items i.path c.beam.new.out).ok.0 in
     record {
       stack = h.stack;
+      rows = h.rows;
       first = h.first;
       prefix_fits = h.prefix_fits;
       expands = h.expands;
