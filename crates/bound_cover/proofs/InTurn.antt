@@ -1,5 +1,5 @@
 -- Layers that are tested in turn have the verdict of all of them.
-use Rattle.std.proofs.Common.{◌≡◌, ℕ, suc, ◌+◌, ◌-◌, nat_eq, nat_lt, ℤ, Bool, true, false, cond, List, [], ◌∷◌, length, Option, Some, None, refl, sym, ◌∙◌, ap, arith}
+use Rattle.std.proofs.Common.{◌≡◌, ℕ, suc, ◌+◌, ◌-◌, nat_eq, nat_lt, ℤ, Bool, true, false, cond, List, [], ◌∷◌, ◌++◌, length, Option, Some, None, refl, sym, ◌∙◌, ap, arith}
 use Rattle.dp_model.specs.Dp.{Dp}
 use Rattle.bound_cover.specs.declared.cover.Why.{Why}
 use Rattle.bound_cover.specs.declared.cover.Why.TheVariants.{Layers}
@@ -19,9 +19,14 @@ first-alone None = refl
 first-alone (Some why) = refl
 
 -- so many came
-count-taken : (dp : Dp) (t : LayerTests) (layers : List (List CoverRow)) → (all_taken dp t layers).count ≡ t.count + length layers
+pub count-taken : (dp : Dp) (t : LayerTests) (layers : List (List CoverRow)) → (all_taken dp t layers).count ≡ t.count + length layers
 count-taken dp t [] = omega arith
 count-taken dp t (layer ∷ layers) = count-taken dp (taken dp t (layer ∷ [])) layers ∙ omega arith
+
+-- a further one comes last
+pub taken-last : (dp : Dp) (t : LayerTests) (layers : List (List CoverRow)) (layer : List CoverRow) → all_taken dp t (layers ++ layer ∷ []) ≡ taken dp (all_taken dp t layers) (layer ∷ [])
+taken-last dp t [] layer = refl
+taken-last dp t (next ∷ layers) layer = taken-last dp (taken dp t (next ∷ [])) layers layer
 
 -- all that come fail first where the layers from the one at hand on do
 behind : (dp : Dp) (k : ℕ) (t : LayerTests) (layers : List (List CoverRow)) → t.count ≡ suc k → k + length layers ≡ dp.vars
@@ -44,7 +49,7 @@ from-first : (dp : Dp) (why : Option Why) (claim : Option ℤ) (layer : List Cov
 from-first dp None claim layer more long = behind dp 0 (taken dp (begun_with None claim) (layer ∷ [])) more refl (omega arith)
 from-first dp (Some why) claim layer more long = behind dp 0 (taken dp (begun_with (Some why) claim) (layer ∷ [])) more refl (omega arith)
 
-none-yet : (why : Option Why) (claim : Option ℤ) → (begun_with why claim).count ≡ 0
+pub none-yet : (why : Option Why) (claim : Option ℤ) → (begun_with why claim).count ≡ 0
 none-yet None claim = refl
 none-yet (Some why) claim = refl
 
