@@ -392,7 +392,7 @@ impl<'c> Rows for LayerRows<'c> {
 }
 
 /// Whether all rows are states of the layer.
-fn are_states<M: DpModel, L: Rows>(model: &M, k: usize, rows: &L, count: u32) -> bool
+pub(crate) fn are_states<M: DpModel, L: Rows>(model: &M, k: usize, rows: &L, count: u32) -> bool
     requires layer { k ≤ (M.meaning (M.numbers model.now)).vars }
     requires count { count ≡ length (L.rows rows.now) }
     ensures { result ≡ are_states (M.meaning (M.numbers model.now)) k (L.rows rows.now) }
@@ -457,7 +457,7 @@ fn row_covers_root<M: DpModel>(model: &M, row: RowRef<'_>, root: &[i64], claim: 
 }
 
 /// Whether one of the rows is a state that covers the root within the claim.
-fn has_root<M: DpModel, L: Rows>(
+pub(crate) fn has_root<M: DpModel, L: Rows>(
     model: &M,
     here: &L,
     count: u32,
@@ -521,7 +521,7 @@ fn worth<M: DpModel>(
 }
 
 /// The failure of the assignment or of its value, where a best value is reported.
-fn solution_fault<M: DpModel>(
+pub(crate) fn solution_fault<M: DpModel>(
     model: &M,
     best: Option<i64>,
     assignment: &[u32],
@@ -546,7 +546,7 @@ fn solution_fault<M: DpModel>(
 }
 
 /// What no feasible solution may exceed: the reported value and the distance, and `None` where no value is reported.
-fn claim_of(best: Option<i64>, within: i64) -> Option<i64>
+pub(crate) fn claim_of(best: Option<i64>, within: i64) -> Option<i64>
     requires far { IsWritable best }
     requires least { pos 0 ≤ℤ within }
     requires most { within ≤ℤ pos (2 ^ 50) }

@@ -19,10 +19,11 @@ mod layers;
 mod printing;
 mod reading;
 mod rows;
+mod tested;
 mod theory;
 
 pub use cover_error::CoverError;
-pub use cover_text::CoverText;
+pub use cover_text::{CoverText, OpenCover};
 pub use printing::push_cover;
-pub use reading::read_cover;
+pub use reading::{open_cover, read_cover};
 pub use theory::{outputs_are_read, passing_is_written, pushed_is_read};
