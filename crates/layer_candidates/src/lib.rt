@@ -12,6 +12,7 @@ mod beam;
 mod candidates;
 mod descending;
 mod extending;
+mod holding;
 mod joining;
 mod key;
 mod member;
