@@ -8,7 +8,6 @@ use Rattle.dp_model.specs.Gaps.{IsStateOf}
 use Rattle.dp_model.specs.Lists.{Each}
 use Rattle.dp_model.specs.Reached.{Reached}
 use Rattle.dp_model.proofs.Members.{Each-append, Each-then}
-use Rattle.dp_laws.specs.Pairs.{EachTwo}
 use Rattle.dp_laws.proofs.Restricted.Permutations.{two-append}
 use Rattle.layer_candidates.specs.declared.member.Member.{Member}
 use Rattle.layer_candidates.specs.HeldRows.{IsSameRegion, IsNoneOf, AreLive, HasExchanged, held_row, held_as, IsHeldAt, IsPut, ArePut}
@@ -87,7 +86,7 @@ exchange-none old new e = record { words = e.words; count = e.count; spare = (le
 
 -- Members whose rows the region has.
 
-held-is : (region : RegionView) (place : ℕ) (row : List ℤ) → slice_get region.rows place ≡ Some (Some row) → held_row region place ≡ row
+pub held-is : (region : RegionView) (place : ℕ) (row : List ℤ) → slice_get region.rows place ≡ Some (Some row) → held_row region place ≡ row
 held-is region place row here = ap row_or (get_or_from_slice_get region.rows place (Some row) None here)
 
 module _ (cells : List ℤ) (words : ℕ) where

@@ -1,4 +1,4 @@
-use Rattle.std.proofs.Common.{◌≡◌, ◌+◌, ◌++◌, ◌∷◌, [], pos, length, get_or, refl, ap, subst, sym, ◌∙◌, arith}
+use Rattle.std.proofs.Common.{◌≡◌, ◌++◌, ◌∷◌, [], pos, length, get_or, refl, ap, subst, sym, ◌∙◌, arith}
 use Rattle.std.proofs.lemmas.List.{length_push}
 use Rattle.layer_candidates.specs.declared.member.Member.{Member}
 use Rattle.layer_candidates.specs.HeldRows.{HasExchanged}
@@ -20,7 +20,7 @@ members-preserved c =
     let words : l.region.words ≡ a.words = l.invariant.exchanged.words ∙ c.requires.words in
     let long : length row ≡ l.region.words = put-long a.rows.now a.words a.members.now l.members l.i none row c.members-test.true l.auto.members l.invariant.rest c.requires.inside c.row.ensures ∙ sym words in
     let next = put-next a.rows.now a.words l.region new a.members.now l.members l.i place row none (record (get_or l.members l.i none) { row = place })
-        c.members-test.true l.auto.members l.invariant.rest l.invariant.put refl c.row.ensures long put in
+    c.members-test.true l.auto.members l.invariant.rest l.invariant.put refl c.row.ensures long put in
     let count = ap length c.push_reserved.ensures.items ∙ length_push held place in
     let before = l.invariant.count in
     record {
