@@ -10,7 +10,7 @@ use Rattle.dp_model.specs.Reached.{Reached}
 use Rattle.dp_model.proofs.Members.{Each-append, Each-then}
 use Rattle.dp_laws.proofs.Restricted.Permutations.{two-append}
 use Rattle.layer_candidates.specs.declared.member.Member.{Member}
-use Rattle.layer_candidates.specs.HeldRows.{IsSameRegion, IsNoneOf, AreLive, HasExchanged, held_row, held_as, IsHeldAt, IsPut, ArePut}
+use Rattle.layer_candidates.specs.HeldRows.{IsNoneOf, AreLive, HasExchanged, held_row, held_as, IsHeldAt, IsPut, ArePut}
 use Rattle.layer_candidates.specs.Layering.{IsEntered}
 use Rattle.layer_candidates.specs.Members.{member_as, members_as, IsMemberOf}
 use Rattle.layer_candidates.specs.Rows.{row_at}
@@ -25,10 +25,6 @@ use Rattle.row_region.proofs.Callers.{put_row, put_others, given_others}
 
 free-apart : (region : RegionView) (p q : ℕ) → slice_get region.rows p ≡ Some None → IsLive region q → p ≢ q
 free-apart region p q free live = λ (e : p ≡ q). (let there = ap (slice_get region.rows) e in let row = live.1 in cc)
-
--- a free place is none of those that have rows
-none-live : (region : RegionView) (places : List ℕ) (p : ℕ) → slice_get region.rows p ≡ Some None → Each (IsLive region) places → IsNoneOf places p
-none-live region places p free live = Each-then (IsLive region) (λ (q : ℕ). p ≢ q) places (λ q here. free-apart region p q free here) live
 
 pub exchange-self : (region : RegionView) (places : List ℕ) → AreLive region places → HasExchanged region places region places
 exchange-self region places live = record { words = refl; count = refl; spare = refl; others = λ place row here apart. (here, apart); live = live }
@@ -80,9 +76,6 @@ module _ (old new : RegionView) (p : ℕ) (given : new ≡ record old { rows = s
         others = λ q other here apart. (given_others old new p q other given apart.0 here, apart.1);
         live = record { live = still-live places live.apart.0 live.live.1; apart = live.apart.1 };
       }
-
-pub exchange-none : (old new : RegionView) → HasExchanged old [] new [] → IsSameRegion old new
-exchange-none old new e = record { words = e.words; count = e.count; spare = (let s = e.spare in omega arith); same = λ place row here. (e.others place row here tt).0 }
 
 -- Members whose rows the region has.
 

@@ -26,8 +26,9 @@ use Rattle.row_region.specs.Region.{RegionView}
 pub prefix-state : (dp : Dp) → IsLawful dp → (p : List ℕ) → IsPrefix dp p → IsStateOf dp (length p) (state_of dp p)
 prefix-state dp laws p h = state_of-state dp laws.states p h
 
-pub prefix-cells : (dp : Dp) → IsLawful dp → (p : List ℕ) → IsPrefix dp p → length (state_of dp p) ≡ dp.words
-prefix-cells dp laws p h = laws.sizes.cells (length p) (state_of dp p) (prefix-state dp laws p h)
+-- the row of a prefix has as many cells as each row
+pub prefix-cells : (dp : Dp) → IsLawful dp → (p : List ℕ) (row : List ℤ) (words cells : ℕ) → IsPrefix dp p → row ≡ state_of dp p → words ≡ dp.words → cells ≡ words → length row ≡ cells
+prefix-cells dp laws p row words cells h row_is words_are cells_are = ap length row_is ∙ (laws.sizes.cells (length p) (state_of dp p) (prefix-state dp laws p h) ∙ (sym words_are ∙ sym cells_are))
 
 abbrev start_member : ℤ → ℤ → ℕ → Member
 start_member value rank place = record { value = value; rank = rank; row = place; step = 0 }

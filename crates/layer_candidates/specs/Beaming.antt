@@ -46,8 +46,7 @@ kept_at dp k layer = cond (nat_lt k dp.vars) layer (take 1 layer)
 abbrev pub took : Dp → List ℕ → ℕ → Option ℤ → ℕ → Bool
 took dp p w t m = is_some (find (is_too_wide dp (reached dp p) w t) (below (suc m)))
 
--- the members in memory, whose rows the region holds, are those of the layer at depth k below the prefix p, for the width w and the
--- threshold t
+-- the members, whose rows the region has, are those of the layer at depth k below the prefix p, for the width w and the threshold t
 pub record IsBuilt (dp : Dp) (p : List ℕ) (w : ℕ) (t : Option ℤ) (k : ℕ) (b : Beam) (region : RegionView) (reduced : Bool) : Type 0 where
   pub has_room : HasLayers dp w b
   pub region_words : region.words ≡ b.words
@@ -73,7 +72,7 @@ most_at dp k first w = cond (nat_eq (k + 1) dp.vars) 1 (cond (nat_eq k first) (d
 abbrev pub is_between : ℕ → ℕ → ℕ → Bool
 is_between k first vars = nat_lt first k && nat_lt (k + 1) vars
 
--- the layer below was made: as many of its first members as `most`, whose rows the region holds in place of those of the layer above
+-- the layer below was made: as many of its first members as `most`, whose rows the region has in place of those of the layer above
 pub record IsNext (dp : Dp) (k : ℕ) (t : Option ℤ) (most : ℕ) (old : Beam) (above : RegionView) (new : Beam) (region : RegionView) (more : Bool) : Type 0 where
   pub list : (p : List ℕ) → held_as (path_at p new.steps.items) region new.members.items
       ≡ take most (whole_layer dp k t (held_as (path_at p old.steps.items) above old.members.items))

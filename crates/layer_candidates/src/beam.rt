@@ -1,6 +1,5 @@
 ghost use Rattle.std.specs.Prelude.{◌≡◌, ◌&&◌, ◌||◌, ◌+◌, ◌*◌, ◌^◌, ◌<◌, ◌≤◌, ℕ, ℤ, Option, [], length, false, is_some, IfOk, vec_len, vec_capacity};
 ghost use Rattle.dp_model.specs.Lists.{Each};
-ghost use Rattle.dp_model.specs.Laws.{IsLawful};
 ghost use Rattle.dp_model.specs.Prefixes.{IsPrefix, state_of, value_of};
 ghost use Rattle.layer_candidates.specs.Beaming.{AreEnoughMembers, HasLayers, HasMade, IsBuilt, IsNext, IsFirst, most_at, is_between};
 ghost use Rattle.dp_laws.specs.Restricted.Beams.{beam, wide, first_of_all};
@@ -131,7 +130,7 @@ impl Beam {
 
     /// Makes all layers below the prefix, whose own one stands there. Answers whether the width took something from one.
     /// It takes no memory.
-    fn compile<M: DpModel>(
+    pub fn compile<M: DpModel>(
         &mut self,
         region: &mut Region,
         model: &M,

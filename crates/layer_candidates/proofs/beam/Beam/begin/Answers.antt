@@ -22,7 +22,8 @@ rank-rank-requires g c =
 pub put_row-place-requires-clause-cells : goal.put_row-place-requires-clause-cells
 put_row-place-requires-clause-cells g c =
     let dp = g.M.DpModel.meaning (g.M.DpModel.numbers c.args.model.now) in
-    ap length c.requires.row ∙ (prefix-cells dp (laws_of g c.args.model.now) c.args.prefix.now c.requires.prefix ∙ (sym c.requires.words ∙ sym c.requires.region_words))
+    let a = c.args in
+    prefix-cells dp (laws_of g a.model.now) a.prefix.now a.row.now a.self.now.words a.region.now.words c.requires.prefix c.requires.row c.requires.words c.requires.region_words
 
 pub returns-clause-built : goal.returns-clause-built
 returns-clause-built g c = λ w t h enough.
@@ -32,7 +33,7 @@ returns-clause-built g c = λ w t h enough.
     let put = c.put_row-place.ensures in
     let region = c.put_row-place.new.region in
     let place = c.put_row-place.result in
-    let long : length a.row.now ≡ a.region.now.words = ap length c.requires.row ∙ (prefix-cells dp laws a.prefix.now c.requires.prefix ∙ (sym c.requires.words ∙ sym c.requires.region_words)) in
+    let long = prefix-cells dp laws a.prefix.now a.row.now a.self.now.words a.region.now.words c.requires.prefix c.requires.row c.requires.words c.requires.region_words in
     let member : c.first_member.result ≡ record { value = a.value; rank = c.rank-rank.result; row = place; step = 0 } = search rules in
     let members : c.push_reserved-2.new.self.items ≡ c.first_member.result ∷ [] = c.push_reserved-2.ensures.items ∙ ap (λ (l : List Member). l ++ c.first_member.result ∷ []) c.clear-3.ensures.items in
     let new : Beam = record a.self.now { members = c.push_reserved-2.new.self; held = c.push_reserved.new.self; steps = c.clear.new.self } in
@@ -56,6 +57,6 @@ returns-clause-exchanged g c =
     let a = c.args in
     let region = c.put_row-place.new.region in
     let place = c.put_row-place.result in
-    let long : length a.row.now ≡ a.region.now.words = ap length c.requires.row ∙ (prefix-cells dp (laws_of g a.model.now) a.prefix.now c.requires.prefix ∙ (sym c.requires.words ∙ sym c.requires.region_words)) in
+    let long = prefix-cells dp (laws_of g a.model.now) a.prefix.now a.row.now a.self.now.words a.region.now.words c.requires.prefix c.requires.row c.requires.words c.requires.region_words in
     subst (HasExchanged a.region.now [] region) (sym (c.push_reserved.ensures.items ∙ ap (λ (l : List ℕ). l ++ place ∷ []) c.clear-2.ensures.items))
     (exchange-put a.region.now region [] place a.row.now (record { live = tt; apart = tt }) long c.put_row-place.ensures)
