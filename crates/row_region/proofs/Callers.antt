@@ -1,5 +1,5 @@
 -- For callers: what becomes of a row, and of the others, when one is taken, given back or written.
-use Rattle.std.proofs.Common.{◌≡◌, ◌≢◌, ℕ, ℤ, pos, List, length, set, replicate, Option, Some, None, slice_get, get_or, sym, ap, ◌∙◌, arith}
+use Rattle.std.proofs.Common.{◌≡◌, ◌≢◌, ℕ, ℤ, ◌+◌, pos, List, length, set, replicate, Option, Some, None, slice_get, get_or, sym, ap, ◌∙◌, arith}
 use Rattle.std.proofs.lemmas.List.{get_or-set_same, get_or-set_other, length-set, length-replicate}
 use Rattle.std.proofs.lemmas.Option.{slice_get_within, slice_get-get_or, get_or_from_slice_get}
 use Rattle.row_region.specs.Region.{RegionView, IsRow, IsLive, HasPut, HasTaken, with_row, refilled, row_or}
@@ -47,3 +47,11 @@ pub with_row_live : (r : RegionView) (p : ℕ) (w : List ℤ) → IsLive r p →
 with_row_live r p w live =
     let base = row_or (get_or r.rows p None) in
     (refilled r.words base w, get-set r.rows p (Some live.0) (Some (refilled r.words base w)) live.1)
+
+-- when a row is given back, the other rows stay
+pub given_others : (old new : RegionView) (p q : ℕ) (other : List ℤ) → new ≡ record old { rows = set old.rows p None; spare = old.spare + 1 } → q ≢ p → slice_get old.rows q ≡ Some (Some other) → slice_get new.rows q ≡ Some (Some other)
+given_others old new p q other given apart live =
+    let within = slice_get_within old.rows q (Some other) live in
+    ap (λ (r : RegionView). slice_get r.rows q) given
+    ∙ (slice_get-get_or (set old.rows p None) q None (omega (arith, length-set {A = Option (List ℤ)} old.rows p None))
+    ∙ ap Some (get_or-set_other old.rows p q None None apart ∙ get_or_from_slice_get old.rows q (Some other) None live))
