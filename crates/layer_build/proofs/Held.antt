@@ -7,10 +7,10 @@ use Rattle.std.specs.declared.vec.Vec.{Vec}
 use Rattle.dp_model.specs.Dp.{Dp}
 use Rattle.dp_model.specs.Laws.{IsLawful}
 use Rattle.layer_candidates.specs.Beaming.{AreEnoughMembers}
-use Rattle.layer_candidates.specs.HeldRows.{IsSameRegion}
+use Rattle.layer_candidates.specs.HeldRows.{HoldsMore, IsSameRegion}
 use Rattle.layer_nodes.specs.Nodes.{LayerView}
 use Rattle.row_region.specs.Region.{RegionView}
-use Rattle.layer_nodes.specs.Holding.{AreHeld, HoldsMore}
+use Rattle.layer_nodes.specs.Holding.{AreHeld}
 use Rattle.layer_build.specs.declared.stack.Stack.{Stack}
 use Rattle.layer_build.specs.Stacked.{nodes_in, room_of, second_room, beam_rows, HasRows}
 use Rattle.layer_nodes.proofs.Holding.{held-more}
@@ -144,10 +144,10 @@ rows-for-beam dp laws words width held s h =
 pub rows-same : (words width held : ℕ) (s : Stack) (region : RegionView) → IsSameRegion s.region region → HasRows words width held s → HasRows words width held (record s { region = region })
 rows-same words width held s region e h =
     let free = e.spare in
-    let size = e.count in
+    let size = e.more.count in
     record {
-      words_are = e.words ∙ h.words_are;
-      held_rows = λ k from above low. held-more s.region region (record { words = e.words; count = e.count; same = e.same }) (nodes_in s k) (h.held_rows k from above low);
+      words_are = e.more.words ∙ h.words_are;
+      held_rows = λ k from above low. held-more s.region region e.more (nodes_in s k) (h.held_rows k from above low);
       spare = (let a = h.spare in omega arith);
       second_spare = λ near. (let a = h.second_spare near in omega arith);
       enough = (let a = h.enough in omega arith);
