@@ -58,11 +58,6 @@ leads-behind xs front behind n i d e f b less fits h =
 
 -- ---- in a stack
 
-last-rule : (s : Stack) (depth : ℕ) → depth ≡ s.last → (nodes : List NodeView) → map (λ (n : NodeView). record n { suffix = Some (pos 0) }) nodes ≡ map (with_suffix (longest_from s depth)) nodes
-last-rule s depth e nodes =
-    let test : nat_eq depth s.last ≡ true = grind (arith, nat_tests) in
-    ap (λ (b : Bool). map (with_suffix (λ arcs. cond b (Some (pos 0)) (greatest (lengths (map (λ (below : NodeView). below.suffix) (nodes_in s (depth + 1))) arcs)))) nodes) (sym test)
-
 above-rule : (s : Stack) (depth : ℕ) → depth ≢ s.last → (nodes : List NodeView)
     → map (λ (n : NodeView). record n { suffix = greatest (lengths (map (λ (below : NodeView). below.suffix) (nodes_in s (depth + 1))) n.arcs) }) nodes ≡ map (with_suffix (longest_from s depth)) nodes
 above-rule s depth other nodes =

@@ -10,10 +10,11 @@ use Rattle.dp_laws.specs.declared.arc.DdArc.{DdArc}
 use Rattle.dp_laws.specs.Diagrams.Nodes.{DdNode, path_below}
 use Rattle.dp_laws.specs.Rules.Compiling.{TwoLayers}
 use Rattle.dp_laws.specs.Rules.Within.{IsLayerWithin, IsArcWithin, AreWithin}
+use Rattle.layer_candidates.specs.HeldRows.{HoldsMore}
 use Rattle.layer_nodes.specs.Nodes.{NodeView, LayerView, shown, shown_from, shown_layer, shown_below, without_arcs}
 use Rattle.layer_nodes.specs.Steps.{IsParent, IsNodeOf, MayBeLengthened, IsRanked, KeepsRoom}
 use Rattle.row_region.specs.Region.{RegionView}
-use Rattle.layer_nodes.specs.Holding.{AreHeld, HoldsMore}
+use Rattle.layer_nodes.specs.Holding.{AreHeld}
 use Rattle.layer_build.specs.contracts.workspace.Workspace.{the_view, the_invariant}
 use Rattle.layer_build.specs.declared.workspace.Workspace.TheInside.{Inside}
 use Rattle.layer_build.specs.declared.stack.Stack.{Stack}

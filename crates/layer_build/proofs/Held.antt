@@ -4,11 +4,15 @@ use Rattle.std.proofs.lemmas.List.{length-replicate}
 use Rattle.std.proofs.Math.Nat.{suc-mul}
 use Rattle.std.specs.declared.alloc.Global.{Global}
 use Rattle.std.specs.declared.vec.Vec.{Vec}
+use Rattle.dp_model.specs.Dp.{Dp}
+use Rattle.dp_model.specs.Laws.{IsLawful}
+use Rattle.layer_candidates.specs.Beaming.{AreEnoughMembers}
+use Rattle.layer_candidates.specs.HeldRows.{HoldsMore, IsSameRegion}
 use Rattle.layer_nodes.specs.Nodes.{LayerView}
 use Rattle.row_region.specs.Region.{RegionView}
-use Rattle.layer_nodes.specs.Holding.{AreHeld, HoldsMore}
+use Rattle.layer_nodes.specs.Holding.{AreHeld}
 use Rattle.layer_build.specs.declared.stack.Stack.{Stack}
-use Rattle.layer_build.specs.Stacked.{nodes_in, room_of, second_room, HasRows}
+use Rattle.layer_build.specs.Stacked.{nodes_in, room_of, second_room, beam_rows, HasRows}
 use Rattle.layer_nodes.proofs.Holding.{held-more}
 use Rattle.layer_build.proofs.Stacks.{room-at, is-or}
 
@@ -102,7 +106,7 @@ rows-more words width held n s layers newest region low narrow e h =
     held-at k from above (inl less) = subst (AreHeld region) (sym (e.above k less)) (held-more s.region region e.others (nodes_in s k) (h.held_rows k from above less))
     held-at k from above (inr same) = subst (λ (d : ℕ). AreHeld region (nodes_in new d)) (sym same) e.held
 
-    spare : (s.last ≡ s.first + 1) ⊎ (s.last ≢ s.first + 1) → (s.vars - s.last) * width ≡ (s.vars - (s.last + 1)) * width + width → region.spare + n ≡ s.region.spare → (s.vars - (s.last + 1)) * width ≤ region.spare
+    spare : (s.last ≡ s.first + 1) ⊎ (s.last ≢ s.first + 1) → (s.vars - s.last) * width ≡ (s.vars - (s.last + 1)) * width + width → region.spare + n ≡ s.region.spare → (s.vars - (s.last + 1)) * width + beam_rows width ≤ region.spare
     spare (inl same) split free = let a = h.second_spare (omega arith) in let b = narrow.second same in omega arith
     spare (inr other) split free = let a = h.spare in let b = narrow.other other in omega arith
 
@@ -123,5 +127,28 @@ rows-cleared words width held first last s newest low h =
       held_rows = λ k from above deep. absurd (omega arith);
       spare = omega arith;
       second_spare = λ near. omega arith;
-      enough = subst (λ (n : ℕ). s.vars * width + second_room s.vars s.layers.items ≤ n) (sym size) h.enough;
+      enough = subst (λ (n : ℕ). s.vars * width + second_room s.vars s.layers.items + beam_rows width ≤ n) (sym size) h.enough;
+    }
+
+-- ---- a beam takes rows and gives them back
+
+pub rows-for-beam : (dp : Dp) → IsLawful dp → (words width held : ℕ) (s : Stack) → HasRows words width held s → AreEnoughMembers dp width s.region.spare
+rows-for-beam dp laws words width held s h =
+    let spare = h.spare in
+    record {
+      one = omega arith;
+      choices = λ k low. (let few = laws.sizes.choices k low in omega arith);
+      width = omega arith;
+    }
+
+pub rows-same : (words width held : ℕ) (s : Stack) (region : RegionView) → IsSameRegion s.region region → HasRows words width held s → HasRows words width held (record s { region = region })
+rows-same words width held s region e h =
+    let free = e.spare in
+    let size = e.more.count in
+    record {
+      words_are = e.more.words ∙ h.words_are;
+      held_rows = λ k from above low. held-more s.region region e.more (nodes_in s k) (h.held_rows k from above low);
+      spare = (let a = h.spare in omega arith);
+      second_spare = λ near. (let a = h.second_spare near in omega arith);
+      enough = (let a = h.enough in omega arith);
     }

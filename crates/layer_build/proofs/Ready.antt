@@ -8,7 +8,7 @@ use Rattle.dp_laws.specs.Width.{cost_below}
 use Rattle.layer_nodes.specs.Nodes.{LayerView}
 use Rattle.row_region.specs.Region.{RegionView}
 use Rattle.layer_build.specs.Layers.{IsWidth}
-use Rattle.layer_build.specs.Stacked.{empty_layer, no_layer, room_of, second_room, HaveRooms, HasRows, HasStack}
+use Rattle.layer_build.specs.Stacked.{empty_layer, no_layer, room_of, second_room, beam_rows, HaveRooms, HasRows, HasStack}
 use Rattle.layer_build.specs.Preparing.{IsReady}
 use Rattle.layer_build.specs.declared.stack.Stack.{Stack}
 use Rattle.layer_build.proofs.Stacks.{choice-at, map-append, below-at}
@@ -92,7 +92,7 @@ ready-rows dp width room words s r words-are =
     let below : (s.vars - s.last) * width ≡ dp.vars * width = ap (λ (n : ℕ). n * width) (none ∙ r.vars) in
     let all : s.vars * width ≡ dp.vars * width = ap (λ (n : ℕ). n * width) r.vars in
     let free = ap (λ (v : RegionView). v.spare) r.region in
-    let size = ap (λ (v : RegionView). length v.rows) r.region ∙ length-replicate (dp.vars * width + r.nodes) None in
+    let size = ap (λ (v : RegionView). length v.rows) r.region ∙ length-replicate (dp.vars * width + r.nodes + beam_rows width) None in
     record {
       words_are = ap (λ (v : RegionView). v.words) r.region ∙ sym words-are;
       held_rows = λ k from above low. absurd (omega arith);

@@ -40,10 +40,6 @@ pub record IsWalked (s : Stack) (prefix out : List ℕ) (depth node k at : ℕ) 
   pub long : length (path_of (nodes_in s) prefix s.first k at) ≡ k
   pub list : path_of (nodes_in s) prefix s.first k at ++ drop k out ≡ path_of (nodes_in s) prefix s.first depth node
 
-append-none : (xs : List ℕ) → xs ++ [] ≡ xs
-append-none [] = refl
-append-none (x ∷ xs) = ap (λ (l : List ℕ). x ∷ l) (append-none xs)
-
 -- the paths of the nodes of a layer below the first one
 paths-are : (nodes : ℕ → List NodeView) (prefix : List ℕ) (first k : ℕ) → first < k
     → paths_at nodes (prefix ∷ []) first (k - first) ≡ paths_below (paths_at nodes (prefix ∷ []) first (k - 1 - first)) (nodes k)

@@ -1,5 +1,5 @@
 -- How the layers of a diagram lie in memory, and how they are seen.
-use Rattle.std.specs.Prelude.{◌≡◌, ℕ, zero, suc, ◌+◌, ◌-◌, ◌*◌, ◌^◌, ◌<◌, ◌≤◌, nat_eq, cond, List, [], ◌∷◌, length, map, IsTrue, slice_index_or}
+use Rattle.std.specs.Prelude.{◌≡◌, ℕ, zero, suc, ◌+◌, ◌-◌, ◌*◌, ◌^◌, ◌<◌, ◌≤◌, nat_eq, max, cond, List, [], ◌∷◌, length, map, IsTrue, slice_index_or}
 use Rattle.dp_model.specs.Decisions.{below}
 use Rattle.dp_model.specs.Dp.{Dp}
 use Rattle.dp_model.specs.Lists.{Each}
@@ -106,14 +106,19 @@ pub record HasStack (words width : ℕ) (choices : List ℕ) (s : Stack) : Type 
 abbrev pub second_room : ℕ → List LayerView → ℕ
 second_room vars layers = (slice_index_or layers vars no_layer).nodes_room
 
+-- how many rows the members of a beam take: no layer has more choices than 1024
+abbrev pub beam_rows : ℕ → ℕ
+beam_rows width = max width 1024
+
 -- the region holds the rows of the layers from the depth `held` on that stand above the last one, and has rows to spare for
--- those that are still to be kept: at each depth as many as the width, and just below the first layer as many as there is room for
+-- those that are still to be kept: at each depth as many as the width, and just below the first layer as many as there is room for;
+-- and for the members of a beam besides
 pub record HasRows (words width held : ℕ) (s : Stack) : Type 0 where
   pub words_are : s.region.words ≡ words
   pub held_rows : (k : ℕ) → held ≤ k → s.first ≤ k → k < s.last → AreHeld s.region (nodes_in s k)
-  pub spare : (s.vars - s.last) * width ≤ s.region.spare
-  pub second_spare : s.last ≤ s.first + 1 → (s.vars - s.last) * width + second_room s.vars s.layers.items ≤ s.region.spare
-  pub enough : s.vars * width + second_room s.vars s.layers.items ≤ length s.region.rows
+  pub spare : (s.vars - s.last) * width + beam_rows width ≤ s.region.spare
+  pub second_spare : s.last ≤ s.first + 1 → (s.vars - s.last) * width + second_room s.vars s.layers.items + beam_rows width ≤ s.region.spare
+  pub enough : s.vars * width + second_room s.vars s.layers.items + beam_rows width ≤ length s.region.rows
 
 -- a workspace has room for all that it was prepared for, and its exact nodes have paths of their depth
 pub record HasSpace (words width held : ℕ) (choices : List ℕ) (prefix : List ℕ) (prefix_room : ℕ) (s : Stack) (expansion redirects : ℕ) (buffer : List ℕ) (beam : Beam) : Type 0 where

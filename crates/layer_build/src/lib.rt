@@ -8,8 +8,8 @@
 //! whole. `beam` is the shorter way to a restricted diagram, over `layer_candidates`.
 //!
 //! The last layer has its rows itself. Those of the layers above it stand in one `row_region`: `expand_layer` puts them there,
-//! `begin` and `drop_above` give all of them back. Only `prepare` takes memory, and the region gets its size there.
-//! `greatest_width` is the greatest width whose layers stay within the cost formula.
+//! `begin` and `drop_above` give all of them back; `beam` takes rows for its members and gives them back. Only `prepare` takes
+//! memory, and the region gets its size there. `greatest_width` is the greatest width whose layers stay within the cost formula.
 #![tactic(auto)]
 
 mod ending;

@@ -4,7 +4,7 @@ ghost use Rattle.std.specs.Prelude.{◌≡◌, ◌+◌, ◌*◌, ◌<◌, ◌≤
 ghost use Rattle.dp_model.specs.Decisions.{below};
 ghost use Rattle.layer_build.specs.Layers.{IsWidth, AreEnough};
 ghost use Rattle.layer_build.specs.Preparing.{IsMost, IsReady};
-ghost use Rattle.layer_build.specs.Stacked.{empty_layer};
+ghost use Rattle.layer_build.specs.Stacked.{empty_layer, beam_rows};
 
 use crate::stack::Stack;
 use dp_model::{DpModel, OutOfMemory};
@@ -85,21 +85,24 @@ fn layers_for<M: DpModel>(
     Ok(layers)
 }
 
-/// The layers before a compilation, with room for so many candidates.
+/// The layers before a compilation, with room for so many candidates. The region has rows for all layers but the last one, and
+/// for so many members of a beam besides.
 pub(crate) fn prepare_stack<M: DpModel>(
     alloc: Global,
     model: &M,
     width: usize,
     room: usize,
+    members: usize,
 ) -> Result<Stack, OutOfMemory>
     requires width { IsWidth (M.meaning (M.numbers model.now)) width }
     requires few { room ≤ 2 ^ 25 }
+    requires members { members ≡ beam_rows width }
     ensures { IfOk result (λ stack. IsReady (M.meaning (M.numbers model.now)) width room stack) }
 {
     let vars = model.vars();
     let words = model.words();
     let most = most_choices(model);
-    let region = Region::new(alloc, words, vars * width + most)?;
+    let region = Region::new(alloc, words, vars * width + most + members)?;
     let mut layers = layers_for(alloc, model, width, &region)?;
     let second = KeptLayer::prepare(alloc, words, most, room_for(model, 1), &region)?;
     let top = KeptLayer::prepare(alloc, words, 0, 0, &region)?;

@@ -3,10 +3,11 @@
 ghost use Rattle.std.specs.Prelude.{◌≡◌, ◌+◌, ◌-◌, ◌*◌, ◌<◌, ◌≤◌, ℕ, List, IsSome, length, map};
 ghost use Rattle.dp_model.specs.Lists.{Each};
 ghost use Rattle.dp_laws.specs.Rules.Compiling.{expand};
+ghost use Rattle.layer_candidates.specs.HeldRows.{HoldsMore};
 ghost use Rattle.layer_nodes.specs.Nodes.{shown_layer, shown_below, without_arcs};
 ghost use Rattle.layer_nodes.specs.Sifting.{expand_sifted};
 ghost use Rattle.layer_nodes.specs.Steps.{IsParent, IsRanked, KeepsRoom};
-ghost use Rattle.layer_nodes.specs.Holding.{AreHeld, HoldsMore};
+ghost use Rattle.layer_nodes.specs.Holding.{AreHeld};
 ghost use Rattle.layer_build.specs.Stacked.{place_of, place_above};
 
 use dp_model::DpModel;

@@ -107,7 +107,7 @@ impl Workspace {
             width,
             choices: choices_of(alloc, model)?,
             prefix: Vec::with_capacity(alloc, vars)?,
-            stack: prepare_stack(alloc, model, width, room)?,
+            stack: prepare_stack(alloc, model, width, room, widest)?,
             first_reduced: None,
             held: 0,
             expansion: Expansion::prepare(alloc, room)?,
@@ -315,6 +315,7 @@ impl Workspace {
         ensures reduced { result.reduced ≡ is_some (wide (M.meaning (M.numbers model.now)) sub.now.subproblem.decisions self.old.width threshold) }
     {
         self.beam.beam(
+            &mut self.stack.region,
             model,
             sub.decisions.as_slice(),
             sub.row.as_slice(),

@@ -9,12 +9,16 @@ use Rattle.layer_candidates.specs.declared.member.Member.{Member}
 use Rattle.layer_candidates.specs.Rows.{row_at}
 use Rattle.row_region.specs.Region.{RegionView, IsLive, row_or}
 
--- the region has all rows that it had, and as many that are free
-pub record IsSameRegion (old new : RegionView) : Type 0 where
+-- the region has all rows that it had, and perhaps more of them are taken
+pub record HoldsMore (old new : RegionView) : Type 0 where
   pub words : new.words ≡ old.words
   pub count : length new.rows ≡ length old.rows
-  pub spare : new.spare ≡ old.spare
   pub same : (place : ℕ) (row : List ℤ) → slice_get old.rows place ≡ Some (Some row) → slice_get new.rows place ≡ Some (Some row)
+
+-- the region has all rows that it had, and as many that are free
+pub record IsSameRegion (old new : RegionView) : Type 0 where
+  pub more : HoldsMore old new
+  pub spare : new.spare ≡ old.spare
 
 -- the place is none of these
 abbrev pub IsNoneOf : List ℕ → ℕ → Type 0

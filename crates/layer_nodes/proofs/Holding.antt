@@ -1,16 +1,17 @@
 -- Layers whose rows stand in a region.
-use Rattle.std.proofs.Common.{◌≡◌, ℕ, zero, suc, ◌+◌, ◌<◌, ℤ, List, [], ◌∷◌, ◌++◌, length, map, take, drop, slice_get, get_or, Option, option_map, Some, None, refl, sym, ◌∙◌, ap, ap₂, subst, arith}
+use Rattle.std.proofs.Common.{◌≡◌, ℕ, zero, suc, ◌+◌, ◌<◌, ℤ, List, [], ◌∷◌, ◌++◌, length, map, take, drop, slice_get, get_or, Option, option_map, Some, refl, sym, ◌∙◌, ap, ap₂, subst, arith}
 use Rattle.std.proofs.lemmas.List.{length-set, take_more}
-use Rattle.std.proofs.lemmas.Option.{get_or_from_slice_get}
 use Rattle.dp_model.specs.Lists.{Each}
 use Rattle.dp_model.proofs.Members.{Each-then}
 use Rattle.dp_laws.specs.declared.arc.DdArc.{DdArc}
 use Rattle.layer_candidates.specs.Rows.{row_at}
+use Rattle.layer_candidates.specs.HeldRows.{HoldsMore, held_row}
 use Rattle.layer_candidates.proofs.Blocks.{length-row}
-use Rattle.row_region.specs.Region.{RegionView, IsRow, HasPut, row_or}
+use Rattle.layer_candidates.proofs.HeldRows.{held-is}
+use Rattle.row_region.specs.Region.{RegionView, IsRow, HasPut}
 use Rattle.row_region.proofs.Callers.{put_row, put_others}
 use Rattle.layer_nodes.specs.declared.node.Node.{Node}
-use Rattle.layer_nodes.specs.Holding.{AreHeld, HoldsMore, held_row, HasArcsIn, IsPut, ArePut}
+use Rattle.layer_nodes.specs.Holding.{AreHeld, HasArcsIn, IsNodePut, AreNodesPut}
 use Rattle.layer_nodes.specs.Nodes.{NodeView, LayerView, without_arcs, suffix_set}
 use Rattle.layer_nodes.specs.Steps.{KeepsNodes}
 use Rattle.layer_nodes.specs.Stored.{node_view_by, node_view, HasRow}
@@ -65,42 +66,39 @@ held-set region (node ∷ nodes) (suc i) suffix held = (held.0, held-set region 
 
 -- ---- the rows are put
 
-pub held-is : (region : RegionView) (place : ℕ) (row : List ℤ) → slice_get region.rows place ≡ Some (Some row) → held_row region place ≡ row
-held-is region place row live = ap row_or (get_or_from_slice_get region.rows place (Some row) None live)
-
-put-more : (old new : RegionView) (rows : List ℤ) (words : ℕ) (others nodes : List Node) → HoldsMore old new → ArePut old rows words others nodes → ArePut new rows words others nodes
+put-more : (old new : RegionView) (rows : List ℤ) (words : ℕ) (others nodes : List Node) → HoldsMore old new → AreNodesPut old rows words others nodes → AreNodesPut new rows words others nodes
 put-more old new rows words [] [] more put = tt
 put-more old new rows words [] (node ∷ nodes) more put = absurd put
 put-more old new rows words (other ∷ others) [] more put = absurd put
 put-more old new rows words (other ∷ others) (node ∷ nodes) more put =
     (record { held = is-row-more old new more node.row (row_at rows words other.row) put.0.held; copy = put.0.copy }, put-more old new rows words others nodes more put.1)
 
-put-push : (region : RegionView) (rows : List ℤ) (words : ℕ) (others nodes : List Node) (other node : Node) → ArePut region rows words others nodes → IsPut region (row_at rows words other.row) other node → ArePut region rows words (others ++ other ∷ []) (nodes ++ node ∷ [])
+put-push : (region : RegionView) (rows : List ℤ) (words : ℕ) (others nodes : List Node) (other node : Node) → AreNodesPut region rows words others nodes → IsNodePut region (row_at rows words other.row) other node → AreNodesPut region rows words (others ++ other ∷ []) (nodes ++ node ∷ [])
 put-push region rows words [] [] other node put one = (one, tt)
 put-push region rows words [] (n ∷ nodes) other node put one = absurd put
 put-push region rows words (o ∷ others) [] other node put one = absurd put
 put-push region rows words (o ∷ others) (n ∷ nodes) other node put one = (put.0, put-push region rows words others nodes other node put.1 one)
 
 -- one node more is put
-pub put-next : (old new : RegionView) (rows row : List ℤ) (words i : ℕ) (others nodes : List Node) (d node : Node) → ArePut old rows words (take i others) nodes → i < length others → old.words ≡ words → Each (HasRow words rows) others
+pub put-next : (old new : RegionView) (rows row : List ℤ) (words i : ℕ) (others nodes : List Node) (d node : Node) → AreNodesPut old rows words (take i others) nodes → i < length others → old.words ≡ words → Each (HasRow words rows) others
     → row ≡ row_at rows words (get_or others i d).row → HasPut old node.row row new → node ≡ record (get_or others i d) { row = node.row; first_arc = 0; arcs = 0 }
-    → ArePut new rows words (take (i + 1) others) (nodes ++ node ∷ [])
+    → AreNodesPut new rows words (take (i + 1) others) (nodes ++ node ∷ [])
 put-next old new rows row words i others nodes d node before less same have is put copy =
     let other = get_or others i d in
     let long : length row ≡ old.words = ap length is ∙ (length-row rows words other.row (each-get (HasRow words rows) others i d have less) ∙ sym same) in
-    let one : IsPut new (row_at rows words other.row) other node = subst (λ r. IsPut new r other node) is (record { held = put_row old new node.row row put long; copy = copy }) in
-    subst (λ l. ArePut new rows words l (nodes ++ node ∷ [])) (sym (take_more others i d less))
+    let one : IsNodePut new (row_at rows words other.row) other node = subst (λ r. IsNodePut new r other node) is (record { held = put_row old new node.row row put long; copy = copy }) in
+    subst (λ l. AreNodesPut new rows words l (nodes ++ node ∷ [])) (sym (take_more others i d less))
     (put-push new rows words (take i others) nodes other node (put-more old new rows words (take i others) nodes (more-put old new node.row row put) before) one)
 
 module _ (region : RegionView) (rows : List ℤ) (words : ℕ) where
-  pub put-length : (others nodes : List Node) → ArePut region rows words others nodes → length nodes ≡ length others
+  pub put-length : (others nodes : List Node) → AreNodesPut region rows words others nodes → length nodes ≡ length others
   put-length [] [] put = refl
   put-length [] (node ∷ nodes) put = absurd put
   put-length (other ∷ others) [] put = absurd put
   put-length (other ∷ others) (node ∷ nodes) put = omega (arith, put-length others nodes put.1)
 
   -- the nodes that were put are the others without arcs
-  pub put-views : (arcs : List DdArc) (others nodes : List Node) → ArePut region rows words others nodes → map without_arcs (map (node_view_by (held_row region) []) nodes) ≡ map without_arcs (map (node_view words rows arcs) others)
+  pub put-views : (arcs : List DdArc) (others nodes : List Node) → AreNodesPut region rows words others nodes → map without_arcs (map (node_view_by (held_row region) []) nodes) ≡ map without_arcs (map (node_view words rows arcs) others)
   put-views arcs [] [] put = refl
   put-views arcs [] (node ∷ nodes) put = absurd put
   put-views arcs (other ∷ others) [] put = absurd put
@@ -110,7 +108,7 @@ module _ (region : RegionView) (rows : List ℤ) (words : ℕ) where
       let row : held_row region node.row ≡ row_at rows words other.row = held-is region node.row (row_at rows words other.row) put.0.held.found in
       ap₂ (λ (v : NodeView) l. v ∷ l) (ap₂ (λ (v : NodeView) r. record v { row = r }) copy row) (put-views arcs others nodes put.1)
 
-  pub put-held : (others nodes : List Node) → ArePut region rows words others nodes → AreHeld region (map (node_view_by (held_row region) []) nodes)
+  pub put-held : (others nodes : List Node) → AreNodesPut region rows words others nodes → AreHeld region (map (node_view_by (held_row region) []) nodes)
   put-held [] [] put = tt
   put-held [] (node ∷ nodes) put = absurd put
   put-held (other ∷ others) [] put = absurd put
@@ -118,13 +116,13 @@ module _ (region : RegionView) (rows : List ℤ) (words : ℕ) where
       let here = put.0.held in
       (subst (λ r. IsRow region node.row r) (sym (held-is region node.row (row_at rows words other.row) here.found)) here, put-held others nodes put.1)
 
-  pub put-bare : (others nodes : List Node) → ArePut region rows words others nodes → Each (λ (n : NodeView). n.arcs ≡ []) (map (node_view_by (held_row region) []) nodes)
+  pub put-bare : (others nodes : List Node) → AreNodesPut region rows words others nodes → Each (λ (n : NodeView). n.arcs ≡ []) (map (node_view_by (held_row region) []) nodes)
   put-bare [] [] put = tt
   put-bare [] (node ∷ nodes) put = absurd put
   put-bare (other ∷ others) [] put = absurd put
   put-bare (other ∷ others) (node ∷ nodes) put = (ap (λ (n : Node). take n.arcs (drop n.first_arc (let none : List DdArc = [] in none))) put.0.copy, put-bare others nodes put.1)
 
-  pub put-arcs : (others nodes : List Node) → ArePut region rows words others nodes → Each (HasArcsIn []) nodes
+  pub put-arcs : (others nodes : List Node) → AreNodesPut region rows words others nodes → Each (HasArcsIn []) nodes
   put-arcs [] [] put = tt
   put-arcs [] (node ∷ nodes) put = absurd put
   put-arcs (other ∷ others) [] put = absurd put

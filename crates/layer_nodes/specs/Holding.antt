@@ -1,25 +1,15 @@
 -- A layer whose rows stand in a region.
-use Rattle.std.specs.Prelude.{◌≡◌, ℕ, ◌+◌, ◌^◌, ◌<◌, ◌≤◌, ℤ, List, [], ◌∷◌, length, slice_get, slice_index_or, Some, None}
+use Rattle.std.specs.Prelude.{◌≡◌, ℕ, ◌+◌, ◌^◌, ◌<◌, ◌≤◌, ℤ, List, [], ◌∷◌, length}
 use Rattle.dp_model.specs.Lists.{Each}
 use Rattle.dp_laws.specs.declared.arc.DdArc.{DdArc}
 use Rattle.layer_candidates.specs.Rows.{row_at}
-use Rattle.row_region.specs.Region.{RegionView, IsRow, row_or}
+use Rattle.row_region.specs.Region.{RegionView, IsRow}
 use Rattle.layer_nodes.specs.declared.node.Node.{Node}
 use Rattle.layer_nodes.specs.Nodes.{NodeView}
 
 -- the region holds the rows of the nodes
 abbrev pub AreHeld : RegionView → List NodeView → Type 0
 AreHeld region nodes = Each (λ (node : NodeView). IsRow region node.place node.row) nodes
-
--- the region has all rows that it had, and perhaps more of them are taken
-pub record HoldsMore (old new : RegionView) : Type 0 where
-  pub words : new.words ≡ old.words
-  pub count : length new.rows ≡ length old.rows
-  pub same : (place : ℕ) (row : List ℤ) → slice_get old.rows place ≡ Some (Some row) → slice_get new.rows place ≡ Some (Some row)
-
--- the row at a place of the region, or no cells where it is free or not there
-abbrev pub held_row : RegionView → ℕ → List ℤ
-held_row region place = row_or (slice_index_or region.rows place None)
 
 -- the arcs of the node are some of the layer's
 abbrev pub HasArcsIn : List DdArc → Node → Type 0
@@ -34,13 +24,13 @@ pub record HasKeptLayer (room : ℕ) (nodes : List Node) (nodes_room : ℕ) (arc
   pub arcs_lie : Each (HasArcsIn arcs) nodes
 
 -- the node is a copy of the other one without arcs, and the region holds its row
-pub record IsPut (region : RegionView) (row : List ℤ) (other node : Node) : Type 0 where
+pub record IsNodePut (region : RegionView) (row : List ℤ) (other node : Node) : Type 0 where
   pub held : IsRow region node.row row
   pub copy : node ≡ record other { row = node.row; first_arc = 0; arcs = 0 }
 
 -- so is each of the nodes, where the rows of the others lie in these cells
-abbrev pub ArePut : RegionView → List ℤ → ℕ → List Node → List Node → Type 0
-ArePut region rows words [] [] = Unit {0}
-ArePut region rows words [] (node ∷ nodes) = ⊥
-ArePut region rows words (other ∷ others) [] = ⊥
-ArePut region rows words (other ∷ others) (node ∷ nodes) = IsPut region (row_at rows words other.row) other node × ArePut region rows words others nodes
+abbrev pub AreNodesPut : RegionView → List ℤ → ℕ → List Node → List Node → Type 0
+AreNodesPut region rows words [] [] = Unit {0}
+AreNodesPut region rows words [] (node ∷ nodes) = ⊥
+AreNodesPut region rows words (other ∷ others) [] = ⊥
+AreNodesPut region rows words (other ∷ others) (node ∷ nodes) = IsNodePut region (row_at rows words other.row) other node × AreNodesPut region rows words others nodes

@@ -2,8 +2,9 @@
 
 ghost use Rattle.std.specs.Prelude.{◌≡◌, ◌+◌, ◌<◌, ◌≤◌, ◌^◌, [], length, map, slice_get, option_map, option_and_then, Some, IfOk, IsSome, vec_capacity};
 ghost use Rattle.dp_model.specs.Lists.{Each};
+ghost use Rattle.layer_candidates.specs.HeldRows.{HoldsMore};
 ghost use Rattle.row_region.specs.Region.{HasPut};
-ghost use Rattle.layer_nodes.specs.Holding.{AreHeld, HoldsMore, ArePut};
+ghost use Rattle.layer_nodes.specs.Holding.{AreHeld, AreNodesPut};
 ghost use Rattle.layer_nodes.specs.Nodes.{NodeView, without_arcs, suffix_set};
 ghost use Rattle.layer_nodes.specs.Steps.{KeepsRoom};
 ghost use Rattle.layer_nodes.specs.Stored.{HasRow};
@@ -33,7 +34,8 @@ pub struct KeptLayer {
 
 impl Model for KeptLayer {
     ghost use Rattle.std.specs.Prelude.{map, vec_capacity};
-    ghost use Rattle.layer_nodes.specs.Holding.{held_row, HasKeptLayer};
+    ghost use Rattle.layer_candidates.specs.HeldRows.{held_row};
+    ghost use Rattle.layer_nodes.specs.Holding.{HasKeptLayer};
     ghost use Rattle.layer_nodes.specs.Nodes.{LayerView};
     ghost use Rattle.layer_nodes.specs.Stored.{node_view_by};
 
@@ -90,7 +92,7 @@ fn put_nodes(
     requires words { region.old.words ≡ words }
     requires room { length others.now ≤ vec_capacity nodes.old }
     requires spare { length others.now ≤ region.old.spare }
-    ensures put { ArePut region.new rows.now words others.now nodes.new.items }
+    ensures put { AreNodesPut region.new rows.now words others.now nodes.new.items }
     ensures more { HoldsMore region.old region.new }
     ensures spare { region.new.spare + length others.now ≡ region.old.spare }
     ensures capacity { vec_capacity nodes.new ≡ vec_capacity nodes.old }

@@ -43,6 +43,7 @@ returns g c =
       few = c.most_choices-most.ensures.few;
       choices = c.most_choices-most.ensures.choices;
       pairs = c.room_for.ensures.second;
-      region = c.in_ok-region.ensures ∙ ap₂ (λ (n v : ℕ). record { words = n; rows = replicate (v * c.args.width + c.most_choices-most.result) None; spare = v * c.args.width + c.most_choices-most.result }) words c.vars-vars.ensures;
+      region = c.in_ok-region.ensures ∙ (ap₂ (λ (n v : ℕ). record { words = n; rows = replicate (v * c.args.width + c.most_choices-most.result + c.args.members) None; spare = v * c.args.width + c.most_choices-most.result + c.args.members }) words c.vars-vars.ensures
+          ∙ ap (λ (m : ℕ). record { words = dp.words; rows = replicate (dp.vars * c.args.width + c.most_choices-most.result + m) None; spare = dp.vars * c.args.width + c.most_choices-most.result + m }) c.requires.members);
       newest = c.in_ok-prepare.ensures ∙ ap (λ (n : ℕ). empty_layer n c.args.room 0) words;
     }

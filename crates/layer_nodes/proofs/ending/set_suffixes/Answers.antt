@@ -1,8 +1,9 @@
 use Rattle.std.proofs.Common.{rules, ◌≡◌, List, length, map, sym, ◌∙◌, ap, subst}
 use Rattle.std.proofs.lemmas.List.{with_items_is}
+use Rattle.layer_candidates.specs.HeldRows.{held_row}
 use Rattle.layer_nodes.specs.declared.node.Node.{Node}
 use Rattle.layer_nodes.specs.Ending.{suffixes_in}
-use Rattle.layer_nodes.specs.Holding.{held_row, HasKeptLayer}
+use Rattle.layer_nodes.specs.Holding.{HasKeptLayer}
 use Rattle.layer_nodes.specs.Nodes.{NodeView, LayerView}
 use Rattle.layer_nodes.specs.Stored.{node_view_by}
 use Rattle.layer_nodes.proofs.Ended.{suffixes-seen, layer-ends, layer-ended}

@@ -4,9 +4,10 @@ use Rattle.dp_model.specs.Laws.{IsLawful}
 use Rattle.dp_model.specs.Lists.{Each}
 use Rattle.dp_laws.specs.Rules.Compiling.{expand}
 use Rattle.layer_candidates.specs.Members.{IsMemberOf}
+use Rattle.layer_candidates.specs.HeldRows.{held_row}
 use Rattle.layer_nodes.specs.declared.node.Node.{Node}
 use Rattle.layer_nodes.specs.Expanding.{IsExpanded, members_from}
-use Rattle.layer_nodes.specs.Holding.{held_row, HasKeptLayer}
+use Rattle.layer_nodes.specs.Holding.{HasKeptLayer}
 use Rattle.layer_nodes.specs.Nodes.{NodeView, LayerView, shown_layer, shown_below, without_arcs}
 use Rattle.layer_nodes.specs.Steps.{IsParent}
 use Rattle.layer_nodes.specs.Stored.{node_view_by, node_view, HasLayer}

@@ -3,9 +3,10 @@ use Rattle.std.proofs.lemmas.List.{with_items_is, length-map}
 use Rattle.dp_model.specs.Laws.{IsLawful}
 use Rattle.dp_model.specs.Lists.{Each}
 use Rattle.layer_candidates.specs.Members.{IsMemberOf}
+use Rattle.layer_candidates.specs.HeldRows.{held_row}
 use Rattle.layer_nodes.specs.declared.node.Node.{Node}
 use Rattle.layer_nodes.specs.Expanding.{IsExpanded, members_from}
-use Rattle.layer_nodes.specs.Holding.{held_row, HasKeptLayer}
+use Rattle.layer_nodes.specs.Holding.{HasKeptLayer}
 use Rattle.layer_nodes.specs.Nodes.{NodeView, LayerView, shown_layer, shown_below, without_arcs}
 use Rattle.layer_nodes.specs.Sifting.{expand_sifted}
 use Rattle.layer_nodes.specs.Steps.{IsParent}

@@ -1,7 +1,7 @@
 use Rattle.std.proofs.Common.{pos, None, false, ◌+◌, take, ◌∙◌, subst, sym, arith}
 use Rattle.std.proofs.lemmas.List.{length-take-le}
 use Rattle.layer_nodes.specs.declared.node.Node.{Node}
-use Rattle.layer_nodes.specs.Holding.{ArePut}
+use Rattle.layer_nodes.specs.Holding.{AreNodesPut}
 use Rattle.layer_nodes.proofs.Holding.{more-then, more-put, put-length, put-next}
 use Rattle.layer_nodes.proofs.kept_layer.put_nodes.Goals as goal
 
@@ -29,7 +29,7 @@ nodes-preserved c =
     let less = put.spare in
     let spare = l.invariant.spare in
     record {
-      put = subst (ArePut new a.rows.now a.words (take (l.i + 1) a.others.now)) (sym c.push_reserved.ensures.items)
+      put = subst (AreNodesPut new a.rows.now a.words (take (l.i + 1) a.others.now)) (sym c.push_reserved.ensures.items)
           (put-next l.region new a.rows.now c.row.result.now a.words l.i a.others.now l.nodes.items none node l.invariant.put c.nodes-test.true (l.invariant.more.words ∙ c.requires.words) c.requires.others c.row.ensures put c.put_node.ensures.copy);
       more = more-then a.region.now l.region new l.invariant.more (more-put l.region new node.row c.row.result.now put);
       spare = omega arith;

@@ -2,7 +2,7 @@ use Rattle.std.proofs.Common.{rules, ◌≡◌, length, map, sym, ◌∙◌, ap,
 use Rattle.std.proofs.lemmas.List.{with_items_is}
 use Rattle.dp_model.specs.Lists.{Each}
 use Rattle.dp_laws.specs.Rules.Redirects.{with_redirected}
-use Rattle.layer_nodes.specs.Holding.{held_row}
+use Rattle.layer_candidates.specs.HeldRows.{held_row}
 use Rattle.layer_nodes.specs.Nodes.{NodeView, LayerView, shown_layer, without_arcs}
 use Rattle.layer_nodes.specs.Redirecting.{AreRedirected}
 use Rattle.layer_nodes.specs.Steps.{MayBeLengthened}

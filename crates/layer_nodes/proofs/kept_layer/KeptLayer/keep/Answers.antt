@@ -1,7 +1,8 @@
 use Rattle.std.proofs.Common.{◌≡◌, ◌≤◌, [], length, map, sym, ap, ap₂, subst, ◌∙◌, arith}
 use Rattle.std.proofs.lemmas.List.{length-map}
 use Rattle.dp_model.specs.Lists.{Each}
-use Rattle.layer_nodes.specs.Holding.{AreHeld, held_row, HasArcsIn}
+use Rattle.layer_candidates.specs.HeldRows.{held_row}
+use Rattle.layer_nodes.specs.Holding.{AreHeld, HasArcsIn}
 use Rattle.layer_nodes.specs.Nodes.{NodeView, LayerView, without_arcs}
 use Rattle.layer_nodes.specs.Stored.{node_view_by, node_view, HasRow}
 use Rattle.layer_nodes.proofs.Holding.{put-length, put-views, put-held, put-bare, put-arcs}

@@ -1,7 +1,8 @@
 use Rattle.std.proofs.Common.{length, slice_get, option_map, ap, subst, sym, ◌∙◌, arith}
 use Rattle.std.proofs.lemmas.List.{length-map}
+use Rattle.layer_candidates.specs.HeldRows.{held_row}
 use Rattle.layer_nodes.specs.declared.node.Node.{Node}
-use Rattle.layer_nodes.specs.Holding.{AreHeld, held_row}
+use Rattle.layer_nodes.specs.Holding.{AreHeld}
 use Rattle.layer_nodes.specs.Nodes.{NodeView, LayerView}
 use Rattle.layer_nodes.specs.Stored.{node_view_by}
 use Rattle.layer_nodes.proofs.Holding.{held-at, row-is}

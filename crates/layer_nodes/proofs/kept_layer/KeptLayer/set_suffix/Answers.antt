@@ -1,7 +1,7 @@
 use Rattle.std.proofs.Common.{◌≡◌, length, get_or, ap, ◌∙◌, arith}
 use Rattle.std.proofs.lemmas.List.{length-map}
+use Rattle.layer_candidates.specs.HeldRows.{held_row}
 use Rattle.layer_nodes.specs.declared.node.Node.{Node}
-use Rattle.layer_nodes.specs.Holding.{held_row}
 use Rattle.layer_nodes.specs.Nodes.{LayerView, suffix_set}
 use Rattle.layer_nodes.specs.Stored.{node_view_by}
 use Rattle.layer_nodes.proofs.Stored.{suffix-set}
