@@ -1,5 +1,5 @@
 -- Layers that are tested in turn have the verdict of all of them.
-use Rattle.std.proofs.Common.{◌≡◌, ℕ, suc, ◌+◌, ◌-◌, nat_eq, nat_lt, ℤ, Bool, true, false, cond, List, [], ◌∷◌, ◌++◌, length, Option, Some, None, refl, sym, ◌∙◌, ap, arith}
+use Rattle.std.proofs.Common.{◌≡◌, ℕ, suc, ◌+◌, ◌-◌, nat_eq, nat_lt, ℤ, Bool, true, false, cond, List, [], ◌∷◌, ◌++◌, length, Option, Some, None, refl, ◌∙◌, ap, arith}
 use Rattle.dp_model.specs.Dp.{Dp}
 use Rattle.bound_cover.specs.declared.cover.Why.{Why}
 use Rattle.bound_cover.specs.declared.cover.Why.TheVariants.{Layers}

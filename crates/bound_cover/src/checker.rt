@@ -93,10 +93,9 @@ impl Checker {
             &mut self.step,
         )
     }
-    /// Begins the tests of a cover whose layers come one after another, with its reported value, distance and assignment. It takes
-    /// no memory.
+    /// Begins the tests of a cover whose layers come one after another: tests the assignment and its value.
     ///
-    /// The checker was prepared for the model, and the distance is from 0 to 2^50.
+    /// The checker was prepared for the model, and the distance is from 0 to 2^50. It takes no memory.
     pub fn begin<M: DpModel>(
         &mut self,
         alloc: Global,
@@ -124,7 +123,8 @@ impl Checker {
         }
     }
 
-    /// Tests what can be tested once the next layer is there, which is the first one of a cover, and gives the one before back.
+    /// Takes the next layer, the first one of a cover, and tests what can be tested then: the very first layer for the root, and
+    /// behind it the rows of the layer before. That layer is given back, so that its memory can be used again.
     ///
     /// The checker was prepared for the model. It takes no memory.
     pub fn take_layer<M: DpModel>(

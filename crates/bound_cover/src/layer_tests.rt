@@ -9,7 +9,8 @@ use crate::storing::{Cover, RowRef};
 use crate::testing::{Rows, are_states, has_root, rows_fault};
 use dp_model::DpModel;
 
-/// What is kept behind some layers of a cover: how many they are, the last one, and the first failure so far.
+/// What is kept behind some layers of a cover: what no feasible solution may exceed, how many they are, the last one, and the first
+/// failure so far.
 #[derive(Debug, Drop)]
 pub struct LayerTests {
     pub(crate) claim: Option<i64>,

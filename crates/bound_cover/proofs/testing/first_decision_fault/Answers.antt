@@ -1,8 +1,8 @@
 use Rattle.std.proofs.Common.{sym, ◌∙◌, ap}
 use Rattle.bound_cover.proofs.Walking.{rest_fault}
 use Rattle.bound_cover.proofs.Turns.{turn-behind, turn-fails, turn-on, after-some, after-none, turn-ends, turn-to}
-use Rattle.bound_cover.proofs.testing.decisions_fault.Goals as goal
-use Rattle.bound_cover.proofs.testing.decisions_fault.Goals.{then-is_some-2, else-is_some-2}
+use Rattle.bound_cover.proofs.testing.first_decision_fault.Goals as goal
+use Rattle.bound_cover.proofs.testing.first_decision_fault.Goals.{then-is_some-2, else-is_some-2}
 
 pub returns-then-eq : goal.returns-then-eq
 returns-then-eq g c = turn-behind _ _ _ _ _ _ _ _ _ c.decisions.invariant c.least_behind-behind.ensures c.if-eq.ensures
