@@ -348,16 +348,6 @@ arranged-by words words2 rows rows2 ways ways2 marks marks2 old old2 new nodes h
     (subst (λ x. AreArranged rows words ways x old2 new nodes) d
     (subst (λ x. AreArranged rows words ways marks x new nodes) e h))))
 
-pub expanded-by : (rule : List DdNode → TwoLayers) (dp : Dp) (k words : ℕ) (cells cells2 : List ℤ) (old old2 new : List Node) (arcs : List DdArc) (rows : List ℤ) (below : List Node)
-    → IsExpanded rule dp k words cells old new arcs rows below → cells ≡ cells2 → old ≡ old2 → IsExpanded rule dp k words cells2 old2 new arcs rows below
-expanded-by rule dp k words cells cells2 old old2 new arcs rows below h a b =
-    subst (λ x. IsExpanded rule dp k words x old2 new arcs rows below) a (subst (λ x. IsExpanded rule dp k words cells x new arcs rows below) b h)
-
-pub each-by : (dp : Dp) (k words : ℕ) (cells cells2 : List ℤ) (nodes nodes2 : List Node) → cells ≡ cells2 → nodes ≡ nodes2
-    → Each (IsMemberOf dp k cells words) (members_from 0 nodes) → Each (IsMemberOf dp k cells2 words) (members_from 0 nodes2)
-each-by dp k words cells cells2 nodes nodes2 a b h =
-    subst (λ x. Each (IsMemberOf dp k x words) (members_from 0 nodes2)) a (subst (λ x. Each (IsMemberOf dp k cells words) (members_from 0 x)) b h)
-
 -- whatever the rows are found by that lie in the cells
 module _ (rule : List DdNode → TwoLayers) (dp : Dp) (k words : ℕ) (cells : List ℤ) (old new : List Node) (arcs : List DdArc) (rows : List ℤ) (below : List Node) (h : IsExpanded rule dp k words cells old new arcs rows below)
     (row : ℕ → List ℤ) (lie : LieIn words cells row old) (before : List DdArc) where
