@@ -1,6 +1,6 @@
 -- Layers whose rows stand in a region.
-use Rattle.std.proofs.Common.{◌≡◌, ℕ, zero, suc, ◌+◌, ◌<◌, ℤ, List, [], ◌∷◌, ◌++◌, length, map, take, drop, slice_get, get_or, Option, option_map, Some, refl, sym, ◌∙◌, ap, ap₂, subst, arith}
-use Rattle.std.proofs.lemmas.List.{length-set, take_more}
+use Rattle.std.proofs.Common.{◌≡◌, ℕ, zero, suc, ◌+◌, ◌<◌, ◌≤◌, ℤ, List, [], ◌∷◌, ◌++◌, length, map, set, take, drop, slice_get, get_or, Option, option_map, Some, refl, sym, ◌∙◌, ap, ap₂, subst, arith}
+use Rattle.std.proofs.lemmas.List.{length-set, take_all, take_more, take_more_set, drop-set-lt}
 use Rattle.dp_model.specs.Lists.{Each}
 use Rattle.dp_model.proofs.Members.{Each-then}
 use Rattle.dp_laws.specs.declared.arc.DdArc.{DdArc}
@@ -15,6 +15,7 @@ use Rattle.layer_nodes.specs.Holding.{AreHeld, HasArcsIn, IsNodePut, AreNodesPut
 use Rattle.layer_nodes.specs.Nodes.{NodeView, LayerView, without_arcs, suffix_set}
 use Rattle.layer_nodes.specs.Steps.{KeepsNodes}
 use Rattle.layer_nodes.specs.Stored.{node_view_by, node_view, HasRow}
+use Rattle.layer_nodes.proofs.Redirected.{left-at, left-after}
 use Rattle.layer_nodes.proofs.Stored.{each-get}
 
 -- ---- the rows stay
@@ -89,6 +90,31 @@ put-next old new rows row words i others nodes d node before less same have is p
     let one : IsNodePut new (row_at rows words other.row) other node = subst (λ r. IsNodePut new r other node) is (record { held = put_row old new node.row row put long; copy = copy }) in
     subst (λ l. AreNodesPut new rows words l (nodes ++ node ∷ [])) (sym (take_more others i d less))
     (put-push new rows words (take i others) nodes other node (put-more old new rows words (take i others) nodes (more-put old new node.row row put) before) one)
+
+-- the rows of the first i nodes were put, and the others are as they were
+pub record AreNodesPutUpTo (region : RegionView) (rows : List ℤ) (words : ℕ) (old now : List Node) (i : ℕ) : Type 0 where
+  pub put : AreNodesPut region rows words (take i old) (take i now)
+  pub left : drop i now ≡ drop i old
+  pub size : length now ≡ length old
+
+-- so is the row of one more
+pub put-one-more : (before new : RegionView) (rows row : List ℤ) (words i : ℕ) (old now : List Node) (d node : Node) → AreNodesPutUpTo before rows words old now i → i < length old → before.words ≡ words → Each (HasRow words rows) old
+    → row ≡ row_at rows words (get_or now i d).row → HasPut before node.row row new → node ≡ record (get_or now i d) { row = node.row; first_arc = 0; arcs = 0 }
+    → AreNodesPutUpTo new rows words old (set now i node) (i + 1)
+put-one-more before new rows row words i old now d node h less same have is put copy =
+    let size = h.size in
+    let at = left-at old now i d h.left h.size less in
+    record {
+      put = subst (AreNodesPut new rows words (take (i + 1) old)) (sym (take_more_set now i node (omega arith)))
+          (put-next before new rows row words i old (take i now) d node h.put less same have (is ∙ ap (λ (n : Node). row_at rows words n.row) at) put (copy ∙ ap (λ (n : Node). record n { row = node.row; first_arc = 0; arcs = 0 }) at));
+      left = drop-set-lt (i + 1) now i node (omega arith) ∙ left-after old now i h.left h.size;
+      size = length-set now i node ∙ h.size;
+    }
+
+pub put-all : (region : RegionView) (rows : List ℤ) (words : ℕ) (old now : List Node) (i : ℕ) → AreNodesPutUpTo region rows words old now i → length old ≤ i → AreNodesPut region rows words old now
+put-all region rows words old now i h all =
+    let size = h.size in
+    subst (AreNodesPut region rows words old) (take_all i now (omega arith)) (subst (λ l. AreNodesPut region rows words l (take i now)) (take_all i old all) h.put)
 
 module _ (region : RegionView) (rows : List ℤ) (words : ℕ) where
   pub put-length : (others nodes : List Node) → AreNodesPut region rows words others nodes → length nodes ≡ length others

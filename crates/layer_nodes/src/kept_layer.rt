@@ -62,21 +62,45 @@ impl fmt::Debug for KeptLayer {
     }
 }
 
-/// A copy of the node without arcs, whose row is put into the region.
-fn put_node(other: &Node, row: &[i64], region: &mut Region) -> Node
+/// The row of the node is put into the region, and the node loses its arcs.
+fn put_row(node: &mut Node, row: &[i64], region: &mut Region)
     requires spare { 0 < region.old.spare }
     requires cells { length row.now ≡ region.old.words }
-    ensures copy { result ≡ record other.now { row = result.row; first_arc = 0; arcs = 0 } }
-    ensures put { HasPut region.old result.row row.now region.new }
+    ensures copy { node.new ≡ record node.old { row = node.new.row; first_arc = 0; arcs = 0 } }
+    ensures put { HasPut region.old node.new.row row.now region.new }
 {
     let Some(id) = region.put(row) else {
         unreachable!();
     };
-    Node {
-        row: id.place,
-        first_arc: 0,
-        arcs: 0,
-        ..*other
+    node.row = id.place;
+    node.first_arc = 0;
+    node.arcs = 0;
+}
+
+/// The rows of the nodes are put into the region, and the nodes lose their arcs.
+fn put_rows(words: usize, rows: &[i64], nodes: &mut [Node], region: &mut Region)
+    requires others { Each (HasRow words rows.now) nodes.old }
+    requires words { region.old.words ≡ words }
+    requires spare { length nodes.old ≤ region.old.spare }
+    ensures put { AreNodesPut region.new rows.now words nodes.old nodes.new }
+    ensures more { HoldsMore region.old region.new }
+    ensures spare { region.new.spare + length nodes.old ≡ region.old.spare }
+{
+    'nodes: for i in 0..nodes.len() {
+        let from = row(rows, words, nodes[i].row as usize);
+        put_row(&mut nodes[i], from, region);
+    }
+}
+
+/// Becomes these nodes.
+fn list_all(others: &[Node], nodes: &mut Vec<Node>)
+    requires room { length others.now ≤ vec_capacity nodes.old }
+    ensures nodes { nodes.new.items ≡ others.now }
+    ensures capacity { vec_capacity nodes.new ≡ vec_capacity nodes.old }
+{
+    nodes.clear();
+    'nodes: for i in 0..others.len() {
+        nodes.push_reserved(others[i]);
     }
 }
 
@@ -97,11 +121,8 @@ fn put_nodes(
     ensures spare { region.new.spare + length others.now ≡ region.old.spare }
     ensures capacity { vec_capacity nodes.new ≡ vec_capacity nodes.old }
 {
-    nodes.clear();
-    'nodes: for i in 0..others.len() {
-        let other = &others[i];
-        nodes.push_reserved(put_node(other, row(rows, words, other.row as usize), region));
-    }
+    list_all(others, nodes);
+    put_rows(words, rows, nodes.as_mut_slice(), region);
 }
 
 impl KeptLayer {
