@@ -80,7 +80,6 @@ fn layers_in_turn_have_the_verdict_of_the_cover(rt: HostRuntime) -> Result<(), F
     let read = knapsack::read(rt.alloc(), b"2 1\n4 1\n3 1\n");
     assert!(rt; read.is_ok());
     let Ok(model) = read else { return Ok(()) };
-    let mut checker = Checker::prepare(rt.alloc(), &model)?;
     for (what, sections, verdict) in CASES {
         let mut text = HEAD.to_vec(rt.alloc())?;
         text.extend_from_slice(sections)?;
@@ -96,6 +95,7 @@ fn layers_in_turn_have_the_verdict_of_the_cover(rt: HostRuntime) -> Result<(), F
         let held = read_cover(rt.alloc(), bytes);
         assert!(rt; held.is_ok());
         let Ok(held) = held else { return Ok(()) };
+        let mut checker = Checker::prepare(rt.alloc(), &model)?;
         let assignment = held.assignment.as_slice();
         let found = checker.check(&model, held.best, 0, assignment, &held.cover);
         assert_eq!(rt; found, *verdict, "at {what}");
