@@ -1,4 +1,4 @@
-ghost use Rattle.std.specs.Prelude.{◌≡◌, ◌-◌, ◌^◌, ◌<◌, length, Ok, pos};
+ghost use Rattle.std.specs.Prelude.{◌-◌, ◌^◌, ◌<◌, length, Ok, pos};
 ghost use Rattle.dd_text.specs.Text.{text_start};
 ghost use Rattle.dd_text.specs.declared.comment.Comment.TheVariants.{Hash};
 ghost use Rattle.dd_text.specs.Grammar.{number_then, end_then, times, Reads};

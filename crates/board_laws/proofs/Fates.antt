@@ -11,7 +11,7 @@ use Rattle.dp_laws.specs.Pairs.{EachTwo}
 use Rattle.shared_fringe.specs.Fringe.{is_same, same_at, same_open}
 use Rattle.shared_fringe.specs.Tickets.{Ticketed, IsEarlier}
 use Rattle.shared_fringe.proofs.Rows.{same-depth, same-row}
-use Rattle.dominance_table.specs.Dominator.{dominates, dominator, least}
+use Rattle.dominance_table.specs.Dominator.{entry_dominates, dominator, least}
 use Rattle.dominance_table.specs.Entries.{TableEntry}
 use Rattle.board_laws.specs.Entering.{let_in, entering, replaced, is_among}
 use Rattle.board_laws.specs.Fates.{enters_at, unless_dominated, unless_kept, fate_of, ticket_after, fates_by, tickets_after}
@@ -41,7 +41,7 @@ pub record Enters (reach : Option ℤ) (os : List Ticketed) (ticket : ℕ) (c : 
 abbrev pub FateHolds : Dp → Option ℤ → List Ticketed → List TableEntry → ℕ → Subproblem → Fate → Type 0
 FateHolds dp reach os es ticket c Below = is_above reach c.bound ≡ false
 FateHolds dp reach os es ticket c (Kept by) = OneOf (KeepsOut c) os
-FateHolds dp reach os es ticket c (Dominated by) = OneOf (λ e. dominates dp (length c.decisions) c.row c.value e ≡ true) es
+FateHolds dp reach os es ticket c (Dominated by) = OneOf (λ e. entry_dominates dp (length c.decisions) c.row c.value e ≡ true) es
 FateHolds dp reach os es ticket c (Replaced own old) = Replaces reach os ticket c own old
 FateHolds dp reach os es ticket c (Entered own) = Enters reach os ticket c own
 
@@ -85,7 +85,7 @@ above-fate : (dp : Dp) (reach : Option ℤ) (os : List Ticketed) (es : List Tabl
     → (s : Option Ticketed) → same_open c os ≡ s → (d : Option ℕ) → dominator dp es (length c.decisions) c.row c.value ≡ d
     → FateHolds dp reach os es ticket c (unless_kept (unless_dominated (enters_at ticket s) d) c s)
 above-fate dp reach os es ticket c up None none None free = record { own_is = refl; above = up; none = none }
-above-fate dp reach os es ticket c up None none (Some by) dom = dominator-one (dominates dp (length c.decisions) c.row c.value) es by dom
+above-fate dp reach os es ticket c up None none (Some by) dom = dominator-one (entry_dominates dp (length c.decisions) c.row c.value) es by dom
 above-fate dp reach os es ticket c up (Some o) found d dom =
     let fate = unless_dominated (Replaced ticket o.ticket) d in
     let Goal : Bool → Type 0 = λ b. FateHolds dp reach os es ticket c (cond b (Kept o.ticket) fate) in
@@ -95,7 +95,7 @@ above-fate dp reach os es ticket c up (Some o) found d dom =
       | false ↦ λ e. (let both : (d : Option ℕ) → dominator dp es (length c.decisions) c.row c.value ≡ d → FateHolds dp reach os es ticket c (unless_dominated (Replaced ticket o.ticket) d) =
           λ d. elim d as (λ d. dominator dp es (length c.decisions) c.row c.value ≡ d → FateHolds dp reach os es ticket c (unless_dominated (Replaced ticket o.ticket) d)) [
             | None ↦ λ k. record { own_is = refl; above = up; other = o; found = found; old_is = refl; less = e }
-            | Some by ↦ λ k. dominator-one (dominates dp (length c.decisions) c.row c.value) es by k
+            | Some by ↦ λ k. dominator-one (entry_dominates dp (length c.decisions) c.row c.value) es by k
           ] in both d dom)
     ] in go (int_le c.value o.subproblem.value) refl
 
@@ -168,7 +168,7 @@ kids-hold dp reach os es ticket (c ∷ cs) (Entered own ∷ fs) long h =
 
 -- what does not enter
 abbrev pub IsLeftOut : Dp → Option ℤ → List Ticketed → List TableEntry → Subproblem → Type 0
-IsLeftOut dp reach os es c = (is_above reach c.bound ≡ false) ⊎ (OneOf (KeepsOut c) os ⊎ OneOf (λ e. dominates dp (length c.decisions) c.row c.value e ≡ true) es)
+IsLeftOut dp reach os es c = (is_above reach c.bound ≡ false) ⊎ (OneOf (KeepsOut c) os ⊎ OneOf (λ e. entry_dominates dp (length c.decisions) c.row c.value e ≡ true) es)
 
 -- one of the children enters, or it is left out for a reason
 pub kids-one : (P : Subproblem → Type 0) (dp : Dp) (reach : Option ℤ) (os : List Ticketed) (es : List TableEntry) (ticket : ℕ) (cs : List Subproblem) (fs : List Fate) → FatesHold dp reach os es ticket cs fs → OneOf P cs

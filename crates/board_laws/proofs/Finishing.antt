@@ -15,7 +15,7 @@ use Rattle.dp_model.proofs.Members.{Each-then, Each-append, Each-map, each-has, 
 use Rattle.dp_laws.specs.Pairs.{EachTwo}
 use Rattle.shared_fringe.specs.Tickets.{Ticketed, IsEarlier}
 use Rattle.shared_fringe.proofs.Rows.{same-depth, same-row}
-use Rattle.dominance_table.specs.Dominator.{dominates}
+use Rattle.dominance_table.specs.Dominator.{entry_dominates}
 use Rattle.dominance_table.specs.Entries.{TableEntry}
 use Rattle.board_laws.proofs.Carrying.{Deep, CarriesBy, carries-from, own-floor, option-self}
 use Rattle.board_laws.proofs.Fates.{KeepsOut, FatesHold, IsLeftOut, kids-one, kids-each, Beats, stays-or-beaten}
@@ -106,7 +106,7 @@ rest-carries dp laws reach o full rest os es ticket cs fs f k v one =
 
 -- a child that an entry dominates: the floor leads to something of the frontier that is as deep as the child, so not to the slot's prefix
 dominated-carries : (dp : Dp) → IsLawful dp → (reach : Option ℤ) (o : Ticketed) (full rest os : List Ticketed) (es : List TableEntry) (ticket : ℕ) (cs : List Subproblem) (fs : List Fate)
-    → IsFinish dp reach o full rest os es ticket cs fs → (c : Subproblem) (e : TableEntry) → IsChild dp o.subproblem.decisions c → IsEntry dp ticket e → HasFloor dp reach (full ++ os) e → dominates dp (length c.decisions) c.row c.value e ≡ true
+    → IsFinish dp reach o full rest os es ticket cs fs → (c : Subproblem) (e : TableEntry) → IsChild dp o.subproblem.decisions c → IsEntry dp ticket e → HasFloor dp reach (full ++ os) e → entry_dominates dp (length c.decisions) c.row c.value e ≡ true
     → (k : ℕ) (v : ℤ) → k ≤ length c.decisions → Reaches dp v c.decisions → AtMost v reach ⊎ OneOf (Deep dp k v) (after rest os cs fs)
 dominated-carries dp laws reach o full rest os es ticket cs fs f c e child entry floor dom k v less r =
     let first = and_parts (nat_eq e.depth (length c.decisions)) (nat_eq e.bucket (dp.bucket (length c.decisions) c.row) && covers_at (dp.gap (length c.decisions) e.row c.row) e.value c.value) dom in
@@ -143,9 +143,9 @@ left-carries dp laws reach o full rest os es ticket cs fs f c child held (inr (i
     (one-then (λ q. KeepsOut c q × IsOwn dp q.subproblem) (Deep dp k v) (λ q x. beats-deep dp laws k v me q child.own x.1 (keeps-beats c q x.0) (record { deep = less; reaches = r })) os
     (one-each (KeepsOut c) (λ q. IsOwn dp q.subproblem) os kept (each-back (λ (o : Ticketed). IsOwn dp o.subproblem) full os f.own)))))
 left-carries dp laws reach o full rest os es ticket cs fs f c child held (inr (inr dom)) k v less r =
-    one-out (λ e. (dominates dp (length c.decisions) c.row c.value e ≡ true) × (IsEntry dp ticket e × HasFloor dp reach (full ++ os) e)) (AtMost v reach ⊎ OneOf (Deep dp k v) (after rest os cs fs))
+    one-out (λ e. (entry_dominates dp (length c.decisions) c.row c.value e ≡ true) × (IsEntry dp ticket e × HasFloor dp reach (full ++ os) e)) (AtMost v reach ⊎ OneOf (Deep dp k v) (after rest os cs fs))
     (λ e x. dominated-carries dp laws reach o full rest os es ticket cs fs f c e child x.1.0 x.1.1 x.0 k v less r) es
-    (one-each (λ e. dominates dp (length c.decisions) c.row c.value e ≡ true) (λ e. IsEntry dp ticket e × HasFloor dp reach (full ++ os) e) es dom (each-both (IsEntry dp ticket) (HasFloor dp reach (full ++ os)) es f.entries f.floors))
+    (one-each (λ e. entry_dominates dp (length c.decisions) c.row c.value e ≡ true) (λ e. IsEntry dp ticket e × HasFloor dp reach (full ++ os) e) es dom (each-both (IsEntry dp ticket) (HasFloor dp reach (full ++ os)) es f.entries f.floors))
 
 -- what the slot's prefix reaches goes on to its children, or where they are left out
 parent-carries : (dp : Dp) → IsLawful dp → (reach : Option ℤ) (o : Ticketed) (full rest os : List Ticketed) (es : List TableEntry) (ticket : ℕ) (cs : List Subproblem) (fs : List Fate)

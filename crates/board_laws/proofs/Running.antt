@@ -17,7 +17,7 @@ use Rattle.board_laws.proofs.GivingBack.{give-back-keeps}
 use Rattle.board_laws.proofs.Halting.{halt-keeps}
 use Rattle.board_laws.proofs.Improving.{improve-keeps}
 use Rattle.board_laws.proofs.Taking.{same-kept, take-keeps}
-use Rattle.board_laws.specs.Board.{BoardState, incumbent_value, slot_of, slot_at}
+use Rattle.board_laws.specs.Board.{BoardState, incumbent_value, slot_content, slot_at}
 use Rattle.board_laws.specs.Fates.{ticket_after, tickets_after, fates_on}
 use Rattle.board_laws.specs.Laws.{KeepsBoard, StepsKeep, RunKeeps, RunsKeep}
 use Rattle.board_laws.specs.Runs.{Step, May, after, offered, worker_of, IsLaterInRun, IsRun}
@@ -112,8 +112,8 @@ set-other (y ∷ xs) zero (suc j) x differ = refl
 set-other (y ∷ xs) (suc i) zero x differ = refl
 set-other (y ∷ xs) (suc i) (suc j) x differ = set-other xs i j x (λ e. differ (ap suc e))
 
-slot-other : (slots : List (Option Ticketed)) (who other : ℕ) (slot : Option Ticketed) → Some who ≢ Some other → slot_of (slice_get (set slots who slot) other) ≡ slot_of (slice_get slots other)
-slot-other slots who other slot differ = ap slot_of (set-other slots who other slot (λ e. differ (ap Some e)))
+slot-other : (slots : List (Option Ticketed)) (who other : ℕ) (slot : Option Ticketed) → Some who ≢ Some other → slot_content (slice_get (set slots who slot) other) ≡ slot_content (slice_get slots other)
+slot-other slots who other slot differ = ap slot_content (set-other slots who other slot (λ e. differ (ap Some e)))
 
 out-others : (b : BoardState) (who : ℕ) (first : Option Ticketed) (other : ℕ) → Some who ≢ Some other → slot_at (checked_out b who first) other ≡ slot_at b other
 out-others b who None other differ = refl

@@ -3,10 +3,10 @@ use Rattle.std.proofs.Common.{◌≡◌, ℕ, zero, suc, ◌≤◌, List, [], �
 use Rattle.std.specs.List.{slice_get}
 use Rattle.shared_fringe.specs.Tickets.{Ticketed, by_ticket}
 use Rattle.board_laws.proofs.With.{IsWith, with-here, with-there}
-use Rattle.board_laws.specs.Board.{full_slots, slot_of}
+use Rattle.board_laws.specs.Board.{full_slots, slot_content}
 
 -- a slot that has something
-pub slot-full : (slot : Option (Option Ticketed)) (o : Ticketed) → slot_of slot ≡ Some o → slot ≡ Some (Some o)
+pub slot-full : (slot : Option (Option Ticketed)) (o : Ticketed) → slot_content slot ≡ Some o → slot ≡ Some (Some o)
 slot-full None o h = absurd (cc)
 slot-full (Some slot) o h = ap (λ x. Some x) h
 

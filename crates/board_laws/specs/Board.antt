@@ -50,12 +50,12 @@ full_slots (None ∷ slots) = full_slots slots
 full_slots (Some o ∷ slots) = o ∷ full_slots slots
 
 -- what the slot of a worker has
-abbrev pub slot_of : Option (Option Ticketed) → Option Ticketed
-slot_of None = None
-slot_of (Some slot) = slot
+abbrev pub slot_content : Option (Option Ticketed) → Option Ticketed
+slot_content None = None
+slot_content (Some slot) = slot
 
 abbrev pub slot_at : BoardState → ℕ → Option Ticketed
-slot_at b who = slot_of (slice_get b.slots who)
+slot_at b who = slot_content (slice_get b.slots who)
 
 -- the frontier: all that is out or open
 abbrev pub frontier : BoardState → List Ticketed

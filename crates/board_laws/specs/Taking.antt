@@ -1,7 +1,7 @@
 -- Which open subproblem is taken, and what Take answers.
 use Rattle.std.specs.Prelude.{ℕ, ◌+◌, ◌-◌, ◌^◌, Bool, cond, ◌||◌, List, [], ◌∷◌, nat_eq, nat_lt, slice_set, Option, Some, None}
 use Rattle.dp_model.specs.Subproblem.{Subproblem}
-use Rattle.shared_fringe.specs.Firsts.{first_taken, IsFirst}
+use Rattle.shared_fringe.specs.Firsts.{first_taken, IsFirstTaken}
 use Rattle.shared_fringe.specs.Tickets.{without, Ticketed}
 use Rattle.board_laws.specs.declared.cause.Cause.{Cause}
 use Rattle.board_laws.specs.declared.cause.Cause.TheVariants.{Budget}
@@ -12,7 +12,7 @@ use Rattle.board_laws.specs.Board.{BoardState, is_explored}
 -- the slot has the first of the list
 abbrev pub HasFirst : List Ticketed → Option Ticketed → Type 0
 HasFirst os None = ⊥
-HasFirst os (Some o) = IsFirst os o
+HasFirst os (Some o) = IsFirstTaken os o
 
 -- the budget is taken up, or tickets come near to their end
 abbrev pub is_budget_up : BoardState → Bool

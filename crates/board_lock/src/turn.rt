@@ -47,7 +47,7 @@ impl<V> Seat<V> {
 }
 
 impl<V: Turned> Turn<V> {
-    ghost use Rattle.std.specs.Prelude.{◌≡◌, ◌⊎◌, ℕ, ◌≤◌, [], None, IfOk, IfErr, map, length, vec_len, vec_capacity};
+    ghost use Rattle.std.specs.Prelude.{◌≡◌, ◌⊎◌, ℕ, ◌≤◌, [], None, IfOk, IfErr, map, vec_len, vec_capacity};
     ghost use Rattle.std.specs.List.{All, range_with_len};
     ghost use Rattle.board_lock.specs.History.{HasMoved};
     ghost use Rattle.board_lock.specs.Order.{NoLess};

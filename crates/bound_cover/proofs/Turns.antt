@@ -23,7 +23,7 @@ not-found o d h e =
     let self : eqb d d ≡ true = grind (arith, nat_tests) in
     let clash : false ≡ true = h ∙ (same ∙ self) in cc
 
-holds-none : {X : Type 0} (o : Option X) → false ≡ is_some o → o ≡ None
+pub holds-none : {X : Type 0} (o : Option X) → false ≡ is_some o → o ≡ None
 holds-none None h = refl
 holds-none (Some x) h = absurd (let clash : false ≡ true = h in cc)
 

@@ -175,16 +175,16 @@ before-next : (d : ℕ) (o : Option ℕ) → IsBefore d o → IsUpTo (d + 1) o
 before-next d None h = tt
 before-next d (Some e) h = let less : d < e = h in omega arith
 
-each-next : (d : ℕ) (arcs : List CoverArc) → Each (λ (a : CoverArc). a.decision < d) arcs → Each (λ (a : CoverArc). a.decision < d + 1) arcs
+pub each-next : (d : ℕ) (arcs : List CoverArc) → Each (λ (a : CoverArc). a.decision < d) arcs → Each (λ (a : CoverArc). a.decision < d + 1) arcs
 each-next d [] all = tt
 each-next d (a ∷ arcs) all = let less : a.decision < d = all.0 in (omega arith, each-next d arcs all.1)
 
-take-next : (arcs : List CoverArc) (place : ℕ) (arc : CoverArc) → slice_get arcs place ≡ Some arc → take (suc place) arcs ≡ take place arcs ++ arc ∷ []
+pub take-next : (arcs : List CoverArc) (place : ℕ) (arc : CoverArc) → slice_get arcs place ≡ Some arc → take (suc place) arcs ≡ take place arcs ++ arc ∷ []
 take-next [] place arc e = absurd (let none : None ≡ Some arc = e in cc)
 take-next (a ∷ arcs) zero arc e = ap (λ x. x ∷ []) (same-Some a arc e)
 take-next (a ∷ arcs) (suc place) arc e = ap (λ l. a ∷ l) (take-next arcs place arc e)
 
-at-inside : (arcs : List CoverArc) (place : ℕ) (arc : CoverArc) → slice_get arcs place ≡ Some arc → place < length arcs
+pub at-inside : (arcs : List CoverArc) (place : ℕ) (arc : CoverArc) → slice_get arcs place ≡ Some arc → place < length arcs
 at-inside [] place arc e = absurd (let none : None ≡ Some arc = e in cc)
 at-inside (a ∷ arcs) zero arc e = omega arith
 at-inside (a ∷ arcs) (suc place) arc e = let rest = at-inside arcs place arc e in omega arith

@@ -1,16 +1,19 @@
 //! The checker of covers: what `check_rows` and `check` need beside a cover and a model.
 
-ghost use Rattle.std.specs.Prelude.{◌≡◌, ◌^◌, pos, ◌≤ℤ◌, IfOk, length};
+ghost use Rattle.std.specs.Prelude.{◌≡◌, ◌<◌, ◌-◌, ◌^◌, pos, ◌≤ℤ◌, IfOk, length};
 ghost use Rattle.bound_cover.specs.Verdicts.{checked_rows, verdict};
+ghost use Rattle.bound_cover.specs.InTurn.{begun, taken, concluded};
 ghost use Rattle.bound_cover.specs.Proved.{IsReportedBest, IsReportedWithin};
 ghost use Rattle.bound_cover.specs.declared.cover.Verdict.TheVariants.{Accepted};
 
 use crate::cover::{Verdict, Why};
+use crate::layer_tests::{LayerTests, last_fault, layer_fault};
 use crate::storing::Cover;
-use crate::testing::{check, check_rows};
+use crate::testing::{check, check_rows, claim_of, solution_fault};
 use dp_model::{DpModel, OutOfMemory};
 use std::alloc::Global;
 use std::marker::Model;
+use std::mem;
 
 /// Room for two states of a model, so that checking takes no memory.
 #[derive(Debug, Drop)]
@@ -89,5 +92,84 @@ impl Checker {
             &mut self.root,
             &mut self.step,
         )
+    }
+    /// Begins the tests of a cover whose layers come one after another: tests the assignment and its value.
+    ///
+    /// The checker was prepared for the model, and the distance is from 0 to 2^50. It takes no memory.
+    pub fn begin<M: DpModel>(
+        &mut self,
+        alloc: Global,
+        model: &M,
+        best: Option<i64>,
+        within: i64,
+        assignment: &[u32],
+    ) -> LayerTests
+        requires prepared { self.old.words ≡ (M.meaning (M.numbers model.now)).words }
+        requires least { pos 0 ≤ℤ within }
+        requires most { within ≤ℤ pos (2 ^ 50) }
+        ensures begun { result ≡ begun (M.meaning (M.numbers model.now)) best within assignment.now }
+        ensures same { self.new ≡ self.old }
+    {
+        let why = solution_fault(model, best, assignment, &mut self.root, &mut self.step);
+        let claim = match why {
+            None => claim_of(best, within),
+            Some(_) => None,
+        };
+        LayerTests {
+            claim,
+            count: 0,
+            here: Cover::new(alloc),
+            why,
+        }
+    }
+
+    /// Takes the next layer, the first one of a cover, and tests what can be tested then: the very first layer for the root, and
+    /// behind it the rows of the layer before. That layer is given back, so that its memory can be used again.
+    ///
+    /// The checker was prepared for the model. It takes no memory.
+    pub fn take_layer<M: DpModel>(
+        &mut self,
+        model: &M,
+        tests: &mut LayerTests,
+        next: Cover,
+    ) -> Cover
+        requires prepared { self.old.words ≡ (M.meaning (M.numbers model.now)).words }
+        requires few { tests.old.count < 2 ^ 64 - 1 }
+        ensures taken { tests.new ≡ taken (M.meaning (M.numbers model.now)) tests.old next }
+        ensures same { self.new ≡ self.old }
+    {
+        if tests.why.is_none() {
+            tests.why = layer_fault(
+                model,
+                tests.claim,
+                tests.count,
+                &tests.here,
+                &next,
+                &mut self.root,
+                &mut self.step,
+            );
+        }
+        tests.count += 1;
+        mem::replace(&mut tests.here, next)
+    }
+
+    /// The verdict behind the last layer: that of `check` on all layers.
+    ///
+    /// The checker was prepared for the model. It takes no memory.
+    pub fn conclude<M: DpModel>(&mut self, model: &M, tests: &LayerTests) -> Verdict
+        requires prepared { self.old.words ≡ (M.meaning (M.numbers model.now)).words }
+        ensures verdict { result ≡ concluded (M.meaning (M.numbers model.now)) tests.now }
+        ensures same { self.new ≡ self.old }
+    {
+        if tests.count != model.vars() + 1 {
+            return Verdict::Refused(Why::Layers);
+        }
+        if let Some(why) = tests.why {
+            return Verdict::Refused(why);
+        }
+        match last_fault(model, &tests.here, &mut self.step) {
+            None => Verdict::Accepted,
+            Some(why) => Verdict::Refused(why),
+        }
     }
 }

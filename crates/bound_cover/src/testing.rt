@@ -1,6 +1,6 @@
 //! The tests of a cover, each by a function of its own.
 
-ghost use Rattle.std.specs.Prelude.{◌≡◌, ℕ, ◌<◌, ◌≤◌, ◌+◌, ◌^◌, ℤ, pos, ◌+ℤ◌, ◌≤ℤ◌, List, length, true, slice_get, Option, Some, option_map, IsTrue, IfSome, int_le};
+ghost use Rattle.std.specs.Prelude.{◌≡◌, ℕ, ◌<◌, ◌≤◌, ◌+◌, ◌^◌, ℤ, pos, ◌+ℤ◌, ◌≤ℤ◌, List, length, true, slice_get, Option, Some, None, option_map, IsTrue, IfSome, int_le};
 ghost use Rattle.dp_model.specs.Dp.{Dp, IsAllowed};
 ghost use Rattle.dp_model.specs.Gaps.{IsStateOf};
 ghost use Rattle.dp_model.specs.Numbers.{add_some};
@@ -60,6 +60,7 @@ fn is_within(gain: i64, gap: i64, bound: Option<i64>, most: Option<i64>) -> bool
 
 /// The first failure of an arc to a row: it is there, is a state, and covers the next state within the bounds. Where it is `known` that
 /// all rows of the next layer are states, this is not tested again.
+#[inline(always)]
 fn row_arc_fault<M: DpModel>(
     model: &M,
     k: usize,
@@ -130,6 +131,7 @@ fn is_rough_within(gain: i64, rough: Option<i64>, most: Option<i64>) -> bool
 }
 
 /// The first failure of an arc of a decision that is allowed. `step` is written over.
+#[inline(always)]
 fn arc_fault<M: DpModel, N: Rows>(
     model: &M,
     next: &N,
@@ -213,6 +215,7 @@ fn arc_at(arcs: &[CoverArc], place: usize, decision: u32) -> Option<CoverArc>
 }
 
 /// The failure of a decision with its arc or none; none where it is neither allowed nor listed.
+#[inline(always)]
 fn step_fault<M: DpModel, N: Rows>(
     model: &M,
     next: &N,
@@ -259,8 +262,40 @@ fn least_left(arcs: &[CoverArc], place: usize, behind: Option<u32>) -> Option<u3
     }
 }
 
-/// The first failure of the decisions of a row with arcs. `step` is written over.
-fn decisions_fault<M: DpModel, N: Rows>(
+/// Whether each decision of a row passes with its arc, where all arcs stand in order. `step` is written over.
+fn all_pass<M: DpModel, N: Rows>(
+    model: &M,
+    next: &N,
+    k: usize,
+    i: u32,
+    row: RowRef<'_>,
+    step: &mut [i64],
+    known: bool,
+) -> bool
+    requires states { known ≡ true → are_states (M.meaning (M.numbers model.now)) (k + 1) (N.rows next.now) ≡ true }
+    requires layer { k < (M.meaning (M.numbers model.now)).vars }
+    requires state { IsTrue ((M.meaning (M.numbers model.now)).is_state k row.words.now) }
+    requires cells { length step.old ≡ (M.meaning (M.numbers model.now)).words }
+    ensures { result ≡ true → decisions_fault (M.meaning (M.numbers model.now)) k i (N.rows next.now) (shown_row row.entry) row.entry.arcs.now (tested (M.meaning (M.numbers model.now)) k row.entry.words.now row.entry.arcs.now) ≡ None }
+{
+    let mut place = 0;
+    'decisions: for decision in 0..model.choices(k) {
+        let arc = arc_at(row.arcs, place, decision);
+        let why = step_fault(model, next, k, i, row, decision, arc, step, known);
+        if why.is_some() {
+            return false;
+        }
+        if arc.is_some() {
+            place += 1;
+        }
+    }
+    place == row.arcs.len()
+}
+
+/// The first failure of the decisions of a row with arcs, by a walk that knows which one stands out of order. `step` is written over.
+#[cold]
+#[inline(never)]
+fn first_decision_fault<M: DpModel, N: Rows>(
     model: &M,
     next: &N,
     k: usize,
@@ -303,6 +338,28 @@ fn decisions_fault<M: DpModel, N: Rows>(
         }),
         None => None,
     }
+}
+
+/// The first failure of the decisions of a row with arcs. Most rows have none, which takes one walk to see. `step` is written over.
+fn decisions_fault<M: DpModel, N: Rows>(
+    model: &M,
+    next: &N,
+    k: usize,
+    i: u32,
+    row: RowRef<'_>,
+    step: &mut [i64],
+    known: bool,
+) -> Option<Why>
+    requires states { known ≡ true → are_states (M.meaning (M.numbers model.now)) (k + 1) (N.rows next.now) ≡ true }
+    requires layer { k < (M.meaning (M.numbers model.now)).vars }
+    requires state { IsTrue ((M.meaning (M.numbers model.now)).is_state k row.words.now) }
+    requires cells { length step.old ≡ (M.meaning (M.numbers model.now)).words }
+    ensures { result ≡ decisions_fault (M.meaning (M.numbers model.now)) k i (N.rows next.now) (shown_row row.entry) row.entry.arcs.now (tested (M.meaning (M.numbers model.now)) k row.entry.words.now row.entry.arcs.now) }
+{
+    if all_pass(model, next, k, i, row, step, known) {
+        return None;
+    }
+    first_decision_fault(model, next, k, i, row, step, known)
 }
 
 /// Whether an option is at most another, where none is less than every number.
@@ -392,7 +449,7 @@ impl<'c> Rows for LayerRows<'c> {
 }
 
 /// Whether all rows are states of the layer.
-fn are_states<M: DpModel, L: Rows>(model: &M, k: usize, rows: &L, count: u32) -> bool
+pub(crate) fn are_states<M: DpModel, L: Rows>(model: &M, k: usize, rows: &L, count: u32) -> bool
     requires layer { k ≤ (M.meaning (M.numbers model.now)).vars }
     requires count { count ≡ length (L.rows rows.now) }
     ensures { result ≡ are_states (M.meaning (M.numbers model.now)) k (L.rows rows.now) }
@@ -457,7 +514,7 @@ fn row_covers_root<M: DpModel>(model: &M, row: RowRef<'_>, root: &[i64], claim: 
 }
 
 /// Whether one of the rows is a state that covers the root within the claim.
-fn has_root<M: DpModel, L: Rows>(
+pub(crate) fn has_root<M: DpModel, L: Rows>(
     model: &M,
     here: &L,
     count: u32,
@@ -521,7 +578,7 @@ fn worth<M: DpModel>(
 }
 
 /// The failure of the assignment or of its value, where a best value is reported.
-fn solution_fault<M: DpModel>(
+pub(crate) fn solution_fault<M: DpModel>(
     model: &M,
     best: Option<i64>,
     assignment: &[u32],
@@ -546,7 +603,7 @@ fn solution_fault<M: DpModel>(
 }
 
 /// What no feasible solution may exceed: the reported value and the distance, and `None` where no value is reported.
-fn claim_of(best: Option<i64>, within: i64) -> Option<i64>
+pub(crate) fn claim_of(best: Option<i64>, within: i64) -> Option<i64>
     requires far { IsWritable best }
     requires least { pos 0 ≤ℤ within }
     requires most { within ≤ℤ pos (2 ^ 50) }

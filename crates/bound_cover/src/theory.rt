@@ -7,6 +7,7 @@ ghost use Rattle.dp_model.specs.Laws.{IsLawful, IsChained};
 ghost use Rattle.dp_laws.specs.Diagrams.Nodes.{DdLayers};
 ghost use Rattle.bound_cover.specs.declared.cover.Verdict.TheVariants.{Accepted};
 ghost use Rattle.bound_cover.specs.Covers.{CoverRow};
+ghost use Rattle.bound_cover.specs.InTurn.{begun, all_taken, concluded};
 ghost use Rattle.bound_cover.specs.Verdicts.{verdict, checked_rows};
 ghost use Rattle.bound_cover.specs.Proved.{IsReportedBest, IsReportedWithin};
 ghost use Rattle.bound_cover.specs.Clamping.{clamped_layers, AreWritable, IsReachable};
@@ -17,6 +18,11 @@ ghost use Rattle.bound_cover.specs.Exploring.{HoldsAll, Explores, IsExplored, st
 pub fn accepted_values_are_best()
     ensures near { (dp : Dp) (value : Option ℤ) (within : ℤ) (x : List ℕ) (cover : List (List CoverRow)) → IsLawful dp → verdict dp value within x cover ≡ Accepted → IsReportedWithin dp x value within }
     ensures best { (dp : Dp) (value : Option ℤ) (x : List ℕ) (cover : List (List CoverRow)) → IsLawful dp → verdict dp value (pos 0) x cover ≡ Accepted → IsReportedBest dp x value }
+{}
+
+/// Layers that are tested one after another, each with the one before it at hand, have the verdict of the cover that they make.
+pub fn layers_in_turn_are_checked()
+    ensures { (dp : Dp) (value : Option ℤ) (within : ℤ) (x : List ℕ) (layers : List (List CoverRow)) → concluded dp (all_taken dp (begun dp value within x) layers) ≡ verdict dp value within x layers }
 {}
 
 /// Rows that pass hold every feasible solution within the claim.

@@ -62,8 +62,8 @@ impl Exploration {
         }
     }
 
-    /// Puts in a diagram of the prefix that waits next, with the claim as threshold. It fails only for want of memory, or where a
-    /// layer of the cover needs 2^32 rows; then the exploration is of no more use.
+    /// Puts in a diagram of the prefix that waits next, with the claim as threshold. It fails only for want of memory or of a cover's
+    /// room, or where a layer of the cover needs 2^32 rows; then the exploration is of no more use.
     pub fn put<M: DpModel, D: ShownDiagram>(
         &mut self,
         alloc: Global,
@@ -94,7 +94,7 @@ impl Exploration {
     ///
     /// Where no feasible solution has more than the claim, and where the claim is none or at least the least value that a feasible
     /// solution can have, the checker's `check_rows` answers `None`; so it does where the claim is the best value. It fails only for
-    /// want of memory, or where a layer needs 2^32 rows.
+    /// want of memory or of a cover's room, or where a layer needs 2^32 rows.
     pub fn finish<M: DpModel>(&self, alloc: Global, model: &M) -> Result<Cover, OutOfMemory>
         requires under_way { IsUnderWay (M.meaning (M.numbers model.now)) self.now }
         requires done { waits_next self.now ≡ None }

@@ -19,8 +19,8 @@ use std::alloc::Global;
 const WIDTH: u32 = 100;
 
 /// The cover of an exploration of the whole problem: the root's diagram, and one more for each row that waits, until none does. The claim
-/// is the best value, or none where there is no feasible solution. It fails only for want of memory, or where a layer of the cover
-/// needs 2^32 rows.
+/// is the best value, or none where there is no feasible solution. It fails only for want of memory or of a cover's room, or where a
+/// layer of the cover needs 2^32 rows.
 ///
 /// Where the claim is the best value, the checker's `check_rows` answers `None` for the cover; so it does for each claim that no feasible
 /// solution exceeds and that is at least the least value that a feasible solution can have.

@@ -9,3 +9,5 @@ mod exploring;
 mod tests;
 #[cfg(test)]
 mod texts;
+#[cfg(test)]
+mod turns;

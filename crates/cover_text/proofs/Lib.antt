@@ -9,3 +9,4 @@ pub mod RoundTrip
 pub mod PrintedHeads
 pub mod OutputsRead
 pub mod PassingWritten
+pub mod InTurn

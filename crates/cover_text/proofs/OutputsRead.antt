@@ -1,6 +1,6 @@
 -- A printed output is read as what was printed.
-use Rattle.std.proofs.Common.{◌≡◌, ℕ, zero, suc, ◌+◌, ◌<◌, ◌≤◌, ◌^◌, pos, Bool, true, false, List, [], ◌∷◌, ◌++◌, length, take, drop, ℤ, refl, sym, ap, ◌∙◌, subst, arith, append_assoc, length-append, nat_eq}
-use Rattle.std.specs.Prelude.{codes, decimal, Option, Some, None, Ok, not, nat_abs, nat_le, cond, flat_map}
+use Rattle.std.proofs.Common.{◌≡◌, ℕ, zero, suc, ◌<◌, ◌≤◌, ◌^◌, pos, true, false, List, [], ◌∷◌, ◌++◌, length, ℤ, refl, sym, ap, ◌∙◌, subst, arith, append_assoc, length-append, nat_eq}
+use Rattle.std.specs.Prelude.{codes, decimal, Option, Some, None, Ok, nat_abs, nat_le}
 use Rattle.std.specs.List.{list_all}
 use Rattle.std.proofs.Math.Seq.{take-append_seam, drop-append_seam}
 use Rattle.std.proofs.lemmas.Bool.{and_parts, not-true}
@@ -18,7 +18,7 @@ use Rattle.cover_text.specs.Instances.{behind_lines, parted}
 use Rattle.cover_text.specs.Outputs.{spaced, CountsView, printed_lines, claim_lines, counts_lines, cover_lines, printed_output, IsToldClaim, MayBeCounts}
 use Rattle.cover_text.specs.Printed.{printed_cover}
 use Rattle.cover_text.specs.Texts.{text_of}
-use Rattle.cover_text.specs.Written.{IsWord, IsWritten}
+use Rattle.cover_text.specs.Written.{IsWritten}
 use Rattle.cover_text.proofs.PrintedHeads.{word-small, claim_then, counts_then, head_then, head_height, MayBeClaim, head-read}
 use Rattle.cover_text.proofs.RoundTrip.{texts_read}
 

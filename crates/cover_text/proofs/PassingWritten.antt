@@ -1,11 +1,10 @@
 -- A cover whose rows pass can be written, where its bounds can.
-use Rattle.std.proofs.Common.{◌≡◌, ℕ, zero, suc, ◌+◌, ◌<◌, ◌≤◌, ◌^◌, nat_eq, nat_lt, Bool, true, false, cond, ◌&&◌, ◌||◌, not, List, [], ◌∷◌, length, map, filter, slice_get, ℤ, Option, Some, None, ◌⊎◌, inl, inr, IsTrue, refl, sym, ap, ◌∙◌, subst, arith}
+use Rattle.std.proofs.Common.{◌≡◌, ℕ, zero, suc, ◌+◌, ◌<◌, ◌≤◌, ◌^◌, nat_eq, nat_lt, true, false, cond, ◌&&◌, ◌||◌, not, List, [], ◌∷◌, length, filter, slice_get, ℤ, Option, Some, None, inl, inr, refl, sym, ap, ◌∙◌, subst, arith}
 use Rattle.std.proofs.lemmas.Int.{ints}
 use Rattle.std.proofs.lemmas.Bool.{and_parts}
 use Rattle.std.proofs.lemmas.Bool.Decides.{nat_tests}
 use Rattle.dp_model.specs.Dp.{Dp}
 use Rattle.dp_model.specs.Decisions.{below}
-use Rattle.dp_model.specs.Gaps.{IsStateOf}
 use Rattle.dp_model.specs.Laws.{IsLawful}
 use Rattle.dp_model.specs.Lists.{Each}
 use Rattle.dp_model.specs.Numbers.{IsSmall}
@@ -13,10 +12,9 @@ use Rattle.dp_model.proofs.Members.{Has, each-of-all}
 use Rattle.bound_cover.specs.Clamping.{IsWritable, AreWritable}
 use Rattle.bound_cover.specs.Covers.{CoverRow}
 use Rattle.bound_cover.specs.declared.cover.CoverArc.{CoverArc}
-use Rattle.bound_cover.specs.declared.cover.Why.{Why}
 use Rattle.bound_cover.specs.declared.cover.Why.TheVariants.{Row, Target, Terminal, Root, Layers}
 use Rattle.bound_cover.specs.Stored.{AreShort}
-use Rattle.bound_cover.specs.Tests.{unless, is_state_row, lists, arc_for, put_in, with_listed, tested, arc_fault, row_arc_fault, listed_fault, decision_fault, decisions_fault, inner_fault, last_fault, row_fault}
+use Rattle.bound_cover.specs.Tests.{unless, is_state_row, lists, arc_for, put_in, with_listed, tested, arc_fault, row_arc_fault, listed_fault, decisions_fault, inner_fault, last_fault, row_fault}
 use Rattle.bound_cover.specs.Verdicts.{first_layer, rows_fault, layers_fault, has_root, cover_fault, checked_rows}
 use Rattle.bound_cover.proofs.Faults.{first-none, cond-none, state-of-row, Has-put_in, decision-of}
 use Rattle.cover_text.specs.Written.{IsWord, IsTarget, IsArc, AreArcs, IsWrittenRow, IsWrittenLayer, IsWritten}

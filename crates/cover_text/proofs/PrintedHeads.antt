@@ -1,6 +1,6 @@
 -- What is read of the printed lines before the instance, and on which line it stands.
-use Rattle.std.proofs.Common.{◌≡◌, ℕ, zero, suc, ◌+◌, ◌-◌, ◌<◌, ◌≤◌, ◌^◌, pos, negsuc, neg_ℤ, Bool, true, false, List, [], ◌∷◌, ◌++◌, length, ℤ, refl, sym, ap, ◌∙◌, subst, arith, rules, nat_eq, lit<}
-use Rattle.std.specs.Prelude.{codes, decimal, Option, Some, None, Ok, ◌≤ℤ◌, ◌||◌, ◌==◌, nat_abs, nat_le, flat_map}
+use Rattle.std.proofs.Common.{◌≡◌, ℕ, ◌+◌, ◌-◌, ◌<◌, ◌≤◌, ◌^◌, pos, negsuc, neg_ℤ, Bool, true, false, List, [], ◌∷◌, ◌++◌, length, ℤ, refl, sym, ap, ◌∙◌, subst, arith, rules, nat_eq, lit<}
+use Rattle.std.specs.Prelude.{codes, decimal, Option, Some, None, Ok, ◌||◌, ◌==◌, nat_abs, nat_le}
 use Rattle.std.specs.Str.{all_ascii_digits}
 use Rattle.std.specs.List.{list_all}
 use Rattle.std.proofs.lemmas.Bool.{and_parts, and_right, not-true}
@@ -8,11 +8,10 @@ use Rattle.std.proofs.lemmas.Bool.Decides.{nat_tests}
 use Rattle.std.proofs.lemmas.Int.{ints}
 use Rattle.std.proofs.lemmas.Fmt.{digits_decimal, decimal_nonempty, length-decimal-le}
 use Rattle.std.proofs.lemmas.Str.Parse.{IsNumeralModel, numerals_by_fold}
-use Rattle.dd_text.specs.Text.{TextState, text_start, is_blank, is_solid, place_after, is_passed, is_inside_after, skip, at_token, place_of, after_token, ends_line, value_after, number_at, word_at}
+use Rattle.dd_text.specs.Text.{TextState, text_start, is_blank, is_solid, place_after, is_passed, is_inside_after, skip, at_token, place_of, after_token, ends_line, value_after}
 use Rattle.dd_text.specs.declared.comment.Comment.TheVariants.{Never}
 use Rattle.dd_text.specs.declared.place.Place.{Place}
 use Rattle.dd_text.specs.Decimal.{decimal_of}
-use Rattle.dd_text.specs.Printed.{IsBefore}
 use Rattle.dd_text.proofs.Digits.{is_printed}
 use Rattle.dd_text.proofs.Printing.{before_start, ends_line_LF, ends_line_number}
 use Rattle.dd_text.proofs.Repeats.{fold_pushes}
@@ -20,8 +19,8 @@ use Rattle.dp_model.specs.Lists.{Each}
 use Rattle.problem_names.specs.ModelNames as names
 use Rattle.problem_names.specs.declared.ModelName.{ModelName}
 use Rattle.problem_names.specs.declared.ModelName.TheVariants.{Knapsack, MaxCut, MaxTwoSat, TspWindows}
-use Rattle.cover_text.specs.Grammar.{until, fixed_at, small_at}
-use Rattle.cover_text.specs.Heads.{ClaimView, HeadView, decision_at, solution_at, claim_at, is_count, count_at, counts_at, name_at, size_at, head_at}
+use Rattle.cover_text.specs.Grammar.{until}
+use Rattle.cover_text.specs.Heads.{ClaimView, decision_at, solution_at, claim_at, is_count, count_at, counts_at, name_at, size_at, head_at}
 use Rattle.cover_text.specs.Outputs.{spaced, CountsView, MayBeCounts}
 use Rattle.cover_text.specs.Written.{IsWord}
 use Rattle.cover_text.proofs.PrintedTokens.{IsAt, IsAhead, Gives, BeginsBlank, behind_blank, PassesWord, passes_word, passes_fixed, passes_number, passes_small, until_reads, until_ended}

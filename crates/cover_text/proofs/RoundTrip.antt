@@ -15,8 +15,8 @@ use Rattle.cover_text.specs.Heads.{HeadView, head_at}
 use Rattle.cover_text.specs.Instances.{parted}
 use Rattle.cover_text.specs.Printed.{printed_row, printed_layer, printed_layers, printed_cover}
 use Rattle.cover_text.specs.RowLines.{row_into}
-use Rattle.cover_text.specs.Sections.{layer_at, sections_at}
-use Rattle.cover_text.specs.Texts.{text_of, cover_behind}
+use Rattle.cover_text.specs.Sections.{layer_at, numbered_at, sections_at}
+use Rattle.cover_text.specs.Texts.{opened, text_of, cover_behind}
 use Rattle.cover_text.specs.Written.{IsWrittenRow, IsWrittenLayer, IsWritten}
 use Rattle.cover_text.proofs.PrintedLengths.{layers-few}
 use Rattle.cover_text.proofs.PrintedRows.{IsFew, row-there}
@@ -64,7 +64,7 @@ layer-parts k rows tail = simp append_assoc
 
 layer-there : (most : ℕ) (rows : List CoverRow) (done : List (List CoverRow)) (tail : List ℕ) (s : TextState) → length done < 2 ^ 64 → IsWrittenLayer rows → Each (IsFew most) rows → IsAhead (printed_layer (length done) rows ++ tail) s
     → (stands (codes "end") s ≡ false) × Gives (IsAhead tail) (layer_at most done s) (done ++ rows ∷ [])
-unfolding layer_at
+unfolding layer_at numbered_at
 layer-there most rows done tail s small fits few ahead =
     let lines = flat_map printed_row rows ++ tail in
     let count = decimal (length rows) ++ (10 ∷ lines) in
@@ -133,5 +133,5 @@ sections_read cover held =
 pub texts_read : (bytes instance : List ℕ) (head : HeadView) (cover : List (List CoverRow)) → IsWritten cover
     → head_at bytes ≡ Ok head → parted bytes head.size.line head.size.bytes ≡ Ok (instance, printed_cover cover)
     → text_of bytes ≡ Ok (record { model = head.model; best = head.claim.best; assignment = head.claim.assignment; instance = instance; cover = cover })
-unfolding text_of cover_behind
+unfolding text_of opened cover_behind
 texts_read bytes instance head cover held head_is parts_are = rw (head_is, parts_are, sections_read cover held) refl

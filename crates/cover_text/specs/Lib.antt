@@ -1,6 +1,7 @@
 pub mod Grammar
 pub mod RowLines
 pub mod Sections
+pub mod Tested
 pub mod Heads
 pub mod Instances
 pub mod Texts

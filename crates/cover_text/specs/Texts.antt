@@ -1,9 +1,13 @@
 -- The whole text: the lines before the instance, the instance, the sections.
 use Rattle.std.specs.Prelude.{ℕ, ◌-◌, List, length, take, ℤ, Option, Result, Ok, Err}
+use Rattle.dp_model.specs.Dp.{Dp}
 use Rattle.dd_text.specs.declared.place.Place.{Place}
 use Rattle.problem_names.specs.declared.ModelName.{ModelName}
 use Rattle.bound_cover.specs.Covers.{CoverRow}
+use Rattle.bound_cover.specs.Verdicts.{verdict}
+use Rattle.bound_cover.specs.declared.cover.Verdict.{Verdict}
 use Rattle.cover_text.specs.declared.cover_text.CoverText.{CoverText}
+use Rattle.cover_text.specs.declared.cover_text.OpenCover.{OpenCover}
 use Rattle.cover_text.specs.Grammar.{CoverError}
 use Rattle.cover_text.specs.Sections.{sections_at}
 use Rattle.cover_text.specs.Heads.{head_at}
@@ -33,10 +37,33 @@ moved_by origin (Err e) = Err (moved origin e)
 unfoldable pub cover_behind : List ℕ → List ℕ → Result (List (List CoverRow)) CoverError
 cover_behind before behind = moved_by (end_place before) (sections_at behind)
 
--- what a text holds, or its first fault
-unfoldable pub text_of : List ℕ → Result CoverTextView CoverError
-text_of bytes =
+-- a text up to its sections, and the sections
+pub record OpenView : Type 0 where
+  pub model : ModelName
+  pub best : Option ℤ
+  pub assignment : List ℕ
+  pub instance : List ℕ
+  pub before : List ℕ
+  pub behind : List ℕ
+
+abbrev pub opened_in : OpenCover → OpenView
+opened_in o = record { model = o.model; best = o.best; assignment = o.assignment.items; instance = o.instance.now; before = o.before.now; behind = o.behind.now }
+
+-- what stands before the sections, or its first fault
+unfoldable pub opened : List ℕ → Result OpenView CoverError
+opened bytes =
     and_then (head_at bytes) (λ head.
     and_then (parted bytes head.size.line head.size.bytes) (λ parts.
-    and_then (cover_behind (take (length bytes - length parts.1) bytes) parts.1) (λ cover.
-    Ok (record { model = head.model; best = head.claim.best; assignment = head.claim.assignment; instance = parts.0; cover = cover }))))
+    Ok (record { model = head.model; best = head.claim.best; assignment = head.claim.assignment; instance = parts.0; before = take (length bytes - length parts.1) bytes; behind = parts.1 })))
+
+-- what the text holds where its sections are this cover
+abbrev pub held_with : OpenView → List (List CoverRow) → CoverTextView
+held_with o cover = record { model = o.model; best = o.best; assignment = o.assignment; instance = o.instance; cover = cover }
+
+-- the verdict on the sections, or their first fault
+abbrev pub verdict_behind : Dp → ℤ → OpenView → Result Verdict CoverError
+verdict_behind dp within o = and_then (cover_behind o.before o.behind) (λ cover. Ok (verdict dp o.best within o.assignment cover))
+
+-- what a text holds, or its first fault
+unfoldable pub text_of : List ℕ → Result CoverTextView CoverError
+text_of bytes = and_then (opened bytes) (λ o. and_then (cover_behind o.before o.behind) (λ cover. Ok (held_with o cover)))

@@ -15,3 +15,20 @@ pub struct CoverText {
     /// The rows.
     pub cover: Cover,
 }
+
+/// A text whose sections are still to be read.
+#[derive(Debug, Drop)]
+pub struct OpenCover<'t> {
+    /// The problem.
+    pub model: ModelName,
+    /// The reported value; none where the report is `infeasible`.
+    pub best: Option<i64>,
+    /// The reported assignment, which is empty where no value is reported.
+    pub assignment: Vec<u32>,
+    /// The text of the instance.
+    pub instance: &'t [u8],
+    /// All that stands before the sections.
+    pub before: &'t [u8],
+    /// The sections and what stands behind them.
+    pub behind: &'t [u8],
+}

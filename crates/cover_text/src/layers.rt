@@ -4,7 +4,7 @@ ghost use Rattle.std.specs.Prelude.{◌≡◌, ◌<◌, ◌≤◌, ◌-◌, ◌^
 ghost use Rattle.bound_cover.specs.Stored.{last_layer};
 ghost use Rattle.cover_text.specs.Grammar.{Reads, until, never, stands};
 ghost use Rattle.cover_text.specs.RowLines.{row_into};
-ghost use Rattle.cover_text.specs.Sections.{layer_at, sections_at};
+ghost use Rattle.cover_text.specs.Sections.{layer_at, numbered_at, sections_at};
 
 use crate::cover_error::CoverError;
 use crate::fixed::{next_small, pass_word};
@@ -36,8 +36,30 @@ fn read_rows(
     Ok(())
 }
 
+/// Reads the section of the layer of this number, behind those before it.
+#[tactic(auto, unfolding(crate::specs::Sections::numbered_at), using(crate::proofs::LastLayers::last_added, crate::proofs::Chains::part_fails, crate::proofs::Chains::passed_fails))]
+pub(crate) fn read_numbered(
+    tokens: &mut Tokens<'_>,
+    most: usize,
+    number: usize,
+    cover: &mut CoverBuilder,
+) -> Result<(), CoverError>
+    requires no_words { cover.old.words ≡ [] }
+    requires no_arcs { cover.old.arcs ≡ [] }
+    ensures read { Reads (λ _. (cover.new.cover, tokens.new)) result (numbered_at most number cover.old.cover tokens.old) }
+    ensures words { OnOk result (cover.new.words ≡ []) }
+    ensures arcs { OnOk result (cover.new.arcs ≡ []) }
+{
+    pass_word(tokens, b"layer")?;
+    let mut digits = Buffer::new();
+    pass_word(tokens, digits.format(number).as_bytes())?;
+    let rows = next_small(tokens)?;
+    cover.add_layer()?;
+    read_rows(tokens, most, rows, cover)
+}
+
 /// Reads the section of the next layer.
-#[tactic(auto, unfolding(crate::specs::Sections::layer_at), using(crate::proofs::LastLayers::last_added, crate::proofs::Chains::part_fails, crate::proofs::Chains::passed_fails))]
+#[tactic(auto, unfolding(crate::specs::Sections::layer_at))]
 fn read_layer(
     tokens: &mut Tokens<'_>,
     most: usize,
@@ -49,12 +71,7 @@ fn read_layer(
     ensures words { OnOk result (cover.new.words ≡ []) }
     ensures arcs { OnOk result (cover.new.arcs ≡ []) }
 {
-    pass_word(tokens, b"layer")?;
-    let mut digits = Buffer::new();
-    pass_word(tokens, digits.format(cover.layers()).as_bytes())?;
-    let rows = next_small(tokens)?;
-    cover.add_layer()?;
-    read_rows(tokens, most, rows, cover)
+    read_numbered(tokens, most, cover.layers(), cover)
 }
 
 /// Reads the sections up to the word `end`, at most so many.

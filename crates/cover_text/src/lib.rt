@@ -5,7 +5,8 @@
 //! `instance` with a number of bytes, so many bytes, a section for each layer, and `end`. A row is a line: a bound, the words of a
 //! state, and perhaps arcs.
 //!
-//! Promised: `read_cover` answers exactly what the grammar gives, the first fault with its place included, and `push_cover` appends
+//! Promised: `read_cover` answers exactly what the grammar gives, the first fault with its place included; `open_cover` does so up to the
+//! sections, and `OpenCover::check` gives the verdict on these, which are tested as they are read. `push_cover` appends
 //! exactly the sections of a cover, which are read as that cover (the law `pushed_is_read`). A whole output that is printed is read as
 //! what was printed (`outputs_are_read`), for each cover whose rows pass (`passing_is_written`). Only want of memory has no stated cause.
 #![tactic(auto)]
@@ -19,10 +20,11 @@ mod layers;
 mod printing;
 mod reading;
 mod rows;
+mod tested;
 mod theory;
 
 pub use cover_error::CoverError;
-pub use cover_text::CoverText;
+pub use cover_text::{CoverText, OpenCover};
 pub use printing::push_cover;
-pub use reading::read_cover;
+pub use reading::{open_cover, read_cover};
 pub use theory::{outputs_are_read, passing_is_written, pushed_is_read};

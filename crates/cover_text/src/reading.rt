@@ -1,28 +1,88 @@
 //! The text of a cover, read.
 
-ghost use Rattle.std.specs.Prelude.{◌≡◌, ◌<◌, ◌≤◌, ◌-◌, ◌^◌, ◌++◌, length, vec_len, IfOk};
+ghost use Rattle.std.specs.Prelude.{◌≡◌, ◌<◌, ◌≤◌, ◌-◌, ◌^◌, ◌++◌, pos, ◌≤ℤ◌, length, vec_len, IfOk};
 ghost use Rattle.cover_text.specs.Grammar.{Reads};
-ghost use Rattle.cover_text.specs.Texts.{cover_behind, text_in, text_of};
+ghost use Rattle.cover_text.specs.Instances.{end_place, moved};
+ghost use Rattle.cover_text.specs.Texts.{cover_behind, opened, opened_in, text_in, text_of, verdict_behind};
 
 use crate::cover_error::CoverError;
-use crate::cover_text::CoverText;
+use crate::cover_text::{CoverText, OpenCover};
 use crate::head::read_head;
 use crate::instance::{end_place, moved, part_text};
 use crate::layers::read_sections;
-use bound_cover::Cover;
+use crate::tested::test_sections;
+use bound_cover::{Cover, Verdict};
+use dp_model::DpModel;
 use std::alloc::Global;
 
-/// Reads the sections behind so many bytes, with the places of their faults in the whole text.
-#[tactic(auto, unfolding(crate::specs::Texts::cover_behind))]
-fn read_behind(alloc: Global, before: &[u8], behind: &[u8]) -> Result<Cover, CoverError>
-    requires before { length before.now < 2 ^ 32 - 1 }
-    requires behind { length behind.now < 2 ^ 32 - 1 }
-    ensures { Reads (λ c. c) result (cover_behind before.now behind.now) }
-{
-    match read_sections(alloc, behind) {
-        Ok(cover) => Ok(cover),
-        Err(fault) => Err(moved(end_place(before), fault)),
+impl<'t> OpenCover<'t> {
+    /// A fault of the sections, with its place in the whole text.
+    fn placed(&self, fault: CoverError) -> CoverError
+        requires { length self.now.before.now < 2 ^ 32 - 1 }
+        ensures { result ≡ moved (end_place self.now.before.now) fault }
+    {
+        moved(end_place(self.before), fault)
     }
+
+    /// Reads the sections, with the places of their faults in the whole text.
+    #[tactic(auto, unfolding(crate::specs::Texts::cover_behind))]
+    pub fn read(&self, alloc: Global) -> Result<Cover, CoverError>
+        requires before { length self.now.before.now < 2 ^ 32 - 1 }
+        requires behind { length self.now.behind.now < 2 ^ 32 - 1 }
+        ensures { Reads (λ c. c) result (cover_behind self.now.before.now self.now.behind.now) }
+    {
+        match read_sections(alloc, self.behind) {
+            Ok(cover) => Ok(cover),
+            Err(fault) => Err(self.placed(fault)),
+        }
+    }
+
+    /// The verdict of `Checker::check` on the sections, which are tested as they are read, or the first fault as `read` gives it. Two
+    /// layers at a time are in memory.
+    ///
+    /// The distance is from 0 to 2^50.
+    #[tactic(auto, using(crate::proofs::InTurn::behind_tested))]
+    pub fn check<M: DpModel>(
+        &self,
+        alloc: Global,
+        model: &M,
+        within: i64,
+    ) -> Result<Verdict, CoverError>
+        requires before { length self.now.before.now < 2 ^ 32 - 1 }
+        requires behind { length self.now.behind.now < 2 ^ 32 - 1 }
+        requires least { pos 0 ≤ℤ within }
+        requires most { within ≤ℤ pos (2 ^ 50) }
+        ensures { Reads (λ v. v) result (verdict_behind (M.meaning (M.numbers model.now)) within (opened_in self.now)) }
+    {
+        let assignment = self.assignment.as_slice();
+        match test_sections(alloc, model, self.best, within, assignment, self.behind) {
+            Ok(verdict) => Ok(verdict),
+            Err(fault) => Err(self.placed(fault)),
+        }
+    }
+}
+
+/// Reads the text of a cover up to its sections.
+///
+/// The first fault is answered, as by `read_cover`. No part has more bytes than the text.
+#[tactic(auto, unfolding(crate::specs::Texts::opened))]
+pub fn open_cover(alloc: Global, bytes: &[u8]) -> Result<OpenCover<'_>, CoverError>
+    requires { length bytes.now < 2 ^ 32 - 1 }
+    ensures read { Reads opened_in result (opened bytes.now) }
+    ensures inside { IfOk result (λ o. length o.instance.now ≤ length bytes.now) }
+    ensures before { IfOk result (λ o. length o.before.now ≤ length bytes.now) }
+    ensures behind { IfOk result (λ o. length o.behind.now ≤ length bytes.now) }
+{
+    let head = read_head(alloc, bytes)?;
+    let parts = part_text(bytes, head.size.line, head.size.bytes)?;
+    Ok(OpenCover {
+        model: head.model,
+        best: head.claim.best,
+        assignment: head.claim.assignment,
+        instance: parts.instance,
+        before: &bytes[..bytes.len() - parts.behind.len()],
+        behind: parts.behind,
+    })
 }
 
 /// Reads the text of a cover.
@@ -37,15 +97,13 @@ pub fn read_cover(alloc: Global, bytes: &[u8]) -> Result<CoverText, CoverError>
     ensures read { Reads text_in result (text_of bytes.now) }
     ensures inside { IfOk result (λ t. vec_len t.instance ≤ length bytes.now) }
 {
-    let head = read_head(alloc, bytes)?;
-    let parts = part_text(bytes, head.size.line, head.size.bytes)?;
-    let before = &bytes[..bytes.len() - parts.behind.len()];
-    let cover = read_behind(alloc, before, parts.behind)?;
-    let instance = parts.instance.to_vec(alloc)?;
+    let open = open_cover(alloc, bytes)?;
+    let cover = open.read(alloc)?;
+    let instance = open.instance.to_vec(alloc)?;
     Ok(CoverText {
-        model: head.model,
-        best: head.claim.best,
-        assignment: head.claim.assignment,
+        model: open.model,
+        best: open.best,
+        assignment: open.assignment,
         instance,
         cover,
     })

@@ -1,4 +1,4 @@
-ghost use Rattle.std.specs.Prelude.{◌≡◌, ◌↔◌, ℕ, List, ◌+◌, ◌<◌, ◌≤◌, ◌++◌, [], ◌∷◌, length, IsSome, IsTrue, IsErr, IfOk, OnOk, OnErr};
+ghost use Rattle.std.specs.Prelude.{◌≡◌, ◌↔◌, ℕ, List, ◌+◌, ◌<◌, ◌≤◌, [], length, IsSome, IsTrue, IsErr, IfOk, OnOk, OnErr};
 ghost use Rattle.dd_disk.specs.Disk.{Holds, Torn, Follows, Only};
 ghost use Rattle.dd_disk.specs.Content.{Leaves, Remembers};
 ghost use Rattle.dd_disk.specs.Synced.{synced_or};

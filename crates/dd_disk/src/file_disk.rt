@@ -1,6 +1,5 @@
-ghost use Rattle.std.specs.Prelude.{◌≡◌, ◌≤◌, ℕ, List, None, Some, false, is_err, is_some, [], if◌then◌else◌};
-ghost use Rattle.dd_disk.specs.Counts.{Counts, next_count};
-ghost use Rattle.dd_disk.specs.Disk.{FirstSync};
+ghost use Rattle.std.specs.Prelude.{◌≡◌, None, Some, false, is_err, is_some, [], if◌then◌else◌};
+ghost use Rattle.dd_disk.specs.Counts.{Counts};
 
 use super::{Disk, DiskFailed};
 use std::fs::{File, Files, OpenOptions};

@@ -1,6 +1,6 @@
-ghost use Rattle.std.specs.Prelude.{◌≡◌, ◌↔◌, ◌+◌, ◌≤◌, ◌⊎◌, ℕ, List, true, false, [], length, take, drop, is_ok, is_err, IsErr, IsTrue, IfOk, OnOk, OnErr, Some, None, if◌then◌else◌};
+ghost use Rattle.std.specs.Prelude.{◌≡◌, ◌↔◌, ◌+◌, ◌≤◌, true, false, [], length, take, drop, is_err, IsErr, IfOk, OnOk, OnErr, Some, None};
 ghost use Rattle.std.proofs.Common.{inl};
-ghost use Rattle.dd_disk.specs.Counts.{next_count, Counts};
+ghost use Rattle.dd_disk.specs.Counts.{Counts};
 ghost use Rattle.dd_disk.specs.Content.{Leaves, LeftSince, only_now};
 ghost use Rattle.dd_disk.specs.Disk.{Holds, Torn, Follows, Only, SameOutcomes, Elapses, first_sync};
 ghost use Rattle.dd_disk.specs.Memory.{IsToFail, called, failed};

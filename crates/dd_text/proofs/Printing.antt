@@ -69,12 +69,12 @@ prefix_to_blank (w ∷ ws) b more solid blank =
     grind (arith, nat_tests)
 
 -- the next token, and what stands behind it
-record IsNext (word behind : List ℕ) (s : TextState) : Type 0 where
+record IsWordNext (word behind : List ℕ) (s : TextState) : Type 0 where
   token_is : token s ≡ word
   rest_is : (after_token s).rest ≡ behind
   comment_is : (after_token s).comment ≡ s.comment
 
-next_is : (w : ℕ) (ws : List ℕ) (b : ℕ) (more : List ℕ) (s : TextState) → list_all is_solid (w ∷ ws) ≡ true → opens_comment s.comment w ≡ false → is_blank b ≡ true → IsBefore ((w ∷ ws) ++ b ∷ more) s → IsNext (w ∷ ws) (b ∷ more) s
+next_is : (w : ℕ) (ws : List ℕ) (b : ℕ) (more : List ℕ) (s : TextState) → list_all is_solid (w ∷ ws) ≡ true → opens_comment s.comment w ≡ false → is_blank b ≡ true → IsBefore ((w ∷ ws) ++ b ∷ more) s → IsWordNext (w ∷ ws) (b ∷ more) s
 unfolding token after_token
 next_is w ws b more s solid plain blank before =
     let at = at_word w (ws ++ b ∷ more) s (and_parts _ _ solid).0 plain before in

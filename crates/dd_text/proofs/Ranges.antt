@@ -1,7 +1,7 @@
 -- A number that was read lies in the range that was asked for.
 use Rattle.std.proofs.Common.{◌≡◌, ℕ, List, [], ◌∷◌, ℤ, Bool, true, false, refl, tests, rules}
 use Rattle.std.specs.Prelude.{Option, Some, None, Result, Ok, Err, IfOk, if◌then◌else◌, ◌≤ℤ◌, ◌&&◌, int_le, nat_le}
-use Rattle.dd_text.specs.Text.{TextState, Place, TextError, place_of, token, number_of, within, number_in, number_at}
+use Rattle.dd_text.specs.Text.{TextState, Place, TextError, place_of, token, number_of, in_bounds, number_in, number_at}
 use Rattle.dd_text.specs.declared.text_error.TextError.TheVariants.{OutOfRange}
 
 range_of_tests : (least greatest z : ℤ) → (int_le least z && int_le z greatest) ≡ true → (least ≤ℤ z) × (z ≤ℤ greatest)
@@ -14,7 +14,7 @@ by_test : (least greatest z : ℤ) (place : Place) (b : Bool) → (b ≡ true �
 by_test least greatest z place true h = h refl
 by_test least greatest z place false h = tt
 
-within_range : (least greatest : ℤ) (place : Place) (read : Option ℤ) → IfOk (within least greatest place read) (InRange least greatest)
+within_range : (least greatest : ℤ) (place : Place) (read : Option ℤ) → IfOk (in_bounds least greatest place read) (InRange least greatest)
 within_range least greatest place None = tt
 within_range least greatest place (Some z) = by_test least greatest z place _ (range_of_tests least greatest z)
 

@@ -8,7 +8,7 @@ use Rattle.std.proofs.lemmas.Bool.Decides.{nat_tests}
 use Rattle.std.proofs.lemmas.List.{length-drop}
 use Rattle.std.proofs.lemmas.List.Folds.{length-prefix_len}
 use Rattle.std.proofs.lemmas.List.Sums.{prefix_len-le-length, take_while-cons}
-use Rattle.dd_text.specs.Text.{Place, is_blank, is_solid, value_after, natural_of, number_of, number_in, within, signed_of}
+use Rattle.dd_text.specs.Text.{Place, is_blank, is_solid, value_after, natural_of, number_of, number_in, in_bounds, signed_of}
 use Rattle.dd_text.specs.Scanned.{first_token, behind_token, head_digits, behind_digits}
 use Rattle.dd_text.proofs.Values.{behind_first, capped_value_after}
 use Rattle.dd_text.proofs.Digits.{digit_range, solid_digit}
@@ -146,7 +146,7 @@ pub ruleset natural_steps = (no_natural, no_digit, digits_natural, behind_alone)
 
 -- a token that begins with a minus is read as the digits behind it
 pub minus_number : (least greatest : ℤ) (place : Place) (xs : List ℕ) → 1 ≤ length xs → get_or xs 0 0 ≡ 45
-    → number_in least greatest place (first_token xs) ≡ within least greatest place (option_map (signed_of true) (natural_of (first_token (take (length xs - 1) (drop 1 xs)))))
+    → number_in least greatest place (first_token xs) ≡ in_bounds least greatest place (option_map (signed_of true) (natural_of (first_token (take (length xs - 1) (drop 1 xs)))))
 unfolding number_of
 minus_number least greatest place [] some first = absurd (omega arith)
 minus_number least greatest place (x ∷ xs) some first = rw (behind_first x xs, first, token_first 45 xs refl) refl
@@ -158,7 +158,7 @@ behind_minus (x ∷ xs) some first = rw (behind_first x xs, first, token_first 4
 
 -- a token that begins with another ASCII byte is read as digits
 pub plain_number : (least greatest : ℤ) (place : Place) (xs : List ℕ) → 1 ≤ length xs → get_or xs 0 0 ≢ 45 → is_blank (get_or xs 0 0) ≡ false → get_or xs 0 0 < 128
-    → number_in least greatest place (first_token xs) ≡ within least greatest place (option_map (signed_of false) (natural_of (first_token xs)))
+    → number_in least greatest place (first_token xs) ≡ in_bounds least greatest place (option_map (signed_of false) (natural_of (first_token xs)))
 unfolding number_of
 plain_number least greatest place [] some other solid ascii = absurd (omega arith)
 plain_number least greatest place (x ∷ xs) some other solid ascii =

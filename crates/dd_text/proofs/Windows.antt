@@ -3,7 +3,7 @@ use Rattle.std.proofs.Common.{◌≡◌, ◌≢◌, ℕ, zero, suc, ◌-◌, ◌
 use Rattle.std.specs.Prelude.{Some, option_map, ℤ, pos, int_le, ◌&&◌, Ok}
 use Rattle.std.proofs.lemmas.List.{length-drop, length-take-le, take_all}
 use Rattle.std.specs.Char.{is_ascii_digit}
-use Rattle.dd_text.specs.Text.{Place, is_solid, value_after, number_in, within, signed_of}
+use Rattle.dd_text.specs.Text.{Place, is_solid, value_after, number_in, in_bounds, signed_of}
 use Rattle.dd_text.specs.Scanned.{first_token, behind_token, head_digits, behind_digits}
 use Rattle.dd_text.proofs.Digits.{digit_range}
 use Rattle.dd_text.proofs.Scanning.{digits_first, no_digits, token_first, blank_first, digits_long, digits_natural, behind_alone, plain_number}
@@ -46,7 +46,7 @@ first_digit (x ∷ xs) some = first_by (is_ascii_digit x) x xs refl some where
 
 -- the number that they write is that of the first token of all bytes
 pub window_number : (least greatest : ℤ) (place : Place) (n : ℕ) (xs : List ℕ) → 0 < length (behind_digits (take n xs)) → length (first_token (behind_digits (take n xs))) ≡ 0 → 0 < length (head_digits (take n xs))
-    → number_in least greatest place (first_token xs) ≡ within least greatest place (Some (pos (value_after 0 (head_digits (take n xs)))))
+    → number_in least greatest place (first_token xs) ≡ in_bounds least greatest place (Some (pos (value_after 0 (head_digits (take n xs)))))
 window_number least greatest place n xs some ends more =
     let both = same n xs some ends in
     let long = digits_long xs in
@@ -54,7 +54,7 @@ window_number least greatest place n xs some ends more =
     let natural = digits_natural xs (λ e. omega (arith, e)) both.1 in
     let range = digit_range (get_or xs 0 0) (first_digit xs digits) in
     let number = plain_number least greatest place xs (omega arith) (λ e. omega (arith, e)) (grind arith) (omega arith) in
-    number ∙ ap (λ o. within least greatest place (option_map (signed_of false) o)) (natural ∙ ap (λ l. Some (value_after 0 l)) (sym both.0))
+    number ∙ ap (λ o. in_bounds least greatest place (option_map (signed_of false) o)) (natural ∙ ap (λ l. Some (value_after 0 l)) (sym both.0))
 
 -- and what stands behind them is what stands behind the token
 pub window_behind : (n : ℕ) (xs behind : List ℕ) → n ≤ length xs → behind ≡ behind_digits (take n xs) → 0 < length behind → length (first_token behind) ≡ 0
@@ -74,9 +74,9 @@ window_value least greatest number place n size xs behind fit size_is is some en
     let short : length (take n xs) ≡ n = length-take-le n xs fit in
     let b = ap length is in
     let value : value_after 0 (head_digits (take n xs)) ≡ size = omega arith in
-    let read : number_in least greatest place (first_token xs) ≡ within least greatest place (Some number) =
+    let read : number_in least greatest place (first_token xs) ≡ in_bounds least greatest place (Some number) =
     window_number least greatest place n xs (subst (λ l. 0 < length l) is some) (subst (λ l. length (first_token l) ≡ 0) is ends) (omega arith)
-    ∙ ap (λ z. within least greatest place (Some z)) (ap pos value ∙ sym number_is) in
+    ∙ ap (λ z. in_bounds least greatest place (Some z)) (ap pos value ∙ sym number_is) in
     read ∙ rw tests refl
 
 pub ruleset window_steps = (window_value, window_behind)

@@ -20,7 +20,7 @@ abbrev pub behind_digits : List ℕ → List ℕ
 behind_digits bytes = drop (length (head_digits bytes)) bytes
 
 -- the next token begins at these bytes and this place, or the text ends there
-pub record IsNext (s : TextState) (rest : List ℕ) (place : Place) : Type 0 where
+pub record IsNextToken (s : TextState) (rest : List ℕ) (place : Place) : Type 0 where
   pub rest_is : (at_token s).rest ≡ rest
   pub place_is : (at_token s).place ≡ place
   pub comment_is : (at_token s).comment ≡ s.comment

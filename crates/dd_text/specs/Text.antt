@@ -111,9 +111,9 @@ number_of [] = None
 number_of (b ∷ bs) = option_map (signed_of (b == 45)) (natural_of (if b == 45 then bs else b ∷ bs))
 
 -- a number within a range, or its fault
-abbrev pub within : ℤ → ℤ → Place → Option ℤ → Result ℤ TextError
-within least greatest place None = Err (NotNumber place)
-within least greatest place (Some z) = if int_le least z && int_le z greatest then Ok z else Err (OutOfRange place)
+abbrev pub in_bounds : ℤ → ℤ → Place → Option ℤ → Result ℤ TextError
+in_bounds least greatest place None = Err (NotNumber place)
+in_bounds least greatest place (Some z) = if int_le least z && int_le z greatest then Ok z else Err (OutOfRange place)
 
 -- a token as a word
 abbrev pub word_in : Place → List ℕ → Result (List ℕ) TextError
@@ -123,7 +123,7 @@ word_in place (b ∷ bs) = if nat_le 128 b then Err (NotAscii place) else Ok (b 
 -- a token as a number of a range
 abbrev pub number_in : ℤ → ℤ → Place → List ℕ → Result ℤ TextError
 number_in least greatest place [] = Err (EndOfText place)
-number_in least greatest place (b ∷ bs) = if nat_le 128 b then Err (NotAscii place) else within least greatest place (number_of (b ∷ bs))
+number_in least greatest place (b ∷ bs) = if nat_le 128 b then Err (NotAscii place) else in_bounds least greatest place (number_of (b ∷ bs))
 
 -- no token, or the fault of one that is left
 abbrev pub nothing_in : Place → List ℕ → Result ⊤ TextError

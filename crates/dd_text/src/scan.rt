@@ -3,7 +3,7 @@ ghost use Rattle.std.specs.Cmp.Lexicographic.{pointwise};
 ghost use Rattle.std.specs.Result.{result_map_both};
 ghost use Rattle.std.specs.List.{prefix_len};
 ghost use Rattle.std.specs.Int.{w64};
-ghost use Rattle.dd_text.specs.Text.{Comment, Place, is_blank, is_solid, opens_comment, is_passed, is_inside_after, place_after, skip, IsCountable, natural_of, value_after, signed_of, within, number_in, is_blank_line};
+ghost use Rattle.dd_text.specs.Text.{Comment, Place, is_blank, is_solid, opens_comment, is_passed, is_inside_after, place_after, skip, IsCountable, natural_of, value_after, signed_of, in_bounds, number_in, is_blank_line};
 ghost use Rattle.dd_text.specs.Scanned.{first_token, behind_token, head_digits, behind_digits};
 
 use crate::comment::Comment;
@@ -394,7 +394,7 @@ fn number_within<'a>(
     least: i64,
     greatest: i64,
 ) -> Result<Number<'a>, TextError>
-    ensures value { result_map_both (λ n. n.value) (λ e. e) result ≡ within least greatest place.now (option_map (signed_of is_negative) (natural_of (first_token digits.now))) }
+    ensures value { result_map_both (λ n. n.value) (λ e. e) result ≡ in_bounds least greatest place.now (option_map (signed_of is_negative) (natural_of (first_token digits.now))) }
     ensures behind { IfOk result (λ n. n.behind.now ≡ behind_token digits.now) }
 {
     let Some(read) = leading_natural(digits) else {
@@ -418,7 +418,7 @@ fn negative_within<'a>(
     least: i64,
     greatest: i64,
 ) -> Result<Number<'a>, TextError>
-    ensures value { result_map_both (λ n. n.value) (λ e. e) result ≡ within least greatest place.now (option_map (signed_of true) (natural_of (first_token digits.now))) }
+    ensures value { result_map_both (λ n. n.value) (λ e. e) result ≡ in_bounds least greatest place.now (option_map (signed_of true) (natural_of (first_token digits.now))) }
     ensures behind { IfOk result (λ n. n.behind.now ≡ behind_token digits.now) }
 {
     number_within(true, digits, place, least, greatest)

@@ -1,6 +1,6 @@
 ghost use Rattle.std.specs.Prelude.{◌≡◌, ◌+◌, ◌-◌, ◌^◌, ◌<◌, ◌≤◌, length, ◌≤ℤ◌, pos, OnOk, OnErr, IfOk, MatchResult, false, true, Ok, Err, nat_eq};
 ghost use Rattle.std.specs.Cmp.Lexicographic.{pointwise};
-ghost use Rattle.dd_text.specs.Scanned.{behind_token, IsNext};
+ghost use Rattle.dd_text.specs.Scanned.{behind_token, IsNextToken};
 ghost use Rattle.dd_text.specs.Text.{text_start, at_token, IsCountable, token, place_of, ends_line, is_at_end, number_at, word_at, after_token, finish_at};
 
 use crate::comment::Comment;
@@ -36,14 +36,14 @@ pub struct Tokens<'a> {
 impl<'a> Model for Tokens<'a> {
     ghost use Rattle.std.specs.Prelude.{◌≡◌};
     ghost use Rattle.dd_text.specs.Text.{TextState, IsCountable, is_blank_line};
-    ghost use Rattle.dd_text.specs.Scanned.{IsNext};
+    ghost use Rattle.dd_text.specs.Scanned.{IsNextToken};
 
     ghost Value = { TextState };
 
     ghost view = { λ t. record { rest = t.here.value.rest.now; place = t.here.value.place; fresh = t.here.value.fresh; comment = t.comment } };
 
     ghost invariant = { λ t.
-        IsNext (record { rest = t.here.value.rest.now; place = t.here.value.place; fresh = t.here.value.fresh; comment = t.comment }) t.next.rest.now t.next.place
+        IsNextToken (record { rest = t.here.value.rest.now; place = t.here.value.place; fresh = t.here.value.fresh; comment = t.comment }) t.next.rest.now t.next.place
         × (t.ends_line ≡ is_blank_line t.here.value.rest.now)
         × IsCountable t.next.place t.next.rest.now };
 }
@@ -81,7 +81,7 @@ impl<'a> Tokens<'a> {
 
     #[inline]
     fn spot(&self) -> &Spot<'a>
-        ensures found { IsNext self.now result.now.rest.now result.now.place }
+        ensures found { IsNextToken self.now result.now.rest.now result.now.place }
         ensures countable { IsCountable result.now.place result.now.rest.now }
     {
         &self.next

@@ -4,10 +4,10 @@ use Rattle.std.proofs.lemmas.Bool.{cases_eq}
 use Rattle.indexmap.specs.IndexMap.{get}
 use Rattle.dominance_table.specs.declared.groups.Run.{Run}
 use Rattle.dominance_table.specs.declared.groups.Ends.{Ends}
-use Rattle.dominance_table.specs.Groups.{Heads, AreChained, IsAppended, IsLonger, fold_at, next_at, last_in, ends_after, no_place}
+use Rattle.dominance_table.specs.Groups.{RunHeads, AreChained, IsAppended, IsLonger, fold_at, next_at, last_in, ends_after, no_place}
 
 -- the last run is longer
-pub chained_longer : (heads : Heads) (old new : List Run) (depth bucket end : ℕ) → AreChained heads old → IsLonger old new depth bucket end → AreChained heads new
+pub chained_longer : (heads : RunHeads) (old new : List Run) (depth bucket end : ℕ) → AreChained heads old → IsLonger old new depth bucket end → AreChained heads new
 chained_longer heads old new depth bucket end h is =
     let len = is.len in
     let there : (j : ℕ) → j < length new → j < length old = λ j less. omega arith in
@@ -42,14 +42,14 @@ last_after None place = refl
 last_after (Some e) place = refl
 
 -- what stands before the first of the fold, once the place is its last
-before_first : (heads : Heads) (runs : List Run) (f j : ℕ) (o : Option Ends) → AreChained heads runs → get nat_eq heads f ≡ o → j < (ends_after o (length runs)).first
+before_first : (heads : RunHeads) (runs : List Run) (f j : ℕ) (o : Option Ends) → AreChained heads runs → get nat_eq heads f ≡ o → j < (ends_after o (length runs)).first
     → (j < length runs) × (fold_at runs j ≢ f)
 before_first heads runs f j None h is less = (less, h.none f j is less)
 before_first heads runs f j (Some e) h is less =
     let within : j < length runs = (let a = h.ordered f e is in let b = h.within f e is in omega arith) in
     (within, h.before f j e is less within)
 
-module _ (heads heads' : Heads) (runs runs' : List Run) (fold : ℕ) (h : AreChained heads runs) (more : IsAppended runs runs' (last_in (get nat_eq heads fold)) fold) where
+module _ (heads heads' : RunHeads) (runs runs' : List Run) (fold : ℕ) (h : AreChained heads runs) (more : IsAppended runs runs' (last_in (get nat_eq heads fold)) fold) where
   -- an entry that was there, or the new one
   old-or-new : (j : ℕ) → j < length runs' → (j < length runs) ⊎ (j ≡ length runs)
   old-or-new j less = let len = more.entered.len in grind arith

@@ -9,7 +9,7 @@ use Rattle.dp_model.specs.Dp.{Dp}
 use Rattle.dp_model.specs.Gaps.{IsStateOf, covers_at, within}
 use Rattle.dp_model.specs.Laws.{IsLawful}
 use Rattle.dominance_table.specs.declared.entry.Entry.{Entry}
-use Rattle.dominance_table.specs.Dominator.{IsReached, dominates}
+use Rattle.dominance_table.specs.Dominator.{IsReached, entry_dominates}
 use Rattle.dominance_table.specs.Entries.{with_row}
 
 some-cond : (b : Bool) (g : ℤ) → is_some (cond b (Some g) None) ≡ b
@@ -47,8 +47,8 @@ first_false false b c h = refl
 
 -- an entry of less value doesn't dominate
 pub less_dominates : (dp : Dp) (depth : ℕ) (row : List ℤ) (value : ℤ) (e : Entry) (own : List ℤ) → IsLawful dp → (e.depth ≡ depth → IsReached dp depth own e.rank) → IsStateOf dp depth row → e.value <ℤ value
-    → false ≡ dominates dp depth row value (with_row e own)
-less_dominates dp depth row value e own laws reached state less = elim (cases_eq e.depth depth) as (λ _. false ≡ dominates dp depth row value (with_row e own)) [
+    → false ≡ entry_dominates dp depth row value (with_row e own)
+less_dominates dp depth row value e own laws reached state less = elim (cases_eq e.depth depth) as (λ _. false ≡ entry_dominates dp depth row value (with_row e own)) [
   | inl same ↦ third_false (nat_eq e.depth depth) (nat_eq e.bucket (dp.bucket depth row)) (covers_at (dp.gap depth own row) e.value value)
       (less_covers dp depth own row e.value value laws (reached same).state state less)
   | inr other ↦ first_false (nat_eq e.depth depth) (nat_eq e.bucket (dp.bucket depth row)) (covers_at (dp.gap depth own row) e.value value) (ne_eqb e.depth depth other)

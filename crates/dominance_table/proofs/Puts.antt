@@ -8,7 +8,7 @@ use Rattle.std.proofs.Math.Seq.{get_or-append_seam}
 use Rattle.dominance_table.specs.declared.entry.Entry.{Entry}
 use Rattle.dominance_table.specs.declared.put.Put.TheVariants.{Yes, AtLimit}
 use Rattle.dominance_table.specs.declared.groups.Run.{Run}
-use Rattle.dominance_table.specs.Groups.{HasEntered, fold_at, depth_at, bucket_at, end_at, start_at, group_fold}
+use Rattle.dominance_table.specs.Groups.{HasEnteredRun, fold_at, depth_at, bucket_at, end_at, start_at, group_fold}
 use Rattle.dominance_table.specs.Entries.{TableEntry, TableView, HasRoom, HasRunRoom, AreGrouped, AreRising, entry_at, is_full, put_gives, after_put, with_row, with_rows}
 use Rattle.dominance_table.proofs.Rows.{length_with_rows, with_rows_more}
 
@@ -111,7 +111,7 @@ start_within es runs zero h at = omega arith
 start_within es runs (suc r) h at = h.within r (omega arith)
 
 -- one more entry is grouped
-module _ (es : List Entry) (e : Entry) (runs runs' : List Run) (h : AreGrouped es runs) (more : HasEntered runs runs' e.depth e.bucket (group_fold e.depth e.bucket) (length es + 1)) where
+module _ (es : List Entry) (e : Entry) (runs runs' : List Run) (h : AreGrouped es runs) (more : HasEnteredRun runs runs' e.depth e.bucket (group_fold e.depth e.bucket) (length es + 1)) where
   starts : (r : ℕ) → r < length runs' → start_at runs' r ≡ start_at runs r
   starts zero less = refl
   starts (suc r) less = more.ends r (omega arith)

@@ -9,7 +9,7 @@ use Rattle.dp_model.specs.Lists.{Each}
 use Rattle.dominance_table.specs.declared.entry.Entry.{Entry}
 use Rattle.dominance_table.specs.declared.groups.Run.{Run}
 use Rattle.dominance_table.specs.Groups.{fold_at, depth_at, bucket_at, end_at, start_at, group_fold}
-use Rattle.dominance_table.specs.Dominator.{lesser, least, dominates, dominator, IsReached, AreStates}
+use Rattle.dominance_table.specs.Dominator.{lesser, least, entry_dominates, dominator, IsReached, AreStates}
 use Rattle.dominance_table.specs.Entries.{TableEntry, AreGrouped, AreRising, entry_at, row_at, with_row, with_rows}
 use Rattle.dominance_table.proofs.Puts.{start_is}
 use Rattle.dominance_table.proofs.Rows.{least-append, with_rows_at, length_with_rows}
@@ -30,11 +30,11 @@ lesser_some (Some m) t = (cond (nat_le m t) m t, refl, grind (arith, nat_tests))
 module _ (dp : Dp) (depth : ℕ) (row : List ℤ) (worth : ℤ) where
   dominator-append : (xs ys : List TableEntry) → dominator dp (xs ++ ys) depth row worth ≡ lesser (dominator dp xs depth row worth) (dominator dp ys depth row worth)
   dominator-append xs ys =
-      let p = dominates dp depth row worth in
+      let p = entry_dominates dp depth row worth in
       ap (λ l. least (map (λ (e : TableEntry). e.ticket) l)) (filter-append p xs ys)
       ∙ (ap least (map-append (λ (e : TableEntry). e.ticket) (filter p xs) (filter p ys)) ∙ least-append (map (λ e. e.ticket) (filter p xs)) (map (λ e. e.ticket) (filter p ys)))
 
-  alone : (e : TableEntry) (b : Bool) → dominates dp depth row worth e ≡ b → dominator dp (e ∷ []) depth row worth ≡ cond b (Some e.ticket) None
+  alone : (e : TableEntry) (b : Bool) → entry_dominates dp depth row worth e ≡ b → dominator dp (e ∷ []) depth row worth ≡ cond b (Some e.ticket) None
   alone e b is = ap (λ t. least (map (λ (x : TableEntry). x.ticket) (cond t (e ∷ []) []))) is ∙ by b
     where
       by : (b : Bool) → least (map (λ (x : TableEntry). x.ticket) (cond b (e ∷ []) [])) ≡ cond b (Some e.ticket) None
@@ -54,13 +54,13 @@ module _ (dp : Dp) (depth : ℕ) (row : List ℤ) (worth : ℤ) where
         take_more seen at no_entry (subst (λ n. at < n) (sym (length_with_rows words entries cells)) less)
         ∙ ap (λ e. take at seen ++ e ∷ []) (with_rows_at words entries cells at no_entry less)
 
-    pub past_then : (at : ℕ) → at < length entries → dominates dp depth row worth (with_row (entry_at entries at) (row_at cells words at)) ≡ true
+    pub past_then : (at : ℕ) → at < length entries → entry_dominates dp depth row worth (with_row (entry_at entries at) (row_at cells words at)) ≡ true
         → dominator dp (take (at + 1) seen) depth row worth ≡ lesser (dominator dp (take at seen) depth row worth) (Some (entry_at entries at).ticket)
     past_then at less is =
         ap (λ l. dominator dp l depth row worth) (one-more at less) ∙ (dominator-append (take at seen) (with_row (entry_at entries at) (row_at cells words at) ∷ [])
         ∙ ap (λ o. lesser (dominator dp (take at seen) depth row worth) o) (alone (with_row (entry_at entries at) (row_at cells words at)) true is))
 
-    pub past_else : (at : ℕ) → at < length entries → dominates dp depth row worth (with_row (entry_at entries at) (row_at cells words at)) ≡ false
+    pub past_else : (at : ℕ) → at < length entries → entry_dominates dp depth row worth (with_row (entry_at entries at) (row_at cells words at)) ≡ false
         → dominator dp (take (at + 1) seen) depth row worth ≡ dominator dp (take at seen) depth row worth
     past_else at less is =
         ap (λ l. dominator dp l depth row worth) (one-more at less) ∙ (dominator-append (take at seen) (with_row (entry_at entries at) (row_at cells words at) ∷ [])
@@ -78,11 +78,11 @@ module _ (dp : Dp) (depth : ℕ) (row : List ℤ) (worth : ℤ) where
 
     -- an entry of another group doesn't dominate
     other-group : (at : ℕ) → ((entry_at entries at).depth ≡ depth → (entry_at entries at).bucket ≡ dp.bucket depth row → ⊥)
-        → dominates dp depth row worth (with_row (entry_at entries at) (row_at cells words at)) ≡ false
+        → entry_dominates dp depth row worth (with_row (entry_at entries at) (row_at cells words at)) ≡ false
     other-group at other = by (cases_eq (entry_at entries at).depth depth) (cases_eq (entry_at entries at).bucket (dp.bucket depth row))
       where
         by : ((entry_at entries at).depth ≡ depth) ⊎ ((entry_at entries at).depth ≢ depth) → ((entry_at entries at).bucket ≡ dp.bucket depth row) ⊎ ((entry_at entries at).bucket ≢ dp.bucket depth row)
-            → dominates dp depth row worth (with_row (entry_at entries at) (row_at cells words at)) ≡ false
+            → entry_dominates dp depth row worth (with_row (entry_at entries at) (row_at cells words at)) ≡ false
         by (inl d) (inl b) = absurd (other d b)
         by (inr d) b = let k = ne_eqb _ _ d in cc
         by (inl d) (inr b) = let k = ne_eqb _ _ b in grind (arith, nat_tests)
@@ -146,13 +146,13 @@ module _ (dp : Dp) (depth : ℕ) (row : List ℤ) (worth : ℤ) where
     bound : (k m : ℕ) → k ≤ length entries → AreRising entries → dominator dp (take k seen) depth row worth ≡ Some m
         → (j : ℕ) → k ≤ j → j < length entries → m ≤ (entry_at entries j).ticket
     bound zero m all rising is j from less = let no : None ≡ Some m = is in absurd (cc)
-    bound (suc k) m all rising is j from less = by (λ before. bound k m (omega arith) rising before j (omega arith) less) (dominates dp depth row worth (with_row (entry_at entries k) (row_at cells words k))) refl
+    bound (suc k) m all rising is j from less = by (λ before. bound k m (omega arith) rising before j (omega arith) less) (entry_dominates dp depth row worth (with_row (entry_at entries k) (row_at cells words k))) refl
       where
         here : dominator dp (take (k + 1) seen) depth row worth ≡ Some m
         here = let one : k + 1 ≡ suc k = omega arith in ap (λ n. dominator dp (take n seen) depth row worth) one ∙ is
 
         by : (dominator dp (take k seen) depth row worth ≡ Some m → m ≤ (entry_at entries j).ticket)
-            → (b : Bool) → dominates dp depth row worth (with_row (entry_at entries k) (row_at cells words k)) ≡ b → m ≤ (entry_at entries j).ticket
+            → (b : Bool) → entry_dominates dp depth row worth (with_row (entry_at entries k) (row_at cells words k)) ≡ b → m ≤ (entry_at entries j).ticket
         by earlier true own =
             let least = lesser_some (dominator dp (take k seen) depth row worth) (entry_at entries k).ticket in
             let same : Some least.0 ≡ Some m = sym least.1 ∙ (sym (past_then k (omega arith) own) ∙ here) in
@@ -167,13 +167,13 @@ module _ (dp : Dp) (depth : ℕ) (row : List ℤ) (worth : ℤ) where
     stays-more : (k n m : ℕ) → k + n ≤ length entries → ((j : ℕ) → k ≤ j → j < length entries → m ≤ (entry_at entries j).ticket)
         → dominator dp (take k seen) depth row worth ≡ Some m → dominator dp (take (k + n) seen) depth row worth ≡ Some m
     stays-more k zero m all most is = let none : k + 0 ≡ k = omega arith in ap (λ n. dominator dp (take n seen) depth row worth) none ∙ is
-    stays-more k (suc n) m all most is = by (stays-more k n m (omega arith) most is) (dominates dp depth row worth (with_row (entry_at entries (k + n)) (row_at cells words (k + n)))) refl
+    stays-more k (suc n) m all most is = by (stays-more k n m (omega arith) most is) (entry_dominates dp depth row worth (with_row (entry_at entries (k + n)) (row_at cells words (k + n)))) refl
       where
         sum : dominator dp (take (k + suc n) seen) depth row worth ≡ dominator dp (take (k + n + 1) seen) depth row worth
         sum = let one : k + suc n ≡ k + n + 1 = omega arith in ap (λ l. dominator dp (take l seen) depth row worth) one
 
         by : dominator dp (take (k + n) seen) depth row worth ≡ Some m
-            → (b : Bool) → dominates dp depth row worth (with_row (entry_at entries (k + n)) (row_at cells words (k + n))) ≡ b → dominator dp (take (k + suc n) seen) depth row worth ≡ Some m
+            → (b : Bool) → entry_dominates dp depth row worth (with_row (entry_at entries (k + n)) (row_at cells words (k + n))) ≡ b → dominator dp (take (k + suc n) seen) depth row worth ≡ Some m
         by so-far true own = sum ∙ (past_then (k + n) (omega arith) own ∙ (ap (λ o. lesser o (Some (entry_at entries (k + n)).ticket)) so-far ∙ lesser-same m (entry_at entries (k + n)).ticket (most (k + n) (omega arith) (omega arith))))
         by so-far false own = sum ∙ (past_else (k + n) (omega arith) own ∙ so-far)
 

@@ -17,13 +17,13 @@ least [] = None
 least (n ∷ ns) = lesser (Some n) (least ns)
 
 -- an entry of the depth and of the state's bucket, whose value is no less than the new one and the entry's gap to the state
-abbrev pub dominates : Dp → ℕ → List ℤ → ℤ → TableEntry → Bool
-dominates dp depth row value e =
+abbrev pub entry_dominates : Dp → ℕ → List ℤ → ℤ → TableEntry → Bool
+entry_dominates dp depth row value e =
     nat_eq e.depth depth && (nat_eq e.bucket (dp.bucket depth row) && covers_at (dp.gap depth e.row row) e.value value)
 
 -- the least ticket of the entries that dominate
 abbrev pub dominator : Dp → List TableEntry → ℕ → List ℤ → ℤ → Option ℕ
-dominator dp entries depth row value = least (map (λ e. e.ticket) (filter (dominates dp depth row value) entries))
+dominator dp entries depth row value = least (map (λ e. e.ticket) (filter (entry_dominates dp depth row value) entries))
 
 -- the entry of a state that was reached with the value, with its bucket and its rank
 abbrev pub entry_of_state : Dp → ℕ → List ℤ → ℤ → ℕ → TableEntry

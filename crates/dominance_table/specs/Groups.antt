@@ -14,8 +14,8 @@ pub record GroupsView : Type 0 where
   pub room : ℕ
 
 -- of each fold the places of its first and its last run
-abbrev pub Heads : Type 0
-Heads = IndexMap ℕ Ends (BuildHasherDefault FoldHasher)
+abbrev pub RunHeads : Type 0
+RunHeads = IndexMap ℕ Ends (BuildHasherDefault FoldHasher)
 
 abbrev pub run_at : List Run → ℕ → Run
 run_at runs i = slice_index_or runs i (record { depth = 0; bucket = 0; end = 0; fold = 0; next = 0 })
@@ -59,7 +59,7 @@ no_place = 2 ^ 64 - 1
 
 -- the first and the last of a fold have that fold, and no run before and after them; the next of a run has its fold, and no run
 -- between
-pub record AreChained (heads : Heads) (runs : List Run) : Type 0 where
+pub record AreChained (heads : RunHeads) (runs : List Run) : Type 0 where
   pub none : (f j : ℕ) → get nat_eq heads f ≡ None → j < length runs → fold_at runs j ≢ f
   pub within : (f : ℕ) (e : Ends) → get nat_eq heads f ≡ Some e → e.last < length runs
   pub ordered : (f : ℕ) (e : Ends) → get nat_eq heads f ≡ Some e → e.first ≤ e.last
@@ -73,7 +73,7 @@ pub record AreChained (heads : Heads) (runs : List Run) : Type 0 where
   pub between : (i j : ℕ) → i < j → j < next_at runs i → j < length runs → fold_at runs j ≢ fold_at runs i
 
 -- there is memory for so many runs and the heads of their folds
-pub record HasHeadRoom (heads : Heads) (runs : List Run) (room capacity : ℕ) : Type 0 where
+pub record HasRunHeadRoom (heads : RunHeads) (runs : List Run) (room capacity : ℕ) : Type 0 where
   pub placed : length runs ≤ room
   pub runs_room : room ≤ capacity
   pub heads_room : room ≤ length runs + spare heads
@@ -106,7 +106,7 @@ pub record IsLonger (old new : List Run) (depth bucket end : ℕ) : Type 0 where
   pub end_is : (j : ℕ) → j + 1 ≡ length old → end_at new j ≡ end
 
 -- an entry of the depth and the bucket is in the last of the new runs, which ends after it: in the last of the old ones, or in one more
-pub record HasEntered (old new : List Run) (depth bucket fold end : ℕ) : Type 0 where
+pub record HasEnteredRun (old new : List Run) (depth bucket fold end : ℕ) : Type 0 where
   pub len : (length new ≡ length old) ⊎ (length new ≡ length old + 1)
   pub some : 0 < length new
   pub folds : (j : ℕ) → j < length old → fold_at new j ≡ fold_at old j

@@ -3,7 +3,7 @@
 ghost use Rattle.std.specs.Prelude.{◌≡◌, ℕ, ◌+◌, ◌*◌, ◌<◌, ◌≤◌, ◌≤ℤ◌, ◌-ℤ◌, length, take, true, Option, Some};
 ghost use Rattle.std.specs.Int.{w64, saturate_signed};
 ghost use Rattle.dp_model.specs.Gaps.{IsStateOf, covers_at};
-ghost use Rattle.dominance_table.specs.Dominator.{lesser, dominates, dominator, IsReached, AreStates};
+ghost use Rattle.dominance_table.specs.Dominator.{lesser, entry_dominates, dominator, IsReached, AreStates};
 ghost use Rattle.dominance_table.specs.Entries.{AreGrouped, AreRising, entry_at, row_at, with_row, with_rows};
 ghost use Rattle.dominance_table.specs.Groups.{start_at};
 
@@ -92,7 +92,7 @@ fn dominates<M: DpModel>(model: &M, entry: &Entry, row: &[i64], sought: &Sought)
     requires depth { entry.now.depth ≡ sought.now.depth }
     requires bucket { entry.now.bucket ≡ (M.meaning (M.numbers model.now)).bucket sought.now.depth sought.now.row.now }
     requires row { IsReached (M.meaning (M.numbers model.now)) sought.now.depth row.now entry.now.rank }
-    ensures { result ≡ dominates (M.meaning (M.numbers model.now)) sought.now.depth sought.now.row.now sought.now.value (with_row entry.now row.now) }
+    ensures { result ≡ entry_dominates (M.meaning (M.numbers model.now)) sought.now.depth sought.now.row.now sought.now.value (with_row entry.now row.now) }
 {
     if entry.value < sought.value {
         return false;

@@ -2,7 +2,7 @@
 
 ghost use Rattle.std.specs.Prelude.{◌≡◌, ◌≢◌, ℕ, ◌+◌, ◌<◌, ◌≤◌, [], length, max, nat_eq, true, false, None, Some, IfSome, OnOk, OnErr, vec_len, vec_capacity};
 ghost use Rattle.indexmap.specs.IndexMap.{get, spare};
-ghost use Rattle.dominance_table.specs.Groups.{HasEntered, IsAppended, IsLonger, fold_at, group_fold, ends_after, last_in, no_place};
+ghost use Rattle.dominance_table.specs.Groups.{HasEnteredRun, IsAppended, IsLonger, fold_at, group_fold, ends_after, last_in, no_place};
 
 use dp_model::{OutOfMemory, fold};
 use indexmap::IndexMap;
@@ -37,13 +37,13 @@ pub struct Groups {
 
 impl Model for Groups {
     ghost use Rattle.std.specs.Prelude.{vec_capacity};
-    ghost use Rattle.dominance_table.specs.Groups.{GroupsView, AreChained, HasHeadRoom};
+    ghost use Rattle.dominance_table.specs.Groups.{GroupsView, AreChained, HasRunHeadRoom};
 
     ghost Value = { GroupsView };
 
     ghost view = { λ g. record { runs = g.runs.items; room = g.room } };
 
-    ghost invariant = { λ g. AreChained g.heads g.runs.items × HasHeadRoom g.heads g.runs.items g.room (vec_capacity g.runs) };
+    ghost invariant = { λ g. AreChained g.heads g.runs.items × HasRunHeadRoom g.heads g.runs.items g.room (vec_capacity g.runs) };
 }
 
 impl Groups {
@@ -112,7 +112,7 @@ impl Groups {
     /// One more entry of the depth and the bucket, just before the place `end`. It takes no memory.
     pub fn enter(&mut self, depth: usize, bucket: u64, end: usize)
         requires { length self.old.runs < self.old.room }
-        ensures entered { HasEntered self.old.runs self.new.runs depth bucket (group_fold depth bucket) end }
+        ensures entered { HasEnteredRun self.old.runs self.new.runs depth bucket (group_fold depth bucket) end }
         ensures room { self.new.room ≡ self.old.room }
     {
         if lengthen(&mut self.runs, depth, bucket, end) {
@@ -164,7 +164,7 @@ fn append(runs: &mut Vec<Run>, last: Option<usize>, run: Run)
     requires last { IfSome last (λ place. place < length runs.old.items) }
     requires end { run.next ≡ no_place }
     ensures appended { IsAppended runs.old.items runs.new.items last run.fold }
-    ensures entered { HasEntered runs.old.items runs.new.items run.depth run.bucket run.fold run.end }
+    ensures entered { HasEnteredRun runs.old.items runs.new.items run.depth run.bucket run.fold run.end }
     ensures capacity { vec_capacity runs.old ≤ vec_capacity runs.new }
 {
     let place = runs.len();

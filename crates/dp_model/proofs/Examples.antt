@@ -76,12 +76,12 @@ best_solution : IsSolution three_items (0 ∷ 1 ∷ 1 ∷ [])
 best_solution = solutions-are three_items (0 ∷ 1 ∷ 1 ∷ []) (inr (inr (inr (inl refl))))
 
 -- with 110 in hand, the prefix 0 covers what is left
-abbrev IsKept : List ℕ → Type 0
-IsKept x = AtMost (value_of three_items x) (Some (pos 110)) ⊎ OneOf (IsMatched three_items x) ((0 ∷ []) ∷ [])
+abbrev IsLeftCovered : List ℕ → Type 0
+IsLeftCovered x = AtMost (value_of three_items x) (Some (pos 110)) ⊎ OneOf (IsMatched three_items x) ((0 ∷ []) ∷ [])
 
 frontier_covers : Covers three_items (Some (pos 110)) ((0 ∷ []) ∷ [])
 frontier_covers x h =
-    each-has IsKept (solutions three_items) x (
+    each-has IsLeftCovered (solutions three_items) x (
       inl (omega (arith, ints)),
       (
         inl (omega (arith, ints)),

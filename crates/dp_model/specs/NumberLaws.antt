@@ -1,6 +1,5 @@
 -- What tests of two numbers say, and which numbers are small.
 use Rattle.std.proofs.Common.{◌≡◌, ℕ, suc, ◌^◌, ◌<◌, ◌≤◌, ℤ, pos, neg_ℤ, ◌-ℤ◌, ◌≤ℤ◌, true, false, List, [], ◌∷◌, length, get_or, int_le, int_lt, arith}
-use Rattle.std.specs.Prelude.{◌<ℤ◌}
 use Rattle.std.proofs.lemmas.Int.{ints}
 use Rattle.dp_model.specs.Lists.{Each}
 use Rattle.dp_model.specs.Numbers.{IsSmall}
@@ -12,12 +11,6 @@ int_le-is a b h = grind (arith, ints)
 
 pub int_le-from : (a b : ℤ) → a ≤ℤ b → int_le a b ≡ true
 int_le-from a b h = grind (arith, ints)
-
-pub int_le-fails : (a b : ℤ) → b <ℤ a → int_le a b ≡ false
-int_le-fails a b h = grind (arith, ints)
-
-pub int_lt-is : (a b : ℤ) → int_lt a b ≡ true → a <ℤ b
-int_lt-is a b h = grind (arith, ints)
 
 pub int_lt-is_not : (a b : ℤ) → int_lt a b ≡ false → b ≤ℤ a
 int_lt-is_not a b h = grind (arith, ints)

@@ -25,7 +25,7 @@ use Rattle.dp_laws.proofs.Rules.Pruned.{few-pruned}
 use Rattle.dp_laws.proofs.Rules.Redirecting.{followed_node}
 use Rattle.relaxed_dd.specs.Shown.{layer_in, last_of, IsRelaxed}
 use Rattle.exact_cutset.specs.Prepared.{AreEnoughChildren}
-use Rattle.exact_cutset.specs.Ready.{IsReadyAt, CutIsReady}
+use Rattle.exact_cutset.specs.Ready.{IsChildReadyAt, CutIsReady}
 use Rattle.exact_cutset.proofs.Searched.{there}
 use Rattle.exact_cutset.proofs.Taken.{node-here}
 
@@ -104,7 +104,7 @@ module _ (dp : Dp) (laws : IsLawful dp) (p : List ℕ) (w : ℕ) (t : Option ℤ
             omega arith)
       ]
 
-  ready : (depth reduced i : ℕ) → d.first_reduced ≡ Some reduced → depth + 1 ≡ reduced → length p < depth → depth < dp.vars → i < length (layer_in d depth) → IsReadyAt dp depth (node_at d depth i)
+  ready : (depth reduced i : ℕ) → d.first_reduced ≡ Some reduced → depth + 1 ≡ reduced → length p < depth → depth < dp.vars → i < length (layer_in d depth) → IsChildReadyAt dp depth (node_at d depth i)
   ready depth reduced i e at deep low less =
       let first = h.first in
       let x = there (layer_in d depth) i less in
@@ -118,7 +118,7 @@ module _ (dp : Dp) (laws : IsLawful dp) (p : List ℕ) (w : ℕ) (t : Option ℤ
       let exact = all-exact dp p w t d h (exact_layers dp.vars (length p) d.first_reduced) m refl inside (layer_in d depth) layer-at x.0 has in
       let keeps = (keeps-at dp p w t (length p) m d.layers h.layer (layer_in d depth) layer-at).keeps in
       let state : IsStateOf dp depth x.0.row = record { layer = omega arith; test = subst (λ n. IsTrue (dp.is_state n x.0.row)) place (each-has (λ (n : DdNode). IsTrue (dp.is_state (length p + m) n.row)) (layer_in d depth) x.0 keeps.states has) } in
-      subst (IsReadyAt dp depth) (sym is) (record {
+      subst (IsChildReadyAt dp depth) (sym is) (record {
         exact = exact;
         state = state;
         cells = laws.sizes.cells depth x.0.row state;

@@ -8,7 +8,7 @@ use Rattle.dp_laws.specs.Diagrams.Cutsets.{with_bound, child_from}
 use Rattle.dp_laws.proofs.Diagrams.Places.{same-Some}
 use Rattle.exact_cutset.specs.declared.child.Child.{Child}
 use Rattle.exact_cutset.specs.Seen.{ChildrenView, MayKeep, with_child}
-use Rattle.exact_cutset.specs.Stored.{place_of, shown_sub, shown_subs, shown_solution, depths_of, HasChildren}
+use Rattle.exact_cutset.specs.Stored.{child_place, shown_sub, shown_subs, shown_solution, depths_of, HasChildren}
 
 -- Lists.
 
@@ -48,13 +48,13 @@ shown-last words (x ∷ cs) c rows row paths path a b d e =
     ∙ ap (λ ss. shown_sub x (take words rows) (take x.depth paths) ∷ ss) ih)))
 
 -- the node that is kept
-pub record IsKept (words : ℕ) (o : Option DdNode) : Type 0 where
+pub record IsKeptNode (words : ℕ) (o : Option DdNode) : Type 0 where
   pub node : DdNode
   pub is : o ≡ Some node
   pub exact : node.exact ≡ true
   pub cells : length node.row ≡ words
 
-pub kept-node : (words : ℕ) (o : Option DdNode) → MayKeep words o → IsKept words o
+pub kept-node : (words : ℕ) (o : Option DdNode) → MayKeep words o → IsKeptNode words o
 kept-node words None h = absurd h
 kept-node words (Some node) h = record { node = node; is = refl; exact = h.0; cells = h.1 }
 
@@ -67,7 +67,7 @@ row-long words o row h e = let k = kept-node words o h in sym (ap (λ r. length 
 -- what is seen, by the fields
 abbrev pub seen_as : ℕ → ℕ → ℕ → ℕ → ℕ → List Child → List ℤ → List ℕ → Option ℤ → List ℕ → ChildrenView
 seen_as width words vars wide room places rows paths found decisions = record {
-  places = map place_of places;
+  places = map child_place places;
   subs = shown_subs words places rows paths;
   found = shown_solution found decisions;
   width = width;
@@ -81,7 +81,7 @@ pub seen-kept : (d : DdLayers) (width words vars wide room : ℕ) (places : List
     → MayKeep words (node_at d c.depth c.node) → length rows ≡ length places * words → length paths ≡ depths_of places
     → option_map (λ (n : DdNode). n.value) (node_at d c.depth c.node) ≡ Some c.value → option_map (λ (n : DdNode). n.row) (node_at d c.depth c.node) ≡ Some row → new-rows ≡ rows ++ row
     → option_map (λ (n : DdNode). paths ++ n.path) (node_at d c.depth c.node) ≡ Some new-paths → length new-paths ≡ length paths + c.depth
-    → seen_as width words vars wide room (places ++ c ∷ []) new-rows new-paths found decisions ≡ with_child d (place_of c) (seen_as width words vars wide room places rows paths found decisions)
+    → seen_as width words vars wide room (places ++ c ∷ []) new-rows new-paths found decisions ≡ with_child d (child_place c) (seen_as width words vars wide room places rows paths found decisions)
 seen-kept d width words vars wide room places rows paths found decisions c row new-rows new-paths h a b value-is row-is rows-are paths-are long =
     let o = node_at d c.depth c.node in
     let k = kept-node words o h in
@@ -89,13 +89,13 @@ seen-kept d width words vars wide room places rows paths found decisions c row n
     let own-row : k.node.row ≡ row = of-node (λ (n : DdNode). n.row) o k.node row k.is row-is in
     let all-paths : paths ++ k.node.path ≡ new-paths = of-node (λ (n : DdNode). paths ++ n.path) o k.node new-paths k.is paths-are in
     let deep : length k.node.path ≡ c.depth = (let l = length-append paths k.node.path in let m = ap (λ p. length p) all-paths in omega arith) in
-    let child : shown_sub c row k.node.path ≡ child_from d (place_of c) =
+    let child : shown_sub c row k.node.path ≡ child_from d (child_place c) =
     ap (λ r. shown_sub c r k.node.path) (sym own-row) ∙ (ap (λ v. record { decisions = k.node.path; row = k.node.row; value = v; bound = c.bound }) (sym value) ∙ ap (λ (o : Option DdNode). with_bound o c.bound) (sym k.is)) in
-    let subs : shown_subs words (places ++ c ∷ []) new-rows new-paths ≡ shown_subs words places rows paths ++ child_from d (place_of c) ∷ [] =
+    let subs : shown_subs words (places ++ c ∷ []) new-rows new-paths ≡ shown_subs words places rows paths ++ child_from d (child_place c) ∷ [] =
     ap (λ r. shown_subs words (places ++ c ∷ []) r new-paths) rows-are ∙ (ap (λ p. shown_subs words (places ++ c ∷ []) (rows ++ row) p) (sym all-paths)
     ∙ (shown-last words places c rows row paths k.node.path a (row-long words o row h row-is) b deep ∙ ap (λ s. shown_subs words places rows paths ++ s ∷ []) child)) in
-    ap (λ ps. record (seen_as width words vars wide room (places ++ c ∷ []) new-rows new-paths found decisions) { places = ps }) (map-last place_of places c)
-    ∙ ap (λ ss. record (seen_as width words vars wide room places rows paths found decisions) { places = map place_of places ++ place_of c ∷ []; subs = ss }) subs
+    ap (λ ps. record (seen_as width words vars wide room (places ++ c ∷ []) new-rows new-paths found decisions) { places = ps }) (map-last child_place places c)
+    ∙ ap (λ ss. record (seen_as width words vars wide room places rows paths found decisions) { places = map child_place places ++ child_place c ∷ []; subs = ss }) subs
 
 -- Room.
 

@@ -7,7 +7,7 @@ use Rattle.dp_laws.specs.Diagrams.Cutsets.{ChildAt, outermost, child_from, path_
 use Rattle.dp_laws.proofs.Diagrams.Places.{same-Some}
 use Rattle.relaxed_dd.specs.Shown.{layer_in, last_of}
 use Rattle.exact_cutset.specs.Seen.{ChildrenView}
-use Rattle.exact_cutset.specs.Ready.{IsReady, IsReadyAt}
+use Rattle.exact_cutset.specs.Ready.{IsChildReady, IsChildReadyAt}
 use Rattle.exact_cutset.specs.Walking.{IsWalkable, AreMarks, HasLooked, IsWalkedTo, HasLeaving, HasFrontier, IsFreeNode}
 use Rattle.exact_cutset.proofs.Searched.{there}
 use Rattle.exact_cutset.proofs.Taken.{node-here}
@@ -27,14 +27,14 @@ free-exact d depth above (Some y) x e h =
       | false ↦ λ no. absurd (let clash : true ≡ false = h.0 no in cc)
     ] refl
 
-ready-of : (dp : Dp) (depth : ℕ) (o : Option DdNode) (x : DdNode) → o ≡ Some x → IsReady dp depth x → IsReadyAt dp depth o
+ready-of : (dp : Dp) (depth : ℕ) (o : Option DdNode) (x : DdNode) → o ≡ Some x → IsChildReady dp depth x → IsChildReadyAt dp depth o
 ready-of dp depth None x e h = absurd (let none : None ≡ Some x = e in cc)
-ready-of dp depth (Some y) x e h = subst (IsReady dp depth) (sym (same-Some y x e)) h
+ready-of dp depth (Some y) x e h = subst (IsChildReady dp depth) (sym (same-Some y x e)) h
 
 leaving-of : (d : DdLayers) (depth : ℕ) (o : Option DdNode) (x : DdNode) → o ≡ Some x → HasLeaving d depth (Some x) → HasLeaving d depth o
 leaving-of d depth o x e h = subst (HasLeaving d depth) (sym e) h
 
-pub ready-here : (dp : Dp) (d : DdLayers) (wide room depth i : ℕ) (above : List Bool) → IsWalkable dp d wide room → d.first < depth → depth < last_of d → i < length (layer_in d depth) → IsFreeNode d depth above (node_at d depth i) true → IsReadyAt dp depth (node_at d depth i) × HasLeaving d depth (node_at d depth i)
+pub ready-here : (dp : Dp) (d : DdLayers) (wide room depth i : ℕ) (above : List Bool) → IsWalkable dp d wide room → d.first < depth → depth < last_of d → i < length (layer_in d depth) → IsFreeNode d depth above (node_at d depth i) true → IsChildReadyAt dp depth (node_at d depth i) × HasLeaving d depth (node_at d depth i)
 ready-here dp d wide room depth i above w low high less h =
     let x = node-there d depth i less in
     let e = w.exact depth i x.0 low high x.1 (free-exact d depth above (node_at d depth i) x.0 x.1 h) in

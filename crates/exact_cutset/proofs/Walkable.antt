@@ -1,5 +1,5 @@
 -- The layers of a relaxed diagram can be walked.
-use Rattle.std.proofs.Common.{◌≡◌, ◌≢◌, ℕ, suc, zero, ◌+◌, ◌-◌, ◌*◌, ◌<◌, ◌≤◌, ℤ, Bool, true, false, not, ◌&&◌, ◌||◌, List, [], ◌∷◌, length, take, slice_get, Option, Some, None, IsSome, unwrap_or, IsTrue, ◌⊎◌, inl, inr, refl, sym, ◌∙◌, ap, subst, arith}
+use Rattle.std.proofs.Common.{◌≡◌, ◌≢◌, ℕ, suc, zero, ◌+◌, ◌-◌, ◌*◌, ◌<◌, ◌≤◌, ℤ, true, false, not, ◌&&◌, ◌||◌, List, [], ◌∷◌, length, take, slice_get, Option, Some, None, IsSome, unwrap_or, IsTrue, inl, inr, refl, sym, ◌∙◌, ap, subst, arith}
 use Rattle.std.proofs.lemmas.Bool.{and_parts}
 use Rattle.std.proofs.lemmas.List.{take_all}
 use Rattle.dp_model.specs.Decisions.{begins}
@@ -25,8 +25,7 @@ use Rattle.dp_laws.proofs.Diagrams.Walks.{keeps-at}
 use Rattle.dp_laws.proofs.Rules.Stems.{exact-stems}
 use Rattle.relaxed_dd.specs.Shown.{layer_in, last_of, IsRelaxed}
 use Rattle.exact_cutset.specs.Prepared.{AreEnoughChildren}
-use Rattle.exact_cutset.specs.Ready.{IsReady}
-use Rattle.exact_cutset.specs.Walking.{IsIn, IsStem, IsExactAt, IsWalkable}
+use Rattle.exact_cutset.specs.Walking.{IsPlaceIn, IsStem, IsExactAt, IsWalkable}
 use Rattle.exact_cutset.proofs.Cuts.{nth, second-few, layer-there, few-nodes, seen, last-is}
 use Rattle.exact_cutset.proofs.Searched.{there}
 use Rattle.exact_cutset.proofs.Taken.{node-here}
@@ -78,7 +77,7 @@ led-to : (dp : Dp) (k : ℕ) (node : DdNode) (arc : DdArc) (o : Option DdNode) �
 led-to dp k node arc None h = absurd h
 led-to dp k node arc (Some x) h = refl
 
-led-in : (dp : Dp) (k : ℕ) (t : Option ℤ) (node : DdNode) (next : List DdNode) (arc : DdArc) (target : Option ℕ) → Leads dp k t node next arc target → IsIn next target
+led-in : (dp : Dp) (k : ℕ) (t : Option ℤ) (node : DdNode) (next : List DdNode) (arc : DdArc) (target : Option ℕ) → Leads dp k t node next arc target → IsPlaceIn next target
 led-in dp k t node next arc None h = tt
 led-in dp k t node next arc (Some place) h = led-to dp k node arc (slice_get next place) h
 
@@ -128,7 +127,7 @@ module _ (dp : Dp) (laws : IsLawful dp) (p : List ℕ) (w : ℕ) (t : Option ℤ
           far = λ bound b. child-far dp laws p w t d short h (record { depth = depth; place = i; bound = bound }) (record { node = x; is = at; exact = exact; below = omega arith; above = high; bound = b });
         };
         long = (l.reached_by exact).depth;
-        leads = Each-then (λ (arc : DdArc). Leads dp (length p + m) t x (layer_in d (depth + 1)) arc arc.target) (λ (arc : DdArc). IsIn (layer_in d (depth + 1)) arc.target) x.arcs (λ arc l. led-in dp (length p + m) t x (layer_in d (depth + 1)) arc arc.target l) leads;
+        leads = Each-then (λ (arc : DdArc). Leads dp (length p + m) t x (layer_in d (depth + 1)) arc arc.target) (λ (arc : DdArc). IsPlaceIn (layer_in d (depth + 1)) arc.target) x.arcs (λ arc l. led-in dp (length p + m) t x (layer_in d (depth + 1)) arc arc.target l) leads;
       }
 
   apart : (depth i j : ℕ) (x y : DdNode) → length p < depth → depth < dp.vars → node_at d depth i ≡ Some x → node_at d depth j ≡ Some y → x.exact ≡ true → y.exact ≡ true → i ≢ j → begins x.path y.path ≡ false

@@ -1,16 +1,16 @@
 -- A layer is walked, node by node.
-use Rattle.std.proofs.Common.{◌≡◌, ◌≢◌, ℕ, zero, suc, ◌+◌, ◌-◌, ◌*◌, ◌<◌, ◌≤◌, ℤ, Bool, true, false, not, cond, ◌&&◌, ◌||◌, List, [], ◌∷◌, ◌++◌, length, map, take, slice_get, Option, Some, None, is_some, option_map, ◌⊎◌, inl, inr, refl, sym, ◌∙◌, ap, subst, arith, append_assoc, length-append}
+use Rattle.std.proofs.Common.{◌≡◌, ◌≢◌, ℕ, zero, suc, ◌+◌, ◌-◌, ◌<◌, ◌≤◌, Bool, true, false, not, cond, ◌&&◌, ◌||◌, List, [], ◌∷◌, ◌++◌, length, map, slice_get, Option, Some, None, is_some, option_map, ◌⊎◌, inl, inr, refl, sym, ◌∙◌, ap, subst, arith, append_assoc, length-append}
 use Rattle.std.specs.List.{cons_option}
 use Rattle.dp_model.specs.Dp.{Dp}
 use Rattle.dp_model.specs.Decisions.{begins}
 use Rattle.dp_model.specs.Lists.{Each}
 use Rattle.dp_model.proofs.RowLemmas.{nat_eq-self}
 use Rattle.dp_laws.specs.Diagrams.Nodes.{DdNode, DdLayers, node_at}
-use Rattle.dp_laws.specs.Diagrams.Cutsets.{ChildAt, bound_of, with_bound, is_border, leaves, passes, outermost, child_from, path_at, frontier_at}
+use Rattle.dp_laws.specs.Diagrams.Cutsets.{ChildAt, bound_of, with_bound, is_border, leaves, passes, outermost, child_from, path_at}
 use Rattle.dp_laws.proofs.Diagrams.Places.{same-Some, slice_get-append, slice_get-last}
 use Rattle.relaxed_dd.specs.Shown.{layer_in, last_of}
-use Rattle.exact_cutset.specs.Seen.{ChildrenView, with_child}
-use Rattle.exact_cutset.specs.Walking.{IsStem, IsWalkable, border_at, with_border, borders_left, is_free, AreMarks, HasLooked, IsTakenExact, IsTakenNode}
+use Rattle.exact_cutset.specs.Seen.{ChildrenView}
+use Rattle.exact_cutset.specs.Walking.{IsStem, IsWalkable, border_at, with_border, borders_left, is_free, AreMarks, HasLooked, IsTakenNode}
 use Rattle.exact_cutset.proofs.Kept.{map-last}
 use Rattle.exact_cutset.proofs.Lefts.{left-from}
 use Rattle.exact_cutset.proofs.Taken.{node-here}

@@ -9,15 +9,15 @@ use Rattle.relaxed_dd.specs.Shown.{layer_in}
 use Rattle.exact_cutset.specs.Seen.{ChildrenView, with_child, solution_of}
 
 -- a node at depth k may become a child: it is exact, its row is a state, and where it has a bound that is of a bounded size
-pub record IsReady (dp : Dp) (k : ℕ) (node : DdNode) : Type 0 where
+pub record IsChildReady (dp : Dp) (k : ℕ) (node : DdNode) : Type 0 where
   pub exact : node.exact ≡ true
   pub state : IsStateOf dp k node.row
   pub cells : length node.row ≡ dp.words
   pub far : (bound : ℤ) → bound_of dp k node ≡ Some bound → IsFar bound
 
-abbrev pub IsReadyAt : Dp → ℕ → Option DdNode → Type 0
-IsReadyAt dp k None = ⊥
-IsReadyAt dp k (Some node) = IsReady dp k node
+abbrev pub IsChildReadyAt : Dp → ℕ → Option DdNode → Type 0
+IsChildReadyAt dp k None = ⊥
+IsChildReadyAt dp k (Some node) = IsChildReady dp k node
 
 -- the bound of the node at a place
 abbrev pub bound_at : Dp → DdLayers → ℕ → ℕ → Option ℤ
@@ -34,7 +34,7 @@ pub record IsCut (dp : Dp) (d : DdLayers) (depth room : ℕ) : Type 0 where
   pub last : depth ≤ d.first + (length d.layers - 1)
   pub low : depth ≤ dp.vars
   pub few : length (layer_in d depth) ≤ room
-  pub ready : (i : ℕ) → i < length (layer_in d depth) → IsReadyAt dp depth (node_at d depth i)
+  pub ready : (i : ℕ) → i < length (layer_in d depth) → IsChildReadyAt dp depth (node_at d depth i)
 
 -- the place is that of the first exact node, and none where there is none
 pub record IsFirstExact (layer : List DdNode) (place : ℕ) : Type 0 where

@@ -6,8 +6,8 @@ use Rattle.dp_model.specs.Subproblem.{Subproblem}
 use Rattle.dp_laws.specs.Diagrams.Cutsets.{ChildAt}
 use Rattle.exact_cutset.specs.declared.child.Child.{Child}
 
-abbrev pub place_of : Child → ChildAt
-place_of c = record { depth = c.depth; place = c.node; bound = c.bound }
+abbrev pub child_place : Child → ChildAt
+child_place c = record { depth = c.depth; place = c.node; bound = c.bound }
 
 -- a child with its row and its decisions
 abbrev pub shown_sub : Child → List ℤ → List ℕ → Subproblem

@@ -1,5 +1,5 @@
 -- The frontier, walked layer by layer from the first one down.
-use Rattle.std.specs.Prelude.{◌≡◌, ◌≢◌, ℕ, ◌+◌, ◌-◌, ◌*◌, ◌<◌, ◌≤◌, ℤ, Bool, true, false, not, cond, ◌&&◌, List, [], ◌∷◌, ◌++◌, length, take, drop, slice_get, Option, Some, None, IsSome, is_some, option_map, map}
+use Rattle.std.specs.Prelude.{◌≡◌, ◌≢◌, ℕ, ◌+◌, ◌-◌, ◌*◌, ◌<◌, ◌≤◌, Bool, true, false, not, cond, ◌&&◌, List, ◌++◌, length, take, drop, slice_get, Option, Some, None, IsSome, is_some, option_map, map}
 use Rattle.dp_model.specs.Dp.{Dp}
 use Rattle.dp_model.specs.Decisions.{begins}
 use Rattle.dp_model.specs.Lists.{Each}
@@ -8,12 +8,12 @@ use Rattle.dp_laws.specs.Diagrams.Nodes.{DdNode, DdLayers, node_at}
 use Rattle.dp_laws.specs.Diagrams.Cutsets.{ChildAt, bound_of, is_border, all_borders_at, passes, outermost, path_at, frontier_at, places_where, child_from}
 use Rattle.relaxed_dd.specs.Shown.{layer_in, last_of}
 use Rattle.exact_cutset.specs.Seen.{ChildrenView, with_child}
-use Rattle.exact_cutset.specs.Ready.{IsReady}
+use Rattle.exact_cutset.specs.Ready.{IsChildReady}
 
 -- the place lies in the layer
-abbrev pub IsIn : List DdNode → Option ℕ → Type 0
-IsIn layer None = Unit {0}
-IsIn layer (Some place) = IsSome (slice_get layer place)
+abbrev pub IsPlaceIn : List DdNode → Option ℕ → Type 0
+IsPlaceIn layer None = Unit {0}
+IsPlaceIn layer (Some place) = IsSome (slice_get layer place)
 
 -- the node at the place of the layer above is exact, and the path leads through it
 pub record IsStem (d : DdLayers) (depth place : ℕ) (path : List ℕ) : Type 0 where
@@ -24,9 +24,9 @@ pub record IsStem (d : DdLayers) (depth place : ℕ) (path : List ℕ) : Type 0 
 
 -- an exact node at the depth: it may become a child, its path has so many decisions, and its arcs lead to nodes
 pub record IsExactAt (dp : Dp) (d : DdLayers) (depth : ℕ) (node : DdNode) : Type 0 where
-  pub ready : IsReady dp depth node
+  pub ready : IsChildReady dp depth node
   pub long : length node.path ≡ depth
-  pub leads : Each (λ (arc : DdArc). IsIn (layer_in d (depth + 1)) arc.target) node.arcs
+  pub leads : Each (λ (arc : DdArc). IsPlaceIn (layer_in d (depth + 1)) arc.target) node.arcs
 
 -- the layers between the first and the last one can be walked: they have few nodes, and the exact ones of each layer have different
 -- paths that lead through exact nodes
@@ -101,7 +101,7 @@ pub record IsTakenNode (dp : Dp) (d : DdLayers) (depth i : ℕ) (above : List Bo
 -- the arcs of the node lead to nodes of the next layer
 abbrev pub HasLeaving : DdLayers → ℕ → Option DdNode → Type 0
 HasLeaving d depth None = Unit {0}
-HasLeaving d depth (Some node) = Each (λ (arc : DdArc). IsIn (layer_in d (depth + 1)) arc.target) node.arcs
+HasLeaving d depth (Some node) = Each (λ (arc : DdArc). IsPlaceIn (layer_in d (depth + 1)) arc.target) node.arcs
 
 -- the place of the stem of a node, which is the only one of the first layer, or has the front of the node's path
 abbrev pub StemsAt : DdLayers → ℕ → ℕ → Option DdNode → Type 0

@@ -4,7 +4,7 @@ ghost use Rattle.std.specs.Prelude.{◌≡◌, ◌≤◌, ◌+ℤ◌, int_le, co
 ghost use Rattle.dp_model.specs.Numbers.{IsFar};
 ghost use Rattle.dp_laws.specs.Diagrams.Nodes.{node_at};
 ghost use Rattle.relaxed_dd.specs.Shown.{layers_of};
-ghost use Rattle.exact_cutset.specs.Ready.{IsReadyAt, bound_at};
+ghost use Rattle.exact_cutset.specs.Ready.{IsChildReadyAt, bound_at};
 
 use dp_model::DpModel;
 use relaxed_dd::Diagram;
@@ -32,7 +32,7 @@ pub(crate) fn bound_of<M: DpModel>(
     node: usize,
 ) -> Option<i64>
     requires first { (layers_of diagram.now).first ≤ depth }
-    requires ready { IsReadyAt (M.meaning (M.numbers model.now)) depth (node_at (layers_of diagram.now) depth node) }
+    requires ready { IsChildReadyAt (M.meaning (M.numbers model.now)) depth (node_at (layers_of diagram.now) depth node) }
     ensures { result ≡ bound_at (M.meaning (M.numbers model.now)) (layers_of diagram.now) depth node }
 {
     let suffix = diagram.suffix(depth, node)?;

@@ -1,6 +1,6 @@
 //! The first exact node of the last layer.
 
-ghost use Rattle.std.specs.Prelude.{◌≡◌, ◌-◌, ◌<◌, ◌≤◌, length, None};
+ghost use Rattle.std.specs.Prelude.{◌≡◌, ◌-◌, ◌<◌, length, None};
 ghost use Rattle.dp_laws.specs.Diagrams.Cutsets.{found_in};
 ghost use Rattle.relaxed_dd.specs.Shown.{layers_of, last_of, layer_in};
 ghost use Rattle.exact_cutset.specs.Ready.{FindsExact};

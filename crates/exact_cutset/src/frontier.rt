@@ -1,12 +1,11 @@
 //! The frontier: the exact nodes with an arc to an inexact one, none of them below another.
 
-ghost use Rattle.std.specs.Prelude.{◌≡◌, ◌+◌, ◌-◌, ◌*◌, ◌<◌, ◌≤◌, ℕ, true, [], Some, IsSome, length, map, option_map, slice_get, vec_len, vec_capacity};
-ghost use Rattle.dp_model.specs.Lists.{Each};
+ghost use Rattle.std.specs.Prelude.{◌≡◌, ◌+◌, ◌-◌, ◌<◌, ◌≤◌, ℕ, true, [], Some, IsSome, length, map, option_map, vec_capacity};
 ghost use Rattle.dp_laws.specs.Diagrams.Nodes.{node_at};
-ghost use Rattle.dp_laws.specs.Diagrams.Cutsets.{leads_out, leaves, frontier_at, child_from};
+ghost use Rattle.dp_laws.specs.Diagrams.Cutsets.{leads_out, leaves, child_from};
 ghost use Rattle.relaxed_dd.specs.Shown.{layers_of, last_of, layer_in};
-ghost use Rattle.exact_cutset.specs.Walking.{IsIn, HasLeaving, StemsAt, IsWalkable, HasLooked, IsWalkedTo, HasWalkedLayer, HasFrontier, IsFreeNode, IsTakenBorder, IsTakenNode};
-ghost use Rattle.exact_cutset.specs.Ready.{IsReadyAt};
+ghost use Rattle.exact_cutset.specs.Walking.{IsPlaceIn, HasLeaving, StemsAt, IsWalkable, IsWalkedTo, HasWalkedLayer, HasFrontier, IsFreeNode, IsTakenBorder, IsTakenNode};
+ghost use Rattle.exact_cutset.specs.Ready.{IsChildReadyAt};
 
 use crate::listed::Listed;
 use crate::taking::offer;
@@ -16,7 +15,7 @@ use relaxed_dd::Diagram;
 /// Whether an arc with the target leads to an inexact node of the layer at the depth.
 fn leads_out(diagram: &Diagram, depth: usize, target: Option<u32>) -> bool
     requires first { (layers_of diagram.now).first ≤ depth }
-    requires place { IsIn (layer_in (layers_of diagram.now) depth) target }
+    requires place { IsPlaceIn (layer_in (layers_of diagram.now) depth) target }
     ensures { result ≡ leads_out (layer_in (layers_of diagram.now) depth) target }
 {
     match target {
@@ -79,7 +78,7 @@ fn take_border<M: DpModel>(
     requires depth { depth ≤ out.old.vars }
     requires low { depth ≤ 1024 }
     requires words { out.old.words ≡ (M.meaning (M.numbers model.now)).words }
-    requires ready { IsReadyAt (M.meaning (M.numbers model.now)) depth (node_at (layers_of diagram.now) depth node) }
+    requires ready { IsChildReadyAt (M.meaning (M.numbers model.now)) depth (node_at (layers_of diagram.now) depth node) }
     requires leads { HasLeaving (layers_of diagram.now) depth (node_at (layers_of diagram.now) depth node) }
     requires room { length out.old.places < out.old.room }
     ensures { IsTakenBorder (M.meaning (M.numbers model.now)) (layers_of diagram.now) depth node (node_at (layers_of diagram.now) depth node) out.old out.new result }

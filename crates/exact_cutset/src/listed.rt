@@ -35,10 +35,10 @@ impl Model for Listed {
 
     ghost Value = { ChildrenView };
 
-    ghost use Rattle.exact_cutset.specs.Stored.{place_of, shown_subs, shown_solution, HasChildren};
+    ghost use Rattle.exact_cutset.specs.Stored.{child_place, shown_subs, shown_solution, HasChildren};
 
     ghost view = { λ c. record {
-      places = map place_of c.places.items;
+      places = map child_place c.places.items;
       subs = shown_subs c.words c.places.items c.rows.items c.paths.items;
       found = shown_solution c.found c.decisions.items;
       width = c.width;

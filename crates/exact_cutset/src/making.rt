@@ -1,7 +1,6 @@
 //! Subproblems of their own, made of the children in memory.
 
-ghost use Rattle.std.specs.Prelude.{◌≡◌, ◌*◌, ◌≤◌, IfOk, length};
-ghost use Rattle.dp_model.specs.Lists.{Each};
+ghost use Rattle.std.specs.Prelude.{◌≡◌, ◌*◌, IfOk, length};
 ghost use Rattle.exact_cutset.specs.Seen.{subproblems};
 ghost use Rattle.exact_cutset.specs.Stored.{shown_sub, shown_subs, depths_of};
 

@@ -1,11 +1,11 @@
 //! The children of a diagram.
 
-ghost use Rattle.std.specs.Prelude.{◌≡◌, ◌<◌, ◌≤◌, [], None, is_some, length, map, true, vec_capacity};
+ghost use Rattle.std.specs.Prelude.{◌≡◌, ◌<◌, ◌≤◌, [], is_some, length, map, true, vec_capacity};
 ghost use Rattle.dp_laws.specs.Diagrams.Nodes.{node_at};
 ghost use Rattle.dp_laws.specs.Diagrams.Cutsets.{children_at, children_of, found_in, last_exact_at, places_where, child_from};
 ghost use Rattle.relaxed_dd.specs.Shown.{layers_of, width_of, layer_in, IsDiagramOf};
 ghost use Rattle.exact_cutset.specs.Prepared.{IsListPreparedFor};
-ghost use Rattle.exact_cutset.specs.Ready.{IsReadyAt, IsCut, CutIsReady, bound_at, with_bounded};
+ghost use Rattle.exact_cutset.specs.Ready.{IsChildReadyAt, IsCut, CutIsReady, bound_at, with_bounded};
 
 use crate::bounding::bound_of;
 use crate::filled::Children;
@@ -26,7 +26,7 @@ pub(crate) fn offer<M: DpModel>(
     requires first { (layers_of diagram.now).first ≤ depth }
     requires depth { depth ≤ out.old.vars }
     requires words { out.old.words ≡ (M.meaning (M.numbers model.now)).words }
-    requires ready { IsReadyAt (M.meaning (M.numbers model.now)) depth (node_at (layers_of diagram.now) depth node) }
+    requires ready { IsChildReadyAt (M.meaning (M.numbers model.now)) depth (node_at (layers_of diagram.now) depth node) }
     requires room { length out.old.places < out.old.room }
     ensures kept { out.new ≡ with_bounded (layers_of diagram.now) depth node (bound_at (M.meaning (M.numbers model.now)) (layers_of diagram.now) depth node) out.old }
     ensures told { result ≡ is_some (bound_at (M.meaning (M.numbers model.now)) (layers_of diagram.now) depth node) }

@@ -3,7 +3,7 @@ use Rattle.std.specs.Prelude.{ℕ, ◌+◌, ◌-◌, ◌*◌, max, ℤ, pos, uns
 use Rattle.dp_model.specs.Dp.{Dp}
 use Rattle.knapsack.specs.declared.item.Item.{Item}
 use Rattle.knapsack.specs.Instance.{Instance, instance_of}
-use Rattle.knapsack.specs.Order.{in_order, fill}
+use Rattle.knapsack.specs.Order.{ratio_order, fill}
 
 -- the capacity that a state has left
 abbrev pub left : List ℤ → ℕ
@@ -21,7 +21,7 @@ item_at items k = slice_index_or items k (record { profit = 0; weight = 0; copie
 
 -- the greedy fill of what is left by the items from the layer on
 abbrev pub rough_from : List Item → ℕ → ℕ → ℕ
-rough_from items k rest = fill (in_order (drop k items)) rest
+rough_from items k rest = fill (ratio_order (drop k items)) rest
 
 -- the dynamic program of an instance
 abbrev pub program_of : Instance → Dp

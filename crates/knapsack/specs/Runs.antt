@@ -29,6 +29,6 @@ pub record AreRuns (runs : List Run) : Type 0 where
   pub small : list_all is_small_item items ≡ true
 
 -- for each layer, and for the end, the runs of the items from it on
-pub record AreLayers (order : List Placed) (layers : List (Vec Run Global)) : Type 0 where
+pub record AreRunLayers (order : List Placed) (layers : List (Vec Run Global)) : Type 0 where
   pub many : length layers ≡ length order + 1
   pub each : (k : ℕ) (d : Vec Run Global) → k < length layers → (slice_index_or layers k d).items ≡ runs_of 0 0 (kept_from k order)

@@ -1,7 +1,7 @@
 ghost use Rattle.std.specs.Prelude.{◌≡◌, IsTrue, IfOk};
 ghost use Rattle.knapsack.specs.Instance.{is_small};
 ghost use Rattle.knapsack.specs.Placed.{placed_from};
-ghost use Rattle.knapsack.specs.Runs.{AreLayers};
+ghost use Rattle.knapsack.specs.Runs.{AreRunLayers};
 
 use crate::item::Item;
 use crate::ordering::ordered;
@@ -20,7 +20,7 @@ pub struct Knapsack {
     pub(crate) runs: Vec<Vec<Run>>,
     ghost small: { IsTrue (is_small (record { capacity = capacity; items = items.items })) },
     ghost ordered: { order.items ≡ placed_from 0 items.items },
-    ghost layered: { AreLayers order.items runs.items },
+    ghost layered: { AreRunLayers order.items runs.items },
 }
 
 impl Knapsack {

@@ -1,7 +1,7 @@
-ghost use Rattle.std.specs.Prelude.{◌≡◌, ℕ, ◌-◌, ◌^◌, ◌+◌, ◌<◌, ◌≤◌, ◌≤ℤ◌, pos, length, true, IsTrue, Ok, Err, OnOk, IfOk, MatchResult};
+ghost use Rattle.std.specs.Prelude.{◌≡◌, ◌-◌, ◌^◌, ◌+◌, ◌<◌, ◌≤◌, length, true, Ok, Err, OnOk, IfOk};
 ghost use Rattle.std.specs.List.{list_all};
 ghost use Rattle.dd_text.specs.Grammar.{Reads, times};
-ghost use Rattle.knapsack.specs.Instance.{is_small, is_small_item};
+ghost use Rattle.knapsack.specs.Instance.{is_small_item};
 ghost use Rattle.knapsack.specs.Shown.{instance_in};
 ghost use Rattle.knapsack.specs.Reading.{copies_at, item_behind, instance_text};
 

@@ -2,7 +2,7 @@
 
 ghost use Rattle.std.specs.Prelude.{◌≡◌, ◌≤◌, length, IfOk};
 ghost use Rattle.knapsack.specs.Placed.{kept_from, HasSmallItems};
-ghost use Rattle.knapsack.specs.Runs.{runs_of, AreLayers};
+ghost use Rattle.knapsack.specs.Runs.{runs_of, AreRunLayers};
 
 use crate::filling::{whole_profit, whole_weight};
 use crate::item::Item;
@@ -57,7 +57,7 @@ fn runs_from(alloc: Global, order: &[Placed], layer: usize) -> Result<Vec<Run>, 
 /// For each layer, and for the end, the runs of the items from it on.
 pub(crate) fn runs_by_layer(alloc: Global, order: &[Placed]) -> Result<Vec<Vec<Run>>, AllocError>
     requires { HasSmallItems order.now }
-    ensures { IfOk result (λ v. AreLayers order.now v.items) }
+    ensures { IfOk result (λ v. AreRunLayers order.now v.items) }
 {
     let mut layers = Vec::with_capacity(alloc, order.len() + 1)?;
     for k in 0..order.len() + 1 {

@@ -1,6 +1,7 @@
 -- A layer is expanded in the same way whatever arcs it had.
-use Rattle.std.proofs.Common.{◌≡◌, ℕ, ℤ, Option, Bool, ◌&&◌, ◌||◌, not, ◌+◌, List, [], ◌∷◌, map, None, refl, ap, ap₂, ◌∙◌}
+use Rattle.std.proofs.Common.{◌≡◌, ℕ, ℤ, Option, Bool, ◌&&◌, ◌||◌, not, ◌+◌, List, [], ◌∷◌, map, None, refl, sym, ap, ap₂, ◌∙◌, subst}
 use Rattle.dp_model.specs.Dp.{Dp}
+use Rattle.dp_model.specs.Lists.{Each}
 use Rattle.dp_model.specs.Reached.{Reached}
 use Rattle.dp_laws.specs.Restricted.Beam.{expanded}
 use Rattle.dp_laws.specs.Diagrams.Nodes.{DdNode, prefix_at}
@@ -9,6 +10,7 @@ use Rattle.dp_laws.specs.Rules.Expanding.{makes, is_exact_row, node_for, new_lay
 use Rattle.dp_laws.specs.Rules.Compiling.{expand}
 use Rattle.dp_laws.specs.Rules.Redirects.{with_redirected}
 use Rattle.layer_nodes.specs.Nodes.{NodeView, shown_from, shown_layer, without_arcs}
+use Rattle.layer_nodes.specs.Steps.{IsParent}
 use Rattle.layer_nodes.specs.Sifting.{sifted_nodes, sift_redirects, expand_sifted}
 
 -- a node without its arcs
@@ -35,26 +37,48 @@ arcs-bare : (dp : Dp) (k : ℕ) (next layer : List DdNode) → with_arcs dp k ne
 arcs-bare dp k next [] = refl
 arcs-bare dp k next (node ∷ layer) = ap (λ (l : List DdNode). record node { arcs = map (arc_of dp k next node.row) (decisions_at dp k node.row) } ∷ l) (arcs-bare dp k next layer)
 
-pub bare-next : (dp : Dp) (k : ℕ) (layer : List DdNode) → (expand dp k (map bare layer)).next ≡ (expand dp k layer).next
+bare-next : (dp : Dp) (k : ℕ) (layer : List DdNode) → (expand dp k (map bare layer)).next ≡ (expand dp k layer).next
 bare-next dp k layer = next-bare dp k layer
 
-pub bare-above : (dp : Dp) (k : ℕ) (layer : List DdNode) → (expand dp k (map bare layer)).above ≡ (expand dp k layer).above
+bare-above : (dp : Dp) (k : ℕ) (layer : List DdNode) → (expand dp k (map bare layer)).above ≡ (expand dp k layer).above
 bare-above dp k layer = ap (λ (l : List DdNode). with_arcs dp k l (map bare layer)) (next-bare dp k layer) ∙ arcs-bare dp k (new_layer dp k layer) layer
 
 -- and without its struck nodes
-pub sifted-bare-next : (dp : Dp) (k : ℕ) (t : Option ℤ) (layer : List DdNode) → (expand_sifted dp k t (map bare layer)).next ≡ (expand_sifted dp k t layer).next
+sifted-bare-next : (dp : Dp) (k : ℕ) (t : Option ℤ) (layer : List DdNode) → (expand_sifted dp k t (map bare layer)).next ≡ (expand_sifted dp k t layer).next
 sifted-bare-next dp k t layer = ap (sifted_nodes dp (k + 1) t) (bare-next dp k layer)
 
-pub sifted-bare-above : (dp : Dp) (k : ℕ) (t : Option ℤ) (layer : List DdNode) → (expand_sifted dp k t (map bare layer)).above ≡ (expand_sifted dp k t layer).above
+sifted-bare-above : (dp : Dp) (k : ℕ) (t : Option ℤ) (layer : List DdNode) → (expand_sifted dp k t (map bare layer)).above ≡ (expand_sifted dp k t layer).above
 sifted-bare-above dp k t layer = ap₂ (λ next above. with_redirected (sift_redirects dp (k + 1) t 0 next) above) (bare-next dp k layer) (bare-above dp k layer)
 
 shown-bare-from : (paths : ℕ → List ℕ) (i : ℕ) (nodes : List NodeView) → shown_from paths i (map without_arcs nodes) ≡ map bare (shown_from paths i nodes)
 shown-bare-from paths i [] = refl
 shown-bare-from paths i (n ∷ nodes) = ap₂ (λ (a : DdNode) (l : List DdNode). a ∷ l) refl (shown-bare-from paths (i + 1) nodes)
 
-pub shown-bare : (paths : ℕ → List ℕ) (nodes : List NodeView) → shown_layer paths (map without_arcs nodes) ≡ map bare (shown_layer paths nodes)
-shown-bare paths nodes = shown-bare-from paths 0 nodes
+-- nodes that differ in their arcs and in the places of their rows alone
+alike-shown : (paths : ℕ → List ℕ) (old new : List NodeView) → map without_arcs new ≡ map without_arcs old → map bare (shown_layer paths new) ≡ map bare (shown_layer paths old)
+alike-shown paths old new e = sym (shown-bare-from paths 0 new) ∙ (ap (shown_layer paths) e ∙ shown-bare-from paths 0 old)
 
-pub bare-twice : (nodes : List NodeView) → map without_arcs (map without_arcs nodes) ≡ map without_arcs nodes
-bare-twice [] = refl
-bare-twice (n ∷ nodes) = ap (λ (l : List NodeView). without_arcs n ∷ l) (bare-twice nodes)
+pub alike-next : (dp : Dp) (k : ℕ) (paths : ℕ → List ℕ) (old new : List NodeView) → map without_arcs new ≡ map without_arcs old → (expand dp k (shown_layer paths new)).next ≡ (expand dp k (shown_layer paths old)).next
+alike-next dp k paths old new e = sym (bare-next dp k (shown_layer paths new)) ∙ (ap (λ (l : List DdNode). (expand dp k l).next) (alike-shown paths old new e) ∙ bare-next dp k (shown_layer paths old))
+
+pub alike-above : (dp : Dp) (k : ℕ) (paths : ℕ → List ℕ) (old new : List NodeView) → map without_arcs new ≡ map without_arcs old → (expand dp k (shown_layer paths new)).above ≡ (expand dp k (shown_layer paths old)).above
+alike-above dp k paths old new e = sym (bare-above dp k (shown_layer paths new)) ∙ (ap (λ (l : List DdNode). (expand dp k l).above) (alike-shown paths old new e) ∙ bare-above dp k (shown_layer paths old))
+
+pub sifted-alike-next : (dp : Dp) (k : ℕ) (t : Option ℤ) (paths : ℕ → List ℕ) (old new : List NodeView) → map without_arcs new ≡ map without_arcs old
+    → (expand_sifted dp k t (shown_layer paths new)).next ≡ (expand_sifted dp k t (shown_layer paths old)).next
+sifted-alike-next dp k t paths old new e =
+    sym (sifted-bare-next dp k t (shown_layer paths new)) ∙ (ap (λ (l : List DdNode). (expand_sifted dp k t l).next) (alike-shown paths old new e) ∙ sifted-bare-next dp k t (shown_layer paths old))
+
+pub sifted-alike-above : (dp : Dp) (k : ℕ) (t : Option ℤ) (paths : ℕ → List ℕ) (old new : List NodeView) → map without_arcs new ≡ map without_arcs old
+    → (expand_sifted dp k t (shown_layer paths new)).above ≡ (expand_sifted dp k t (shown_layer paths old)).above
+sifted-alike-above dp k t paths old new e =
+    sym (sifted-bare-above dp k t (shown_layer paths new)) ∙ (ap (λ (l : List DdNode). (expand_sifted dp k t l).above) (alike-shown paths old new e) ∙ sifted-bare-above dp k t (shown_layer paths old))
+
+pub alike-parents : (dp : Dp) (k : ℕ) (old new : List NodeView) → map without_arcs new ≡ map without_arcs old → Each (IsParent dp k) old → Each (IsParent dp k) new
+alike-parents dp k old [] e h = tt
+alike-parents dp k [] (n ∷ new) e h = absurd (cc)
+alike-parents dp k (o ∷ old) (n ∷ new) e h =
+    let same : without_arcs n ≡ without_arcs o = cc in
+    let rest : map without_arcs new ≡ map without_arcs old = cc in
+    let one : IsParent dp k (without_arcs n) = subst (IsParent dp k) (sym same) (record { state = h.0.state; rank = h.0.rank; value = h.0.value }) in
+    (record { state = one.state; rank = one.rank; value = one.value }, alike-parents dp k old new rest h.1)

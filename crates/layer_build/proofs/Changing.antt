@@ -14,17 +14,20 @@ use Rattle.dp_laws.proofs.Rules.Pruned.{few-pruned}
 use Rattle.layer_build.specs.contracts.workspace.Workspace.{the_view, the_invariant}
 use Rattle.layer_build.specs.declared.workspace.Workspace.TheInside.{Inside}
 use Rattle.layer_build.specs.Layers.{last_depth, last_layer, on_last_two}
-use Rattle.layer_build.specs.Stacked.{no_layer, place_above, room_of, HaveRooms, HaveDepths, path_in, shown_down}
+use Rattle.layer_build.specs.Stacked.{no_layer, place_of, place_above, nodes_in, room_of, HaveRooms, HasRows, HaveDepths, path_in, shown_down}
 use Rattle.layer_build.specs.UnderWay.{IsUnderWay, last_two}
+use Rattle.layer_nodes.specs.Holding.{AreHeld}
+use Rattle.layer_build.proofs.Held.{rows-like}
+use Rattle.layer_nodes.proofs.Holding.{held-nodes}
 use Rattle.layer_build.proofs.Kept.{last-two}
 use Rattle.layer_build.proofs.Shown.{ranks-of}
-use Rattle.layer_build.proofs.Stacks.{at_depth, newest-at, above-first, above-later, place-low, count-of, rooms-set, map-length}
-use Rattle.layer_build.proofs.Going.{above_of, last_paths, deep, last-seen, count-seen, first-or, top-empty, two-view}
+use Rattle.layer_build.proofs.Stacks.{at_depth, newest-at, kept-at, put-at, places-apart, above-first, above-later, place-low, count-of, rooms-set, map-length}
+use Rattle.layer_build.proofs.Going.{above_of, above-is, above-within, place-is, last_paths, deep, last-seen, count-seen, first-or, top-empty, two-view}
 
 -- the workspace with its last two layers changed
 abbrev pub changed : Inside → ℕ → LayerView → LayerView → ℕ → Option ℕ → Inside
 changed i at x n redirects first_reduced = record i {
-  stack = record { vars = i.stack.vars; first = i.stack.first; last = i.stack.last; layers = with_item i.stack.layers at x; newest = n };
+  stack = record { vars = i.stack.vars; first = i.stack.first; last = i.stack.last; layers = with_item i.stack.layers at x; newest = n; region = i.stack.region };
   redirects = redirects;
   first_reduced = first_reduced;
 }
@@ -65,6 +68,41 @@ pub record HasChanged (i : Inside) (at : ℕ) (old d x n : LayerView) (redirects
 pub bare-above : (i : Inside) (at : ℕ) (old d x n : LayerView) (redirects : ℕ) → HasChanged i at old d x n redirects → map without_arcs x.nodes ≡ map without_arcs (above_of i).nodes
 bare-above i at old d x n redirects e = e.rest.nodes ∙ ap (λ (l : LayerView). map without_arcs l.nodes) e.above
 
+changed-rows : (i : Inside) → the_invariant i → (at : ℕ) (old d x n : LayerView) (redirects : ℕ) (first_reduced : Option ℕ) → HasChanged i at old d x n redirects
+    → HasRows i.words i.width i.held (changed i at x n redirects first_reduced).stack
+changed-rows i h at old d x n redirects first_reduced e =
+    rows-like i.words i.width i.held i.stack (changed i at x n redirects first_reduced).stack
+    (record { vars = refl; first = refl; last = refl; region = refl; rooms = rooms-set items at x old d e.lent (record { words = e.rest.words; nodes_room = e.rest.nodes_room; arcs_room = e.rest.arcs_room }) })
+    (λ k above low held. kept k above low held (grind arith)) h.rows
+  where
+    vars : ℕ
+    vars = i.stack.vars
+
+    first : ℕ
+    first = i.stack.first
+
+    last : ℕ
+    last = i.stack.last
+
+    items : List LayerView
+    items = i.stack.layers.items
+
+    new : ℕ → List NodeView
+    new = at_depth i.stack.vars i.stack.first i.stack.last (set i.stack.layers.items at x) n
+
+    kept : (k : ℕ) → i.stack.first ≤ k → k < i.stack.last → AreHeld i.stack.region (nodes_in i.stack k) → (k ≡ i.stack.last - 1) ⊎ (k < i.stack.last - 1) → AreHeld i.stack.region (new k)
+    kept k above low held (inl same) =
+        let less : i.stack.first < i.stack.last = omega arith in
+        let place : at ≡ place_of vars first k = e.place ∙ (place-is i less ∙ ap (place_of vars first) (sym same)) in
+        let within = above-within i h in
+        let here : new k ≡ x.nodes = ap (λ (p : ℕ). at_depth vars first last (set items p x) n k) place ∙ put-at vars first last items x n k low (subst (λ (p : ℕ). p < length items) (sym e.place ∙ place) within) in
+        let was : nodes_in i.stack k ≡ old.nodes = ap (nodes_in i.stack) same ∙ (above-is i less ∙ ap (λ (l : LayerView). l.nodes) (sym e.above)) in
+        subst (AreHeld i.stack.region) (sym here) (held-nodes i.stack.region old x e.rest (subst (AreHeld i.stack.region) was held))
+    kept k above low held (inr deeper) =
+        let most = h.stack.last in
+        let place : at ≡ place_of vars first (last - 1) = e.place ∙ place-is i (omega arith) in
+        subst (AreHeld i.stack.region) (sym (kept-at vars first last last at items x i.stack.newest n k low low (λ f. places-apart vars first (last - 1) k (omega arith) (omega arith) (λ g. absurd (omega arith)) (sym place ∙ f)))) held
+
 pub changed-space : (i : Inside) → the_invariant i → (at : ℕ) (old d x n : LayerView) (redirects : ℕ) (first_reduced : Option ℕ) → HasChanged i at old d x n redirects
     → HaveDepths i.stack.first (the_view (changed i at x n redirects first_reduced)).layers → the_invariant (changed i at x n redirects first_reduced)
 changed-space i h at old d x n redirects first_reduced e depths = record {
@@ -77,6 +115,7 @@ changed-space i h at old d x n redirects first_reduced e depths = record {
     newest_words = e.rooms.words ∙ h.stack.newest_words;
     top = top-kept i h at x e.place (bare-above i at old d x n redirects e);
   };
+  rows = changed-rows i h at old d x n redirects first_reduced e;
   first = h.first;
   prefix_fits = h.prefix_fits;
   expands = h.expands ∙ sym e.rooms.nodes_room;

@@ -11,15 +11,18 @@ use Rattle.dp_laws.specs.Diagrams.Nodes.{DdNode, path_below}
 use Rattle.dp_laws.specs.Diagrams.Seen.{suffix_at, suffix_from}
 use Rattle.dp_laws.specs.Rules.Compiling.{first_of_layers}
 use Rattle.layer_nodes.specs.Nodes.{NodeView, LayerView, shown, shown_from, shown_layer}
-use Rattle.layer_nodes.specs.Ending.{suffix_of, lengths, MayLead, ended_layer, ended_last}
+use Rattle.layer_nodes.specs.Ending.{suffix_of, lengths, MayLead, ended_layer}
+use Rattle.row_region.specs.Region.{RegionView}
 use Rattle.layer_build.specs.contracts.workspace.Workspace.{the_view, the_invariant}
 use Rattle.layer_build.specs.declared.stack.Stack.{Stack}
 use Rattle.layer_build.specs.declared.workspace.Workspace.TheInside.{Inside}
 use Rattle.layer_build.specs.Layers.{SpaceView, last_depth, layer_at}
-use Rattle.layer_build.specs.Ended.{ended, ended_at, longest_from, with_suffix, HasEnded}
+use Rattle.layer_build.specs.Ended.{ended, ended_at, longest_from, with_suffix, HasSuffixesAt}
 use Rattle.layer_build.specs.Stacked.{no_layer, place_of, room_of, nodes_in, path_in, paths_below, paths_at, shown_down, shown_stack, HoldFew, HaveDepths, HaveRooms}
+use Rattle.layer_nodes.specs.Holding.{AreHeld}
 use Rattle.layer_build.specs.UnderWay.{IsUnderWay}
 use Rattle.layer_build.proofs.Going.{deep}
+use Rattle.layer_build.proofs.Held.{rows-like}
 use Rattle.layer_build.proofs.Reading.{layer-down}
 use Rattle.layer_build.proofs.Stacks.{newest-at, above-at, kept-at, put-at, place-low, places-apart, rooms-set, is-or}
 use Rattle.layer_build.proofs.Suffixed.{ended_by, like-ended, depths-like, like-under-way, same-down}
@@ -55,11 +58,6 @@ leads-behind xs front behind n i d e f b less fits h =
 
 -- ---- in a stack
 
-last-rule : (s : Stack) (depth : ℕ) → depth ≡ s.last → (nodes : List NodeView) → map (λ (n : NodeView). record n { suffix = Some (pos 0) }) nodes ≡ map (with_suffix (longest_from s depth)) nodes
-last-rule s depth e nodes =
-    let test : nat_eq depth s.last ≡ true = grind (arith, nat_tests) in
-    ap (λ (b : Bool). map (with_suffix (λ arcs. cond b (Some (pos 0)) (greatest (lengths (map (λ (below : NodeView). below.suffix) (nodes_in s (depth + 1))) arcs)))) nodes) (sym test)
-
 above-rule : (s : Stack) (depth : ℕ) → depth ≢ s.last → (nodes : List NodeView)
     → map (λ (n : NodeView). record n { suffix = greatest (lengths (map (λ (below : NodeView). below.suffix) (nodes_in s (depth + 1))) n.arcs) }) nodes ≡ map (with_suffix (longest_from s depth)) nodes
 above-rule s depth other nodes =
@@ -81,8 +79,8 @@ down-to j last low = grind arith
 -- a layer above it
 pub layer-ended : (s : Stack) (depth at : ℕ) (layers : List LayerView) (x : LayerView) → HoldFew s → depth < s.last → at ≡ place_of s.vars s.first depth
     → x ≡ ended_layer (map (λ (below : NodeView). below.suffix) (nodes_in s (depth + 1))) (slice_index_or s.layers.items at no_layer) → layers ≡ set s.layers.items at x
-    → (new : Stack) → new.vars ≡ s.vars → new.first ≡ s.first → new.last ≡ s.last → new.newest ≡ s.newest → new.layers.items ≡ layers → HasEnded depth s new
-layer-ended s depth at layers x few low place is put new vars first last newest items =
+    → (new : Stack) → new.vars ≡ s.vars → new.first ≡ s.first → new.last ≡ s.last → new.region ≡ s.region → new.newest ≡ s.newest → new.layers.items ≡ layers → HasSuffixesAt depth s new
+layer-ended s depth at layers x few low place is put new vars first last region newest items =
     let deep = few.last in
     let count = few.count in
     let within = place-low s.vars s.first depth (omega arith) in
@@ -99,6 +97,7 @@ layer-ended s depth at layers x few low place is put new vars first last newest 
       vars = vars;
       first = first;
       last = last;
+      region = region;
       rooms = ap (map room_of) (items ∙ put) ∙ rooms-set olds at x (slice_index_or olds at no_layer) no_layer refl (record { words = ap (λ (l : LayerView). l.words) is; nodes_room = ap (λ (l : LayerView). l.nodes_room) is; arcs_room = ap (λ (l : LayerView). l.arcs_room) is });
       newest = ap room_of newest;
       nodes = same depth ∙ (put-at s.vars s.first s.last olds x s.newest depth low (omega arith) ∙ (ap (λ (l : LayerView). l.nodes) is ∙ (ap rule (sym old) ∙ above-rule s depth apart (nodes_in s depth))));
@@ -153,7 +152,7 @@ end-down rule old new d e same here ps k (suc m) (suc j) at within low =
 
 -- ---- in a workspace
 
-pub layers-ended : (i : Inside) → the_invariant i → (depth : ℕ) (new : Stack) → i.stack.first ≤ depth → depth ≤ i.stack.last → HasEnded depth i.stack new
+pub layers-ended : (i : Inside) → the_invariant i → (depth : ℕ) (new : Stack) → i.stack.first ≤ depth → depth ≤ i.stack.last → HasSuffixesAt depth i.stack new
     → shown_stack i.prefix.items new ≡ ended_by (longest_from i.stack depth) (depth - length i.prefix.items) (the_view i).layers
 layers-ended i h depth new above low e =
     let ordered = h.stack.first in
@@ -166,7 +165,7 @@ layers-ended i h depth new above low e =
     ∙ ap (λ (b : ℕ). ended_by rule (depth - b) (the_view i).layers) h.first)
 
 -- the ranks stay
-newest-ranks : (i : Inside) (depth : ℕ) (new : Stack) → HasEnded depth i.stack new → (i.stack.last ≡ depth) ⊎ (i.stack.last ≢ depth) → map (λ (n : NodeView). n.rank) new.newest.nodes ≡ map (λ (n : NodeView). n.rank) i.stack.newest.nodes
+newest-ranks : (i : Inside) (depth : ℕ) (new : Stack) → HasSuffixesAt depth i.stack new → (i.stack.last ≡ depth) ⊎ (i.stack.last ≢ depth) → map (λ (n : NodeView). n.rank) new.newest.nodes ≡ map (λ (n : NodeView). n.rank) i.stack.newest.nodes
 newest-ranks i depth new e split =
     let s = i.stack in
     let old : nodes_in s s.last ≡ s.newest.nodes = newest-at s.vars s.first s.last s.layers.items s.newest s.last refl in
@@ -177,7 +176,12 @@ newest-ranks i depth new e split =
       | inr other ↦ ap ranks (e.others s.last (omega arith) other)
     ] ∙ ap ranks old)
 
-pub ended-space : (i : Inside) → the_invariant i → (depth : ℕ) (new : Stack) → i.stack.first ≤ depth → depth ≤ i.stack.last → HasEnded depth i.stack new → the_invariant (record i { stack = new })
+-- the rows stay held
+held-with : (region : RegionView) (rule : List DdArc → Option ℤ) (nodes : List NodeView) → AreHeld region nodes → AreHeld region (map (with_suffix rule) nodes)
+held-with region rule [] held = tt
+held-with region rule (node ∷ nodes) held = (record { found = held.0.found; size = held.0.size }, held-with region rule nodes held.1)
+
+pub ended-space : (i : Inside) → the_invariant i → (depth : ℕ) (new : Stack) → i.stack.first ≤ depth → depth ≤ i.stack.last → HasSuffixesAt depth i.stack new → the_invariant (record i { stack = new })
 ended-space i h depth new above low e =
     let s = i.stack in
     let rule = longest_from s depth in
@@ -207,6 +211,7 @@ ended-space i h depth new above low e =
         newest_words = words ∙ h.stack.newest_words;
         top = ap (λ (v : ℕ). (slice_index_or new.layers.items (v + 1) no_layer).nodes) e.vars ∙ (e.top ∙ h.stack.top);
       };
+      rows = rows-like i.words i.width i.held s new (record { vars = e.vars; first = e.first; last = e.last; region = e.region; rooms = e.rooms }) (λ k from less held. kept k less held (is-or k depth)) h.rows;
       first = e.first ∙ h.first;
       prefix_fits = omega arith;
       expands = h.expands ∙ sym room;
@@ -215,9 +220,15 @@ ended-space i h depth new above low e =
       depths = subst (λ (f : ℕ). HaveDepths f (shown_stack i.prefix.items new)) (sym e.first) depths;
       has_layers = λ dp a b c. h.has_layers dp a (sym e.vars ∙ b) c;
     }
+  where
+    kept : (k : ℕ) → k < i.stack.last → AreHeld i.stack.region (nodes_in i.stack k) → (k ≡ depth) ⊎ (k ≢ depth) → AreHeld i.stack.region (nodes_in new k)
+    kept k less held (inl same) =
+        subst (λ (d : ℕ). AreHeld i.stack.region (nodes_in new d)) (sym same)
+        (subst (AreHeld i.stack.region) (sym e.nodes) (held-with i.stack.region (longest_from i.stack depth) (nodes_in i.stack depth) (subst (λ (d : ℕ). AreHeld i.stack.region (nodes_in i.stack d)) same held)))
+    kept k less held (inr apart) = subst (AreHeld i.stack.region) (sym (e.others k (omega arith) apart)) held
 
 -- what is seen of it
-pub ended-seen : (i : Inside) → the_invariant i → (depth : ℕ) (new : Stack) → i.stack.first ≤ depth → depth ≤ i.stack.last → HasEnded depth i.stack new
+pub ended-seen : (i : Inside) → the_invariant i → (depth : ℕ) (new : Stack) → i.stack.first ≤ depth → depth ≤ i.stack.last → HasSuffixesAt depth i.stack new
     → the_view (record i { stack = new }) ≡ record (the_view i) { layers = ended_by (longest_from i.stack depth) (depth - length i.prefix.items) (the_view i).layers }
 ended-seen i h depth new above low e =
     let s = i.stack in
@@ -229,7 +240,7 @@ ended-seen i h depth new above low e =
     ∙ ap₂ (λ (l : List (List DdNode)) (rs : List ℤ). record (the_view i) { layers = l; ranks = rs }) seen ranks
 
 -- it stays under way
-pub ended-under-way : (dp : Dp) (i : Inside) → the_invariant i → (depth : ℕ) (new : Stack) → i.stack.first ≤ depth → depth ≤ i.stack.last → HasEnded depth i.stack new
+pub ended-under-way : (dp : Dp) (i : Inside) → the_invariant i → (depth : ℕ) (new : Stack) → i.stack.first ≤ depth → depth ≤ i.stack.last → HasSuffixesAt depth i.stack new
     → IsUnderWay dp (the_view i) → IsUnderWay dp (the_view (record i { stack = new }))
 ended-under-way dp i h depth new above low e u =
     let rule = longest_from i.stack depth in
@@ -321,7 +332,7 @@ is-within i h v e depth begun most =
     let last : last_depth v ≡ i.stack.last = sym (ap last_depth e) ∙ at in
     record { above = omega arith; low = omega arith; deep = last }
 
-pub all-ended : (dp : Dp) (i : Inside) → the_invariant i → (v : SpaceView) → the_view i ≡ v → (depth : ℕ) (new : Stack) → length v.prefix ≤ depth → depth ≤ last_depth v → last_depth v ≡ v.vars → dp.vars ≡ v.vars → HasEnded depth i.stack new
+pub all-ended : (dp : Dp) (i : Inside) → the_invariant i → (v : SpaceView) → the_view i ≡ v → (depth : ℕ) (new : Stack) → length v.prefix ≤ depth → depth ≤ last_depth v → last_depth v ≡ v.vars → dp.vars ≡ v.vars → HasSuffixesAt depth i.stack new
     → the_view (record i { stack = new }) ≡ record v { layers = ended_at dp depth (depth - length v.prefix) v.layers }
 all-ended dp i h v e depth new begun most whole vars ended =
     let at = is-within i h v e depth begun most in

@@ -10,18 +10,23 @@ use Rattle.dp_laws.specs.declared.arc.DdArc.{DdArc}
 use Rattle.dp_laws.specs.Diagrams.Nodes.{DdNode, path_below}
 use Rattle.dp_laws.specs.Rules.Compiling.{TwoLayers}
 use Rattle.dp_laws.specs.Rules.Within.{IsLayerWithin, IsArcWithin, AreWithin}
+use Rattle.layer_candidates.specs.HeldRows.{HoldsMore}
 use Rattle.layer_nodes.specs.Nodes.{NodeView, LayerView, shown, shown_from, shown_layer, shown_below, without_arcs}
 use Rattle.layer_nodes.specs.Steps.{IsParent, IsNodeOf, MayBeLengthened, IsRanked, KeepsRoom}
+use Rattle.row_region.specs.Region.{RegionView}
+use Rattle.layer_nodes.specs.Holding.{AreHeld}
 use Rattle.layer_build.specs.contracts.workspace.Workspace.{the_view, the_invariant}
 use Rattle.layer_build.specs.declared.workspace.Workspace.TheInside.{Inside}
+use Rattle.layer_build.specs.declared.stack.Stack.{Stack}
 use Rattle.layer_build.specs.Layers.{SpaceView, last_depth, last_layer, expand_last, on_last_two}
-use Rattle.layer_build.specs.Stacked.{no_layer, place_of, place_above, room_of, HaveRooms, HasStack, HaveDepths, path_in, paths_at, paths_below, shown_down, nodes_in}
+use Rattle.layer_build.specs.Stacked.{no_layer, place_of, place_above, room_of, HaveRooms, HasStack, HasRows, HaveDepths, path_in, paths_at, paths_below, shown_down, nodes_in}
 use Rattle.layer_build.specs.UnderWay.{IsUnderWay, last_two}
 use Rattle.layer_build.proofs.Depths.{depths-expanded}
 use Rattle.layer_build.proofs.Expansions.{Expands}
+use Rattle.layer_build.proofs.Held.{kept_stack, IsNarrow, rows-fit, rows-more}
 use Rattle.layer_build.proofs.Kept.{last-of-two, expanded-under-way, wide-deep}
 use Rattle.layer_build.proofs.Shown.{length-down, parents-of, nodes-of, far-of, length-shown, last-is, two-are, as-below, expand-shown, two-shown, bare-all, have-parents, have-paths, ranks-of}
-use Rattle.layer_build.proofs.Stacks.{at_depth, newest-at, above-at, depth-is, kept-at, put-at, place-low, places-apart, above-first, above-later, above-low, count-of, words-at, FitsAbove, fits-above, rooms-set, map-length}
+use Rattle.layer_build.proofs.Stacks.{at_depth, newest-at, above-at, depth-is, kept-at, put-at, place-low, place-other, place-second, room-at, places-apart, above-first, above-later, above-low, count-of, words-at, FitsAbove, fits-above, rooms-set, map-length}
 
 -- the layer above the last one in memory
 abbrev pub above_of : Inside → LayerView
@@ -68,7 +73,7 @@ nodes-seen dp i h u =
 
 -- ---- the layer above
 
-place-is : (i : Inside) → i.stack.first < i.stack.last → place_above i.stack.vars i.stack.first i.stack.last ≡ place_of i.stack.vars i.stack.first (i.stack.last - 1)
+pub place-is : (i : Inside) → i.stack.first < i.stack.last → place_above i.stack.vars i.stack.first i.stack.last ≡ place_of i.stack.vars i.stack.first (i.stack.last - 1)
 place-is i less = above-later i.stack.vars i.stack.first i.stack.last less
 
 pub above-is : (i : Inside) → i.stack.first < i.stack.last → nodes_in i.stack (i.stack.last - 1) ≡ (above_of i).nodes
@@ -240,10 +245,10 @@ words-of dp i h k within = (let count = count-of _ _ _ _ _ i.stack.layers.items 
 -- ---- what a workspace keeps
 
 -- the stack of a workspace after it was expanded
-pub expanded-stack : (dp : Dp) (i : Inside) → the_invariant i → i.stack.last < i.stack.vars → (x n : LayerView) (at : ℕ) (old d : LayerView)
+pub expanded-stack : (dp : Dp) (i : Inside) → the_invariant i → i.stack.last < i.stack.vars → (x n : LayerView) (region : RegionView) (at : ℕ) (old d : LayerView)
     → at ≡ place_of i.stack.vars i.stack.first i.stack.last → old ≡ get_or i.stack.layers.items at d → KeepsRoom old x → KeepsRoom i.stack.newest n
-    → HasStack i.words i.width i.choices.items (record { vars = i.stack.vars; first = i.stack.first; last = i.stack.last + 1; layers = with_item i.stack.layers at x; newest = n })
-expanded-stack dp i h low x n at old d same e rooms next =
+    → HasStack i.words i.width i.choices.items (kept_stack i.stack (with_item i.stack.layers at x) n region)
+expanded-stack dp i h low x n region at old d same e rooms next =
     let ordered = h.stack.first in
     let place = place-low i.stack.vars i.stack.first i.stack.last (omega arith) in
     record {
@@ -256,20 +261,74 @@ expanded-stack dp i h low x n at old d same e rooms next =
       top = ap (λ (l : LayerView). l.nodes) (get_or-set_other i.stack.layers.items at (i.stack.vars + 1) x no_layer (λ f. absurd (omega arith))) ∙ h.stack.top;
     }
 
-pub expanded-space : (dp : Dp) (rule : ℕ → List DdNode → TwoLayers) → Expands dp rule → (i : Inside) → the_invariant i → IsUnderWay dp (the_view i) → i.stack.last < i.stack.vars → (x n : LayerView) (at expansion : ℕ) (old d : LayerView)
+-- its rows are held
+pub record IsHeld (s : Stack) (x : LayerView) (region : RegionView) : Type 0 where
+  pub held : AreHeld region x.nodes
+  pub others : HoldsMore s.region region
+  pub spare : region.spare + length s.newest.nodes ≡ s.region.spare
+
+-- the last layer is narrow enough to be kept
+narrow-kept : (dp : Dp) (i : Inside) → the_invariant i → IsUnderWay dp (the_view i) → i.stack.last < i.stack.vars → (i.stack.first + 2 ≤ i.stack.last → length i.stack.newest.nodes ≤ i.width) → IsNarrow i.stack i.width (length i.stack.newest.nodes)
+narrow-kept dp i h u low narrow = record {
+  second = λ e. subst (λ (k : ℕ). length i.stack.newest.nodes ≤ (slice_index_or i.stack.layers.items k no_layer).nodes_room) (place-second i.stack.vars i.stack.first i.stack.last e) fits.nodes;
+  other = λ n. subst (λ (r : ℕ). length i.stack.newest.nodes ≤ r)
+      (ap (λ (k : ℕ). (slice_index_or i.stack.layers.items k no_layer).nodes_room) (place-other i.stack.vars i.stack.first i.stack.last n)
+      ∙ (ap (λ (l : LayerView). l.nodes_room) (sym (room-at i.stack.layers.items i.stack.last)) ∙ h.stack.rooms.nodes i.stack.last low)) fits.nodes;
+}
+  where
+    fits : FitsAbove (length i.stack.newest.nodes) (dp.choices i.stack.last) i.stack.newest.nodes_room (slice_index_or i.stack.layers.items (place_of i.stack.vars i.stack.first i.stack.last) no_layer)
+    fits = fits-seen dp i h u low narrow
+
+pub spare-seen : (dp : Dp) (i : Inside) → the_invariant i → IsUnderWay dp (the_view i) → i.stack.last < i.stack.vars → (i.stack.first + 2 ≤ i.stack.last → length i.stack.newest.nodes ≤ i.width) → length i.stack.newest.nodes ≤ i.stack.region.spare
+spare-seen dp i h u low narrow = rows-fit i.words i.width i.held (length i.stack.newest.nodes) i.stack low (narrow-kept dp i h u low narrow) h.rows
+
+expanded-rows : (dp : Dp) (i : Inside) → the_invariant i → IsUnderWay dp (the_view i) → i.stack.last < i.stack.vars → (i.stack.first + 2 ≤ i.stack.last → length i.stack.newest.nodes ≤ i.width)
+    → (x n : LayerView) (region : RegionView) (at : ℕ) (old d : LayerView) → at ≡ place_of i.stack.vars i.stack.first i.stack.last → old ≡ get_or i.stack.layers.items at d → KeepsRoom old x
+    → IsHeld i.stack x region → HasRows i.words i.width i.held (kept_stack i.stack (with_item i.stack.layers at x) n region)
+expanded-rows dp i h u low narrow x n region at old d same e rooms put =
+    rows-more i.words i.width i.held (length i.stack.newest.nodes) i.stack (with_item i.stack.layers at x) n region low (narrow-kept dp i h u low narrow)
+    (record {
+      held = subst (AreHeld region) (sym (ap (λ (k : ℕ). at_depth vars first (last + 1) (set items k x) n last) same ∙ put-at vars first (last + 1) items x n last (omega arith) within)) put.held;
+      others = put.others;
+      spare = put.spare;
+      above = λ k less. kept-at vars first last (last + 1) at items x i.stack.newest n k less (omega arith) (λ f. places-apart vars first last k low (omega arith) (λ g. absurd (omega arith)) (sym same ∙ f));
+      rooms = rooms-set items at x old d e rooms;
+    }) h.rows
+  where
+    vars : ℕ
+    vars = i.stack.vars
+
+    first : ℕ
+    first = i.stack.first
+
+    last : ℕ
+    last = i.stack.last
+
+    items : List LayerView
+    items = i.stack.layers.items
+
+    within : place_of i.stack.vars i.stack.first i.stack.last < length i.stack.layers.items
+    within =
+        let count = count-of _ _ _ _ _ i.stack.layers.items h.stack.rooms in
+        let place = place-low i.stack.vars i.stack.first i.stack.last (omega arith) in
+        omega arith
+
+pub expanded-space : (dp : Dp) (rule : ℕ → List DdNode → TwoLayers) → Expands dp rule → (i : Inside) → the_invariant i → IsUnderWay dp (the_view i) → i.stack.last < i.stack.vars
+    → (i.stack.first + 2 ≤ i.stack.last → length i.stack.newest.nodes ≤ i.width) → (x n : LayerView) (region : RegionView) (at expansion : ℕ) (old d : LayerView)
     → at ≡ place_of i.stack.vars i.stack.first i.stack.last → old ≡ get_or i.stack.layers.items at d
     → map without_arcs x.nodes ≡ map without_arcs i.stack.newest.nodes
     → ((paths : ℕ → List ℕ) → shown_layer paths x.nodes ≡ (rule i.stack.last (shown_layer paths i.stack.newest.nodes)).above)
     → ((paths : ℕ → List ℕ) → shown_below paths n.nodes ≡ (rule i.stack.last (shown_layer paths i.stack.newest.nodes)).next)
-    → KeepsRoom old x → KeepsRoom i.stack.newest n → expansion ≡ i.expansion
-    → the_invariant (record i { stack = record { vars = i.stack.vars; first = i.stack.first; last = i.stack.last + 1; layers = with_item i.stack.layers at x; newest = n }; expansion = expansion })
-expanded-space dp rule expands i h u low x n at expansion old d same e rest above next rooms next_rooms kept =
+    → KeepsRoom old x → KeepsRoom i.stack.newest n → expansion ≡ i.expansion → IsHeld i.stack x region
+    → the_invariant (record i { stack = kept_stack i.stack (with_item i.stack.layers at x) n region; expansion = expansion })
+expanded-space dp rule expands i h u low narrow x n region at expansion old d same e rest above next rooms next_rooms kept held =
     let ordered = h.stack.first in
     let seen = expanded-view (rule i.stack.last) i h low x n rest above next in
     let long = length-down (nodes_in i.stack) (i.prefix.items ∷ []) i.stack.first (i.stack.last - i.stack.first) in
     let vars = u.prepared.vars in
     record {
-      stack = expanded-stack dp i h low x n at old d same e rooms next_rooms;
+      stack = expanded-stack dp i h low x n region at old d same e rooms next_rooms;
+      rows = expanded-rows dp i h u low narrow x n region at old d same e rooms held;
       first = h.first;
       prefix_fits = h.prefix_fits;
       expands = kept ∙ (h.expands ∙ sym next_rooms.nodes_room);
@@ -290,15 +349,15 @@ below-length paths nodes = map-length (λ (node : NodeView). shown (path_below p
 ranks-below : (dp : Dp) (k : ℕ) (ps : List (List ℕ)) (n : LayerView) → Each (IsRanked dp k) n.nodes → ranks_in n ≡ map (λ (node : DdNode). dp.rank k node.row) (shown_below (path_in ps) n.nodes)
 ranks-below dp k ps n h = ranks-of dp k (path_in (paths_below ps n.nodes)) 0 n.nodes h ∙ ap (map (λ (node : DdNode). dp.rank k node.row)) (as-below ps n.nodes)
 
-pub expanded-seen : (rule : ℕ → List DdNode → TwoLayers) (i : Inside) → the_invariant i → i.stack.last < i.stack.vars → (x n : LayerView) (at expansion : ℕ)
+pub expanded-seen : (rule : ℕ → List DdNode → TwoLayers) (i : Inside) → the_invariant i → i.stack.last < i.stack.vars → (x n : LayerView) (region : RegionView) (at expansion : ℕ)
     → at ≡ place_of i.stack.vars i.stack.first i.stack.last
     → map without_arcs x.nodes ≡ map without_arcs i.stack.newest.nodes
     → ((paths : ℕ → List ℕ) → shown_layer paths x.nodes ≡ (rule i.stack.last (shown_layer paths i.stack.newest.nodes)).above)
     → ((paths : ℕ → List ℕ) → shown_below paths n.nodes ≡ (rule i.stack.last (shown_layer paths i.stack.newest.nodes)).next)
     → KeepsRoom i.stack.newest n
-    → the_view (record i { stack = record { vars = i.stack.vars; first = i.stack.first; last = i.stack.last + 1; layers = with_item i.stack.layers at x; newest = n }; expansion = expansion })
+    → the_view (record i { stack = kept_stack i.stack (with_item i.stack.layers at x) n region; expansion = expansion })
     ≡ record (the_view i) { layers = expand_last (rule (last_depth (the_view i))) (the_view i).layers; ranks = ranks_in n }
-expanded-seen rule i h low x n at expansion same rest above next next_rooms =
+expanded-seen rule i h low x n region at expansion same rest above next next_rooms =
     let seen = expanded-view (rule i.stack.last) i h low x n rest above next in
     ap₂ (λ (r : ℕ) (l : List (List DdNode)). record (the_view i) { room = r; layers = l; ranks = ranks_in n }) next_rooms.nodes_room
     (subst (λ (k : ℕ). shown_down (at_depth i.stack.vars i.stack.first (i.stack.last + 1) (set i.stack.layers.items k x) n) (i.prefix.items ∷ []) i.stack.first (i.stack.last + 1 - i.stack.first) ≡ expand_last (rule i.stack.last) (the_view i).layers) (sym same) seen

@@ -6,6 +6,7 @@ pub mod Expansions
 pub mod Kept
 pub mod Pruning
 pub mod Stacks
+pub mod Held
 pub mod Going
 pub mod Changing
 pub mod Starting

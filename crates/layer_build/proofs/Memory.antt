@@ -27,18 +27,18 @@ other-layers dp other words vars width choices b h w v c w' v' c' =
         first = λ k low. subst (λ (n : ℕ). n ≤ h.room) (same k low) (h.enough.first k (omega arith));
         second = λ k low. subst (λ (n : ℕ). n * other.choices (k + 1) ≤ h.room) (same k (omega arith)) (subst (λ (n : ℕ). dp.choices k * n ≤ h.room) (same (k + 1) low) (h.enough.second k (omega arith)));
         later = λ k low. subst (λ (n : ℕ). width * n ≤ h.room) (same k low) (h.enough.later k (omega arith));
-        one = h.enough.one;
-        choices = λ k low. subst (λ (n : ℕ). n ≤ h.widest) (same k low) (h.enough.choices k (omega arith));
-        width = h.enough.width;
+        members = record {
+          one = h.enough.members.one;
+          choices = λ k low. subst (λ (n : ℕ). n ≤ h.widest) (same k low) (h.enough.members.choices k (omega arith));
+          width = h.enough.members.width;
+        };
       };
       positive = h.positive;
       words = h.words ∙ (sym w ∙ w');
       candidates = h.candidates;
       rows = h.rows;
-      above = h.above;
-      some_row = h.some_row;
-      other_row = h.other_row;
       members = h.members;
+      held = h.held;
       steps = subst (λ (n : ℕ). h.widest + n * width ≤ vec_capacity b.steps) count h.steps;
       small = subst (λ (n : ℕ). h.widest + n * width < 2 ^ 32) count h.small;
     }

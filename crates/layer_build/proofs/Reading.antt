@@ -1,13 +1,12 @@
 -- What the readers of a workspace read.
-use Rattle.std.proofs.Common.{◌≡◌, ℕ, zero, suc, ◌+◌, ◌-◌, ◌<◌, ◌≤◌, List, [], ◌∷◌, length, slice_get, Option, Some, None, IsSome, option_map, option_and_then, unwrap_or, ◌⊎◌, inl, inr, true, false, refl, sym, ap, ◌∙◌, subst, arith}
+use Rattle.std.proofs.Common.{◌≡◌, ℕ, zero, suc, ◌+◌, ◌-◌, ◌≤◌, List, [], ◌∷◌, length, slice_get, Option, Some, None, IsSome, option_map, option_and_then, unwrap_or, true, false, refl, sym, ap, ◌∙◌, arith}
 use Rattle.dp_laws.specs.Diagrams.Nodes.{DdNode, node_at}
 use Rattle.layer_nodes.specs.Nodes.{NodeView, shown, shown_from, shown_layer}
 use Rattle.layer_build.specs.contracts.workspace.Workspace.{the_view, the_invariant}
 use Rattle.layer_build.specs.declared.workspace.Workspace.TheInside.{Inside}
 use Rattle.layer_build.specs.Layers.{SpaceView, diagram_of, layer_at}
-use Rattle.layer_build.specs.Stacked.{place_of, path_in, paths_at, paths_below, shown_down, shown_stack, nodes_in}
+use Rattle.layer_build.specs.Stacked.{path_in, paths_at, paths_below, shown_down, shown_stack, nodes_in}
 use Rattle.layer_build.proofs.Shown.{length-shown}
-use Rattle.layer_build.proofs.Stacks.{place-low, count-of}
 
 -- the j-th layer that is seen
 pub layer-down : (nodes : ℕ → List NodeView) (ps : List (List ℕ)) (k m j d : ℕ) → j ≤ m → k + j ≡ d → slice_get (shown_down nodes ps k m) j ≡ Some (shown_layer (path_in (paths_at nodes ps k j)) (nodes d))
@@ -15,12 +14,6 @@ layer-down nodes ps k zero zero d low e = let same : k ≡ d = omega arith in ap
 layer-down nodes ps k zero (suc j) d low e = absurd (omega arith)
 layer-down nodes ps k (suc m) zero d low e = let same : k ≡ d = omega arith in ap (λ (i : ℕ). Some (shown_layer (path_in ps) (nodes i))) same
 layer-down nodes ps k (suc m) (suc j) d low e = layer-down nodes (paths_below ps (nodes (k + 1))) (k + 1) m j d (omega arith) (omega arith)
-
-past-down : (nodes : ℕ → List NodeView) (ps : List (List ℕ)) (k m j : ℕ) → m < j → slice_get (shown_down nodes ps k m) j ≡ None
-past-down nodes ps k zero zero more = absurd (omega arith)
-past-down nodes ps k zero (suc j) more = refl
-past-down nodes ps k (suc m) zero more = absurd (omega arith)
-past-down nodes ps k (suc m) (suc j) more = past-down nodes (paths_below ps (nodes (k + 1))) (k + 1) m j (omega arith)
 
 get-shown : (paths : ℕ → List ℕ) (i : ℕ) (nodes : List NodeView) (j : ℕ) → slice_get (shown_from paths i nodes) j ≡ option_map (shown (paths (i + j))) (slice_get nodes j)
 get-shown paths i [] j = refl
@@ -44,32 +37,6 @@ node-seen i h depth node low high =
     ∙ (get-shown (path_in (paths_at (nodes_in i.stack) (i.prefix.items ∷ []) i.stack.first (depth - i.stack.first))) 0 (nodes_in i.stack depth) node
     ∙ ap (λ (k : ℕ). option_map (shown (path_of i depth k)) (slice_get (nodes_in i.stack depth) node)) from-zero)
 
--- a place that is there lies within the layers
-none-some : {X : Type 0} (o : Option X) → o ≡ None → IsSome o → ⊥
-none-some None e some = let clash : false ≡ true = some in cc
-none-some (Some x) e some = cc
-
-pub depth-within : (i : Inside) → the_invariant i → (depth node : ℕ) → i.stack.first ≤ depth → IsSome (node_at (diagram_of (the_view i)) depth node) → depth ≤ i.stack.last
-depth-within i h depth node low some = go (grind arith)
-  where
-    go : (depth ≤ i.stack.last) ⊎ (i.stack.last < depth) → depth ≤ i.stack.last
-    go (inl within) = within
-    go (inr past) =
-        let begun = h.first in
-        let ordered = h.stack.first in
-        absurd (none-some (node_at (diagram_of (the_view i)) depth node)
-        (ap (λ (o : Option (List DdNode)). option_and_then (λ (l : List DdNode). slice_get l node) o) (past-down (nodes_in i.stack) (i.prefix.items ∷ []) i.stack.first (i.stack.last - i.stack.first) (depth - length i.prefix.items) (omega arith))) some)
-
-some-get : {X Y : Type 0} (f : X → Y) (l : List X) (j : ℕ) → IsSome (option_map f (slice_get l j)) → j < length l
-some-get f [] j some = absurd (let clash : false ≡ true = some in cc)
-some-get f (x ∷ l) zero some = omega arith
-some-get f (x ∷ l) (suc j) some = let rest = some-get f l j some in omega arith
-
-pub node-within : (i : Inside) → the_invariant i → (depth node : ℕ) → i.stack.first ≤ depth → IsSome (node_at (diagram_of (the_view i)) depth node) → node < length (nodes_in i.stack depth)
-node-within i h depth node low some =
-    let high = depth-within i h depth node low some in
-    some-get (shown (path_of i depth node)) (nodes_in i.stack depth) node (subst (λ (o : Option DdNode). IsSome o) (node-seen i h depth node low high) some)
-
 -- what is read of a node in memory is read of what is seen of it
 map-map : {X Y Z : Type 0} (f : Y → Z) (g : X → Y) (o : Option X) → option_map f (option_map g o) ≡ option_map (λ x. f (g x)) o
 map-map f g None = refl
@@ -91,21 +58,11 @@ some-then : {X Y : Type 0} (f : X → Option Y) (o : Option X) → IsSome (optio
 some-then f None some = absurd (let clash : false ≡ true = some in cc)
 some-then f (Some x) some = refl
 
-pub arc-place : {X : Type 0} (i : Inside) (depth node : ℕ) (f : DdNode → Option X) → IsSome (option_and_then f (node_at (diagram_of (the_view i)) depth node)) → IsSome (node_at (diagram_of (the_view i)) depth node)
-arc-place i depth node f some = some-then f (node_at (diagram_of (the_view i)) depth node) some
+pub arc-place : {X : Type 0} (s : SpaceView) (depth node : ℕ) (f : DdNode → Option X) → IsSome (option_and_then f (node_at (diagram_of s) depth node)) → IsSome (node_at (diagram_of s) depth node)
+arc-place s depth node f some = some-then f (node_at (diagram_of s) depth node) some
 
 pub begun-low : (i : Inside) → the_invariant i → (s : SpaceView) → the_view i ≡ s → (depth : ℕ) → length s.prefix ≤ depth → i.stack.first ≤ depth
 begun-low i h s e depth low = (let begun = h.first in let same = ap (λ (t : SpaceView). length t.prefix) e in omega arith)
-
-pub small-first : (i : Inside) → the_invariant i → i.stack.first ≤ 1024
-small-first i h = (let a = h.stack.first in let b = h.stack.last in let small = h.stack.small in omega arith)
-
-pub layer-within : (i : Inside) → the_invariant i → (depth : ℕ) → depth ≤ i.stack.last → place_of i.stack.vars i.stack.first depth < length i.stack.layers.items
-layer-within i h depth high =
-    let low = h.stack.last in
-    let place = place-low i.stack.vars i.stack.first depth (omega arith) in
-    let count = count-of _ _ _ _ _ i.stack.layers.items h.stack.rooms in
-    omega arith
 
 pub layer-seen : (i : Inside) → the_invariant i → (depth : ℕ) → i.stack.first ≤ depth → depth ≤ i.stack.last → length (layer_at (the_view i) depth) ≡ length (nodes_in i.stack depth)
 layer-seen i h depth low high =

@@ -1,13 +1,14 @@
 -- A workspace that was made has its rooms.
-use Rattle.std.proofs.Common.{◌≡◌, ℕ, ◌+◌, ◌*◌, ◌^◌, ◌<◌, ◌≤◌, List, [], ◌∷◌, ◌++◌, map, length, slice_index_or, refl, sym, ap, ap₂, ◌∙◌, subst, arith, length-append, mul-le-mul_right, ◌⊎◌, inl, inr}
-use Rattle.std.proofs.lemmas.List.{get_or_append_left, get_or-append-add}
+use Rattle.std.proofs.Common.{◌≡◌, ℕ, ◌+◌, ◌-◌, ◌*◌, ◌^◌, ◌<◌, ◌≤◌, List, [], ◌∷◌, ◌++◌, map, length, slice_index_or, None, refl, sym, ap, ap₂, ◌∙◌, subst, arith, length-append, mul-le-mul_right, ◌⊎◌, inl, inr}
+use Rattle.std.proofs.lemmas.List.{get_or_append_left, get_or-append-add, length-replicate}
 use Rattle.dp_model.specs.Decisions.{below}
 use Rattle.dp_model.specs.Dp.{Dp}
 use Rattle.dp_model.specs.Laws.{IsLawful}
 use Rattle.dp_laws.specs.Width.{cost_below}
 use Rattle.layer_nodes.specs.Nodes.{LayerView}
+use Rattle.row_region.specs.Region.{RegionView}
 use Rattle.layer_build.specs.Layers.{IsWidth}
-use Rattle.layer_build.specs.Stacked.{empty_layer, no_layer, room_of, HaveRooms, HasStack}
+use Rattle.layer_build.specs.Stacked.{empty_layer, no_layer, room_of, second_room, beam_rows, HaveRooms, HasRows, HasStack}
 use Rattle.layer_build.specs.Preparing.{IsReady}
 use Rattle.layer_build.specs.declared.stack.Stack.{Stack}
 use Rattle.layer_build.proofs.Stacks.{choice-at, map-append, below-at}
@@ -71,4 +72,31 @@ ready-stack dp laws width room words choices s w few r words-are e =
           (subst (λ (n : ℕ). HaveRooms dp.vars dp.words width n choices (map room_of s.layers.items)) (sym newest-room) (subst (HaveRooms dp.vars dp.words width room choices) (sym all) plain)));
       newest_words = ap (λ (l : LayerView). l.words) r.newest ∙ sym words-are;
       top = ap (λ (v : ℕ). (slice_index_or s.layers.items (v + 1) no_layer).nodes) r.vars ∙ (ap (λ (l : List LayerView). (slice_index_or l (dp.vars + 1) no_layer).nodes) r.layers ∙ ap (λ (l : LayerView). l.nodes) at-top);
+    }
+
+-- the room below the first layer
+second-ready : (dp : Dp) (width room : ℕ) (s : Stack) (r : IsReady dp width room s) → second_room s.vars s.layers.items ≡ r.nodes
+second-ready dp width room s r =
+    let f = λ (k : ℕ). empty_layer dp.words width (width * dp.choices k) in
+    let rest = empty_layer dp.words r.nodes r.arcs ∷ empty_layer dp.words 0 0 ∷ [] in
+    let size : length (map f (below dp.vars)) ≡ dp.vars = count-below f dp.vars in
+    let at : s.vars ≡ length (map f (below dp.vars)) + 0 = (let v = r.vars in omega arith) in
+    ap (λ (l : List LayerView). second_room s.vars l) r.layers
+    ∙ (ap (λ (k : ℕ). second_room k (map f (below dp.vars) ++ rest)) at ∙ ap (λ (l : LayerView). l.nodes_room) (get_or-append-add (map f (below dp.vars)) rest 0 no_layer))
+
+pub ready-rows : (dp : Dp) (width room words : ℕ) (s : Stack) → IsReady dp width room s → words ≡ dp.words → HasRows words width 0 s
+ready-rows dp width room words s r words-are =
+    let second = second-ready dp width room s r in
+    let last = r.last in
+    let none : s.vars - s.last ≡ s.vars = omega arith in
+    let below : (s.vars - s.last) * width ≡ dp.vars * width = ap (λ (n : ℕ). n * width) (none ∙ r.vars) in
+    let all : s.vars * width ≡ dp.vars * width = ap (λ (n : ℕ). n * width) r.vars in
+    let free = ap (λ (v : RegionView). v.spare) r.region in
+    let size = ap (λ (v : RegionView). length v.rows) r.region ∙ length-replicate (dp.vars * width + r.nodes + beam_rows width) None in
+    record {
+      words_are = ap (λ (v : RegionView). v.words) r.region ∙ sym words-are;
+      held_rows = λ k from above low. absurd (omega arith);
+      spare = omega arith;
+      second_spare = λ near. omega arith;
+      enough = omega arith;
     }

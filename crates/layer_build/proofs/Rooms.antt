@@ -1,11 +1,12 @@
 -- How much memory layers of a width need.
-use Rattle.std.proofs.Common.{◌≡◌, ℕ, zero, suc, ◌+◌, ◌*◌, ◌^◌, ◌<◌, ◌≤◌, max, vec_capacity, mul-le-mul_left, mul-le-mul_right, sym, ap, subst, ◌∙◌, ◌⊎◌, inl, inr, arith}
+use Rattle.std.proofs.Common.{◌≡◌, ℕ, zero, suc, ◌+◌, ◌*◌, ◌^◌, ◌<◌, ◌≤◌, vec_capacity, mul-le-mul_left, mul-le-mul_right, sym, ap, subst, ◌∙◌, ◌⊎◌, inl, inr, arith}
 use Rattle.dp_model.specs.Dp.{Dp}
 use Rattle.dp_model.specs.Laws.{IsLawful}
-use Rattle.dp_laws.specs.Width.{cost_below, FitsWidth, IsGreatestWidth}
+use Rattle.dp_laws.specs.Width.{cost_below}
 use Rattle.layer_candidates.specs.declared.beam.Beam.{Beam}
 use Rattle.layer_candidates.specs.Beaming.{HasLayers, HasMade}
 use Rattle.layer_build.specs.Layers.{IsWidth, AreEnough}
+use Rattle.layer_build.specs.Stacked.{beam_rows}
 
 last-of : (k n : ℕ) → k < suc n → (k ≡ n) ⊎ (k < n)
 last-of k n h = grind arith
@@ -81,7 +82,7 @@ product-few a b ha hb =
 -- A beam that was made.
 
 pub has-layers : (dp : Dp) → IsLawful dp → (w words room widest steps vars : ℕ) (b : Beam) → IsWidth dp w → AreEnough dp w dp.vars room → HasMade words room widest steps b
-    → words ≡ dp.words → vars ≡ dp.vars → widest ≡ max w 1024 → steps ≡ widest + vars * w → HasLayers dp w b
+    → words ≡ dp.words → vars ≡ dp.vars → widest ≡ beam_rows w → steps ≡ widest + vars * w → HasLayers dp w b
 has-layers dp laws w words room widest steps vars b h e m words_is vars_is widest_is steps_is =
     let many = vars-few dp laws w h in
     let most = h.fits.most in
@@ -94,18 +95,18 @@ has-layers dp laws w words room widest steps vars b h e m words_is vars_is wides
         first = e.first;
         second = e.second;
         later = e.later;
-        one = omega arith;
-        choices = λ k less. (let few = laws.sizes.choices k less in omega arith);
-        width = wide;
+        members = record {
+          one = omega arith;
+          choices = λ k less. (let few = laws.sizes.choices k less in omega arith);
+          width = wide;
+        };
       };
       positive = h.positive;
       words = m.words_are ∙ words_is;
       candidates = m.candidates;
       rows = m.rows;
-      above = m.above;
-      some_row = m.some_row;
-      other_row = m.other_row;
       members = m.members;
+      held = m.held;
       steps = subst (λ (n : ℕ). n ≤ vec_capacity b.steps) (steps_is ∙ ap (λ (n : ℕ). widest + n * w) vars_is) m.steps_hold;
       small = omega arith;
     }

@@ -106,7 +106,7 @@ map-length f (x ∷ xs) = ap suc (map-length f xs)
 pub count-of : (vars words width room : ℕ) (choices : List ℕ) (layers : List LayerView) → HaveRooms vars words width room choices (map room_of layers) → length layers ≡ vars + 2
 count-of vars words width room choices layers h = sym (map-length room_of layers) ∙ h.count
 
-room-at : (layers : List LayerView) (i : ℕ) → slice_index_or (map room_of layers) i no_layer ≡ room_of (slice_index_or layers i no_layer)
+pub room-at : (layers : List LayerView) (i : ℕ) → slice_index_or (map room_of layers) i no_layer ≡ room_of (slice_index_or layers i no_layer)
 room-at layers i = get_or-map room_of layers i no_layer
 
 pub words-at : (vars words width room : ℕ) (choices : List ℕ) (layers : List LayerView) → HaveRooms vars words width room choices (map room_of layers) → (i : ℕ) → i < vars + 2

@@ -20,12 +20,15 @@ use Rattle.layer_build.specs.contracts.workspace.Workspace.{the_view, the_invari
 use Rattle.layer_build.specs.declared.workspace.Workspace.TheInside.{Inside}
 use Rattle.layer_build.specs.Layers.{SpaceView, diagram_of, last_depth, last_layer, suffix_in}
 use Rattle.layer_build.specs.UnderWay.{IsUnderWay}
-use Rattle.layer_build.specs.Stacked.{no_layer, place_of, room_of, nodes_in, path_in, shown_down, shown_stack, HoldFew, HaveDepth, HaveDepths, HaveRooms}
+use Rattle.layer_build.specs.Stacked.{no_layer, place_of, room_of, nodes_in, path_in, shown_down, shown_stack, HasDepth, HoldFew, HasRows, HaveDepth, HaveDepths, HaveRooms}
 use Rattle.layer_build.proofs.Going.{deep, last_paths, last-seen, lent}
+use Rattle.layer_nodes.specs.Holding.{AreHeld}
+use Rattle.layer_build.proofs.Held.{rows-like}
+use Rattle.layer_nodes.proofs.Holding.{held-set}
 use Rattle.layer_build.proofs.Shown.{length-down, length-shown}
-use Rattle.layer_build.proofs.Stacks.{at_depth, newest-at, above-at, kept-at, put-at, place-low, places-apart, count-of, rooms-set}
+use Rattle.layer_build.proofs.Stacks.{at_depth, newest-at, above-at, kept-at, put-at, place-low, places-apart, count-of, rooms-set, is-or}
 use Rattle.layer_build.proofs.Suffixed.{like-in, depths-like, like-under-way, set-down, set-ranks}
-use Rattle.layer_build.proofs.Walked.{no_node, NoneExact, path_of, layer-seen}
+use Rattle.layer_build.proofs.Walked.{no_node, NoneExact, path_of, layer-seen, place-held}
 
 -- its layers are few and have few nodes
 pub held-few : (i : Inside) → the_invariant i → HoldFew i.stack
@@ -39,6 +42,23 @@ held-few i h =
       few = λ k low. subst (λ (l : LayerView). l.nodes_room ≤ 2 ^ 25) (get_or-map room_of items k no_layer) (h.stack.rooms.few k (omega arith));
       newest_few = h.stack.rooms.newest_few;
     }
+
+-- and there is one for each depth down to the last one
+pub has-depth : (i : Inside) → the_invariant i → (depth : ℕ) → depth ≤ i.stack.last → HasDepth i.stack depth
+has-depth i h depth low =
+    let few = held-few i h in
+    let small = h.stack.small in
+    let ordered = h.stack.first in
+    let deep = h.stack.last in
+    record { first = omega arith; place = place-held i.stack depth few low }
+
+-- a depth that is not the last one is above it
+pub above-last : (depth last : ℕ) → depth ≤ last → depth ≢ last → depth < last
+above-last depth last low other = go (grind arith)
+  where
+    go : (depth < last) ⊎ (depth ≡ last) → depth < last
+    go (inl less) = less
+    go (inr same) = absurd (other same)
 
 -- ---- one node
 
@@ -249,11 +269,7 @@ set-above i h depth node s at other x nodes =
     new = at_depth vars first last (set items (place_of vars first depth) x) i.stack.newest
 
     lower : depth < last
-    lower = go (grind arith)
-      where
-        go : (depth < last) ⊎ (last ≤ depth) → depth < last
-        go (inl less) = less
-        go (inr past) = let low = at.low in absurd (other (omega arith))
+    lower = above-last depth last at.low other
 
     same : (j : ℕ) → j ≢ depth → (j < last) ⊎ (j ≡ last) → new j ≡ nodes_in i.stack j
     same j apart (inl less) =
@@ -264,10 +280,10 @@ set-above i h depth node s at other x nodes =
 
 -- the workspace with another last layer, and with another one above it
 abbrev pub with_newest : Inside → LayerView → Inside
-with_newest i n = record i { stack = record { vars = i.stack.vars; first = i.stack.first; last = i.stack.last; layers = i.stack.layers; newest = n } }
+with_newest i n = record i { stack = record { vars = i.stack.vars; first = i.stack.first; last = i.stack.last; layers = i.stack.layers; newest = n; region = i.stack.region } }
 
 abbrev pub with_layer : Inside → ℕ → LayerView → Inside
-with_layer i at x = record i { stack = record { vars = i.stack.vars; first = i.stack.first; last = i.stack.last; layers = with_item i.stack.layers at x; newest = i.stack.newest } }
+with_layer i at x = record i { stack = record { vars = i.stack.vars; first = i.stack.first; last = i.stack.last; layers = with_item i.stack.layers at x; newest = i.stack.newest; region = i.stack.region } }
 
 pub newest-space : (i : Inside) → the_invariant i → (depth node : ℕ) (s : Option ℤ) → StandsAt i depth node → depth ≡ i.stack.last → (n : LayerView) → n.nodes ≡ suffix_set i.stack.newest.nodes node s → KeepsRoom i.stack.newest n
     → the_invariant (with_newest i n)
@@ -280,6 +296,9 @@ newest-space i h depth node s at last n nodes rooms = record {
     newest_words = rooms.words ∙ h.stack.newest_words;
     top = h.stack.top;
   };
+  rows = rows-like i.words i.width i.held i.stack (with_newest i n).stack (record { vars = refl; first = refl; last = refl; region = refl; rooms = refl })
+      (λ k from less held. subst (AreHeld i.stack.region)
+      (above-at i.stack.vars i.stack.first i.stack.last i.stack.layers.items i.stack.newest k (λ f. absurd (omega arith)) ∙ sym (above-at i.stack.vars i.stack.first i.stack.last i.stack.layers.items n k (λ f. absurd (omega arith)))) held) h.rows;
   first = h.first;
   prefix_fits = h.prefix_fits;
   expands = h.expands ∙ sym rooms.nodes_room;
@@ -327,6 +346,40 @@ set-layers i h depth node s stands at old d x e =
     ≡ suffix_in (depth - length i.prefix.items) node s (the_view i).layers) (sym e.place)
     (set-above i h depth node s stands e.other x (e.nodes ∙ ap (λ (l : List NodeView). suffix_set l node s) (lent-nodes i h depth node stands e.other at old d e.place e.lent)))
 
+layer-rows : (i : Inside) → the_invariant i → (depth node : ℕ) (s : Option ℤ) → StandsAt i depth node → (at : ℕ) (old d x : LayerView) → HasSet i depth node s at old d x
+    → HasRows i.words i.width i.held (with_layer i at x).stack
+layer-rows i h depth node s stands at old d x e =
+    rows-like i.words i.width i.held i.stack (with_layer i at x).stack (record { vars = refl; first = refl; last = refl; region = refl; rooms = rooms-set items at x old d e.lent e.rooms })
+    (λ k from less held. kept k from less held (is-or k depth)) h.rows
+  where
+    vars : ℕ
+    vars = i.stack.vars
+
+    first : ℕ
+    first = i.stack.first
+
+    last : ℕ
+    last = i.stack.last
+
+    items : List LayerView
+    items = i.stack.layers.items
+
+    new : ℕ → List NodeView
+    new = at_depth i.stack.vars i.stack.first i.stack.last (set i.stack.layers.items at x) i.stack.newest
+
+    kept : (k : ℕ) → i.stack.first ≤ k → k < i.stack.last → AreHeld i.stack.region (nodes_in i.stack k) → (k ≡ depth) ⊎ (k ≢ depth) → AreHeld i.stack.region (new k)
+    kept k from less held (inl same) =
+        let place : at ≡ place_of vars first k = e.place ∙ ap (place_of vars first) (sym same) in
+        let within : place_of vars first k < length items = subst (λ (p : ℕ). place_of vars first p < length items) (sym same) (place-within i h depth node stands) in
+        let here : new k ≡ x.nodes = ap (λ (p : ℕ). at_depth vars first last (set items p x) i.stack.newest k) place ∙ put-at vars first last items x i.stack.newest k less within in
+        let was : nodes_in i.stack k ≡ old.nodes = ap (nodes_in i.stack) same ∙ sym (lent-nodes i h depth node stands e.other at old d e.place e.lent) in
+        subst (AreHeld i.stack.region) (sym (here ∙ e.nodes)) (held-set i.stack.region old.nodes node s (subst (AreHeld i.stack.region) was held))
+    kept k from less held (inr apart) =
+        let deep = h.stack.last in
+        let low = stands.low in
+        let lower = above-last depth last low e.other in
+        subst (AreHeld i.stack.region) (sym (kept-at vars first last last at items x i.stack.newest i.stack.newest k less less (λ f. places-apart vars first depth k (omega arith) (omega arith) (λ g. apart (sym g)) (sym e.place ∙ f)))) held
+
 pub layer-space : (i : Inside) → the_invariant i → (depth node : ℕ) (s : Option ℤ) → StandsAt i depth node → (at : ℕ) (old d x : LayerView) → HasSet i depth node s at old d x → the_invariant (with_layer i at x)
 layer-space i h depth node s stands at old d x e =
     let low = stands.low in
@@ -342,6 +395,7 @@ layer-space i h depth node s stands at old d x e =
         newest_words = h.stack.newest_words;
         top = ap (λ (l : LayerView). l.nodes) (get_or-set_other i.stack.layers.items at (i.stack.vars + 1) x no_layer (λ f. absurd (omega arith))) ∙ h.stack.top;
       };
+      rows = layer-rows i h depth node s stands at old d x e;
       first = h.first;
       prefix_fits = h.prefix_fits;
       expands = h.expands;

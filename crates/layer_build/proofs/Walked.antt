@@ -1,5 +1,5 @@
 -- Paths of nodes, walked back through the layers, and what a loop over layers or nodes has seen.
-use Rattle.std.proofs.Common.{◌≡◌, ℕ, zero, suc, ◌+◌, ◌-◌, ◌*◌, ◌^◌, ◌<◌, ◌≤◌, nat_eq, nat_lt, pos, Bool, true, false, cond, List, [], ◌∷◌, ◌++◌, set, drop, length, get_or, slice_index_or, slice_get, position, sum_by, Option, Some, None, option_map, ◌⊎◌, inl, inr, refl, sym, ap, ap₂, ◌∙◌, subst, arith, append_assoc}
+use Rattle.std.proofs.Common.{◌≡◌, ℕ, zero, suc, ◌+◌, ◌-◌, ◌*◌, ◌^◌, ◌<◌, ◌≤◌, nat_eq, nat_lt, pos, Bool, true, false, cond, List, [], ◌∷◌, ◌++◌, set, drop, length, get_or, slice_index_or, slice_get, position, sum_by, Option, Some, None, option_map, ◌⊎◌, inl, inr, refl, sym, ap, ap₂, ◌∙◌, arith, append_assoc}
 use Rattle.std.proofs.lemmas.Bool.Decides.{nat_tests}
 use Rattle.std.proofs.lemmas.List.{length-set, length-map, length_push, drop_all, drop_more, drop-set, get_or-map, get_or_past}
 use Rattle.std.proofs.lemmas.List.Sums.{position_or_len_is, sum_by-cons}
@@ -12,7 +12,7 @@ use Rattle.layer_build.proofs.Shown.{length-down, length-shown, paths-last}
 use Rattle.layer_build.proofs.Stacks.{place-low}
 
 abbrev pub no_node : NodeView
-no_node = record { row = []; value = pos 0; rank = pos 0; exact = false; parent = None; decision = 0; arcs = []; suffix = None }
+no_node = record { row = []; place = 0; value = pos 0; rank = pos 0; exact = false; parent = None; decision = 0; arcs = []; suffix = None }
 
 -- a depth down to the last one has its place
 pub place-held : (s : Stack) (depth : ℕ) → HoldFew s → depth ≤ s.last → place_of s.vars s.first depth < length s.layers.items
@@ -39,10 +39,6 @@ pub record IsWalked (s : Stack) (prefix out : List ℕ) (depth node k at : ℕ) 
   pub place : s.first < k → at < length (nodes_in s k)
   pub long : length (path_of (nodes_in s) prefix s.first k at) ≡ k
   pub list : path_of (nodes_in s) prefix s.first k at ++ drop k out ≡ path_of (nodes_in s) prefix s.first depth node
-
-append-none : (xs : List ℕ) → xs ++ [] ≡ xs
-append-none [] = refl
-append-none (x ∷ xs) = ap (λ (l : List ℕ). x ∷ l) (append-none xs)
 
 -- the paths of the nodes of a layer below the first one
 paths-are : (nodes : ℕ → List NodeView) (prefix : List ℕ) (first k : ℕ) → first < k
@@ -72,19 +68,18 @@ place-is nodes prefix first k at less long = go (grind arith)
         absurd (omega arith)
 
 pub walked-more : (s : Stack) (prefix out : List ℕ) (depth node k at : ℕ) → IsWalked s prefix out depth node k at → s.first < k
-    → (nodes : List NodeView) → nodes ≡ nodes_in s k → (d : ℕ) → option_map (λ (n : NodeView). n.decision) (slice_get nodes at) ≡ Some d
-    → (parent : Option ℕ) → option_map (λ (n : NodeView). n.parent) (slice_get nodes at) ≡ Some parent → (place : ℕ) → ((i : ℕ) → parent ≡ Some i → place ≡ i)
+    → (d : ℕ) → option_map (λ (n : NodeView). n.decision) (slice_get (nodes_in s k) at) ≡ Some d
+    → (place : ℕ) → ((i : ℕ) → option_map (λ (n : NodeView). n.parent) (slice_get (nodes_in s k) at) ≡ Some (Some i) → place ≡ i)
     → IsWalked s prefix (set out (k - 1) d) depth node (k - 1) place
-walked-more s prefix out depth node k at h less nodes same d decision parent by place next = go parent refl
+walked-more s prefix out depth node k at h less d decision place next = go parent refl
   where
-    within : at < length nodes
-    within = subst (λ (l : List NodeView). at < length l) (sym same) (h.place less)
+    parent : Option ℕ
+    parent = (get_or (nodes_in s k) at no_node).parent
 
     split : path_of (nodes_in s) prefix s.first k at ≡ path_below (path_of (nodes_in s) prefix s.first (k - 1)) parent d
     split =
-        subst (λ (l : List NodeView). path_of (nodes_in s) prefix s.first k at ≡ path_below (path_of (nodes_in s) prefix s.first (k - 1)) (get_or l at no_node).parent (get_or l at no_node).decision) (sym same)
-        (path-by-parent (nodes_in s) prefix s.first k at less (h.place less))
-        ∙ ap₂ (path_below (path_of (nodes_in s) prefix s.first (k - 1))) (read-is (λ (n : NodeView). n.parent) nodes at parent within by) (read-is (λ (n : NodeView). n.decision) nodes at d within decision)
+        path-by-parent (nodes_in s) prefix s.first k at less (h.place less)
+        ∙ ap (path_below (path_of (nodes_in s) prefix s.first (k - 1)) parent) (read-is (λ (n : NodeView). n.decision) (nodes_in s k) at d (h.place less) decision)
 
     go : (o : Option ℕ) → parent ≡ o → IsWalked s prefix (set out (k - 1) d) depth node (k - 1) place
     go None e =
@@ -93,7 +88,7 @@ walked-more s prefix out depth node k at h less nodes same d decision parent by 
         let long = h.long in
         absurd (omega arith)
     go (Some p) e =
-        let to : place ≡ p = next p e in
+        let to : place ≡ p = next p (ap (option_map (λ (n : NodeView). n.parent)) (slice_get-get_or (nodes_in s k) at no_node (h.place less)) ∙ ap (λ (q : Option ℕ). Some q) e) in
         let rest = path_of (nodes_in s) prefix s.first (k - 1) place in
         let is : path_of (nodes_in s) prefix s.first k at ≡ rest ++ d ∷ [] =
         split ∙ (ap (λ (o : Option ℕ). path_below (path_of (nodes_in s) prefix s.first (k - 1)) o d) e ∙ ap (λ (i : ℕ). path_of (nodes_in s) prefix s.first (k - 1) i ++ d ∷ []) (sym to)) in

@@ -30,10 +30,11 @@ abbrev pub with_suffix : (List DdArc → Option ℤ) → NodeView → NodeView
 with_suffix rule node = record node { suffix = rule node.arcs }
 
 -- only the suffixes of the nodes at the depth change
-pub record HasEnded (depth : ℕ) (old new : Stack) : Type 0 where
+pub record HasSuffixesAt (depth : ℕ) (old new : Stack) : Type 0 where
   pub vars : new.vars ≡ old.vars
   pub first : new.first ≡ old.first
   pub last : new.last ≡ old.last
+  pub region : new.region ≡ old.region
   pub rooms : map room_of new.layers.items ≡ map room_of old.layers.items
   pub newest : room_of new.newest ≡ room_of old.newest
   pub nodes : nodes_in new depth ≡ map (with_suffix (longest_from old depth)) (nodes_in old depth)

@@ -1,8 +1,8 @@
 -- The layers of a workspace before a compilation.
-use Rattle.std.specs.Prelude.{◌≡◌, ℕ, ◌+◌, ◌*◌, ◌<◌, ◌≤◌, [], ◌∷◌, ◌++◌, map}
+use Rattle.std.specs.Prelude.{◌≡◌, ℕ, ◌+◌, ◌*◌, ◌<◌, ◌≤◌, [], ◌∷◌, ◌++◌, map, replicate, None}
 use Rattle.dp_model.specs.Decisions.{below}
 use Rattle.dp_model.specs.Dp.{Dp}
-use Rattle.layer_build.specs.Stacked.{empty_layer}
+use Rattle.layer_build.specs.Stacked.{empty_layer, beam_rows}
 use Rattle.layer_build.specs.declared.stack.Stack.{Stack}
 
 -- none of the first n layers has more choices
@@ -11,7 +11,8 @@ pub record IsMost (dp : Dp) (n most : ℕ) : Type 0 where
   pub few : most ≤ 1024
 
 -- the layers are without nodes and have their rooms: as many nodes as the width for each depth, as many as there are choices just
--- below the first layer, none above it, and so many for all candidates
+-- below the first layer, none above it, and so many for all candidates; and there are rows for all but the last one, and for the
+-- members of a beam
 pub record IsReady (dp : Dp) (width room : ℕ) (s : Stack) : Type 0 where
   pub nodes : ℕ
   pub arcs : ℕ
@@ -23,3 +24,4 @@ pub record IsReady (dp : Dp) (width room : ℕ) (s : Stack) : Type 0 where
   pub choices : (k : ℕ) → k < dp.vars → dp.choices k ≤ nodes
   pub pairs : (k : ℕ) → k + 1 < dp.vars → dp.choices k * dp.choices (k + 1) ≤ arcs
   pub newest : s.newest ≡ empty_layer dp.words room 0
+  pub region : s.region ≡ record { words = dp.words; rows = replicate (dp.vars * width + nodes + beam_rows width) None; spare = dp.vars * width + nodes + beam_rows width }

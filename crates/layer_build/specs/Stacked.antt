@@ -1,5 +1,5 @@
 -- How the layers of a diagram lie in memory, and how they are seen.
-use Rattle.std.specs.Prelude.{◌≡◌, ℕ, zero, suc, ◌+◌, ◌-◌, ◌*◌, ◌^◌, ◌<◌, ◌≤◌, nat_eq, cond, List, [], ◌∷◌, length, map, IsTrue, slice_index_or}
+use Rattle.std.specs.Prelude.{◌≡◌, ℕ, zero, suc, ◌+◌, ◌-◌, ◌*◌, ◌^◌, ◌<◌, ◌≤◌, nat_eq, max, cond, List, [], ◌∷◌, length, map, IsTrue, slice_index_or}
 use Rattle.dp_model.specs.Decisions.{below}
 use Rattle.dp_model.specs.Dp.{Dp}
 use Rattle.dp_model.specs.Lists.{Each}
@@ -7,6 +7,7 @@ use Rattle.dp_laws.specs.Diagrams.Nodes.{DdNode, path_below}
 use Rattle.layer_candidates.specs.Beaming.{HasLayers}
 use Rattle.layer_candidates.specs.declared.beam.Beam.{Beam}
 use Rattle.layer_nodes.specs.Nodes.{NodeView, LayerView, shown_layer}
+use Rattle.layer_nodes.specs.Holding.{AreHeld}
 use Rattle.layer_build.specs.declared.stack.Stack.{Stack}
 
 -- no layer
@@ -31,6 +32,11 @@ layer_in s depth = cond (nat_eq depth s.last) s.newest (slice_index_or s.layers.
 -- the nodes of the layer at the depth
 abbrev pub nodes_in : Stack → ℕ → List NodeView
 nodes_in s depth = (layer_in s depth).nodes
+
+-- there is a layer at the depth
+pub record HasDepth (s : Stack) (depth : ℕ) : Type 0 where
+  pub first : s.first ≤ 1024
+  pub place : place_of s.vars s.first depth < length s.layers.items
 
 -- the path of the node at the place
 abbrev pub path_in : List (List ℕ) → ℕ → List ℕ
@@ -96,9 +102,28 @@ pub record HasStack (words width : ℕ) (choices : List ℕ) (s : Stack) : Type 
   pub newest_words : s.newest.words ≡ words
   pub top : (slice_index_or s.layers.items (s.vars + 1) no_layer).nodes ≡ []
 
+-- for how many nodes there is room just below the first layer
+abbrev pub second_room : ℕ → List LayerView → ℕ
+second_room vars layers = (slice_index_or layers vars no_layer).nodes_room
+
+-- how many rows the members of a beam take: no layer has more choices than 1024
+abbrev pub beam_rows : ℕ → ℕ
+beam_rows width = max width 1024
+
+-- the region holds the rows of the layers from the depth `held` on that stand above the last one, and has rows to spare for
+-- those that are still to be kept: at each depth as many as the width, and just below the first layer as many as there is room for;
+-- and for the members of a beam besides
+pub record HasRows (words width held : ℕ) (s : Stack) : Type 0 where
+  pub words_are : s.region.words ≡ words
+  pub held_rows : (k : ℕ) → held ≤ k → s.first ≤ k → k < s.last → AreHeld s.region (nodes_in s k)
+  pub spare : (s.vars - s.last) * width + beam_rows width ≤ s.region.spare
+  pub second_spare : s.last ≤ s.first + 1 → (s.vars - s.last) * width + second_room s.vars s.layers.items + beam_rows width ≤ s.region.spare
+  pub enough : s.vars * width + second_room s.vars s.layers.items + beam_rows width ≤ length s.region.rows
+
 -- a workspace has room for all that it was prepared for, and its exact nodes have paths of their depth
-pub record HasSpace (words width : ℕ) (choices : List ℕ) (prefix : List ℕ) (prefix_room : ℕ) (s : Stack) (expansion redirects : ℕ) (buffer : List ℕ) (beam : Beam) : Type 0 where
+pub record HasSpace (words width held : ℕ) (choices : List ℕ) (prefix : List ℕ) (prefix_room : ℕ) (s : Stack) (expansion redirects : ℕ) (buffer : List ℕ) (beam : Beam) : Type 0 where
   pub stack : HasStack words width choices s
+  pub rows : HasRows words width held s
   pub first : s.first ≡ length prefix
   pub prefix_fits : s.vars ≤ prefix_room
   pub expands : expansion ≡ s.newest.nodes_room

@@ -4,12 +4,16 @@
 //! makes the next layer, `expand_sifted` makes it without its struck nodes, `strike` takes nodes out of it, `keep_first` and
 //! `merge_rest` reduce it to the width, and the readers show the layers with the paths of their nodes. Each step is proved to be
 //! the one that is defined in `dp_laws` on plain lists of nodes; but for `expand_sifted`, which `layer_nodes` defines, and after
-//! which `strike` leaves what it leaves after `expand_layer`. `set_suffixes` sets the suffixes of a layer whose diagram is whole. `beam` is the shorter way to a restricted diagram, over
-//! `layer_candidates`. Only `prepare` takes memory.
-//! `greatest_width` is the greatest width whose layers stay within the cost formula.
+//! which `strike` leaves what it leaves after `expand_layer`. `set_suffixes` sets the suffixes of a layer whose diagram is
+//! whole. `beam` is the shorter way to a restricted diagram, over `layer_candidates`.
+//!
+//! The last layer has its rows itself. Those of the layers above it stand in one `row_region`: `expand_layer` puts them there,
+//! `begin` and `drop_above` give all of them back; `beam` takes rows for its members and gives them back. Only `prepare` takes
+//! memory, and the region gets its size there. `greatest_width` is the greatest width whose layers stay within the cost formula.
 #![tactic(auto)]
 
 mod ending;
+mod lookup;
 mod preparing;
 mod readers;
 mod stack;

@@ -13,7 +13,8 @@ ghost use Rattle.layer_build.specs.Finding.{IsFound, IsFoundAs, StaysButPath, St
 ghost use Rattle.layer_build.specs.UnderWay.{IsUnderWay};
 
 use crate::ending::end_layer;
-use crate::stack::{layer_at, place_of};
+use crate::lookup::{arc_at, arcs_at, decision_at, exact_at, len_at, row_at, suffix_at, value_at};
+use crate::stack::place_of;
 use crate::walking::{exact_place, live_rows, parent_or_first, write_front, write_path};
 use crate::workspace::Workspace;
 use dp_laws::DdArc;
@@ -54,7 +55,7 @@ impl Workspace {
         requires last { depth ≤ last_depth self.now }
         ensures { result ≡ length (layer_at self.now depth) }
     {
-        layer_at(&self.stack, depth).len()
+        len_at(&self.stack, depth)
     }
 
     /// The state of a node, where the rows of its layer are held.
@@ -64,7 +65,7 @@ impl Workspace {
         requires place { IsSome (node_at (diagram_of self.now) depth node) }
         ensures { option_map (λ n. n.row) (node_at (diagram_of self.now) depth node) ≡ Some result.now }
     {
-        layer_at(&self.stack, depth).row(node)
+        row_at(&self.stack, depth, node)
     }
 
     /// The greatest length of a path to a node.
@@ -73,7 +74,7 @@ impl Workspace {
         requires place { IsSome (node_at (diagram_of self.now) depth node) }
         ensures { option_map (λ n. n.value) (node_at (diagram_of self.now) depth node) ≡ Some result }
     {
-        layer_at(&self.stack, depth).value(node)
+        value_at(&self.stack, depth, node)
     }
 
     /// Whether a node stands for one state exactly.
@@ -82,7 +83,7 @@ impl Workspace {
         requires place { IsSome (node_at (diagram_of self.now) depth node) }
         ensures { option_map (λ n. n.exact) (node_at (diagram_of self.now) depth node) ≡ Some result }
     {
-        layer_at(&self.stack, depth).exact(node)
+        exact_at(&self.stack, depth, node)
     }
 
     /// The suffix of a node, or none where it is not set yet.
@@ -91,7 +92,7 @@ impl Workspace {
         requires place { IsSome (node_at (diagram_of self.now) depth node) }
         ensures { option_map (λ n. n.suffix) (node_at (diagram_of self.now) depth node) ≡ Some result }
     {
-        layer_at(&self.stack, depth).suffix(node)
+        suffix_at(&self.stack, depth, node)
     }
 
     /// Sets the suffix of a node.
@@ -129,7 +130,7 @@ impl Workspace {
         requires place { IsSome (node_at (diagram_of self.now) depth node) }
         ensures { option_map (λ n. length n.arcs) (node_at (diagram_of self.now) depth node) ≡ Some result }
     {
-        layer_at(&self.stack, depth).arcs(node)
+        arcs_at(&self.stack, depth, node)
     }
 
     /// An arc of a node, by the place among its arcs, which stand by decision.
@@ -138,7 +139,7 @@ impl Workspace {
         requires place { IsSome (option_and_then (λ n. slice_get n.arcs i) (node_at (diagram_of self.now) depth node)) }
         ensures { option_and_then (λ n. slice_get n.arcs i) (node_at (diagram_of self.now) depth node) ≡ Some result }
     {
-        layer_at(&self.stack, depth).arc(node, i)
+        arc_at(&self.stack, depth, node, i)
     }
 
     /// Writes the kept decisions of an exact node, from the root.
@@ -157,7 +158,7 @@ impl Workspace {
         requires exact { option_map (λ n. n.exact) (node_at (diagram_of self.now) depth node) ≡ Some true }
         ensures { option_map (λ n. n.path) (node_at (diagram_of self.now) depth node) ≡ option_map (λ n. take (depth - 1) n.path ++ result ∷ []) (node_at (diagram_of self.now) depth node) }
     {
-        layer_at(&self.stack, depth).decision(node)
+        decision_at(&self.stack, depth, node)
     }
 
     /// The place of the node in the layer above that the kept decisions of an exact node lead through, where that is below the
@@ -167,7 +168,7 @@ impl Workspace {
         requires exact { option_map (λ n. n.exact) (node_at (diagram_of self.now) depth node) ≡ Some true }
         ensures { option_map (λ n. n.path) (node_at (diagram_of self.now) (depth - 1) result) ≡ option_map (λ n. take (depth - 1) n.path) (node_at (diagram_of self.now) depth node) }
     {
-        parent_or_first(layer_at(&self.stack, depth), node)
+        parent_or_first(&self.stack, depth, node)
     }
 
     /// How many rows are held.

@@ -1,25 +1,30 @@
 //! The layers of a diagram in memory.
 
-ghost use Rattle.std.specs.Prelude.{◌≡◌, ◌≢◌, ◌+◌, ◌-◌, ◌*◌, ◌<◌, ◌≤◌, ℕ, List, IsSome, length, map};
+ghost use Rattle.std.specs.Prelude.{◌≡◌, ◌+◌, ◌-◌, ◌*◌, ◌<◌, ◌≤◌, ℕ, List, IsSome, length, map};
 ghost use Rattle.dp_model.specs.Lists.{Each};
 ghost use Rattle.dp_laws.specs.Rules.Compiling.{expand};
+ghost use Rattle.layer_candidates.specs.HeldRows.{HoldsMore};
 ghost use Rattle.layer_nodes.specs.Nodes.{shown_layer, shown_below, without_arcs};
 ghost use Rattle.layer_nodes.specs.Sifting.{expand_sifted};
 ghost use Rattle.layer_nodes.specs.Steps.{IsParent, IsRanked, KeepsRoom};
-ghost use Rattle.layer_build.specs.Stacked.{place_of, place_above, layer_in};
+ghost use Rattle.layer_nodes.specs.Holding.{AreHeld};
+ghost use Rattle.layer_build.specs.Stacked.{place_of, place_above};
 
 use dp_model::DpModel;
-use layer_nodes::{Expansion, Layer, expand, expand_sifted};
+use layer_nodes::{Expansion, KeptLayer, Layer, expand, expand_sifted};
+use row_region::Region;
 
 /// A layer for each depth, then the one just below the first, and an empty one, which stands above the first; and the last
-/// layer of all, which is wide before it is reduced. `first` and `last` are the depths of the first and the last one.
+/// layer of all, which is wide before it is reduced. `first` and `last` are the depths of the first and the last one. The last
+/// layer has its rows itself; those of the layers above it stand in the region.
 #[derive(Debug, Drop)]
 pub(crate) struct Stack {
     pub(crate) vars: usize,
     pub(crate) first: usize,
     pub(crate) last: usize,
-    pub(crate) layers: Vec<Layer>,
+    pub(crate) layers: Vec<KeptLayer>,
     pub(crate) newest: Layer,
+    pub(crate) region: Region,
 }
 
 /// The place of the layer at the depth. The layer just below the first is never reduced, so it has a place of its own.
@@ -44,32 +49,22 @@ pub(crate) fn place_above(vars: usize, first: usize, last: usize) -> usize
     }
 }
 
-/// The layer at the depth.
-pub(crate) fn layer_at(stack: &Stack, depth: usize) -> &Layer
-    requires few { stack.now.first ≤ 1024 }
-    requires place { depth ≢ stack.now.last → place_of stack.now.vars stack.now.first depth < length stack.now.layers.items }
-    ensures { result.now ≡ layer_in stack.now depth }
-{
-    if depth == stack.last {
-        &stack.newest
-    } else {
-        &stack.layers[place_of(stack.vars, stack.first, depth)]
-    }
-}
-
-/// The last layer, at depth `k`, is written to its place above and expanded into the next one.
+/// The last layer, at depth `k`, is kept at its place above, with its rows in the region, and expanded into the next one.
 pub(crate) fn expand_newest<M: DpModel>(
     model: &M,
     k: usize,
-    above: &mut Layer,
+    region: &mut Region,
+    above: &mut KeptLayer,
     newest: &mut Layer,
     expansion: &mut Expansion,
 )
     requires layer { k < (M.meaning (M.numbers model.now)).vars }
     requires above_words { above.old.words ≡ (M.meaning (M.numbers model.now)).words }
     requires next_words { newest.old.words ≡ (M.meaning (M.numbers model.now)).words }
+    requires region_words { region.old.words ≡ (M.meaning (M.numbers model.now)).words }
     requires nodes { Each (IsParent (M.meaning (M.numbers model.now)) k) newest.old.nodes }
     requires copy_room { length newest.old.nodes ≤ above.old.nodes_room }
+    requires spare { length newest.old.nodes ≤ region.old.spare }
     requires arcs_room { length newest.old.nodes * (M.meaning (M.numbers model.now)).choices k ≤ above.old.arcs_room }
     requires nodes_room { length newest.old.nodes * (M.meaning (M.numbers model.now)).choices k ≤ newest.old.nodes_room }
     requires room { length newest.old.nodes * (M.meaning (M.numbers model.now)).choices k ≤ expansion.old }
@@ -79,12 +74,15 @@ pub(crate) fn expand_newest<M: DpModel>(
     ensures unmerged { Each (λ n. IsSome n.parent) newest.new.nodes }
     ensures few { length newest.new.nodes ≤ length newest.old.nodes * (M.meaning (M.numbers model.now)).choices k }
     ensures rest { map without_arcs above.new.nodes ≡ map without_arcs newest.old.nodes }
+    ensures held { AreHeld region.new above.new.nodes }
+    ensures others { HoldsMore region.old region.new }
+    ensures spare { region.new.spare + length newest.old.nodes ≡ region.old.spare }
     ensures above_rooms { KeepsRoom above.old above.new }
     ensures next_rooms { KeepsRoom newest.old newest.new }
     ensures expansion { expansion.new ≡ expansion.old }
 {
-    above.copy_nodes(newest);
-    expand(model, k, above, newest, expansion);
+    above.keep(newest, region);
+    expand(model, k, region, above, newest, expansion);
 }
 
 /// Does as `expand_newest` does, but of the next layer the nodes are left out that are struck by their rough bound.
@@ -92,15 +90,18 @@ pub(crate) fn expand_newest_sifted<M: DpModel>(
     model: &M,
     k: usize,
     threshold: Option<i64>,
-    above: &mut Layer,
+    region: &mut Region,
+    above: &mut KeptLayer,
     newest: &mut Layer,
     expansion: &mut Expansion,
 )
     requires layer { k < (M.meaning (M.numbers model.now)).vars }
     requires above_words { above.old.words ≡ (M.meaning (M.numbers model.now)).words }
     requires next_words { newest.old.words ≡ (M.meaning (M.numbers model.now)).words }
+    requires region_words { region.old.words ≡ (M.meaning (M.numbers model.now)).words }
     requires nodes { Each (IsParent (M.meaning (M.numbers model.now)) k) newest.old.nodes }
     requires copy_room { length newest.old.nodes ≤ above.old.nodes_room }
+    requires spare { length newest.old.nodes ≤ region.old.spare }
     requires arcs_room { length newest.old.nodes * (M.meaning (M.numbers model.now)).choices k ≤ above.old.arcs_room }
     requires nodes_room { length newest.old.nodes * (M.meaning (M.numbers model.now)).choices k ≤ newest.old.nodes_room }
     requires room { length newest.old.nodes * (M.meaning (M.numbers model.now)).choices k ≤ expansion.old }
@@ -110,10 +111,13 @@ pub(crate) fn expand_newest_sifted<M: DpModel>(
     ensures unmerged { Each (λ n. IsSome n.parent) newest.new.nodes }
     ensures few { length newest.new.nodes ≤ length newest.old.nodes * (M.meaning (M.numbers model.now)).choices k }
     ensures rest { map without_arcs above.new.nodes ≡ map without_arcs newest.old.nodes }
+    ensures held { AreHeld region.new above.new.nodes }
+    ensures others { HoldsMore region.old region.new }
+    ensures spare { region.new.spare + length newest.old.nodes ≡ region.old.spare }
     ensures above_rooms { KeepsRoom above.old above.new }
     ensures next_rooms { KeepsRoom newest.old newest.new }
     ensures expansion { expansion.new ≡ expansion.old }
 {
-    above.copy_nodes(newest);
-    expand_sifted(model, k, threshold, above, newest, expansion);
+    above.keep(newest, region);
+    expand_sifted(model, k, threshold, region, above, newest, expansion);
 }

@@ -1,11 +1,12 @@
 //! Paths of nodes, the first exact one of a layer, and how many rows are held.
 
-ghost use Rattle.std.specs.Prelude.{◌≡◌, ◌≢◌, ◌+◌, ◌-◌, ◌<◌, ◌≤◌, ℕ, List, [], ◌∷◌, ◌++◌, length, drop, option_map, position, slice_get, sum_by, Some};
+ghost use Rattle.std.specs.Prelude.{◌≡◌, ◌+◌, ◌-◌, ◌<◌, ◌≤◌, ℕ, List, [], ◌∷◌, ◌++◌, length, drop, option_map, position, slice_get, sum_by, Some};
 ghost use Rattle.dp_laws.specs.Diagrams.Nodes.{DdNode};
 ghost use Rattle.layer_nodes.specs.Nodes.{NodeView};
-ghost use Rattle.layer_build.specs.Stacked.{place_of, nodes_in, path_in, paths_at, shown_stack, HoldFew};
+ghost use Rattle.layer_build.specs.Stacked.{nodes_in, path_in, paths_at, shown_stack, HasDepth, HoldFew};
 
-use crate::stack::{Stack, layer_at};
+use crate::lookup::{decision_at, len_at, parent_at};
+use crate::stack::Stack;
 use layer_nodes::Layer;
 
 /// Writes the path of a node: the decisions from its ancestors down, behind the prefix.
@@ -22,10 +23,10 @@ pub(crate) fn write_path(stack: &Stack, prefix: &[u32], depth: usize, node: usiz
     let mut k = depth;
     let mut at = node;
     'steps: while k > stack.first {
-        let layer = layer_at(stack, k);
+        let decision = decision_at(stack, k, at);
+        at = parent_or_first(stack, k, at);
         k -= 1;
-        out[k] = layer.decision(at);
-        at = place_or_first(layer.parent(at));
+        out[k] = decision;
     }
     out[..prefix.len()].copy_from_slice(prefix);
 }
@@ -55,11 +56,12 @@ fn place_or_first(place: Option<u32>) -> usize
 }
 
 /// The place of a node's parent, or 0 where it has none.
-pub(crate) fn parent_or_first(layer: &Layer, node: usize) -> usize
-    requires { node < length layer.now.nodes }
-    ensures { (i : ℕ) → option_map (λ (n : NodeView). n.parent) (slice_get layer.now.nodes node) ≡ Some (Some i) → result ≡ i }
+pub(crate) fn parent_or_first(stack: &Stack, depth: usize, node: usize) -> usize
+    requires depth { HasDepth stack.now depth }
+    requires place { node < length (nodes_in stack.now depth) }
+    ensures { (i : ℕ) → option_map (λ (n : NodeView). n.parent) (slice_get (nodes_in stack.now depth) node) ≡ Some (Some i) → result ≡ i }
 {
-    place_or_first(layer.parent(node))
+    place_or_first(parent_at(stack, depth, node))
 }
 
 /// The place of the first exact node.
@@ -82,7 +84,7 @@ pub(crate) fn live_rows(stack: &Stack, held: usize) -> usize
 {
     let mut rows = 0;
     'layers: for depth in stack.first.max(held)..stack.last + 1 {
-        rows += layer_at(stack, depth).len();
+        rows += len_at(stack, depth);
     }
     rows
 }

@@ -70,7 +70,7 @@ impl Model for Workspace {
       path = s.path.items;
     } };
 
-    ghost invariant = { λ s. HasSpace s.words s.width s.choices.items s.prefix.items (vec_capacity s.prefix) s.stack s.expansion s.redirects s.path.items s.beam };
+    ghost invariant = { λ s. HasSpace s.words s.width s.held s.choices.items s.prefix.items (vec_capacity s.prefix) s.stack s.expansion s.redirects s.path.items s.beam };
 }
 
 impl Workspace {
@@ -107,7 +107,7 @@ impl Workspace {
             width,
             choices: choices_of(alloc, model)?,
             prefix: Vec::with_capacity(alloc, vars)?,
-            stack: prepare_stack(alloc, model, width, room)?,
+            stack: prepare_stack(alloc, model, width, room, widest)?,
             first_reduced: None,
             held: 0,
             expansion: Expansion::prepare(alloc, room)?,
@@ -135,9 +135,11 @@ impl Workspace {
         let first = sub.decisions.len();
         let rank = model.rank(first, sub.row.as_slice());
         write_all(&mut self.prefix, sub.decisions.as_slice());
-        self.stack.first = first;
-        self.stack.last = first;
-        self.stack.newest.start(sub.row.as_slice(), sub.value, rank);
+        let stack = &mut self.stack;
+        stack.first = first;
+        stack.last = first;
+        stack.region.clear();
+        stack.newest.start(sub.row.as_slice(), sub.value, rank);
         self.first_reduced = None;
         self.held = first;
     }
@@ -158,6 +160,7 @@ impl Workspace {
         expand_newest(
             model,
             self.stack.last,
+            &mut self.stack.region,
             &mut self.stack.layers[at],
             &mut self.stack.newest,
             &mut self.expansion,
@@ -182,6 +185,7 @@ impl Workspace {
             model,
             self.stack.last,
             threshold,
+            &mut self.stack.region,
             &mut self.stack.layers[at],
             &mut self.stack.newest,
             &mut self.expansion,
@@ -296,6 +300,7 @@ impl Workspace {
         ensures under_way { (dp : Dp) → IsUnderWay dp self.old → IsUnderWay dp self.new }
     {
         self.held = self.stack.last;
+        self.stack.region.clear();
     }
 
     /// The beam below a prefix with its own state and value: its value, or none where there is none, and whether the width took
@@ -310,6 +315,7 @@ impl Workspace {
         ensures reduced { result.reduced ≡ is_some (wide (M.meaning (M.numbers model.now)) sub.now.subproblem.decisions self.old.width threshold) }
     {
         self.beam.beam(
+            &mut self.stack.region,
             model,
             sub.decisions.as_slice(),
             sub.row.as_slice(),

@@ -21,11 +21,12 @@ use Rattle.dp_laws.proofs.Restricted.InOrder.{few-expanded}
 use Rattle.layer_candidates.specs.declared.beam.Beam.{Beam}
 use Rattle.layer_candidates.specs.declared.candidates.Candidates.{Candidates}
 use Rattle.layer_candidates.specs.declared.member.Member.{Member}
-use Rattle.layer_candidates.specs.Beaming.{kept_at, took, IsBuilt, most_at, is_between, IsNext}
-use Rattle.layer_candidates.specs.Layering.{HasMemory, IsEntered}
-use Rattle.layer_candidates.specs.Members.{members_as, IsMemberOf}
+use Rattle.layer_candidates.specs.Beaming.{AreEnoughMembers, kept_at, took, IsBuilt, most_at, is_between, IsNext}
+use Rattle.layer_candidates.specs.HeldRows.{held_as}
+use Rattle.layer_candidates.specs.Layering.{HasMemory}
 use Rattle.layer_candidates.specs.Steps.{path_at}
 use Rattle.layer_candidates.specs.Ways.{IsNear}
+use Rattle.row_region.specs.Region.{RegionView}
 
 -- Members are prefixes, so their values are near.
 
@@ -36,13 +37,10 @@ near-value dp laws p h =
     let few = laws.sizes.vars in
     record { low = omega (arith, ints); high = omega (arith, ints) }
 
-members-of : (dp : Dp) → IsLawful dp → (p : List ℕ) (k : ℕ) (paths : ℕ → List ℕ) (above : List ℤ) (words : ℕ) (members : List Member)
-    → Each (IsMember dp p k) (members_as paths above words members) → Each (IsEntered dp k above words) members → Each (IsMemberOf dp k above words) members
-members-of dp laws p k paths above words [] h e = tt
-members-of dp laws p k paths above words (m ∷ members) h e = (
-  record { within = e.0.within; state = e.0.state; rank = e.0.rank; value = subst IsNear (sym h.0.value) (near-value dp laws (paths m.step) h.0.prefix) },
-  members-of dp laws p k paths above words members h.1 e.1,
-)
+near-of : (dp : Dp) → IsLawful dp → (p : List ℕ) (k : ℕ) (paths : ℕ → List ℕ) (region : RegionView) (members : List Member)
+    → Each (IsMember dp p k) (held_as paths region members) → Each (λ (m : Member). IsNear m.value) members
+near-of dp laws p k paths region [] h = tt
+near-of dp laws p k paths region (m ∷ members) h = (subst IsNear (sym h.0.value) (near-value dp laws (paths m.step) h.0.prefix), near-of dp laws p k paths region members h.1)
 
 -- How many there are.
 
@@ -151,11 +149,13 @@ module _ (dp : Dp) (laws : IsLawful dp) (p : List ℕ) (w : ℕ) (t : Option ℤ
       last false e = first (grind (arith, nat_tests)) (nat_eq k (length p)) refl
 
 -- what the next layer needs
-pub record MayDescend (dp : Dp) (k most : ℕ) (b : Beam) : Type 0 where
-  pub members : Each (IsMemberOf dp k b.above.items b.words) b.members.items
+pub record MayDescend (dp : Dp) (k most : ℕ) (b : Beam) (region : RegionView) : Type 0 where
+  pub near : Each (λ (m : Member). IsNear m.value) b.members.items
   pub memory : HasMemory (length b.members.items * dp.choices k) b.candidates
   pub rows_room : length b.members.items * dp.choices k * b.words ≤ vec_len b.rows
   pub members_room : most ≤ vec_capacity b.members
+  pub held_room : most ≤ vec_capacity b.held
+  pub region_room : most ≤ region.spare + length b.held.items
   pub steps_room : length b.steps.items + most ≤ vec_capacity b.steps
   pub small : length b.steps.items + most < 2 ^ 32
 
@@ -167,14 +167,14 @@ memory-less m n c h less =
 zero-or : (m : ℕ) → (m ≡ 0) ⊎ ((m ≡ 1) ⊎ (1 < m))
 zero-or m = grind arith
 
-module _ (dp : Dp) (laws : IsLawful dp) (p : List ℕ) (w : ℕ) (t : Option ℤ) (k : ℕ) (b : Beam) (reduced : Bool) (h : IsBuilt dp p w t k b reduced) (is_prefix : IsPrefix dp p) (low : k < dp.vars) where
+module _ (dp : Dp) (laws : IsLawful dp) (p : List ℕ) (w : ℕ) (t : Option ℤ) (k : ℕ) (b : Beam) (region : RegionView) (reduced : Bool) (h : IsBuilt dp p w t k b region reduced) (is_prefix : IsPrefix dp p) (low : k < dp.vars) where
   abbrev past : ℕ
   past = k - length p
 
   deep : k ≡ length p + past
   deep = let d = h.deep in omega arith
 
-  here : members_as (path_at p b.steps.items) b.above.items b.words b.members.items ≡ layer_below dp (reached dp p) w t past
+  here : held_as (path_at p b.steps.items) region b.members.items ≡ layer_below dp (reached dp p) w t past
   here = let inside : nat_lt k dp.vars ≡ true = grind (arith, nat_tests) in h.list ∙ ap (λ c. cond c (layer_below dp (reached dp p) w t past) (take 1 (layer_below dp (reached dp p) w t past))) inside
 
   count-few : length b.members.items * dp.choices k ≤ h.has_room.room
@@ -204,13 +204,13 @@ module _ (dp : Dp) (laws : IsLawful dp) (p : List ℕ) (w : ℕ) (t : Option ℤ
   choice : IsChosen dp p w t past most
   choice = chosen dp laws p w t past (let d = deep in omega arith) h.has_room.positive
 
-  most-wide : most ≤ h.has_room.widest
-  most-wide = go (zero-or past)
+  most-wide : (widest : ℕ) → AreEnoughMembers dp w widest → most ≤ widest
+  most-wide widest enough = go (zero-or past)
     where
-      go : (past ≡ 0) ⊎ ((past ≡ 1) ⊎ (1 < past)) → most ≤ h.has_room.widest
-      go (inl z) = let d = deep in let small = choice.small z in let c = h.has_room.enough.choices (length p) (omega arith) in omega arith
-      go (inr (inl z)) = let narrow = choice.narrow (omega arith) in let c = h.has_room.enough.width in omega arith
-      go (inr (inr z)) = let narrow = choice.narrow (omega arith) in let c = h.has_room.enough.width in omega arith
+      go : (past ≡ 0) ⊎ ((past ≡ 1) ⊎ (1 < past)) → most ≤ widest
+      go (inl z) = let d = deep in let small = choice.small z in let c = enough.choices (length p) (omega arith) in omega arith
+      go (inr (inl z)) = let narrow = choice.narrow (omega arith) in let c = enough.width in omega arith
+      go (inr (inr z)) = let narrow = choice.narrow (omega arith) in let c = enough.width in omega arith
 
   steps-fit : length b.steps.items + most ≤ h.has_room.widest + dp.vars * w
   steps-fit = go (zero-or past)
@@ -220,42 +220,44 @@ module _ (dp : Dp) (laws : IsLawful dp) (p : List ℕ) (w : ℕ) (t : Option ℤ
           let d = deep in
           let narrow = choice.narrow more in
           let few = h.few (omega arith) in
-          let c = h.has_room.enough.choices (length p) (omega arith) in
+          let c = h.has_room.enough.members.choices (length p) (omega arith) in
           let all : suc past * w ≤ dp.vars * w = mul-le-mul_right w (omega arith) in
           let sum : suc past * w ≡ past * w + w = suc-mul past w in
           omega arith
 
       go : (past ≡ 0) ⊎ ((past ≡ 1) ⊎ (1 < past)) → length b.steps.items + most ≤ h.has_room.widest + dp.vars * w
-      go (inl z) = let d = deep in let none = h.none (omega arith) in let wide = most-wide in omega arith
+      go (inl z) = let d = deep in let none = h.none (omega arith) in let wide = most-wide h.has_room.widest h.has_room.enough.members in omega arith
       go (inr (inl z)) = later (omega arith)
       go (inr (inr z)) = later (omega arith)
 
-  pub may-descend : MayDescend dp k most b
+  pub may-descend : MayDescend dp k most b region
   may-descend =
       let few = count-few in
-      let wide = most-wide in
+      let wide = most-wide h.has_room.widest h.has_room.enough.members in
       let fit = steps-fit in
       let room = h.has_room in
       let rows = room.rows in
       let cells = mul-le-mul_right b.words few in
-      let hold = room.steps in let limit = room.small in let members = room.members in
+      let hold = room.steps in let limit = room.small in let members = room.members in let held = room.held in
       record {
-        members = members-of dp laws p k (path_at p b.steps.items) b.above.items b.words b.members.items
-            (subst (Each (IsMember dp p k)) (sym here) (subst (λ n. Each (IsMember dp p n) (layer_below dp (reached dp p) w t past)) (sym deep) (layers-prefixes dp p w t past is_prefix (let d = deep in omega arith)))) h.entered;
+        near = near-of dp laws p k (path_at p b.steps.items) region b.members.items
+            (subst (Each (IsMember dp p k)) (sym here) (subst (λ n. Each (IsMember dp p n) (layer_below dp (reached dp p) w t past)) (sym deep) (layers-prefixes dp p w t past is_prefix (let d = deep in omega arith))));
         memory = memory-less (length b.members.items * dp.choices k) room.room b.candidates room.candidates few;
         rows_room = omega arith;
         members_room = omega arith;
+        held_room = omega arith;
+        region_room = most-wide (region.spare + length b.held.items) h.region_room;
         steps_room = omega arith;
         small = omega arith;
       }
 
-  pub built-next : (new : Beam) (more : Bool) → IsNext dp k t most b new more → IsBuilt dp p w t (k + 1) new (reduced || (more && is_between k (length p) dp.vars))
-  built-next new more n =
+  pub built-next : (new : Beam) (below : RegionView) (more : Bool) → IsNext dp k t most b region new below more → IsBuilt dp p w t (k + 1) new below (reduced || (more && is_between k (length p) dp.vars))
+  built-next new below more n =
       let d = deep in
       let next : (k + 1) - length p ≡ suc past = omega arith in
-      let whole : whole_layer dp k t (members_as (path_at p b.steps.items) b.above.items b.words b.members.items) ≡ whole_layer dp (length p + past) t (layer_below dp (reached dp p) w t past) =
+      let whole : whole_layer dp k t (held_as (path_at p b.steps.items) region b.members.items) ≡ whole_layer dp (length p + past) t (layer_below dp (reached dp p) w t past) =
       ap₂ (λ j l. whole_layer dp j t l) deep here in
-      let listed : members_as (path_at p new.steps.items) new.above.items new.words new.members.items ≡ kept_at dp (k + 1) (layer_below dp (reached dp p) w t (suc past)) =
+      let listed : held_as (path_at p new.steps.items) below new.members.items ≡ kept_at dp (k + 1) (layer_below dp (reached dp p) w t (suc past)) =
       n.list p ∙ (ap (take most) whole ∙ (choice.kept ∙ ap (λ j. kept_at dp (j + 1) (layer_below dp (reached dp p) w t (suc past))) (sym deep))) in
       let flag : (more && is_between k (length p) dp.vars) ≡ is_too_wide dp (reached dp p) w t (suc past) =
       ap (λ j. more && is_between j (length p) dp.vars) deep ∙ choice.flag more (n.more_stay p ∙ ap (λ l. nat_lt most (length l)) whole) in
@@ -263,9 +265,12 @@ module _ (dp : Dp) (laws : IsLawful dp) (p : List ℕ) (w : ℕ) (t : Option ℤ
       let sum = n.steps in
       record {
         has_room = n.has_room w h.has_room;
+        region_words = n.exchanged.words ∙ (h.region_words ∙ sym n.words);
+        region_room = subst (AreEnoughMembers dp w) (sym n.exchanged.spare) h.region_room;
+        live = n.exchanged.live;
         deep = omega arith;
         list = listed ∙ ap (λ j. kept_at dp (k + 1) (layer_below dp (reached dp p) w t j)) (sym next);
-        entered = n.entered;
+        held = n.held;
         reached_by = n.reached_by;
         backward = n.backward h.backward;
         one = λ e. absurd (omega arith);

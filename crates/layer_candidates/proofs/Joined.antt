@@ -9,7 +9,7 @@ use Rattle.dp_model.proofs.RowLemmas.{row_same-self, row_same-is}
 use Rattle.dp_laws.specs.Restricted.Extensions.{better, joined, all_joined}
 use Rattle.layer_candidates.specs.declared.way.Way.{Way}
 use Rattle.layer_candidates.specs.Rows.{row_at}
-use Rattle.layer_candidates.specs.Ways.{table, way_at, reached_by, reached_at, all_reached, bettered, IsWay, AreApart, AreWays}
+use Rattle.layer_candidates.specs.Ways.{table, way_at, reached_by, reached_at, all_reached, bettered, IsWay, AreDistinctRows, AreWays}
 
 pub same_rows : (a b : List ℤ) → a ≡ b → row_same a b ≡ true
 same_rows a b e = subst (λ x. row_same a x ≡ true) e (row_same-self a)
@@ -124,7 +124,7 @@ module _ (rows : List ℤ) (words : ℕ) (ways : List Way) (way : Way) where
       ∙ (ap (λ (l : List Reached). l ++ g count ∷ []) front ∙ (ap (λ (x : Reached). table f count ++ x ∷ []) last
       ∙ sym (joined_new f (reached_by paths row way) count (λ k h e. none k h e))))
 
-  pub pushed_apart : AreApart rows words count → ((k : ℕ) → k < count → row_at rows words k ≢ row) → AreApart rows words (suc count)
+  pub pushed_apart : AreDistinctRows rows words count → ((k : ℕ) → k < count → row_at rows words k ≢ row) → AreDistinctRows rows words (suc count)
   pushed_apart apart none j k less within = go (last_or k count within)
     where
       go : (k ≡ count) ⊎ (k < count) → row_at rows words j ≢ row_at rows words k
@@ -140,7 +140,7 @@ module _ (rows : List ℤ) (words : ℕ) (ways : List Way) (way : Way) where
 
   -- A way to a state that is there.
 
-  pub bettered_list : (paths : ℕ → List ℕ) (place : ℕ) → place < count → row_at rows words place ≡ row → AreApart rows words count
+  pub bettered_list : (paths : ℕ → List ℕ) (place : ℕ) → place < count → row_at rows words place ≡ row → AreDistinctRows rows words count
       → all_reached paths rows words (bettered ways place way) ≡ joined (all_reached paths rows words ways) (reached_by paths row way)
   bettered_list paths place less same apart = go (int_lt (way_at ways place).value way.value) refl
     where

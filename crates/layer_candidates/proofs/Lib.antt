@@ -6,6 +6,7 @@ pub mod Sorted
 pub mod Pruned
 pub mod Descended
 pub mod Layered
+pub mod HeldRows
 pub mod Built
 pub mod Walked
 pub mod Started

@@ -2,7 +2,7 @@
 use Rattle.std.proofs.Common.{◌≡◌, ℕ, zero, suc, ◌+◌, ◌<◌, ◌≤◌, nat_le, nat_lt, ℤ, ◌+ℤ◌, ◌-ℤ◌, int_le, Bool, true, false, cond, ◌||◌, List, [], ◌∷◌, ◌++◌, length, take, drop, get_or, Option, Some, None, is_some, refl, sym, ap, ◌∙◌, append_assoc, arith}
 use Rattle.std.proofs.lemmas.Int.{ints}
 use Rattle.std.proofs.lemmas.Bool.Decides.{nat_tests}
-use Rattle.std.proofs.lemmas.List.{map-append, append-nil, length-map, drop_all, drop_more, length_push, take_all, length-append}
+use Rattle.std.proofs.lemmas.List.{map-append, length-map, drop_all, drop_more, length_push, length-append}
 use Rattle.std.proofs.Math.Seq.{take-append_seam}
 use Rattle.dp_model.specs.Dp.{Dp}
 use Rattle.dp_model.specs.Gaps.{covers_at, within}
@@ -155,33 +155,6 @@ module _ (dp : Dp) (k : ℕ) (most : ℕ) (rows : List ℤ) (words : ℕ) (keys 
 
       more : (f : List Reached) (r : Reached) (rs : List Reached) → length f ≡ most → nat_lt most (length (f ++ r ∷ rs)) ≡ true
       more f r rs size = let sum = length-append f (r ∷ rs) in grind (arith, nat_tests)
-
--- all keys were looked at
-pub pruned-end : (dp : Dp) (k : ℕ) (most : ℕ) (rows : List ℤ) (words : ℕ) (keys leaders kept : List Key) (i : ℕ) → ArePruned dp k most rows words keys leaders kept i → i ≡ length keys
-    → HasPruned dp k most rows words keys kept false
-pruned-end dp k most rows words keys leaders kept i h end = record {
-  list = λ paths ways. (
-      let f = all_keyed paths rows words ways kept in
-      let size = length-map kept (keyed paths rows words ways) in let few = h.most_stay in
-      sym (take_all most f (omega arith)) ∙ ap (take most) (whole paths ways));
-  more_stay = λ paths ways. (
-      let f = all_keyed paths rows words ways kept in
-      let size = length-map kept (keyed paths rows words ways) in let few = h.most_stay in
-      fewer most (length f) (omega arith) ∙ ap (λ l. nat_lt most (length l)) (whole paths ways));
-  within = h.within;
-  places = h.places;
-  few = (let low = h.few in omega arith);
-  most_stay = h.most_stay;
-}
-  where
-    whole : (paths : ℕ → List ℕ) (ways : List Way) → all_keyed paths rows words ways kept ≡ undominated dp k [] (all_keyed paths rows words ways keys)
-    whole paths ways =
-        sym (append-nil (all_keyed paths rows words ways kept))
-        ∙ (ap (λ l. all_keyed paths rows words ways kept ++ undominated dp k (all_keyed paths rows words ways leaders) (all_keyed paths rows words ways l)) (sym (drop_all i keys (omega arith)))
-        ∙ h.list paths ways)
-
-    fewer : (m n : ℕ) → n ≤ m → false ≡ nat_lt m n
-    fewer m n le = grind (arith, nat_tests)
 
 pub pruned-none : (dp : Dp) (k : ℕ) (most : ℕ) (rows : List ℤ) (words : ℕ) (keys : List Key) → ArePruned dp k most rows words keys [] [] 0
 pruned-none dp k most rows words keys = record { list = λ paths ways. refl; leading = tt; within = tt; places = λ n all. tt; few = omega arith; most_stay = omega arith }

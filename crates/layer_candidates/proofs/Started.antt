@@ -1,7 +1,6 @@
 -- A beam at its start and at its end.
-use Rattle.std.proofs.Common.{◌≡◌, ℕ, ◌+◌, ◌-◌, ◌*◌, ◌<◌, ◌≤◌, nat_lt, ℤ, Bool, true, false, cond, List, [], ◌∷◌, ◌++◌, length, take, drop, find, is_some, Option, Some, None, option_map, vec_len, vec_capacity, refl, sym, ap, ap₂, subst, ◌∙◌, add-one, arith}
+use Rattle.std.proofs.Common.{◌≡◌, ℕ, ◌+◌, ◌-◌, ◌*◌, ◌<◌, ◌≤◌, nat_lt, ℤ, Bool, true, false, cond, List, [], ◌∷◌, length, take, find, is_some, Option, Some, None, option_map, slice_get, vec_len, vec_capacity, refl, sym, ap, ap₂, subst, ◌∙◌, add-one, arith}
 use Rattle.std.proofs.lemmas.Bool.Decides.{nat_tests}
-use Rattle.std.proofs.Math.Seq.{take-append_seam}
 use Rattle.dp_model.specs.Decisions.{below}
 use Rattle.dp_model.specs.Dp.{Dp}
 use Rattle.dp_model.specs.Gaps.{IsStateOf}
@@ -17,67 +16,80 @@ use Rattle.dp_laws.proofs.Lists.{each-take}
 use Rattle.dp_laws.proofs.Prefixes.{layers-prefixes}
 use Rattle.layer_candidates.specs.declared.beam.Beam.{Beam}
 use Rattle.layer_candidates.specs.declared.member.Member.{Member}
-use Rattle.layer_candidates.specs.Beaming.{HasLayers, kept_at, took, IsBuilt}
-use Rattle.layer_candidates.specs.Layering.{HasMemory, IsEntered}
-use Rattle.layer_candidates.specs.Members.{member_as, members_as}
-use Rattle.layer_candidates.specs.Rows.{row_at}
+use Rattle.layer_candidates.specs.Beaming.{AreEnoughMembers, HasLayers, kept_at, took, IsBuilt}
+use Rattle.layer_candidates.specs.HeldRows.{AreLive, held_row, held_as, IsHeldAt}
+use Rattle.layer_candidates.specs.Layering.{HasMemory}
 use Rattle.layer_candidates.specs.Steps.{path_at, AreBackward, IsReachedWithin}
+use Rattle.layer_candidates.proofs.HeldRows.{held-is}
+use Rattle.row_region.specs.Region.{RegionView}
 
 pub prefix-state : (dp : Dp) → IsLawful dp → (p : List ℕ) → IsPrefix dp p → IsStateOf dp (length p) (state_of dp p)
 prefix-state dp laws p h = state_of-state dp laws.states p h
 
-pub prefix-cells : (dp : Dp) → IsLawful dp → (p : List ℕ) → IsPrefix dp p → length (state_of dp p) ≡ dp.words
-prefix-cells dp laws p h = laws.sizes.cells (length p) (state_of dp p) (prefix-state dp laws p h)
+-- the row of a prefix has as many cells as each row
+pub prefix-cells : (dp : Dp) → IsLawful dp → (p : List ℕ) (row : List ℤ) (words cells : ℕ) → IsPrefix dp p → row ≡ state_of dp p → words ≡ dp.words → cells ≡ words → length row ≡ cells
+prefix-cells dp laws p row words cells h row_is words_are cells_are = ap length row_is ∙ (laws.sizes.cells (length p) (state_of dp p) (prefix-state dp laws p h) ∙ (sym words_are ∙ sym cells_are))
 
-abbrev start_member : ℤ → ℤ → Member
-start_member value rank = record { value = value; rank = rank; row = 0; step = 0 }
+abbrev start_member : ℤ → ℤ → ℕ → Member
+start_member value rank place = record { value = value; rank = rank; row = place; step = 0 }
 
-pub built-start : (dp : Dp) → IsLawful dp → (p : List ℕ) (w : ℕ) (t : Option ℤ) (row : List ℤ) (value rank : ℤ) (old new : Beam) → IsPrefix dp p → length p < dp.vars → row ≡ state_of dp p → value ≡ value_of dp p
-    → rank ≡ dp.rank (length p) row → HasLayers dp w old → new.words ≡ old.words → new.rows ≡ old.rows → new.candidates ≡ old.candidates
-    → new.above.items ≡ row ++ drop (length row) old.above.items → vec_len new.above ≡ vec_len old.above → new.members.items ≡ start_member value rank ∷ [] → new.steps.items ≡ []
-    → vec_capacity new.members ≡ vec_capacity old.members → vec_capacity new.steps ≡ vec_capacity old.steps → length new.above.items ≡ vec_len new.above → IsBuilt dp p w t (length p) new false
-built-start dp laws p w t row value rank old new is_prefix shorter row_is value_is rank_is h words rows candidates above above_len members steps members_cap steps_cap long =
+-- the memory is what it was
+pub layers-same : (dp : Dp) (w : ℕ) (old new : Beam) → HasLayers dp w old → new.words ≡ old.words → vec_len new.rows ≡ vec_len old.rows → ((count : ℕ) → HasMemory count old.candidates → HasMemory count new.candidates)
+    → vec_capacity new.members ≡ vec_capacity old.members → vec_capacity new.held ≡ vec_capacity old.held → vec_capacity new.steps ≡ vec_capacity old.steps → HasLayers dp w new
+layers-same dp w old new h words rows candidates members held steps = record {
+  room = h.room;
+  widest = h.widest;
+  enough = h.enough;
+  positive = h.positive;
+  words = words ∙ h.words;
+  candidates = candidates h.room h.candidates;
+  rows = subst (λ (n : ℕ). h.room * n ≤ vec_len new.rows) (sym words) (subst (λ (m : ℕ). h.room * old.words ≤ m) (sym rows) h.rows);
+  members = subst (λ (m : ℕ). h.widest ≤ m) (sym members) h.members;
+  held = subst (λ (m : ℕ). h.widest ≤ m) (sym held) h.held;
+  steps = subst (λ (m : ℕ). h.widest + dp.vars * w ≤ m) (sym steps) h.steps;
+  small = h.small;
+}
+
+-- a beam holds the prefix alone, whose row is at the place
+pub record IsAlone (dp : Dp) (p : List ℕ) (b : Beam) (region : RegionView) (place : ℕ) (row : List ℤ) (value rank : ℤ) : Type 0 where
+  pub region_words : region.words ≡ b.words
+  pub found : slice_get region.rows place ≡ Some (Some row)
+  pub row_is : row ≡ state_of dp p
+  pub value_is : value ≡ value_of dp p
+  pub rank_is : rank ≡ dp.rank (length p) row
+  pub members : b.members.items ≡ start_member value rank place ∷ []
+  pub held : b.held.items ≡ place ∷ []
+  pub steps : b.steps.items ≡ []
+
+pub built-start : (dp : Dp) → IsLawful dp → (p : List ℕ) (w : ℕ) (t : Option ℤ) (b : Beam) (region : RegionView) (place : ℕ) (row : List ℤ) (value rank : ℤ) → IsPrefix dp p → length p < dp.vars → HasLayers dp w b → AreEnoughMembers dp w (region.spare + 1)
+    → IsAlone dp p b region place row value rank → IsBuilt dp p w t (length p) b region false
+built-start dp laws p w t b region place row value rank is_prefix shorter room enough a =
     let zero_is : length p - length p ≡ 0 = omega arith in
     let inside : nat_lt (length p) dp.vars ≡ true = grind (arith, nat_tests) in
-    let cells : length row ≡ dp.words = ap length row_is ∙ prefix-cells dp laws p is_prefix in
-    let size : new.words ≡ length row = words ∙ (h.words ∙ sym cells) in
-    let here : row_at new.above.items new.words 0 ≡ row =
-    ap₂ (λ l n. row_at l n 0) above size ∙ (ap (λ n. take (length row) (drop n (row ++ drop (length row) old.above.items))) (let e : 0 * length row ≡ 0 = omega arith in e) ∙ take-append_seam row (drop (length row) old.above.items)) in
-    let first : member_as (path_at p new.steps.items) new.above.items new.words (start_member value rank) ≡ reached dp p =
-    ap (λ l. member_as (path_at p l) new.above.items new.words (start_member value rank)) steps
-    ∙ ap₂ (λ (r : List ℤ) (v : ℤ). record { decisions = p; row = r; value = v }) (here ∙ row_is) value_is in
-    let count : length new.members.items ≡ 1 = ap length members in
-    let none : length new.steps.items ≡ 0 = ap length steps in
-    let cells_hold = h.some_row in
+    let here : held_row region place ≡ row = held-is region place row a.found in
+    let first : held_as (path_at p b.steps.items) region (start_member value rank place ∷ []) ≡ reached dp p ∷ [] =
+    ap (λ l. held_as (path_at p l) region (start_member value rank place ∷ [])) a.steps
+    ∙ ap₂ (λ (r : List ℤ) (v : ℤ). record { decisions = p; row = r; value = v } ∷ []) (here ∙ a.row_is) a.value_is in
+    let count : length b.members.items ≡ 1 = ap length a.members in
+    let none : length b.steps.items ≡ 0 = ap length a.steps in
     record {
-      has_room = record {
-        room = h.room;
-        widest = h.widest;
-        enough = h.enough;
-        positive = h.positive;
-        words = words ∙ h.words;
-        candidates = subst (HasMemory h.room) (sym candidates) h.candidates;
-        rows = subst (λ (n : ℕ). h.room * n ≤ vec_len new.rows) (sym words) (subst (λ v. h.room * old.words ≤ vec_len v) (sym rows) h.rows);
-        above = subst (λ (n : ℕ). h.room * n ≤ vec_len new.above) (sym words) (subst (λ (m : ℕ). h.room * old.words ≤ m) (sym above_len) h.above);
-        some_row = subst (λ (n : ℕ). n ≤ vec_len new.above) (sym words) (subst (λ (m : ℕ). old.words ≤ m) (sym above_len) h.some_row);
-        other_row = subst (λ (n : ℕ). n ≤ vec_len new.rows) (sym words) (subst (λ v. old.words ≤ vec_len v) (sym rows) h.other_row);
-        members = subst (λ (m : ℕ). h.widest ≤ m) (sym members_cap) h.members;
-        steps = subst (λ (m : ℕ). h.widest + dp.vars * w ≤ m) (sym steps_cap) h.steps;
-        small = h.small;
-      };
+      has_room = room;
+      region_words = a.region_words;
+      region_room = subst (λ (l : List ℕ). AreEnoughMembers dp w (region.spare + length l)) (sym a.held) enough;
+      live = subst (AreLive region) (sym a.held) (record { live = ((row, a.found), tt); apart = (tt, tt) });
       deep = omega arith;
-      list = ap (members_as (path_at p new.steps.items) new.above.items new.words) members ∙ (ap (λ (r : Reached). r ∷ []) first
+      list = ap (held_as (path_at p b.steps.items) region) a.members ∙ (first
           ∙ sym (ap (λ j. kept_at dp (length p) (layer_below dp (reached dp p) w t j)) zero_is ∙ ap (λ b. cond b (reached dp p ∷ []) (take 1 (reached dp p ∷ []))) inside));
-      entered = subst (Each (IsEntered dp (length p) new.above.items new.words)) (sym members) (
+      held = subst (Each (IsHeldAt dp (length p) region)) (sym a.members) (
         record {
-          within = (let e : 0 * new.words ≡ 0 = omega arith in omega arith);
-          state = subst (IsStateOf dp (length p)) (sym (here ∙ row_is)) (prefix-state dp laws p is_prefix);
-          rank = rank_is ∙ ap (dp.rank (length p)) (sym here);
+          found = a.found ∙ ap (λ (r : List ℤ). Some (Some r)) (sym here);
+          state = subst (IsStateOf dp (length p)) (sym (here ∙ a.row_is)) (prefix-state dp laws p is_prefix);
+          rank = a.rank_is ∙ ap (dp.rank (length p)) (sym here);
         },
         tt,
       );
-      reached_by = subst (Each (IsReachedWithin (length new.steps.items))) (sym members) (omega arith, tt);
-      backward = subst AreBackward (sym steps) (λ j less. absurd (omega arith));
+      reached_by = subst (Each (IsReachedWithin (length b.steps.items))) (sym a.members) (omega arith, tt);
+      backward = subst AreBackward (sym a.steps) (λ j less. absurd (omega arith));
       one = λ e. count;
       none = λ e. none;
       second = λ e. absurd (omega arith);
@@ -96,13 +108,13 @@ map-some : (o : Option ℕ) (f : ℕ → ℕ) → is_some (option_map f o) ≡ i
 map-some None f = refl
 map-some (Some n) f = refl
 
-module _ (dp : Dp) (p : List ℕ) (w : ℕ) (t : Option ℤ) (b : Beam) (reduced : Bool) (h : IsBuilt dp p w t dp.vars b reduced) (is_prefix : IsPrefix dp p) where
-  last : members_as (path_at p b.steps.items) b.above.items b.words b.members.items ≡ take 1 (layer_below dp (reached dp p) w t (dp.vars - length p))
+module _ (dp : Dp) (p : List ℕ) (w : ℕ) (t : Option ℤ) (b : Beam) (region : RegionView) (reduced : Bool) (h : IsBuilt dp p w t dp.vars b region reduced) (is_prefix : IsPrefix dp p) where
+  last : held_as (path_at p b.steps.items) region b.members.items ≡ take 1 (layer_below dp (reached dp p) w t (dp.vars - length p))
   last =
       let past : nat_lt dp.vars dp.vars ≡ false = grind (arith, nat_tests) in
       h.list ∙ ap (λ c. cond c (layer_below dp (reached dp p) w t (dp.vars - length p)) (take 1 (layer_below dp (reached dp p) w t (dp.vars - length p)))) past
 
-  pub beam-is : first_of_all (members_as (path_at p b.steps.items) b.above.items b.words b.members.items) ≡ beam dp p w t
+  pub beam-is : first_of_all (held_as (path_at p b.steps.items) region b.members.items) ≡ beam dp p w t
   beam-is = ap first_of_all last ∙ first-take (layer_below dp (reached dp p) w t (dp.vars - length p))
 
   pub wide-is : reduced ≡ is_some (wide dp p w t)
@@ -110,7 +122,7 @@ module _ (dp : Dp) (p : List ℕ) (w : ℕ) (t : Option ℤ) (b : Beam) (reduced
       h.reduced_is ∙ (ap (λ n. is_some (find (is_too_wide dp (reached dp p) w t) (below n))) (sym (add-one (dp.vars - length p)))
       ∙ sym (map-some (find (is_too_wide dp (reached dp p) w t) (below (dp.vars - length p + 1))) (λ m. length p + m)))
 
-  whole-paths : (members : List Member) → Each (IsMember dp p dp.vars) (members_as (path_at p b.steps.items) b.above.items b.words members)
+  whole-paths : (members : List Member) → Each (IsMember dp p dp.vars) (held_as (path_at p b.steps.items) region members)
       → (size : ℕ) → size ≡ dp.vars → Each (λ m. size ≡ length (path_at p b.steps.items m.step)) members
   whole-paths [] all size is = tt
   whole-paths (m ∷ members) all size is = (is ∙ sym all.0.deep, whole-paths members all.1 size is)

@@ -5,7 +5,7 @@ use Rattle.std.proofs.lemmas.Bool.Decides.{nat_tests}
 use Rattle.std.proofs.lemmas.List.{get_or-set_same, get_or-set_other, length-set}
 use Rattle.layer_candidates.specs.Rows.{live_at}
 use Rattle.dp_model.specs.Folds.{fold_of}
-use Rattle.layer_candidates.specs.Table.{slot_of, top, has_slot, IsTable, IsRowFound, IsSearched}
+use Rattle.layer_candidates.specs.Table.{slot_of, top, has_slot, IsTable, IsSearched}
 
 pub true_false : (b : Bool) → b ≡ true → b ≡ false → ⊥
 true_false b h k = let e : true ≡ false = sym h ∙ k in cc
@@ -101,16 +101,6 @@ search_smaller rows words live count fold folds heads next i t s positive =
     let e = next_is rows words live count fold folds heads next i t s positive in
     let few = top_within (has_slot folds (length heads) (slot_of fold (length heads))) (i - 1) in
     omega arith
-
--- a search that is over found none
-pub search_ends : (rows : List ℤ) (words live count fold : ℕ) (folds heads next : List ℕ) → IsTable rows words live count folds heads next → fold ≡ fold_of 0 (live_at rows words live count) → IsSearched rows words live count fold folds (length heads) 0 → IsRowFound rows words live count count
-search_ends rows words live count fold folds heads next t is s = record {
-  within = omega arith;
-  same = λ h. absurd (omega arith);
-  none = λ h k less same.
-      let folded : get_or folds k 0 ≡ fold = t.folds_are k less ∙ ap (fold_of 0) same ∙ sym is in
-      s.past k (omega arith) less (true_slot (slot_of (get_or folds k 0) (length heads)) (slot_of fold (length heads)) (ap (λ (j : ℕ). slot_of j (length heads)) folded)) same;
-}
 
 pub inserted : (rows : List ℤ) (words live count fold : ℕ) (folds heads next : List ℕ) → IsTable rows words live count folds heads next → count * words + words ≤ length rows → count < length folds → count < length next → slot_of fold (length heads) < length heads → fold ≡ fold_of 0 (live_at rows words live count)
     → IsTable rows words live (suc count) (set folds count fold) (set heads (slot_of fold (length heads)) (suc count)) (set next count (get_or heads (slot_of fold (length heads)) 0))

@@ -6,18 +6,23 @@ use Rattle.dp_model.specs.Lists.{Each}
 use Rattle.dp_model.specs.Reached.{Reached, reached}
 use Rattle.dp_laws.specs.Restricted.Beam.{whole_layer, layer_below, is_too_wide}
 use Rattle.layer_candidates.specs.declared.beam.Beam.{Beam}
-use Rattle.layer_candidates.specs.Layering.{HasMemory, IsEntered}
-use Rattle.layer_candidates.specs.Members.{members_as}
+use Rattle.layer_candidates.specs.HeldRows.{AreLive, HasExchanged, held_as, IsHeldAt}
+use Rattle.layer_candidates.specs.Layering.{HasMemory}
 use Rattle.layer_candidates.specs.Steps.{path_at, AreBackward, IsReachedWithin}
+use Rattle.row_region.specs.Region.{RegionView}
+
+-- no layer of the width has more than so many members
+pub record AreEnoughMembers (dp : Dp) (w widest : ℕ) : Type 0 where
+  pub one : 1 ≤ widest
+  pub choices : (k : ℕ) → k < dp.vars → dp.choices k ≤ widest
+  pub width : w ≤ widest
 
 -- so many candidates are enough for each layer, and so many members
 pub record AreEnough (dp : Dp) (w room widest : ℕ) : Type 0 where
   pub first : (k : ℕ) → k < dp.vars → dp.choices k ≤ room
   pub second : (k : ℕ) → k + 1 < dp.vars → dp.choices k * dp.choices (k + 1) ≤ room
   pub later : (k : ℕ) → k < dp.vars → w * dp.choices k ≤ room
-  pub one : 1 ≤ widest
-  pub choices : (k : ℕ) → k < dp.vars → dp.choices k ≤ widest
-  pub width : w ≤ widest
+  pub members : AreEnoughMembers dp w widest
 
 -- there is memory for all layers of the width
 pub record HasLayers (dp : Dp) (w : ℕ) (b : Beam) : Type 0 where
@@ -28,10 +33,8 @@ pub record HasLayers (dp : Dp) (w : ℕ) (b : Beam) : Type 0 where
   pub words : b.words ≡ dp.words
   pub candidates : HasMemory room b.candidates
   pub rows : room * b.words ≤ vec_len b.rows
-  pub above : room * b.words ≤ vec_len b.above
-  pub some_row : b.words ≤ vec_len b.above
-  pub other_row : b.words ≤ vec_len b.rows
   pub members : widest ≤ vec_capacity b.members
+  pub held : widest ≤ vec_capacity b.held
   pub steps : widest + dp.vars * w ≤ vec_capacity b.steps
   pub small : widest + dp.vars * w < 2 ^ 32
 
@@ -43,12 +46,15 @@ kept_at dp k layer = cond (nat_lt k dp.vars) layer (take 1 layer)
 abbrev pub took : Dp → List ℕ → ℕ → Option ℤ → ℕ → Bool
 took dp p w t m = is_some (find (is_too_wide dp (reached dp p) w t) (below (suc m)))
 
--- the members in memory are those of the layer at depth k below the prefix p, for the width w and the threshold t
-pub record IsBuilt (dp : Dp) (p : List ℕ) (w : ℕ) (t : Option ℤ) (k : ℕ) (b : Beam) (reduced : Bool) : Type 0 where
+-- the members, whose rows the region has, are those of the layer at depth k below the prefix p, for the width w and the threshold t
+pub record IsBuilt (dp : Dp) (p : List ℕ) (w : ℕ) (t : Option ℤ) (k : ℕ) (b : Beam) (region : RegionView) (reduced : Bool) : Type 0 where
   pub has_room : HasLayers dp w b
+  pub region_words : region.words ≡ b.words
+  pub region_room : AreEnoughMembers dp w (region.spare + length b.held.items)
+  pub live : AreLive region b.held.items
   pub deep : length p ≤ k
-  pub list : members_as (path_at p b.steps.items) b.above.items b.words b.members.items ≡ kept_at dp k (layer_below dp (reached dp p) w t (k - length p))
-  pub entered : Each (IsEntered dp k b.above.items b.words) b.members.items
+  pub list : held_as (path_at p b.steps.items) region b.members.items ≡ kept_at dp k (layer_below dp (reached dp p) w t (k - length p))
+  pub held : Each (IsHeldAt dp k region) b.members.items
   pub reached_by : Each (IsReachedWithin (length b.steps.items)) b.members.items
   pub backward : AreBackward b.steps.items
   pub one : k ≡ length p → length b.members.items ≡ 1
@@ -66,12 +72,14 @@ most_at dp k first w = cond (nat_eq (k + 1) dp.vars) 1 (cond (nat_eq k first) (d
 abbrev pub is_between : ℕ → ℕ → ℕ → Bool
 is_between k first vars = nat_lt first k && nat_lt (k + 1) vars
 
--- the layer below was made: as many of its first members as `most`
-pub record IsNext (dp : Dp) (k : ℕ) (t : Option ℤ) (most : ℕ) (old new : Beam) (more : Bool) : Type 0 where
-  pub list : (p : List ℕ) → members_as (path_at p new.steps.items) new.above.items new.words new.members.items
-      ≡ take most (whole_layer dp k t (members_as (path_at p old.steps.items) old.above.items old.words old.members.items))
-  pub more_stay : (p : List ℕ) → more ≡ nat_lt most (length (whole_layer dp k t (members_as (path_at p old.steps.items) old.above.items old.words old.members.items)))
-  pub entered : Each (IsEntered dp (k + 1) new.above.items new.words) new.members.items
+-- the layer below was made: as many of its first members as `most`, whose rows the region has in place of those of the layer above
+pub record IsNext (dp : Dp) (k : ℕ) (t : Option ℤ) (most : ℕ) (old : Beam) (above : RegionView) (new : Beam) (region : RegionView) (more : Bool) : Type 0 where
+  pub list : (p : List ℕ) → held_as (path_at p new.steps.items) region new.members.items
+      ≡ take most (whole_layer dp k t (held_as (path_at p old.steps.items) above old.members.items))
+  pub more_stay : (p : List ℕ) → more ≡ nat_lt most (length (whole_layer dp k t (held_as (path_at p old.steps.items) above old.members.items)))
+  pub held : Each (IsHeldAt dp (k + 1) region) new.members.items
+  pub exchanged : HasExchanged above old.held.items region new.held.items
+  pub words : new.words ≡ old.words
   pub reached_by : Each (IsReachedWithin (length new.steps.items)) new.members.items
   pub few : length new.members.items ≤ most
   pub steps : length new.steps.items ≡ length old.steps.items + length new.members.items
@@ -90,8 +98,6 @@ pub record HasMade (words room widest steps : ℕ) (b : Beam) : Type 0 where
   pub words_are : b.words ≡ words
   pub candidates : HasMemory room b.candidates
   pub rows : room * b.words ≤ vec_len b.rows
-  pub above : room * b.words ≤ vec_len b.above
-  pub some_row : b.words ≤ vec_len b.above
-  pub other_row : b.words ≤ vec_len b.rows
   pub members : widest ≤ vec_capacity b.members
+  pub held : widest ≤ vec_capacity b.held
   pub steps_hold : steps ≤ vec_capacity b.steps

@@ -7,4 +7,5 @@ pub mod KeyOrder
 pub mod Pruning
 pub mod Steps
 pub mod Layering
+pub mod HeldRows
 pub mod Beaming

@@ -54,8 +54,8 @@ abbrev pub AllHaveZeros : Dp → ℕ → ℕ → Type 0
 AllHaveZeros dp k count = (s : List ℤ) → IsStateOf dp k s → HasZeros count s
 
 -- no two rows are the same
-abbrev pub AreApart : List ℤ → ℕ → ℕ → Type 0
-AreApart rows words count = (j k : ℕ) → j < k → k < count → row_at rows words j ≢ row_at rows words k
+abbrev pub AreDistinctRows : List ℤ → ℕ → ℕ → Type 0
+AreDistinctRows rows words count = (j k : ℕ) → j < k → k < count → row_at rows words j ≢ row_at rows words k
 
 -- each way leads to a state of the layer at depth k
 abbrev pub AreWays : Dp → ℕ → List ℤ → ℕ → List Way → Type 0
@@ -64,11 +64,11 @@ AreWays dp k rows words ways = (i : ℕ) → i < length ways → IsWay dp k (row
 -- the ways lead to different states of the layer at depth k, whose rows lie in the cells
 pub record AreDistinct (dp : Dp) (k : ℕ) (rows : List ℤ) (words : ℕ) (ways : List Way) : Type 0 where
   pub room : length ways * words ≤ length rows
-  pub apart : AreApart rows words (length ways)
+  pub apart : AreDistinctRows rows words (length ways)
   pub good : AreWays dp k rows words ways
 
 -- the ways lead to different states, which the table has
 pub record AreJoined (dp : Dp) (k : ℕ) (rows : List ℤ) (words live : ℕ) (ways : List Way) (folds heads next : List ℕ) : Type 0 where
   pub table : IsTable rows words live (length ways) folds heads next
-  pub apart : AreApart rows words (length ways)
+  pub apart : AreDistinctRows rows words (length ways)
   pub good : AreWays dp k rows words ways

@@ -1,29 +1,34 @@
-ghost use Rattle.std.specs.Prelude.{◌≡◌, ◌&&◌, ◌||◌, ◌+◌, ◌-◌, ◌*◌, ◌^◌, ◌<◌, ◌≤◌, ◌++◌, ℕ, ℤ, Option, drop, length, nat_lt, false, is_some, IfOk, vec_len, vec_capacity};
+ghost use Rattle.std.specs.Prelude.{◌≡◌, ◌&&◌, ◌||◌, ◌+◌, ◌*◌, ◌^◌, ◌<◌, ◌≤◌, ℕ, ℤ, Option, [], length, false, is_some, IfOk, vec_len, vec_capacity};
 ghost use Rattle.dp_model.specs.Lists.{Each};
-ghost use Rattle.dp_model.specs.Laws.{IsLawful};
 ghost use Rattle.dp_model.specs.Prefixes.{IsPrefix, state_of, value_of};
-ghost use Rattle.layer_candidates.specs.Beaming.{HasLayers, HasMade, IsBuilt, IsNext, IsFirst, most_at, is_between};
+ghost use Rattle.layer_candidates.specs.Beaming.{AreEnoughMembers, HasLayers, HasMade, IsBuilt, IsNext, IsFirst, most_at, is_between};
 ghost use Rattle.dp_laws.specs.Restricted.Beams.{beam, wide, first_of_all};
+ghost use Rattle.layer_candidates.specs.HeldRows.{IsSameRegion, AreLive, HasExchanged, held_as, IsHeldAt};
 ghost use Rattle.layer_candidates.specs.Layering.{HasMemory};
-ghost use Rattle.layer_candidates.specs.Members.{members_as, IsMemberOf};
 ghost use Rattle.layer_candidates.specs.Steps.{path_at, AreBackward, IsReachedWithin};
+ghost use Rattle.layer_candidates.specs.Ways.{IsNear};
+ghost use Rattle.row_region.specs.Region.{RegionView};
 
 use crate::candidates::Candidates;
+use crate::holding::{exchange, give_all, put_row};
 use crate::member::Member;
 use crate::step::Step;
 use crate::walking::write_path;
 use dp_model::{DpModel, OutOfMemory};
+use row_region::Region;
 use std::alloc::Global;
 
-/// The newest layer of a restricted diagram, with the steps by which its members are reached.
+/// The newest layer of a restricted diagram, with the steps by which its members are reached. The rows of its members stand in a
+/// region that the caller owns.
 #[derive(Debug, Drop)]
 pub struct Beam {
     words: usize,
-    // the rows of the layer that is made, and those of the newest one
+    // the rows of the candidates
     rows: Vec<i64>,
-    above: Vec<i64>,
     candidates: Candidates,
     members: Vec<Member>,
+    // the places of the members' rows in the region
+    held: Vec<u32>,
     steps: Vec<Step>,
 }
 
@@ -63,58 +68,63 @@ fn most_at<M: DpModel>(model: &M, k: usize, first: usize, width: usize) -> usize
     }
 }
 
-/// Writes the first row.
-fn write_first(rows: &mut [i64], row: &[i64])
-    requires { length row.now ≤ length rows.old }
-    ensures { rows.new ≡ row.now ++ drop (length row.now) rows.old }
-{
-    rows[..row.len()].copy_from_slice(row);
-}
-
-/// The member whose row stands first, without a step.
-fn first_member(value: i64, rank: i64) -> Member
-    ensures { result ≡ record { value = value; rank = rank; row = 0; step = 0 } }
+/// The member whose row stands at the place, without a step.
+fn first_member(value: i64, rank: i64, row: u32) -> Member
+    ensures { result ≡ record { value = value; rank = rank; row = row; step = 0 } }
 {
     Member {
         value,
         rank,
-        row: 0,
+        row,
         step: 0,
     }
 }
 
 impl Beam {
-    /// Makes the layer below the one at depth `k`, as many of its first members as `most`.
+    /// Makes the layer below the one at depth `k`, as many of its first members as `most`. The rows of the layer above are given
+    /// back to the region, and those of the new members put into it.
     fn descend<M: DpModel>(
         &mut self,
+        region: &mut Region,
         model: &M,
         k: usize,
         threshold: Option<i64>,
         most: usize,
     ) -> bool
         requires layer { k < (M.meaning (M.numbers model.now)).vars }
-        requires members { Each (IsMemberOf (M.meaning (M.numbers model.now)) k self.old.above.items self.old.words) self.old.members.items }
+        requires held { Each (IsHeldAt (M.meaning (M.numbers model.now)) k region.old) self.old.members.items }
+        requires near { Each (λ m. IsNear m.value) self.old.members.items }
         requires reached { Each (IsReachedWithin (length self.old.steps.items)) self.old.members.items }
         requires words { self.old.words ≡ (M.meaning (M.numbers model.now)).words }
+        requires region_words { region.old.words ≡ self.old.words }
+        requires live { AreLive region.old self.old.held.items }
         requires memory { HasMemory (length self.old.members.items * (M.meaning (M.numbers model.now)).choices k) self.old.candidates }
         requires rows_room { length self.old.members.items * (M.meaning (M.numbers model.now)).choices k * self.old.words ≤ vec_len self.old.rows }
         requires members_room { most ≤ vec_capacity self.old.members }
+        requires held_room { most ≤ vec_capacity self.old.held }
+        requires region_room { most ≤ region.old.spare + length self.old.held.items }
         requires steps_room { length self.old.steps.items + most ≤ vec_capacity self.old.steps }
         requires small { length self.old.steps.items + most < 2 ^ 32 }
-        ensures { IsNext (M.meaning (M.numbers model.now)) k threshold most self.old self.new result }
+        ensures { IsNext (M.meaning (M.numbers model.now)) k threshold most self.old region.old self.new region.new result }
     {
         let more = self.candidates.next_layer(
             model,
             k,
             threshold,
             most,
-            self.above.as_slice(),
+            region.cells(),
             self.words,
             self.rows.as_mut_slice(),
             &mut self.members,
             &mut self.steps,
         );
-        std::mem::swap(&mut self.rows, &mut self.above);
+        exchange(
+            region,
+            self.rows.as_slice(),
+            self.words,
+            self.members.as_mut_slice(),
+            &mut self.held,
+        );
         more
     }
 
@@ -122,6 +132,7 @@ impl Beam {
     /// It takes no memory.
     pub fn compile<M: DpModel>(
         &mut self,
+        region: &mut Region,
         model: &M,
         prefix: &[u32],
         width: usize,
@@ -129,36 +140,49 @@ impl Beam {
     ) -> bool
         requires prefix { IsPrefix (M.meaning (M.numbers model.now)) prefix.now }
         requires shorter { length prefix.now < (M.meaning (M.numbers model.now)).vars }
-        requires start { IsBuilt (M.meaning (M.numbers model.now)) prefix.now width threshold (length prefix.now) self.old false }
-        ensures { IsBuilt (M.meaning (M.numbers model.now)) prefix.now width threshold (M.meaning (M.numbers model.now)).vars self.new result }
+        requires start { IsBuilt (M.meaning (M.numbers model.now)) prefix.now width threshold (length prefix.now) self.old region.old false }
+        ensures built { IsBuilt (M.meaning (M.numbers model.now)) prefix.now width threshold (M.meaning (M.numbers model.now)).vars self.new region.new result }
+        ensures exchanged { HasExchanged region.old self.old.held.items region.new self.new.held.items }
     {
         let first = prefix.len();
         let vars = model.vars();
         let mut reduced = false;
         'layers: for k in first..vars {
             let most = most_at(model, k, first, width);
-            let more = self.descend(model, k, threshold, most);
+            let more = self.descend(region, model, k, threshold, most);
             reduced = or_both(reduced, more, is_between(k, first, vars));
         }
         reduced
     }
 
     /// A layer with the prefix alone, whose state and value these are.
-    fn begin<M: DpModel>(&mut self, model: &M, prefix: &[u32], row: &[i64], value: i64)
+    fn begin<M: DpModel>(
+        &mut self,
+        region: &mut Region,
+        model: &M,
+        prefix: &[u32],
+        row: &[i64],
+        value: i64,
+    )
         requires prefix { IsPrefix (M.meaning (M.numbers model.now)) prefix.now }
         requires shorter { length prefix.now < (M.meaning (M.numbers model.now)).vars }
         requires row { row.now ≡ state_of (M.meaning (M.numbers model.now)) prefix.now }
         requires value { value ≡ value_of (M.meaning (M.numbers model.now)) prefix.now }
         requires words { self.old.words ≡ (M.meaning (M.numbers model.now)).words }
-        requires some_row { self.old.words ≤ vec_len self.old.above }
+        requires region_words { region.old.words ≡ self.old.words }
+        requires region_room { 1 ≤ region.old.spare }
         requires members_room { 1 ≤ vec_capacity self.old.members }
-        ensures { (w : ℕ) (t : Option ℤ) → HasLayers (M.meaning (M.numbers model.now)) w self.old → IsBuilt (M.meaning (M.numbers model.now)) prefix.now w t (length prefix.now) self.new false }
+        requires held_room { 1 ≤ vec_capacity self.old.held }
+        ensures built { (w : ℕ) (t : Option ℤ) → HasLayers (M.meaning (M.numbers model.now)) w self.old → AreEnoughMembers (M.meaning (M.numbers model.now)) w region.old.spare → IsBuilt (M.meaning (M.numbers model.now)) prefix.now w t (length prefix.now) self.new region.new false }
+        ensures exchanged { HasExchanged region.old [] region.new self.new.held.items }
     {
         let rank = model.rank(prefix.len(), row);
-        write_first(self.above.as_mut_slice(), row);
+        let place = put_row(region, row);
         self.steps.clear();
+        self.held.clear();
+        self.held.push_reserved(place);
         self.members.clear();
-        self.members.push_reserved(first_member(value, rank));
+        self.members.push_reserved(first_member(value, rank, place));
     }
 
     /// The value of the first member, whose decisions are written, or none where there is no member.
@@ -166,7 +190,7 @@ impl Beam {
         requires backward { AreBackward self.now.steps.items }
         requires reached { Each (IsReachedWithin (length self.now.steps.items)) self.now.members.items }
         requires size { Each (λ m. length out.old ≡ length (path_at prefix.now self.now.steps.items m.step)) self.now.members.items }
-        ensures { IsFirst (first_of_all (members_as (path_at prefix.now self.now.steps.items) self.now.above.items self.now.words self.now.members.items)) result out.new }
+        ensures { (region : RegionView) → IsFirst (first_of_all (held_as (path_at prefix.now self.now.steps.items) region self.now.members.items)) result out.new }
     {
         if self.members.is_empty() {
             return None;
@@ -177,9 +201,11 @@ impl Beam {
     }
 
     /// The beam below a prefix with its state and value: its value, with its decisions in `out`, or none where there is none;
-    /// and whether the width took something from a layer. It takes no memory.
+    /// and whether the width took something from a layer. The region has a free row for each member of a layer, and is as before
+    /// afterwards. It takes no memory.
     pub fn beam<M: DpModel>(
         &mut self,
+        region: &mut Region,
         model: &M,
         prefix: &[u32],
         row: &[i64],
@@ -194,13 +220,17 @@ impl Beam {
         requires value { value ≡ value_of (M.meaning (M.numbers model.now)) prefix.now }
         requires layers { HasLayers (M.meaning (M.numbers model.now)) width self.old }
         requires cells { length out.old ≡ (M.meaning (M.numbers model.now)).vars }
+        requires region_words { region.old.words ≡ (M.meaning (M.numbers model.now)).words }
+        requires region_room { AreEnoughMembers (M.meaning (M.numbers model.now)) width region.old.spare }
         ensures beam { IsFirst (beam (M.meaning (M.numbers model.now)) prefix.now width threshold) result.value out.new }
         ensures reduced { result.reduced ≡ is_some (wide (M.meaning (M.numbers model.now)) prefix.now width threshold) }
         ensures layers { HasLayers (M.meaning (M.numbers model.now)) width self.new }
+        ensures region { IsSameRegion region.old region.new }
     {
-        self.begin(model, prefix, row, value);
-        let reduced = self.compile(model, prefix, width, threshold);
+        self.begin(region, model, prefix, row, value);
+        let reduced = self.compile(region, model, prefix, width, threshold);
         let value = self.first(prefix, out);
+        give_all(region, self.held.as_slice());
         Beamed { value, reduced }
     }
 
@@ -216,13 +246,12 @@ impl Beam {
         requires few_words { words ≤ 1024 }
         ensures { IfOk result (λ b. HasMade words room widest steps b) }
     {
-        let cells = (room + 1) * words;
         Ok(Beam {
             words,
-            rows: vec![in alloc; 0i64; cells]?,
-            above: vec![in alloc; 0i64; cells]?,
+            rows: vec![in alloc; 0i64; room * words]?,
             candidates: Candidates::prepare(alloc, room)?,
             members: Vec::with_capacity(alloc, widest)?,
+            held: Vec::with_capacity(alloc, widest)?,
             steps: Vec::with_capacity(alloc, steps)?,
         })
     }

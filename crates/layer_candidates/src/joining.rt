@@ -5,7 +5,7 @@ ghost use Rattle.dp_model.specs.Dp.{Dp};
 ghost use Rattle.dp_laws.specs.Restricted.Extensions.{joined};
 ghost use Rattle.layer_candidates.specs.Rows.{row_at, HasZeros};
 ghost use Rattle.layer_candidates.specs.Table.{IsTable, IsPlaced};
-ghost use Rattle.layer_candidates.specs.Ways.{bettered, reached_by, all_reached, IsWay, AreApart, AreJoined};
+ghost use Rattle.layer_candidates.specs.Ways.{bettered, reached_by, all_reached, IsWay, AreDistinctRows, AreJoined};
 ghost use Rattle.layer_candidates.specs.declared.way.Way.{Way};
 
 use crate::rows::live_cells;
@@ -36,7 +36,7 @@ pub fn take_in(
     requires folds_room { length ways.old.items < length folds.old }
     requires next_room { length ways.old.items < length next.old }
     ensures joined { (dp : Dp) (k : ℕ) → AreJoined dp k rows.now words live ways.old.items folds.old heads.old next.old → IsWay dp k (row_at rows.now words (length ways.old.items)) way → AreJoined dp k rows.now words live ways.new.items folds.new heads.new next.new }
-    ensures list { (paths : ℕ → List ℕ) → AreApart rows.now words (length ways.old.items) → all_reached paths rows.now words ways.new.items ≡ joined (all_reached paths rows.now words ways.old.items) (reached_by paths (row_at rows.now words (length ways.old.items)) way) }
+    ensures list { (paths : ℕ → List ℕ) → AreDistinctRows rows.now words (length ways.old.items) → all_reached paths rows.now words ways.new.items ≡ joined (all_reached paths rows.now words ways.old.items) (reached_by paths (row_at rows.now words (length ways.old.items)) way) }
     ensures place { IsPlaced rows.now words (length ways.old.items) (length ways.new.items) (row_at rows.now words (length ways.old.items)) result }
     ensures few { length ways.new.items ≤ length ways.old.items + 1 }
     ensures capacity { vec_capacity ways.new ≡ vec_capacity ways.old }

@@ -4,14 +4,17 @@
 //! states are found by a table of folds, and compared cell by cell. The ways that are not struck are put into the reduction order,
 //! those that are dominated go, and the first ones stay.
 //!
-//! It stands on `dp_model` and `dp_laws`, and each layer is proved to be the one that is defined there on plain lists of
-//! prefixes. States stand as rows of one length in a block of cells. No call but `prepare` takes memory.
+//! It stands on `dp_model`, `dp_laws` and `row_region`, and each layer is proved to be the one that is defined in `dp_laws` on
+//! plain lists of prefixes. States stand as rows of one length: those of the candidates in a block of cells that each layer uses
+//! again, and those of the few members in a region that the caller owns. A beam gives back all rows that it took. No call but
+//! `prepare` takes memory.
 #![tactic(auto)]
 
 mod beam;
 mod candidates;
 mod descending;
 mod extending;
+mod holding;
 mod joining;
 mod key;
 mod member;

@@ -1,5 +1,5 @@
 -- Arcs that get new targets only where the old ones stand behind the first nodes.
-use Rattle.std.proofs.Common.{◌≡◌, ℕ, ◌+◌, ◌<◌, pos, List, ◌++◌, slice_get, Option, Some, None, option_and_then, sym, ◌∙◌, ap}
+use Rattle.std.proofs.Common.{◌≡◌, ℕ, ◌+◌, ◌<◌, pos, List, ◌++◌, slice_get, Option, Some, option_and_then, sym, ◌∙◌, ap}
 use Rattle.dp_laws.specs.declared.arc.DdArc.{DdArc}
 use Rattle.dp_laws.proofs.Diagrams.Places.{slice_get-append}
 use Rattle.dp_laws.proofs.Rules.Merged.{behind, length-staying, staying-at}

@@ -1,15 +1,16 @@
 -- Suffixes of nodes in memory, one after another.
 use Rattle.std.proofs.Common.{◌≡◌, ℕ, zero, suc, ◌+◌, ◌<◌, ◌≤◌, ℤ, pos, ◌+ℤ◌, List, [], ◌∷◌, length, map, take, set, get_or, Option, Some, refl, sym, ◌∙◌, ap, ap₂, subst, arith}
-use Rattle.std.proofs.lemmas.List.{take_more}
+use Rattle.std.proofs.lemmas.List.{take_more, length-map}
 use Rattle.std.proofs.lemmas.List.Elements.{filter_map-append}
 use Rattle.dp_model.specs.Lists.{Each}
 use Rattle.dp_model.specs.Numbers.{add_some, greatest}
 use Rattle.dp_laws.specs.declared.arc.DdArc.{DdArc}
 use Rattle.layer_nodes.specs.declared.node.Node.{Node}
-use Rattle.layer_nodes.specs.Nodes.{NodeView}
-use Rattle.layer_nodes.specs.Ending.{suffix_of, lengths, MayAdd, MayFollow, MayLead, MayEnd, ended, at_end, suffixes_in, arcs_in, ended_in, at_end_in}
+use Rattle.layer_nodes.specs.Holding.{HasArcsIn, HasKeptLayer}
+use Rattle.layer_nodes.specs.Nodes.{NodeView, LayerView}
+use Rattle.layer_nodes.specs.Ending.{suffix_of, lengths, MayAdd, MayFollow, MayLead, MayEnd, ended, ended_layer, at_end, suffixes_in, arcs_in, ended_in, at_end_in}
 use Rattle.layer_nodes.specs.Merging.{greater}
-use Rattle.layer_nodes.specs.Stored.{node_view, IsStored}
+use Rattle.layer_nodes.specs.Stored.{node_view_by, node_view, IsStored}
 use Rattle.layer_nodes.proofs.Merged.{greatest-option}
 use Rattle.layer_nodes.proofs.Stored.{each-get}
 
@@ -98,32 +99,65 @@ last-more old now i d suffix less e is =
 
 -- ---- as they are seen
 
-pub may-end : (words room : ℕ) (rows : List ℤ) (arcs : List DdArc) (suffixes : List (Option ℤ)) (nodes : List Node) → Each (IsStored room arcs) nodes
-    → Each (λ (node : NodeView). Each MayAdd node.arcs) (map (node_view words rows arcs) nodes) → Each (λ (node : NodeView). Each (λ (arc : DdArc). MayLead suffixes arc.target) node.arcs) (map (node_view words rows arcs) nodes)
+may-end : (row : ℕ → List ℤ) (arcs : List DdArc) (suffixes : List (Option ℤ)) (nodes : List Node) → Each (HasArcsIn arcs) nodes
+    → Each (λ (node : NodeView). Each MayAdd node.arcs) (map (node_view_by row arcs) nodes) → Each (λ (node : NodeView). Each (λ (arc : DdArc). MayLead suffixes arc.target) node.arcs) (map (node_view_by row arcs) nodes)
     → Each (MayEnd arcs suffixes) nodes
-may-end words room rows arcs suffixes [] stored add lead = tt
-may-end words room rows arcs suffixes (node ∷ nodes) stored add lead =
-    (record { lie = stored.0.arcs_lie; add = add.0; lead = lead.0 }, may-end words room rows arcs suffixes nodes stored.1 add.1 lead.1)
+may-end row arcs suffixes [] lie add lead = tt
+may-end row arcs suffixes (node ∷ nodes) lie add lead = (record { lie = lie.0; add = add.0; lead = lead.0 }, may-end row arcs suffixes nodes lie.1 add.1 lead.1)
 
 -- the suffixes of nodes in memory
-pub suffixes-seen : (words : ℕ) (rows : List ℤ) (arcs : List DdArc) (nodes : List Node) → suffixes_in nodes ≡ map (λ (b : NodeView). b.suffix) (map (node_view words rows arcs) nodes)
-suffixes-seen words rows arcs [] = refl
-suffixes-seen words rows arcs (node ∷ nodes) = ap (λ l. node.suffix ∷ l) (suffixes-seen words rows arcs nodes)
+pub suffixes-seen : (row : ℕ → List ℤ) (arcs : List DdArc) (nodes : List Node) → suffixes_in nodes ≡ map (λ (b : NodeView). b.suffix) (map (node_view_by row arcs) nodes)
+suffixes-seen row arcs [] = refl
+suffixes-seen row arcs (node ∷ nodes) = ap (λ l. node.suffix ∷ l) (suffixes-seen row arcs nodes)
 
-pub ended-views : (words : ℕ) (rows : List ℤ) (arcs : List DdArc) (suffixes : List (Option ℤ)) (nodes : List Node)
-    → map (node_view words rows arcs) (map (ended_in arcs suffixes) nodes) ≡ map (ended suffixes) (map (node_view words rows arcs) nodes)
-ended-views words rows arcs suffixes [] = refl
-ended-views words rows arcs suffixes (node ∷ nodes) = ap (λ l. ended suffixes (node_view words rows arcs node) ∷ l) (ended-views words rows arcs suffixes nodes)
+ended-views : (row : ℕ → List ℤ) (arcs : List DdArc) (suffixes : List (Option ℤ)) (nodes : List Node)
+    → map (node_view_by row arcs) (map (ended_in arcs suffixes) nodes) ≡ map (ended suffixes) (map (node_view_by row arcs) nodes)
+ended-views row arcs suffixes [] = refl
+ended-views row arcs suffixes (node ∷ nodes) = ap (λ l. ended suffixes (node_view_by row arcs node) ∷ l) (ended-views row arcs suffixes nodes)
 
 pub last-views : (words : ℕ) (rows : List ℤ) (arcs : List DdArc) (nodes : List Node) → map (node_view words rows arcs) (map at_end_in nodes) ≡ map at_end (map (node_view words rows arcs) nodes)
 last-views words rows arcs [] = refl
 last-views words rows arcs (node ∷ nodes) = ap (λ l. at_end (node_view words rows arcs node) ∷ l) (last-views words rows arcs nodes)
 
 -- a node lies where it lay
-pub ended-stored : (room : ℕ) (arcs : List DdArc) (suffixes : List (Option ℤ)) (nodes : List Node) → Each (IsStored room arcs) nodes → Each (IsStored room arcs) (map (ended_in arcs suffixes) nodes)
-ended-stored room arcs suffixes [] h = tt
-ended-stored room arcs suffixes (node ∷ nodes) h = (record { row = h.0.row; fresh = h.0.fresh; arcs_lie = h.0.arcs_lie }, ended-stored room arcs suffixes nodes h.1)
+ended-lie : (arcs : List DdArc) (suffixes : List (Option ℤ)) (nodes : List Node) → Each (HasArcsIn arcs) nodes → Each (HasArcsIn arcs) (map (ended_in arcs suffixes) nodes)
+ended-lie arcs suffixes [] h = tt
+ended-lie arcs suffixes (node ∷ nodes) h = (h.0, ended-lie arcs suffixes nodes h.1)
 
 pub last-stored : (room : ℕ) (arcs : List DdArc) (nodes : List Node) → Each (IsStored room arcs) nodes → Each (IsStored room arcs) (map at_end_in nodes)
 last-stored room arcs [] h = tt
 last-stored room arcs (node ∷ nodes) h = (record { row = h.0.row; fresh = h.0.fresh; arcs_lie = h.0.arcs_lie }, last-stored room arcs nodes h.1)
+
+-- ---- a layer, above one whose nodes are seen with these suffixes
+
+module _ (words room nodes_room arcs_room : ℕ) (row : ℕ → List ℤ) (arcs : List DdArc) (nodes : List Node) (layer : LayerView) (seen : record { words = words; nodes = map (node_view_by row arcs) nodes; nodes_room = room; arcs_room = arcs_room } ≡ layer)
+    (kept : HasKeptLayer room nodes nodes_room arcs) (suffixes : List (Option ℤ)) (arcs2 : List DdArc) (below nodes2 : List Node) (arcs_are : arcs2 ≡ arcs) (nodes_are : nodes2 ≡ nodes) (below_are : suffixes_in below ≡ suffixes) where
+  pub layer-ends : Each (λ (node : NodeView). Each MayAdd node.arcs) layer.nodes → Each (λ (node : NodeView). Each (λ (arc : DdArc). MayLead suffixes arc.target) node.arcs) layer.nodes → Each (MayEnd arcs2 (suffixes_in below)) nodes2
+  layer-ends add lead =
+      let views = sym (ap (λ (l : LayerView). l.nodes) seen) in
+      let all = may-end row arcs suffixes nodes kept.arcs_lie (subst (Each (λ (node : NodeView). Each MayAdd node.arcs)) views add)
+      (subst (Each (λ (node : NodeView). Each (λ (arc : DdArc). MayLead suffixes arc.target) node.arcs)) views lead) in
+      subst (Each (MayEnd arcs2 (suffixes_in below))) (sym nodes_are) (subst (λ s. Each (MayEnd arcs2 s) nodes) (sym below_are) (subst (λ a. Each (MayEnd a suffixes) nodes) (sym arcs_are) all))
+
+  -- the nodes became these, and the layer is that of the rules
+  pub record IsEnded (new : List Node) : Type 0 where
+    pub size : length new ≡ length nodes
+    pub stays : HasKeptLayer room new nodes_room arcs
+    pub ended : record { words = words; nodes = map (node_view_by row arcs) new; nodes_room = room; arcs_room = arcs_room } ≡ ended_layer suffixes layer
+
+  pub layer-ended : (new : List Node) → new ≡ map (ended_in arcs2 (suffixes_in below)) nodes2 → IsEnded new
+  layer-ended new is =
+      let mapped : new ≡ map (ended_in arcs suffixes) nodes = is ∙ (ap₂ (λ a s. map (ended_in a s) nodes2) arcs_are below_are ∙ ap (map (ended_in arcs suffixes)) nodes_are) in
+      let long = length-map nodes (ended_in arcs suffixes) in
+      let with_nodes : List NodeView → LayerView = λ ns. record { words = words; nodes = ns; nodes_room = room; arcs_room = arcs_room } in
+      record {
+        size = ap length mapped ∙ long;
+        stays = subst (λ l. HasKeptLayer room l nodes_room arcs) (sym mapped) (record {
+          small = kept.small;
+          fits = (let fit = kept.fits in omega arith);
+          nodes_hold = kept.nodes_hold;
+          few_arcs = kept.few_arcs;
+          arcs_lie = ended-lie arcs suffixes nodes kept.arcs_lie;
+        });
+        ended = ap with_nodes (ap (map (node_view_by row arcs)) mapped ∙ ended-views row arcs suffixes nodes) ∙ ap (ended_layer suffixes) seen;
+      }

@@ -6,6 +6,7 @@ use Rattle.std.proofs.lemmas.Option.{slice_get-map, slice_get-get_or}
 use Rattle.std.specs.List.{take-map}
 use Rattle.dp_model.specs.Decisions.{below}
 use Rattle.dp_model.specs.Dp.{Dp}
+use Rattle.dp_model.specs.Gaps.{IsStateOf}
 use Rattle.dp_model.specs.Lists.{Each}
 use Rattle.dp_model.specs.Rows.{row_same}
 use Rattle.dp_model.proofs.Members.{one-of-has, each-has}
@@ -27,14 +28,15 @@ use Rattle.layer_candidates.specs.KeyOrder.{key_at, keys_of, reached_of, all_of,
 use Rattle.layer_candidates.specs.Members.{member_as, members_as, IsMemberOf}
 use Rattle.layer_candidates.specs.Rows.{row_at}
 use Rattle.layer_candidates.specs.Ways.{way_at, all_reached, AreDistinct}
-use Rattle.layer_candidates.proofs.Blocks.{row_before}
 use Rattle.layer_candidates.proofs.Layered.{has-table}
 use Rattle.layer_candidates.proofs.Sorted.{keys-are, in-order, length-keys}
 use Rattle.layer_nodes.specs.declared.node.Node.{Node}
+use Rattle.layer_nodes.specs.Holding.{HasArcsIn}
 use Rattle.layer_nodes.specs.Nodes.{NodeView, shown, shown_from, shown_layer, shown_below, without_arcs}
-use Rattle.layer_nodes.specs.Stored.{node_view, IsStored}
+use Rattle.layer_nodes.specs.Stored.{node_view_by, node_view, IsStored}
 use Rattle.layer_nodes.specs.Steps.{IsParent, IsRanked}
 use Rattle.layer_nodes.specs.Expanding.{Trial, trial, trials_at, trials_of, all_spanned, arc_to, LeadsToRow, AreArcsOf, all_exact, mark_at, AreTried, key_in, IsNumbered, led, node_of, member_of, members_from, AreArranged, IsExpanded}
+use Rattle.layer_nodes.proofs.Cells.{LieIn, LiesIn, views-same}
 use Rattle.layer_nodes.proofs.Spans.{length-spanned}
 use Rattle.layer_nodes.proofs.Tried.{length-arcs}
 
@@ -167,6 +169,11 @@ rest-stays dp k cells words old new first [] = refl
 rest-stays dp k cells words old new first (node ∷ nodes) =
     ap (λ l. without_arcs (node_view words cells old node) ∷ l) (rest-stays dp k cells words old new (first + length (trials_at dp k cells words node)) nodes)
 
+-- the places of their rows too
+pub places-stay : (dp : Dp) (k : ℕ) (cells : List ℤ) (words first : ℕ) (nodes : List Node) → map (λ (node : Node). node.row) (all_spanned dp k cells words first nodes) ≡ map (λ (node : Node). node.row) nodes
+places-stay dp k cells words first [] = refl
+places-stay dp k cells words first (node ∷ nodes) = ap (λ l. node.row ∷ l) (places-stay dp k cells words (first + length (trials_at dp k cells words node)) nodes)
+
 pub get_or-any : {X : Type 0} (xs : List X) (j : ℕ) (a b : X) → j < length xs → get_or xs j a ≡ get_or xs j b
 get_or-any [] j a b less = absurd (omega arith)
 get_or-any (x ∷ xs) zero a b less = refl
@@ -174,21 +181,22 @@ get_or-any (x ∷ xs) (suc j) a b less = get_or-any xs j a b (omega arith)
 
 -- What a layer in memory owes.
 
-pub stored-above : (dp : Dp) (k : ℕ) (cells : List ℤ) (words room first : ℕ) (old new : List DdArc) (nodes : List Node) → Each (IsStored room old) nodes → first + length (trials_of dp k cells words nodes) ≤ length new
-    → Each (IsStored room new) (all_spanned dp k cells words first nodes)
-stored-above dp k cells words room first old new [] h fit = tt
-stored-above dp k cells words room first old new (node ∷ nodes) h fit =
+pub arcs-within : (dp : Dp) (k : ℕ) (cells : List ℤ) (words first : ℕ) (new : List DdArc) (nodes : List Node) → first + length (trials_of dp k cells words nodes) ≤ length new
+    → Each (HasArcsIn new) (all_spanned dp k cells words first nodes)
+arcs-within dp k cells words first new [] fit = tt
+arcs-within dp k cells words first new (node ∷ nodes) fit =
     let ts = trials_at dp k cells words node in
     let sum = length-append ts (trials_of dp k cells words nodes) in
-    (record { row = h.0.row; fresh = h.0.fresh; arcs_lie = omega arith }, stored-above dp k cells words room (first + length ts) old new nodes h.1 (omega arith))
+    ((omega arith), arcs-within dp k cells words (first + length ts) new nodes (omega arith))
 
-pub members-of : (dp : Dp) (k : ℕ) (cells : List ℤ) (words room i : ℕ) (old : List DdArc) (nodes : List Node) → (room + 1) * words ≤ length cells → Each (IsStored room old) nodes
-    → Each (IsParent dp k) (map (node_view words cells old) nodes) → Each (IsMemberOf dp k cells words) (members_from i nodes)
-members-of dp k cells words room i old [] hold s h = tt
-members-of dp k cells words room i old (node ∷ nodes) hold s h =
-    let row = s.0.row in
-    let before = row_before (room + 1) node.row words (omega arith) in
-    (record { within = omega arith; state = h.0.state; rank = h.0.rank; value = h.0.value }, members-of dp k cells words room (i + 1) old nodes hold s.1 h.1)
+pub members-of : (dp : Dp) (k : ℕ) (cells : List ℤ) (words i : ℕ) (row : ℕ → List ℤ) (arcs : List DdArc) (nodes : List Node) → LieIn words cells row nodes
+    → Each (IsParent dp k) (map (node_view_by row arcs) nodes) → Each (IsMemberOf dp k cells words) (members_from i nodes)
+members-of dp k cells words i row arcs [] lie h = tt
+members-of dp k cells words i row arcs (node ∷ nodes) lie h =
+    let same = sym lie.0.same in (
+      record { within = lie.0.within; state = subst (IsStateOf dp k) same h.0.state; rank = h.0.rank ∙ ap (dp.rank k) same; value = h.0.value },
+      members-of dp k cells words (i + 1) row arcs nodes lie.1 h.1,
+    )
 
 -- The nodes of keys.
 
@@ -289,11 +297,11 @@ module _ (dp : Dp) (k : ℕ) (low : k < dp.vars) (cells : List ℤ) (words : ℕ
   pub length-led : length led_arcs ≡ length arcs
   length-led = ap length arranged.arcs_are ∙ length-map arcs (led arranged.places)
 
-  pub above-stored : (room : ℕ) → Each (IsStored room old) nodes → Each (IsStored room led_arcs) nodes2
-  above-stored room h =
+  pub above-arcs : Each (HasArcsIn led_arcs) nodes2
+  above-arcs =
       let size = length-arcs dp k rows words (length ways) (trials_of dp k cells words nodes) arcs tried.arcs_are in
       let same = length-led in
-      subst (Each (IsStored room led_arcs)) (sym spans) (stored-above dp k cells words room 0 old led_arcs nodes h (omega arith))
+      subst (Each (HasArcsIn led_arcs)) (sym spans) (arcs-within dp k cells words 0 led_arcs nodes (omega arith))
 
   pub above-length : length nodes2 ≡ length nodes
   above-length = ap length spans ∙ length-spanned dp k cells words 0 nodes
@@ -319,10 +327,11 @@ pub whole : (dp : Dp) (k : ℕ) → k < dp.vars → (cells : List ℤ) (words : 
 whole dp k low cells words nodes rows ways marks arcs led_arcs nodes2 below distinct list tried spans few few_arcs arranged = record {
   above_is = λ before paths. above-shown dp k low cells words before nodes rows ways marks arcs led_arcs nodes2 below distinct list tried spans arranged paths;
   next_is = λ before any paths. next-shown dp k low cells words before nodes rows ways marks arcs led_arcs nodes2 below distinct list tried spans arranged paths any;
+  places = ap (map (λ (node : Node). node.row)) spans ∙ places-stay dp k cells words 0 nodes;
   rest = λ before. above-rest dp k low cells words before nodes rows ways marks arcs led_arcs nodes2 below distinct list tried spans arranged;
   ranked = λ any. next-ranked dp k low cells words any nodes rows ways marks arcs led_arcs nodes2 below distinct list tried spans arranged any;
   unmerged = λ any. next-unmerged dp k low cells words any nodes rows ways marks arcs led_arcs nodes2 below distinct list tried spans arranged any;
-  stored = λ before room h. above-stored dp k low cells words before nodes rows ways marks arcs led_arcs nodes2 below distinct list tried spans arranged room h;
+  arcs_lie = above-arcs dp k low cells words arcs nodes rows ways marks arcs led_arcs nodes2 below distinct list tried spans arranged;
   below_stored = λ any room fits. next-stored dp k low cells words any nodes rows ways marks arcs led_arcs nodes2 below distinct list tried spans arranged room any (omega arith);
   same = above-length dp k low cells words arcs nodes rows ways marks arcs led_arcs nodes2 below distinct list tried spans arranged;
   few = (let size = next-length dp k low cells words arcs nodes rows ways marks arcs led_arcs nodes2 below distinct list tried spans arranged in omega arith);
@@ -339,12 +348,20 @@ arranged-by words words2 rows rows2 ways ways2 marks marks2 old old2 new nodes h
     (subst (λ x. AreArranged rows words ways x old2 new nodes) d
     (subst (λ x. AreArranged rows words ways marks x new nodes) e h))))
 
-pub expanded-by : (rule : List DdNode → TwoLayers) (dp : Dp) (k words : ℕ) (cells cells2 : List ℤ) (old old2 new : List Node) (arcs : List DdArc) (rows : List ℤ) (below : List Node)
-    → IsExpanded rule dp k words cells old new arcs rows below → cells ≡ cells2 → old ≡ old2 → IsExpanded rule dp k words cells2 old2 new arcs rows below
-expanded-by rule dp k words cells cells2 old old2 new arcs rows below h a b =
-    subst (λ x. IsExpanded rule dp k words x old2 new arcs rows below) a (subst (λ x. IsExpanded rule dp k words cells x new arcs rows below) b h)
+-- whatever the rows are found by that lie in the cells
+module _ (rule : List DdNode → TwoLayers) (dp : Dp) (k words : ℕ) (cells : List ℤ) (old new : List Node) (arcs : List DdArc) (rows : List ℤ) (below : List Node) (h : IsExpanded rule dp k words cells old new arcs rows below)
+    (row : ℕ → List ℤ) (lie : LieIn words cells row old) (before : List DdArc) where
+  olds-same : map (node_view words cells before) old ≡ map (node_view_by row before) old
+  olds-same = views-same words cells row before old lie
 
-pub each-by : (dp : Dp) (k words : ℕ) (cells cells2 : List ℤ) (nodes nodes2 : List Node) → cells ≡ cells2 → nodes ≡ nodes2
-    → Each (IsMemberOf dp k cells words) (members_from 0 nodes) → Each (IsMemberOf dp k cells2 words) (members_from 0 nodes2)
-each-by dp k words cells cells2 nodes nodes2 a b h =
-    subst (λ x. Each (IsMemberOf dp k x words) (members_from 0 nodes2)) a (subst (λ x. Each (IsMemberOf dp k cells words) (members_from 0 x)) b h)
+  news-same : map (node_view words cells arcs) new ≡ map (node_view_by row arcs) new
+  news-same = views-same words cells row arcs new (subst (Each (LiesIn words cells row)) (sym h.places) lie)
+
+  pub above-by : (paths : ℕ → List ℕ) → shown_layer paths (map (node_view_by row arcs) new) ≡ (rule (shown_layer paths (map (node_view_by row before) old))).above
+  above-by paths = ap (shown_layer paths) (sym news-same) ∙ (h.above_is before paths ∙ ap (λ l. (rule (shown_layer paths l)).above) olds-same)
+
+  pub next-by : (paths : ℕ → List ℕ) (any : List DdArc) → shown_below paths (map (node_view words rows any) below) ≡ (rule (shown_layer paths (map (node_view_by row before) old))).next
+  next-by paths any = h.next_is before any paths ∙ ap (λ l. (rule (shown_layer paths l)).next) olds-same
+
+  pub rest-by : map without_arcs (map (node_view_by row arcs) new) ≡ map without_arcs (map (node_view_by row before) old)
+  rest-by = ap (map without_arcs) (sym news-same) ∙ (h.rest before ∙ ap (map without_arcs) olds-same)

@@ -4,6 +4,7 @@ pub mod Spans
 pub mod Expanded
 pub mod Redirected
 pub mod Stored
+pub mod Cells
 pub mod Shown
 pub mod Leaders
 pub mod Pruned
@@ -16,3 +17,4 @@ pub mod Merged
 pub mod MergedLayers
 pub mod Ended
 pub mod Behind
+pub mod Holding

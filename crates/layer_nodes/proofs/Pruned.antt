@@ -1,6 +1,6 @@
 -- Nodes that are taken out, or stay and close up, one after another.
-use Rattle.std.proofs.Common.{◌≡◌, ℕ, ◌+◌, ◌<◌, ℤ, pos, Bool, true, false, cond, ◌||◌, List, [], ◌∷◌, ◌++◌, length, map, take, drop, set, get_or, slice_get, Option, Some, None, is_some, refl, sym, ◌∙◌, ap, ap₂, subst, append_assoc, append-nil, arith}
-use Rattle.std.proofs.lemmas.List.{take_more_set, drop-set-lt, length-set, set-get_or, drop_more, drop_all, map-append, length_push}
+use Rattle.std.proofs.Common.{◌≡◌, ℕ, ◌+◌, ◌<◌, ℤ, pos, Bool, true, false, cond, ◌||◌, List, [], ◌∷◌, ◌++◌, length, map, take, drop, set, get_or, slice_get, Option, Some, None, is_some, refl, sym, ◌∙◌, ap, ap₂, subst, append_assoc, arith}
+use Rattle.std.proofs.lemmas.List.{take_more_set, drop-set-lt, length-set, set-get_or, drop_more, map-append, length_push}
 use Rattle.std.proofs.lemmas.Option.{get_or_from_slice_get}
 use Rattle.dp_model.specs.Dp.{Dp}
 use Rattle.dp_model.specs.Lists.{Each, OneOf}
@@ -15,7 +15,7 @@ use Rattle.layer_nodes.specs.declared.redirecting.LeaderAt.{LeaderAt}
 use Rattle.layer_nodes.specs.declared.striking.Strikes.{Strikes}
 use Rattle.layer_nodes.specs.Leading.{IsNodeIn, leaders_of, led_at, bare}
 use Rattle.layer_nodes.specs.Redirecting.{IsShort}
-use Rattle.layer_nodes.specs.Striking.{Shows, threshold_of, rough_for, asking, led_out, taken_out, ArePruned, HasPruned}
+use Rattle.layer_nodes.specs.Striking.{Shows, threshold_of, rough_for, asking, led_out, taken_out, ArePruned}
 use Rattle.layer_nodes.proofs.Leaders.{leader_rough, at-leader-same, struck-same, leaders-led, each-led}
 use Rattle.layer_nodes.proofs.Redirected.{left-at}
 use Rattle.layer_nodes.proofs.Stored.{each-set, each-get, among-each, among-self}

@@ -71,11 +71,6 @@ pub record IsChanged (ls : List (Option Redirect)) (old now : List DdArc) (i : �
   pub left : drop i now ≡ drop i old
   pub same : length now ≡ length old
 
-get_or-any : {X : Type 0} (xs : List X) (i : ℕ) (d e : X) → i < length xs → get_or xs i d ≡ get_or xs i e
-get_or-any [] i d e less = absurd (omega arith)
-get_or-any (x ∷ xs) zero d e less = refl
-get_or-any (x ∷ xs) (suc i) d e less = get_or-any xs i d e (omega arith)
-
 -- the element that is next
 pub left-at : {X : Type 0} (old now : List X) (i : ℕ) (d : X) → drop i now ≡ drop i old → length now ≡ length old → i < length old → get_or now i d ≡ get_or old i d
 left-at [] now i d left same less = absurd (omega arith)

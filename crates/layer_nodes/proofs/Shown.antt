@@ -1,8 +1,7 @@
 -- Layers with their paths, whose arcs get new targets.
-use Rattle.std.proofs.Common.{IsSome, ◌<◌, ◌≡◌, ℕ, ◌+◌, ℤ, List, [], ◌∷◌, length, map, take, drop, Option, refl, ap, ap₂, arith}
+use Rattle.std.proofs.Common.{IsSome, ◌<◌, ◌≡◌, ℕ, ◌+◌, ℤ, List, [], ◌∷◌, map, take, drop, Option, refl, ap, ap₂}
 use Rattle.dp_model.specs.Dp.{Dp}
 use Rattle.dp_model.specs.Lists.{Each}
-use Rattle.dp_model.proofs.Members.{Each-then}
 use Rattle.dp_laws.specs.declared.arc.DdArc.{DdArc}
 use Rattle.dp_laws.specs.Diagrams.Nodes.{DdNode, path_below}
 use Rattle.dp_laws.specs.Rules.Redirects.{Redirect, redirected, with_redirected}
@@ -11,7 +10,7 @@ use Rattle.layer_nodes.specs.Leading.{IsNodeIn}
 use Rattle.layer_nodes.specs.Nodes.{NodeView, shown, shown_from, shown_below, without_arcs}
 use Rattle.layer_nodes.specs.Redirecting.{AreRedirected}
 use Rattle.layer_nodes.specs.Steps.{IsNodeOf, MayBeLengthened}
-use Rattle.layer_nodes.specs.Stored.{node_view, IsStored, HasRow}
+use Rattle.layer_nodes.specs.Stored.{node_view_by, node_view, IsStored, HasRow}
 use Rattle.layer_nodes.specs.Striking.{Shows}
 use Rattle.layer_nodes.proofs.Redirected.{redirected-take, redirected-drop, redirected-far}
 
@@ -20,27 +19,31 @@ use Rattle.layer_nodes.proofs.Redirected.{redirected-take, redirected-drop, redi
 abbrev pub with_targets : List (Option Redirect) → NodeView → NodeView
 with_targets ls node = record node { arcs = map (redirected ls) node.arcs }
 
-pub views-redirected : (ls : List (Option Redirect)) (words : ℕ) (rows : List ℤ) (old new : List DdArc) (nodes : List Node) → AreRedirected ls old new → Each MayBeLengthened (map (node_view words rows old) nodes)
-    → map (node_view words rows new) nodes ≡ map (with_targets ls) (map (node_view words rows old) nodes)
-views-redirected ls words rows old new [] h far = refl
-views-redirected ls words rows old new (node ∷ nodes) h far =
+pub views-redirected : (ls : List (Option Redirect)) (row : ℕ → List ℤ) (old new : List DdArc) (nodes : List Node) → AreRedirected ls old new → Each MayBeLengthened (map (node_view_by row old) nodes)
+    → map (node_view_by row new) nodes ≡ map (with_targets ls) (map (node_view_by row old) nodes)
+views-redirected ls row old new [] h far = refl
+views-redirected ls row old new (node ∷ nodes) h far =
     let arcs = redirected-far ls (take node.arcs (drop node.first_arc old)) (take node.arcs (drop node.first_arc new))
     (redirected-take ls node.arcs (drop node.first_arc old) (drop node.first_arc new) (redirected-drop ls node.first_arc old new h)) far.0 in
-    ap₂ (λ a l. record (node_view words rows old node) { arcs = a } ∷ l) arcs (views-redirected ls words rows old new nodes h far.1)
+    ap₂ (λ a l. record (node_view_by row old node) { arcs = a } ∷ l) arcs (views-redirected ls row old new nodes h far.1)
 
 pub shown-redirected : (paths : ℕ → List ℕ) (i : ℕ) (ls : List (Option Redirect)) (nodes : List NodeView) → shown_from paths i (map (with_targets ls) nodes) ≡ with_redirected ls (shown_from paths i nodes)
 shown-redirected paths i ls [] = refl
 shown-redirected paths i ls (node ∷ nodes) = ap (λ l. shown (paths i) (with_targets ls node) ∷ l) (shown-redirected paths (i + 1) ls nodes)
 
-pub bare-redirected : (words : ℕ) (rows : List ℤ) (old new : List DdArc) (nodes : List Node) → map without_arcs (map (node_view words rows new) nodes) ≡ map without_arcs (map (node_view words rows old) nodes)
-bare-redirected words rows old new [] = refl
-bare-redirected words rows old new (node ∷ nodes) = ap (λ l. without_arcs (node_view words rows old node) ∷ l) (bare-redirected words rows old new nodes)
+pub bare-redirected : (row : ℕ → List ℤ) (old new : List DdArc) (nodes : List Node) → map without_arcs (map (node_view_by row new) nodes) ≡ map without_arcs (map (node_view_by row old) nodes)
+bare-redirected row old new [] = refl
+bare-redirected row old new (node ∷ nodes) = ap (λ l. without_arcs (node_view_by row old node) ∷ l) (bare-redirected row old new nodes)
 
 -- ---- the layer below
 
 pub map-map : {X Y Z : Type 0} (f : Y → Z) (g : X → Y) (xs : List X) → map f (map g xs) ≡ map (λ x. f (g x)) xs
 map-map f g [] = refl
 map-map f g (x ∷ xs) = ap (λ l. f (g x) ∷ l) (map-map f g xs)
+
+-- the places of the rows of nodes
+pub places-seen : (row : ℕ → List ℤ) (arcs : List DdArc) (nodes : List Node) → map (λ (n : NodeView). n.place) (map (node_view_by row arcs) nodes) ≡ map (λ (node : Node). node.row) nodes
+places-seen row arcs nodes = map-map (λ (n : NodeView). n.place) (node_view_by row arcs) nodes
 
 -- a node of the layer below, as it is shown
 abbrev pub seen : (ℕ → List ℕ) → ℕ → List ℤ → List DdArc → Node → DdNode

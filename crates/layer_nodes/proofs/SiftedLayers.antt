@@ -34,6 +34,7 @@ use Rattle.layer_candidates.specs.Ways.{reached_at, all_reached, AreDistinct}
 use Rattle.layer_candidates.proofs.Layered.{has-table}
 use Rattle.layer_candidates.proofs.Sorted.{unstruck-are, unstruck-in-order, unstruck-length}
 use Rattle.layer_nodes.specs.declared.node.Node.{Node}
+use Rattle.layer_nodes.specs.Holding.{HasArcsIn}
 use Rattle.layer_nodes.specs.Nodes.{NodeView, shown_layer, shown_below, without_arcs}
 use Rattle.layer_nodes.specs.Stored.{node_view, IsStored}
 use Rattle.layer_nodes.specs.Steps.{IsRanked}
@@ -41,7 +42,7 @@ use Rattle.layer_nodes.specs.Expanding.{trial, trials_of, all_spanned, arc_to, L
 use Rattle.layer_nodes.specs.Sifting.{sifted_nodes, sift_redirects, expand_sifted, number_in, led_in, AreSifted}
 use Rattle.layer_nodes.proofs.Spans.{length-spanned}
 use Rattle.layer_nodes.proofs.Tried.{length-arcs}
-use Rattle.layer_nodes.proofs.Expanded.{map-map, members-shown, place-of, row-found, get_or-any, above-from, keys-shown, rows-of, rest-stays, stored-above, keys-ranked, keys-unmerged, keys-stored}
+use Rattle.layer_nodes.proofs.Expanded.{map-map, members-shown, place-of, row-found, get_or-any, above-from, keys-shown, rows-of, rest-stays, places-stay, arcs-within, keys-ranked, keys-unmerged, keys-stored}
 
 -- What is left of nodes.
 
@@ -256,11 +257,11 @@ module _ (dp : Dp) (k : ℕ) (t : Option ℤ) (low : k < dp.vars) (cells : List 
   pub length-led : length led_arcs ≡ length arcs
   length-led = ap length arranged.arcs_are ∙ length-map arcs (led_in keys arranged.places)
 
-  pub above-stored : (room : ℕ) → Each (IsStored room old) nodes → Each (IsStored room led_arcs) nodes2
-  above-stored room h =
+  pub above-arcs : Each (HasArcsIn led_arcs) nodes2
+  above-arcs =
       let size = length-arcs dp k rows words (length ways) (trials_of dp k cells words nodes) arcs tried.arcs_are in
       let same = length-led in
-      subst (Each (IsStored room led_arcs)) (sym spans) (stored-above dp k cells words room 0 old led_arcs nodes h (omega arith))
+      subst (Each (HasArcsIn led_arcs)) (sym spans) (arcs-within dp k cells words 0 led_arcs nodes (omega arith))
 
   pub next-ranked : (any : List DdArc) → Each (IsRanked dp (k + 1)) (map (node_view words rows any) below)
   next-ranked any = subst (λ l. Each (IsRanked dp (k + 1)) (map (node_view words rows any) l)) (sym arranged.nodes_are) (keys-ranked dp k rows words ways marks distinct any keys layer-keys)
@@ -283,10 +284,11 @@ pub whole-sifted : (dp : Dp) (k : ℕ) (t : Option ℤ) → k < dp.vars → (cel
 whole-sifted dp k t low cells words nodes rows ways marks arcs led_arcs nodes2 below distinct list tried spans few few_arcs arranged = record {
   above_is = λ before paths. above-shown dp k t low cells words before nodes rows ways marks arcs led_arcs nodes2 below distinct list tried spans arranged paths;
   next_is = λ before any paths. next-shown dp k t low cells words before nodes rows ways marks arcs led_arcs nodes2 below distinct list tried spans arranged paths any;
+  places = ap (map (λ (node : Node). node.row)) spans ∙ places-stay dp k cells words 0 nodes;
   rest = λ before. ap (λ m. map without_arcs (map (node_view words cells led_arcs) m)) spans ∙ rest-stays dp k cells words before led_arcs 0 nodes;
   ranked = λ any. next-ranked dp k t low cells words any nodes rows ways marks arcs led_arcs nodes2 below distinct list tried spans arranged any;
   unmerged = λ any. next-unmerged dp k t low cells words any nodes rows ways marks arcs led_arcs nodes2 below distinct list tried spans arranged any;
-  stored = λ before room h. above-stored dp k t low cells words before nodes rows ways marks arcs led_arcs nodes2 below distinct list tried spans arranged room h;
+  arcs_lie = above-arcs dp k t low cells words arcs nodes rows ways marks arcs led_arcs nodes2 below distinct list tried spans arranged;
   below_stored = λ any room fits. next-stored dp k t low cells words any nodes rows ways marks arcs led_arcs nodes2 below distinct list tried spans arranged room any (omega arith);
   same = ap length spans ∙ length-spanned dp k cells words 0 nodes;
   few = (let size = next-few dp k t low cells words arcs nodes rows ways marks arcs led_arcs nodes2 below distinct list tried spans arranged in omega arith);

@@ -1,17 +1,14 @@
 -- Nodes of a layer in memory, one after another.
-use Rattle.std.proofs.Common.{◌≡◌, ℕ, zero, suc, ◌+◌, ◌*◌, ◌<◌, ◌≤◌, ℤ, List, [], ◌∷◌, ◌++◌, length, map, take, drop, set, get_or, Option, refl, sym, ◌∙◌, inl, inr, ap, ap₂, subst, arith, mul-le-mul_right}
-use Rattle.std.proofs.lemmas.List.{take_more, take_more_set, take_all, drop-set-lt, length-set, map-append, length_push}
+use Rattle.std.proofs.Common.{◌≡◌, ℕ, zero, suc, ◌+◌, ◌*◌, ◌<◌, ◌≤◌, ℤ, List, [], ◌∷◌, length, map, take, drop, set, get_or, Option, refl, ◌∙◌, inl, inr, ap, ap₂, subst, arith, mul-le-mul_right}
 use Rattle.dp_model.specs.Lists.{Each, OneOf}
-use Rattle.dp_model.proofs.Members.{Each-append, Each-then}
+use Rattle.dp_model.proofs.Members.{Each-then}
 use Rattle.dp_laws.proofs.Lists.{each-take}
 use Rattle.dp_laws.specs.declared.arc.DdArc.{DdArc}
-use Rattle.layer_candidates.specs.Rows.{row_at, with_row}
-use Rattle.layer_candidates.proofs.Blocks.{before-with, here-with, length-row}
+use Rattle.layer_candidates.specs.Rows.{row_at}
 use Rattle.layer_nodes.specs.declared.node.Node.{Node}
-use Rattle.layer_nodes.specs.Nodes.{without_arcs, suffix_set}
+use Rattle.layer_nodes.specs.Nodes.{suffix_set}
 use Rattle.layer_nodes.specs.Steps.{AreAmong}
-use Rattle.layer_nodes.specs.Stored.{node_view, IsStored, IsCopy, AreCopied, HasRow}
-use Rattle.layer_nodes.proofs.Redirected.{left-at, left-after}
+use Rattle.layer_nodes.specs.Stored.{node_view_by, node_view, IsStored, HasRow}
 
 -- ---- members of lists
 
@@ -67,11 +64,11 @@ among-take n old new h = each-take (λ x. OneOf (λ other. other ≡ x) old) n n
 
 -- ---- a suffix
 
-pub suffix-set : (words : ℕ) (rows : List ℤ) (arcs : List DdArc) (xs : List Node) (i : ℕ) (x d : Node) (s : Option ℤ) → i < length xs → x ≡ record (get_or xs i d) { suffix = s }
-    → map (node_view words rows arcs) (set xs i x) ≡ suffix_set (map (node_view words rows arcs) xs) i s
-suffix-set words rows arcs [] i x d s less is = absurd (omega arith)
-suffix-set words rows arcs (y ∷ xs) zero x d s less is = ap (λ n. node_view words rows arcs n ∷ map (node_view words rows arcs) xs) is
-suffix-set words rows arcs (y ∷ xs) (suc i) x d s less is = ap (λ l. node_view words rows arcs y ∷ l) (suffix-set words rows arcs xs i x d s (omega arith) is)
+pub suffix-set : (row : ℕ → List ℤ) (arcs : List DdArc) (xs : List Node) (i : ℕ) (x d : Node) (s : Option ℤ) → i < length xs → x ≡ record (get_or xs i d) { suffix = s }
+    → map (node_view_by row arcs) (set xs i x) ≡ suffix_set (map (node_view_by row arcs) xs) i s
+suffix-set row arcs [] i x d s less is = absurd (omega arith)
+suffix-set row arcs (y ∷ xs) zero x d s less is = ap (λ n. node_view_by row arcs n ∷ map (node_view_by row arcs) xs) is
+suffix-set row arcs (y ∷ xs) (suc i) x d s less is = ap (λ l. node_view_by row arcs y ∷ l) (suffix-set row arcs xs i x d s (omega arith) is)
 
 -- ---- the first node
 
@@ -84,68 +81,3 @@ row-fits room words row n low hold = let more : (row + 1) * words ≤ (room + 1)
 
 pub has-rows : (room words : ℕ) (rows : List ℤ) (arcs : List DdArc) (nodes : List Node) → (room + 1) * words ≤ length rows → Each (IsStored room arcs) nodes → Each (HasRow words rows) nodes
 has-rows room words rows arcs nodes hold h = Each-then (IsStored room arcs) (HasRow words rows) nodes (λ node s. row-fits room words node.row (length rows) s.row hold) h
-
--- ---- a copy
-
--- nodes whose rows stand before the place where a row is written look the same
-pub copies-same : (words : ℕ) (rows row : List ℤ) (i : ℕ) (nodes : List Node) → i * words + words ≤ length rows → length row ≡ words → Each (IsCopy i) nodes
-    → map (node_view words (with_row rows (i * words) row) []) nodes ≡ map (node_view words rows []) nodes
-copies-same words rows row i [] room long h = refl
-copies-same words rows row i (node ∷ nodes) room long h =
-    ap₂ (λ r l. record (node_view words rows [] node) { row = r } ∷ l) (before-with rows row words i room long node.row h.0.row) (copies-same words rows row i nodes room long h.1)
-
-pub copied-more : (words : ℕ) (others : List Node) (other_rows : List ℤ) (nodes : List Node) (rows row : List ℤ) (i : ℕ) (d : Node) → AreCopied words others other_rows nodes rows i → i < length others
-    → length others * words ≤ length rows → HasRow words other_rows (get_or others i d) → row ≡ row_at other_rows words (get_or others i d).row
-    → AreCopied words others other_rows (nodes ++ record (get_or others i d) { row = i; first_arc = 0; arcs = 0 } ∷ []) (with_row rows (i * words) row) (i + 1)
-copied-more words others other_rows nodes rows row i d h less hold here is =
-    let node = get_or others i d in
-    let new : Node = record node { row = i; first_arc = 0; arcs = 0 } in
-    let most : suc i * words ≤ length others * words = mul-le-mul_right words (omega arith) in
-    let room : i * words + words ≤ length rows = omega arith in
-    let long : length row ≡ words = ap length is ∙ length-row other_rows words node.row here in
-    record {
-      list = λ arcs. (
-          let view = node_view words (with_row rows (i * words) row) [] in
-          let old = node_view words other_rows arcs in
-          let one : view new ≡ without_arcs (old node) = ap (λ r. record (without_arcs (old node)) { row = r }) (here-with rows row words i room long ∙ is) in
-          map-append view nodes (new ∷ [])
-          ∙ (ap₂ (λ a b. a ++ b ∷ []) (copies-same words rows row i nodes room long h.copies ∙ h.list arcs) one
-          ∙ sym (ap (λ l. map without_arcs (map old l)) (take_more others i d less)
-          ∙ (ap (map without_arcs) (map-append old (take i others) (node ∷ [])) ∙ map-append without_arcs (map old (take i others)) (old node ∷ [])))));
-      copies = Each-append (IsCopy (i + 1)) nodes (new ∷ []) (Each-then (IsCopy i) (IsCopy (i + 1)) nodes (λ n c. record { row = (let low = c.row in omega arith); first_arc = c.first_arc; no_arcs = c.no_arcs }) h.copies)
-          (record { row = omega arith; first_arc = refl; no_arcs = refl }, tt);
-      size = length_push nodes new ∙ (let s = h.size in omega arith);
-    }
-
--- the first i of the nodes are copies, and the others are as they were
-pub record ArePlaced (words : ℕ) (old : List Node) (other_rows : List ℤ) (now : List Node) (rows : List ℤ) (i : ℕ) : Type 0 where
-  pub copied : AreCopied words old other_rows (take i now) rows i
-  pub left : drop i now ≡ drop i old
-  pub same : length now ≡ length old
-
-pub placed-more : (words : ℕ) (old : List Node) (other_rows : List ℤ) (now : List Node) (rows row : List ℤ) (i : ℕ) (d x : Node) → ArePlaced words old other_rows now rows i → i < length old → length old * words ≤ length rows
-    → Each (HasRow words other_rows) old → row ≡ row_at other_rows words (get_or now i d).row → x ≡ record (get_or now i d) { row = i; first_arc = 0; arcs = 0 } → ArePlaced words old other_rows (set now i x) (with_row rows (i * words) row) (i + 1)
-placed-more words old other_rows now rows row i d x h less hold have is new =
-    let size = h.same in
-    let at : get_or now i d ≡ get_or old i d = left-at old now i d h.left h.same less in
-    let put : record (get_or old i d) { row = i; first_arc = 0; arcs = 0 } ≡ x = sym (new ∙ ap (λ (n : Node). record n { row = i; first_arc = 0; arcs = 0 }) at) in
-    record {
-      copied = subst (λ l. AreCopied words old other_rows l (with_row rows (i * words) row) (i + 1)) (ap (λ y. take i now ++ y ∷ []) put ∙ sym (take_more_set now i x (omega arith)))
-          (copied-more words old other_rows (take i now) rows row i d h.copied less hold (each-get (HasRow words other_rows) old i d have less) (is ∙ ap (λ (n : Node). row_at other_rows words n.row) at));
-      left = drop-set-lt (i + 1) now i x (omega arith) ∙ left-after old now i h.left h.same;
-      same = length-set now i x ∙ h.same;
-    }
-
-pub copied-stored : (room n : ℕ) (nodes : List Node) → n ≤ room → Each (IsCopy n) nodes → Each (IsStored room []) nodes
-copied-stored room n nodes most h = Each-then (IsCopy n) (IsStored room []) nodes (λ node c. record {
-  row = (let low = c.row in omega arith);
-  fresh = λ some. (let low = c.row in omega arith);
-  arcs_lie = (let a = c.first_arc in let b = c.no_arcs in omega arith);
-}) h
-
-pub copied-nodes : (words other_words : ℕ) (others : List Node) (other_rows : List ℤ) (nodes : List Node) (rows rows2 : List ℤ) (arcs other_arcs : List DdArc) → AreCopied other_words others other_rows nodes rows (length others)
-    → rows2 ≡ rows → arcs ≡ [] → words ≡ other_words → map (node_view words rows2 arcs) nodes ≡ map without_arcs (map (node_view other_words other_rows other_arcs) others)
-copied-nodes words other_words others other_rows nodes rows rows2 arcs other_arcs h a b c =
-    ap (λ w. map (node_view w rows2 arcs) nodes) c
-    ∙ (ap₂ (λ r l. map (node_view other_words r l) nodes) a b
-    ∙ (h.list other_arcs ∙ ap (λ l. map without_arcs (map (node_view other_words other_rows other_arcs) l)) (take_all (length others) others (omega arith))))

@@ -10,7 +10,7 @@ use Rattle.dp_laws.specs.declared.arc.DdArc.{DdArc}
 use Rattle.layer_candidates.specs.Extending.{all_allowed}
 use Rattle.layer_candidates.specs.Rows.{row_at}
 use Rattle.layer_candidates.specs.Table.{IsPlaced}
-use Rattle.layer_candidates.specs.Ways.{AreApart}
+use Rattle.layer_candidates.specs.Ways.{AreDistinctRows}
 use Rattle.layer_candidates.proofs.Joined.{same_rows, other_rows}
 use Rattle.layer_nodes.specs.Expanding.{Trial, trial, made_by, trials_by, arc_to, AreArcsOf, all_exact, mark_at, marked, AreTried}
 
@@ -91,7 +91,7 @@ placed-low dp k rows words count count2 t place h = elim h.grown as (λ _. place
 
 -- a trial was made, and its row stands at the place
 module _ (dp : Dp) (k : ℕ) (rows rows2 : List ℤ) (words count count2 : ℕ) (ts : List Trial) (t : Trial) (place : ℕ) (marks : List Bool) (arcs : List DdArc)
-    (placed : IsPlaced rows2 words count count2 (made_by dp k t) place) (stay : (i : ℕ) → i < count → row_at rows2 words i ≡ row_at rows words i) (apart : AreApart rows2 words count2)
+    (placed : IsPlaced rows2 words count count2 (made_by dp k t) place) (stay : (i : ℕ) → i < count → row_at rows2 words i ≡ row_at rows words i) (apart : AreDistinctRows rows2 words count2)
     (room : place < length marks) (tried : AreTried dp k rows words count ts marks arcs) where
   more : count ≤ count2
   more = elim placed.grown as (λ _. count ≤ count2) [ inl h ↦ (let e = h.1 in omega arith) | inr h ↦ (let e = h.1 in omega arith) ]

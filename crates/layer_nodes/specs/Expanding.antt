@@ -15,6 +15,7 @@ use Rattle.layer_candidates.specs.KeyOrder.{keys_of, goes_before}
 use Rattle.layer_candidates.specs.Rows.{row_at}
 use Rattle.layer_candidates.specs.Ways.{way_at}
 use Rattle.layer_nodes.specs.declared.node.Node.{Node}
+use Rattle.layer_nodes.specs.Holding.{HasArcsIn}
 use Rattle.layer_nodes.specs.Nodes.{NodeView, shown_layer, shown_below, without_arcs}
 use Rattle.layer_nodes.specs.Steps.{IsRanked}
 use Rattle.layer_nodes.specs.Stored.{node_view, IsStored}
@@ -153,9 +154,10 @@ pub record IsExpanded (rule : List DdNode → TwoLayers) (dp : Dp) (k words : �
   pub next_is : (before any : List DdArc) (paths : ℕ → List ℕ) → shown_below paths (map (node_view words rows any) below)
       ≡ (rule (shown_layer paths (map (node_view words cells before) old))).next
   pub rest : (before : List DdArc) → map without_arcs (map (node_view words cells arcs) new) ≡ map without_arcs (map (node_view words cells before) old)
+  pub places : map (λ (node : Node). node.row) new ≡ map (λ (node : Node). node.row) old
   pub ranked : (any : List DdArc) → Each (IsRanked dp (k + 1)) (map (node_view words rows any) below)
   pub unmerged : (any : List DdArc) → Each (λ (n : NodeView). IsSome n.parent) (map (node_view words rows any) below)
-  pub stored : (before : List DdArc) (room : ℕ) → Each (IsStored room before) old → Each (IsStored room arcs) new
+  pub arcs_lie : Each (HasArcsIn arcs) new
   pub below_stored : (any : List DdArc) (room : ℕ) → length old * dp.choices k ≤ room → Each (IsStored room any) below
   pub same : length new ≡ length old
   pub few : length below ≤ length old * dp.choices k

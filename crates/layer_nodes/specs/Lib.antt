@@ -9,3 +9,4 @@ pub mod Sifting
 pub mod Keeping
 pub mod Merging
 pub mod Ending
+pub mod Holding

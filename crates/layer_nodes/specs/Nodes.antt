@@ -1,5 +1,5 @@
 -- The nodes of a layer in memory, and the nodes of a diagram that they stand for.
-use Rattle.std.specs.Prelude.{ℕ, zero, suc, ◌+◌, ℤ, Bool, List, [], ◌∷◌, map, Option, None}
+use Rattle.std.specs.Prelude.{ℕ, zero, suc, ◌+◌, ℤ, Bool, List, [], ◌∷◌, map, Option}
 use Rattle.dp_laws.specs.declared.arc.DdArc.{DdArc}
 use Rattle.dp_laws.specs.Diagrams.Nodes.{DdNode, path_below}
 
@@ -7,6 +7,8 @@ use Rattle.dp_laws.specs.Diagrams.Nodes.{DdNode, path_below}
 -- path; a merged node and the first one of all have no parent
 pub record NodeView : Type 0 where
   pub row : List ℤ
+  -- the place of its row
+  pub place : ℕ
   pub value : ℤ
   pub rank : ℤ
   pub exact : Bool
@@ -39,13 +41,9 @@ shown_layer paths nodes = shown_from paths 0 nodes
 abbrev pub shown_below : (ℕ → List ℕ) → List NodeView → List DdNode
 shown_below paths nodes = map (λ (node : NodeView). shown (path_below paths node.parent node.decision) node) nodes
 
--- all of a node but its arcs
+-- all of a node but its arcs and the place of its row
 abbrev pub without_arcs : NodeView → NodeView
-without_arcs node = record node { arcs = [] }
-
--- all of a node but its suffix
-abbrev pub without_suffix : NodeView → NodeView
-without_suffix node = record node { suffix = None }
+without_arcs node = record node { place = 0; arcs = [] }
 
 -- the nodes with the suffix at the place
 abbrev pub suffix_set : List NodeView → ℕ → Option ℤ → List NodeView

@@ -36,6 +36,7 @@ AreAmong old new = Each (λ x. OneOf (λ other. other ≡ x) old) new
 pub record KeepsNodes (old new : LayerView) : Type 0 where
   pub words : new.words ≡ old.words
   pub nodes : map without_arcs new.nodes ≡ map without_arcs old.nodes
+  pub places : map (λ (n : NodeView). n.place) new.nodes ≡ map (λ (n : NodeView). n.place) old.nodes
   pub nodes_room : new.nodes_room ≡ old.nodes_room
   pub arcs_room : new.arcs_room ≡ old.arcs_room
 

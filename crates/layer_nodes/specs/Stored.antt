@@ -1,15 +1,16 @@
 -- How a layer lies in memory.
-use Rattle.std.specs.Prelude.{◌≡◌, ℕ, ◌+◌, ◌*◌, ◌^◌, ◌<◌, ◌≤◌, ℤ, List, [], length, map, take, drop, IsSome}
+use Rattle.std.specs.Prelude.{ℕ, ◌+◌, ◌*◌, ◌^◌, ◌<◌, ◌≤◌, ℤ, List, length, take, drop, IsSome}
 use Rattle.dp_model.specs.Lists.{Each}
 use Rattle.dp_laws.specs.declared.arc.DdArc.{DdArc}
 use Rattle.layer_candidates.specs.Rows.{row_at}
 use Rattle.layer_nodes.specs.declared.node.Node.{Node}
-use Rattle.layer_nodes.specs.Nodes.{NodeView, without_arcs}
+use Rattle.layer_nodes.specs.Nodes.{NodeView}
 
--- a node in memory, whose row and arcs lie in those of the layer
-abbrev pub node_view : ℕ → List ℤ → List DdArc → Node → NodeView
-node_view words rows arcs node = record {
-  row = row_at rows words node.row;
+-- a node in memory, whose arcs lie in those of the layer, with the row that is found at its place
+abbrev pub node_view_by : (ℕ → List ℤ) → List DdArc → Node → NodeView
+node_view_by row arcs node = record {
+  row = row node.row;
+  place = node.row;
   value = node.value;
   rank = node.rank;
   exact = node.exact;
@@ -18,6 +19,10 @@ node_view words rows arcs node = record {
   arcs = take node.arcs (drop node.first_arc arcs);
   suffix = node.suffix;
 }
+
+-- a node in memory whose row lies in the cells of the layer
+abbrev pub node_view : ℕ → List ℤ → List DdArc → Node → NodeView
+node_view words rows arcs node = node_view_by (row_at rows words) arcs node
 
 -- the row of a node is one of those for which there is room, or the one behind them, which only a node without a parent has;
 -- its arcs are some of the layer's
@@ -33,18 +38,6 @@ IsRowOf words rows place = place * words + words ≤ length rows
 -- the row of the node lies in the cells
 abbrev pub HasRow : ℕ → List ℤ → Node → Type 0
 HasRow words rows node = IsRowOf words rows node.row
-
--- the row of the node stands before the place, and it has no arcs
-pub record IsCopy (i : ℕ) (node : Node) : Type 0 where
-  pub row : node.row < i
-  pub first_arc : node.first_arc ≡ 0
-  pub no_arcs : node.arcs ≡ 0
-
--- the first i of the nodes were copied
-pub record AreCopied (words : ℕ) (others : List Node) (other_rows : List ℤ) (nodes : List Node) (rows : List ℤ) (i : ℕ) : Type 0 where
-  pub list : (arcs : List DdArc) → map (node_view words rows []) nodes ≡ map without_arcs (map (node_view words other_rows arcs) (take i others))
-  pub copies : Each (IsCopy i) nodes
-  pub size : length nodes ≡ i
 
 -- the nodes are stored, and there is room for so many, and for one row more
 pub record HasLayer (words room : ℕ) (nodes : List Node) (nodes_room : ℕ) (rows : List ℤ) (arcs : List DdArc) : Type 0 where

@@ -5,17 +5,20 @@ ghost use Rattle.dp_model.specs.Lists.{Each};
 ghost use Rattle.dp_laws.specs.Rules.Compiling.{expand};
 ghost use Rattle.layer_candidates.specs.Members.{IsMemberOf};
 ghost use Rattle.layer_nodes.specs.Expanding.{members_from, IsExpanded};
+ghost use Rattle.layer_nodes.specs.Holding.{AreHeld};
 ghost use Rattle.layer_nodes.specs.Nodes.{shown_layer, shown_below};
 ghost use Rattle.layer_nodes.specs.Sifting.{expand_sifted};
 ghost use Rattle.layer_nodes.specs.Steps.{IsParent, IsRanked, KeepsNodes, KeepsRoom};
 
 use crate::extending::extend_layer;
+use crate::kept_layer::KeptLayer;
 use crate::layer::Layer;
 use crate::node::Node;
 use crate::numbering::{arrange, arrange_unstruck};
 use dp_laws::DdArc;
 use dp_model::{DpModel, OutOfMemory};
 use layer_candidates::{Key, Way};
+use row_region::Region;
 use std::alloc::Global;
 use std::marker::Model;
 
@@ -117,19 +120,21 @@ fn expand_rows<M: DpModel>(
     );
 }
 
-/// Expands the layer at depth `k`: its nodes get an arc for each allowed decision, and of each state the best candidate, in the
-/// reduction order, is a node of the next layer, exact where all arcs to its state come from exact nodes; whatever the paths
-/// of the nodes above are. Nothing else of them changes. It takes no memory.
+/// Expands the layer at depth `k`, whose rows the region holds: its nodes get an arc for each allowed decision, and of each
+/// state the best candidate, in the reduction order, is a node of the next layer, exact where all arcs to its state come from
+/// exact nodes; whatever the paths of the nodes above are. Nothing else of them changes. It takes no memory.
 pub fn expand<M: DpModel>(
     model: &M,
     k: usize,
-    above: &mut Layer,
+    region: &Region,
+    above: &mut KeptLayer,
     next: &mut Layer,
     expansion: &mut Expansion,
 )
     requires layer { k < (M.meaning (M.numbers model.now)).vars }
     requires above_words { above.old.words ≡ (M.meaning (M.numbers model.now)).words }
     requires next_words { next.old.words ≡ (M.meaning (M.numbers model.now)).words }
+    requires held { AreHeld region.now above.old.nodes }
     requires nodes { Each (IsParent (M.meaning (M.numbers model.now)) k) above.old.nodes }
     requires arcs_room { length above.old.nodes * (M.meaning (M.numbers model.now)).choices k ≤ above.old.arcs_room }
     requires nodes_room { length above.old.nodes * (M.meaning (M.numbers model.now)).choices k ≤ next.old.nodes_room }
@@ -147,7 +152,7 @@ pub fn expand<M: DpModel>(
         model,
         k,
         above.words,
-        above.rows.as_slice(),
+        region.cells(),
         above.nodes.as_mut_slice(),
         &mut above.arcs,
         next.rows.as_mut_slice(),
@@ -218,13 +223,15 @@ pub fn expand_sifted<M: DpModel>(
     model: &M,
     k: usize,
     threshold: Option<i64>,
-    above: &mut Layer,
+    region: &Region,
+    above: &mut KeptLayer,
     next: &mut Layer,
     expansion: &mut Expansion,
 )
     requires layer { k < (M.meaning (M.numbers model.now)).vars }
     requires above_words { above.old.words ≡ (M.meaning (M.numbers model.now)).words }
     requires next_words { next.old.words ≡ (M.meaning (M.numbers model.now)).words }
+    requires held { AreHeld region.now above.old.nodes }
     requires nodes { Each (IsParent (M.meaning (M.numbers model.now)) k) above.old.nodes }
     requires arcs_room { length above.old.nodes * (M.meaning (M.numbers model.now)).choices k ≤ above.old.arcs_room }
     requires nodes_room { length above.old.nodes * (M.meaning (M.numbers model.now)).choices k ≤ next.old.nodes_room }
@@ -243,7 +250,7 @@ pub fn expand_sifted<M: DpModel>(
         k,
         threshold,
         above.words,
-        above.rows.as_slice(),
+        region.cells(),
         above.nodes.as_mut_slice(),
         &mut above.arcs,
         next.rows.as_mut_slice(),

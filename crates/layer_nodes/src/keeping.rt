@@ -10,6 +10,7 @@ ghost use Rattle.layer_nodes.specs.Nodes.{shown_layer, shown_below};
 ghost use Rattle.layer_nodes.specs.Redirecting.{AreRedirected};
 ghost use Rattle.layer_nodes.specs.Steps.{AreAmong, MayBeLengthened, KeepsNodes, KeepsRoom};
 
+use crate::kept_layer::KeptLayer;
 use crate::layer::Layer;
 use crate::redirecting::put_arc;
 use dp_laws::DdArc;
@@ -40,7 +41,7 @@ fn keep_targets(arcs: &mut [DdArc], width: usize)
 }
 
 /// Arcs of the layer whose targets are at or behind the width lose them, and nothing else of it changes.
-pub(crate) fn keep_layer_targets(layer: &mut Layer, width: usize)
+pub(crate) fn keep_layer_targets(layer: &mut KeptLayer, width: usize)
     requires lengths { Each MayBeLengthened layer.old.nodes }
     ensures nodes { (paths : ℕ → List ℕ) (next : List DdNode) → width ≤ length next → shown_layer paths layer.new.nodes ≡ with_redirected (keep_redirects width next) (shown_layer paths layer.old.nodes) }
     ensures rest { KeepsNodes layer.old layer.new }
@@ -50,7 +51,7 @@ pub(crate) fn keep_layer_targets(layer: &mut Layer, width: usize)
 
 /// Keeps the first nodes of the next layer, as many as the width, as a restricted layer is reduced; the arcs of the nodes above
 /// follow. It takes no memory.
-pub fn keep_first(width: usize, above: &mut Layer, next: &mut Layer)
+pub fn keep_first(width: usize, above: &mut KeptLayer, next: &mut Layer)
     requires wide { width ≤ length next.old.nodes }
     requires lengths { Each MayBeLengthened above.old.nodes }
     ensures next { (paths : ℕ → List ℕ) → shown_below paths next.new.nodes ≡ take width (shown_below paths next.old.nodes) }

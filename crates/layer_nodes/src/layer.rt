@@ -1,7 +1,5 @@
-ghost use Rattle.std.specs.Prelude.{◌≡◌, ◌+◌, ◌*◌, ◌<◌, ◌≤◌, ◌^◌, true, [], ◌∷◌, length, map, slice_get, option_map, option_and_then, Some, None, IfOk, IsSome, vec_capacity};
-ghost use Rattle.dp_model.specs.Lists.{Each};
-ghost use Rattle.layer_nodes.specs.Stored.{HasRow, AreCopied};
-ghost use Rattle.layer_nodes.specs.Nodes.{without_arcs, suffix_set};
+ghost use Rattle.std.specs.Prelude.{◌≡◌, ◌+◌, ◌<◌, ◌≤◌, ◌^◌, true, [], ◌∷◌, length, slice_get, option_map, option_and_then, Some, None, IfOk, IsSome};
+ghost use Rattle.layer_nodes.specs.Nodes.{suffix_set};
 ghost use Rattle.layer_nodes.specs.Steps.{KeepsRoom};
 
 use crate::node::Node;
@@ -39,66 +37,6 @@ impl Model for Layer {
     ghost invariant = { λ l. HasLayer l.words l.room l.nodes.items (vec_capacity l.nodes) l.rows.items l.arcs.items };
 }
 
-/// The node has its row at the place, and no arcs.
-fn put_at(node: &mut Node, place: u32)
-    ensures { node.new ≡ record node.old { row = place; first_arc = 0; arcs = 0 } }
-{
-    node.row = place;
-    node.first_arc = 0;
-    node.arcs = 0;
-}
-
-/// The rows of the nodes are written where each stands at the place of its node, and the nodes lose their arcs.
-fn place_rows(words: usize, other_rows: &[i64], nodes: &mut [Node], rows: &mut [i64])
-    requires others { Each (HasRow words other_rows.now) nodes.old }
-    requires rows_room { length nodes.old * words ≤ length rows.old }
-    requires few { length nodes.old < 2 ^ 32 }
-    ensures copied { AreCopied words nodes.old other_rows.now nodes.new rows.new (length nodes.old) }
-    ensures size { length rows.new ≡ length rows.old }
-{
-    'nodes: for i in 0..nodes.len() {
-        write_row(
-            rows,
-            words,
-            i,
-            row(other_rows, words, nodes[i].row as usize),
-        );
-        put_at(&mut nodes[i], i as u32);
-    }
-}
-
-/// Becomes these nodes.
-fn list_all(others: &[Node], nodes: &mut Vec<Node>)
-    requires room { length others.now ≤ vec_capacity nodes.old }
-    ensures nodes { nodes.new.items ≡ others.now }
-    ensures capacity { vec_capacity nodes.new ≡ vec_capacity nodes.old }
-{
-    nodes.clear();
-    'nodes: for i in 0..others.len() {
-        nodes.push_reserved(others[i]);
-    }
-}
-
-/// The nodes become copies of others, but for their arcs, and each row stands at the place of its node.
-fn copy_nodes(
-    words: usize,
-    others: &[Node],
-    other_rows: &[i64],
-    nodes: &mut Vec<Node>,
-    rows: &mut [i64],
-)
-    requires others { Each (HasRow words other_rows.now) others.now }
-    requires room { length others.now ≤ vec_capacity nodes.old }
-    requires rows_room { length others.now * words ≤ length rows.old }
-    requires few { length others.now < 2 ^ 32 }
-    ensures copied { AreCopied words others.now other_rows.now nodes.new.items rows.new (length others.now) }
-    ensures size { length rows.new ≡ length rows.old }
-    ensures capacity { vec_capacity nodes.new ≡ vec_capacity nodes.old }
-{
-    list_all(others, nodes);
-    place_rows(words, other_rows, nodes.as_mut_slice(), rows);
-}
-
 impl Layer {
     /// An empty layer, with room for so many nodes and so many arcs in all, whose rows have so many cells.
     pub fn prepare(
@@ -126,7 +64,7 @@ impl Layer {
     pub fn start(&mut self, row: &[i64], value: i64, rank: i64)
         requires room { 1 ≤ self.old.nodes_room }
         requires cells { length row.now ≡ self.old.words }
-        ensures node { self.new.nodes ≡ record { row = row.now; value = value; rank = rank; exact = true; parent = None; decision = 0; arcs = []; suffix = None } ∷ [] }
+        ensures node { self.new.nodes ≡ record { row = row.now; place = 0; value = value; rank = rank; exact = true; parent = None; decision = 0; arcs = []; suffix = None } ∷ [] }
         ensures rooms { KeepsRoom self.old self.new }
     {
         write_row(self.rows.as_mut_slice(), self.words, 0, row);
@@ -143,23 +81,6 @@ impl Layer {
             arcs: 0,
             exact: true,
         });
-    }
-
-    /// Becomes a copy of the other, but for its arcs, with each row at the place of its node.
-    pub fn copy_nodes(&mut self, other: &Layer)
-        requires room { length other.now.nodes ≤ self.old.nodes_room }
-        requires words { other.now.words ≡ self.old.words }
-        ensures nodes { self.new.nodes ≡ map without_arcs other.now.nodes }
-        ensures rooms { KeepsRoom self.old self.new }
-    {
-        self.arcs.clear();
-        copy_nodes(
-            other.words,
-            other.nodes.as_slice(),
-            other.rows.as_slice(),
-            &mut self.nodes,
-            self.rows.as_mut_slice(),
-        );
     }
 
     /// How many nodes it has.

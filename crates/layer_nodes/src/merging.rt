@@ -15,6 +15,7 @@ ghost use Rattle.layer_nodes.specs.Redirecting.{IsShort};
 ghost use Rattle.layer_nodes.specs.Steps.{IsNodeOf, IsRanked, MayBeLengthened, KeepsNodes, KeepsRoom};
 ghost use Rattle.layer_nodes.specs.Stored.{IsRowOf};
 
+use crate::kept_layer::KeptLayer;
 use crate::layer::Layer;
 use crate::leading::redirect_by;
 use crate::node::Node;
@@ -225,7 +226,7 @@ pub fn merge_rest<M: DpModel>(
     model: &M,
     k: usize,
     width: usize,
-    above: &mut Layer,
+    above: &mut KeptLayer,
     next: &mut Layer,
     redirects: &mut Redirects,
 )

@@ -9,7 +9,7 @@ ghost use Rattle.layer_nodes.specs.Nodes.{shown_layer};
 ghost use Rattle.layer_nodes.specs.Redirecting.{redirect_of, IsShort, IsRedirected, AreRedirected};
 ghost use Rattle.layer_nodes.specs.Steps.{MayBeLengthened, KeepsNodes};
 
-use crate::layer::Layer;
+use crate::kept_layer::KeptLayer;
 use dp_laws::DdArc;
 use dp_model::OutOfMemory;
 use layer_candidates::MOST_LEADERS;
@@ -148,7 +148,11 @@ fn redirect_arcs_behind(arcs: &mut [DdArc], first: usize, redirects: &[Option<Re
 }
 
 /// The arcs of the layer whose targets stand at `first` or behind it get new ones, and nothing else of it changes.
-pub(crate) fn redirect_layer_behind(layer: &mut Layer, first: usize, redirects: &[Option<Redirect>])
+pub(crate) fn redirect_layer_behind(
+    layer: &mut KeptLayer,
+    first: usize,
+    redirects: &[Option<Redirect>],
+)
     requires short { Each IsShort redirects.now }
     requires lengths { Each MayBeLengthened layer.old.nodes }
     ensures nodes { (paths : ℕ → List ℕ) → shown_layer paths layer.new.nodes ≡ with_redirected (staying first ++ redirects.now) (shown_layer paths layer.old.nodes) }
@@ -158,7 +162,7 @@ pub(crate) fn redirect_layer_behind(layer: &mut Layer, first: usize, redirects: 
 }
 
 /// The arcs of the layer get new targets, and nothing else of it changes.
-pub(crate) fn redirect_layer(layer: &mut Layer, redirects: &[Option<Redirect>])
+pub(crate) fn redirect_layer(layer: &mut KeptLayer, redirects: &[Option<Redirect>])
     requires short { Each IsShort redirects.now }
     requires lengths { Each MayBeLengthened layer.old.nodes }
     ensures nodes { (paths : ℕ → List ℕ) → shown_layer paths layer.new.nodes ≡ with_redirected redirects.now (shown_layer paths layer.old.nodes) }

@@ -11,6 +11,7 @@ ghost use Rattle.layer_nodes.specs.Steps.{AreAmong, IsNodeOf, MayBeLengthened, K
 ghost use Rattle.layer_nodes.specs.Striking.{threshold_of, AreInexact, asking, unstruck, taken_out, HasPruned};
 
 use crate::keeping::keep_layer_targets;
+use crate::kept_layer::KeptLayer;
 use crate::layer::Layer;
 use crate::leading::{at_leader, lead};
 use crate::node::Node;
@@ -162,7 +163,7 @@ fn take_out<M: DpModel>(
     model: &M,
     k: usize,
     strikes: Strikes,
-    above: &mut Layer,
+    above: &mut KeptLayer,
     next: &mut Layer,
     redirects: &mut Redirects,
 )
@@ -196,7 +197,7 @@ pub fn strike<M: DpModel>(
     model: &M,
     k: usize,
     threshold: Option<i64>,
-    above: &mut Layer,
+    above: &mut KeptLayer,
     next: &mut Layer,
     redirects: &mut Redirects,
 )
@@ -219,7 +220,7 @@ pub fn strike<M: DpModel>(
 pub fn drop_dominated<M: DpModel>(
     model: &M,
     k: usize,
-    above: &mut Layer,
+    above: &mut KeptLayer,
     next: &mut Layer,
     redirects: &mut Redirects,
 )

@@ -1,6 +1,6 @@
 //! How large the benefits of a state may be.
 
-ghost use Rattle.std.specs.Prelude.{◌≡◌, ◌^◌, ◌<◌, ◌≤◌, ◌≤ℤ◌, int_le, length, pos, slice_index_or};
+ghost use Rattle.std.specs.Prelude.{◌≡◌, ◌<◌, ◌≤◌, ◌≤ℤ◌, int_le, length, pos, slice_index_or};
 ghost use Rattle.benefit_rows.specs.Benefits.{size_of};
 ghost use Rattle.max_cut.specs.Graph.{IsGraph, weight_at};
 ghost use Rattle.max_cut.specs.Program.{is_within, limits_of, words_of};

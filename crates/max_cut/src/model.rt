@@ -1,4 +1,4 @@
-ghost use Rattle.std.specs.Prelude.{◌≡◌, ◌≤◌, ◌+◌, ◌<◌, length, pos, slice_index_or};
+ghost use Rattle.std.specs.Prelude.{◌≡◌, ◌≤◌, ◌+◌, ◌<◌, length, pos};
 
 use crate::instance::MaxCut;
 use crate::layers::{extend_row, gain_by_side, row_of_pairs, tail, write_step};

@@ -1,16 +1,14 @@
 -- Clauses that are drawn one after another.
-use Rattle.std.proofs.Common.{◌≡◌, ◌∙◌, ℕ, ◌+◌, ◌*◌, ◌%◌, ◌^◌, ◌<◌, ◌≤◌, ℤ, pos, ◌+ℤ◌, ◌≤ℤ◌, sym, ap, subst, arith, None, to_z, of_z, w64, Result, Ok, Err, IfOk}
+use Rattle.std.proofs.Common.{◌≡◌, ◌∙◌, ℕ, ◌+◌, ◌*◌, ◌%◌, ◌^◌, ◌<◌, ◌≤◌, ℤ, pos, ◌+ℤ◌, ◌≤ℤ◌, sym, ap, subst, arith, None, to_z, of_z, w64}
 use Rattle.std.proofs.lemmas.Int.{ints}
 use Rattle.draws.specs.Draws.{steps}
 use Rattle.draws.proofs.Steps.{steps_more, steps_none}
 use Rattle.max_two_sat.specs.declared.clause.Literals.{Literals}
 use Rattle.max_two_sat.specs.declared.header.Header.{Header}
 use Rattle.max_two_sat.specs.declared.header.Form.TheVariants.{Weighted}
-use Rattle.max_two_sat.specs.declared.instance.MaxTwoSat.{MaxTwoSat}
 use Rattle.max_two_sat.specs.Clauses.{FitsLiterals, Gathered, gathered_with, nothing_gathered}
-use Rattle.max_two_sat.specs.Shown.{instance_in}
 use Rattle.max_two_sat.specs.Room.{HasClauseRoom}
-use Rattle.max_two_sat.specs.Generating.{IsDrawing, behind_clause, clause_drawn, generated, with_clause_drawn}
+use Rattle.max_two_sat.specs.Generating.{IsDrawing, behind_clause, clause_drawn, with_clause_drawn}
 use Rattle.max_two_sat.proofs.Gathering.{clause-fits, total-low, way-begins}
 
 abbrev header : ℕ → Header
@@ -23,14 +21,14 @@ pub record Fits (n : ℕ) (g : Gathered) (w : ℕ) (literals : Literals) : Type 
   pub low : pos 0 ≤ℤ g.total
   pub after : IsDrawing n (gathered_with g (pos w) literals)
 
-kept : (z : ℤ) → pos 0 ≤ℤ z → z ≤ℤ pos (2 ^ 48) → to_z w64 (of_z w64 z) ≡ z
-kept z low high = grind (arith, ints)
+round_trip : (z : ℤ) → pos 0 ≤ℤ z → z ≤ℤ pos (2 ^ 48) → to_z w64 (of_z w64 z) ≡ z
+round_trip z low high = grind (arith, ints)
 
 pub fits : (n : ℕ) (g : Gathered) (w : ℕ) (literals : Literals) → IsDrawing n g → g.clauses < 3072 → w ≤ 10 → FitsLiterals n literals → Fits n g w literals
 fits n g w literals d few light here =
     let low = total-low g d.under_way.gathered in
     let most = d.light in
-    let same = kept g.total low d.under_way.gathered.total in
+    let same = round_trip g.total low d.under_way.gathered.total in
     let next : (to_z w64 (of_z w64 g.total) +ℤ pos w) ≤ℤ pos (2 ^ 48) = subst (λ z. (z +ℤ pos w) ≤ℤ pos (2 ^ 48)) (sym same) (omega (arith, ints)) in
     let f = clause-fits (header n) g (pos w) literals d.under_way (omega arith) (omega (arith, ints), next) here in
     record { room = f.room; total = f.total; low = low; after = record { under_way = f.after; light = omega (arith, ints) } }
@@ -40,7 +38,7 @@ pub drawn_after : (n : ℕ) (g more : Gathered) (z : ℤ) (r : ℕ) (literals : 
     → more ≡ gathered_with g (to_z w64 (of_z w64 z)) literals → IsDrawing n more
 drawn_after n g more z r literals d few from here is =
     let light : 1 + r % 10 ≤ 10 = grind arith in
-    let same : to_z w64 (of_z w64 z) ≡ pos (1 + r % 10) = kept z (grind (arith, ints)) (grind (arith, ints)) ∙ from in
+    let same : to_z w64 (of_z w64 z) ≡ pos (1 + r % 10) = round_trip z (grind (arith, ints)) (grind (arith, ints)) ∙ from in
     subst (IsDrawing n) (sym (is ∙ ap (λ w. gathered_with g w literals) same)) (fits n g (1 + r % 10) literals d few light here).after
 
 -- so many clauses are drawn from the seed, and these draws are left

@@ -20,7 +20,7 @@ use Rattle.max_two_sat.specs.Laws.States.{state-is}
 use Rattle.max_two_sat.specs.Table.{later_totals}
 use Rattle.max_two_sat.proofs.Table.{later_totals-at, length-later_totals}
 use Rattle.max_two_sat.proofs.Shifting.{zeros-before}
-use Rattle.max_two_sat.specs.Laws.Totals.{units_total-positive, positive-rows_of, positive-row_at, rows_total-rows_of, rows_total-drop, pairs_total-positive, rank_of-zero}
+use Rattle.max_two_sat.specs.Laws.Totals.{units_total-positive, positive-rows_of, positive-row_at, rows_total-rows_of, rows_total-drop, pairs_total-positive}
 
 -- a state of the layer, by the instance itself
 pub record LayerHas (i : Instance) (k : ℕ) (s : List ℤ) : Type 0 where

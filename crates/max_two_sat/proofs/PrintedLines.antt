@@ -1,11 +1,8 @@
 -- Printing line by line.
-use Rattle.std.proofs.Common.{◌≡◌, ℕ, suc, ◌+◌, ◌<◌, ◌≤◌, ℤ, pos, ◌≤ℤ◌, true, false, List, [], ◌++◌, length, drop, get_or, refl, arith, ap, sym, ◌∙◌, append_assoc, append-nil}
-use Rattle.std.specs.Prelude.{int_lt}
+use Rattle.std.proofs.Common.{◌≡◌, ℕ, suc, ◌+◌, ◌<◌, ◌≤◌, true, false, List, [], ◌++◌, length, drop, get_or, arith, ap, sym, ◌∙◌, append_assoc, append-nil}
 use Rattle.std.specs.List.{flat_map}
 use Rattle.std.proofs.lemmas.List.{drop_more, drop_all}
 use Rattle.std.proofs.lemmas.List.Concat.{flat_map-append}
-use Rattle.dp_model.specs.NumberLaws.{int_lt-fails}
-use Rattle.max_two_sat.specs.declared.clause.Literals.{Literals}
 use Rattle.max_two_sat.specs.declared.clause.Literals.TheVariants.{Two}
 use Rattle.max_two_sat.specs.declared.weights.UnitWeights.{UnitWeights}
 use Rattle.max_two_sat.specs.declared.weights.PairWeights.{PairWeights}

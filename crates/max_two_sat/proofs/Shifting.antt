@@ -21,7 +21,7 @@ use Rattle.max_two_sat.specs.Laws.Rows.{length-rows_of, drop-rows}
 use Rattle.max_two_sat.specs.Shifts.{shift_of, shifts_of, stake_of, stakes_of, half_lost}
 use Rattle.max_two_sat.specs.Laws.Totals.{total_by-positive, all-drop}
 use Rattle.max_two_sat.proofs.Cells.{pair-at, parts, benefit-read}
-use Rattle.max_two_sat.proofs.RunningSums.{SumGrows, sum-grows, sum-done}
+use Rattle.max_two_sat.proofs.RunningSums.{SumGrows, sum-grows}
 
 -- ---- sizes
 

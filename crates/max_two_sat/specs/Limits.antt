@@ -1,16 +1,10 @@
 -- What every instance keeps to.
-use Rattle.std.specs.Prelude.{◌≡◌, ◌^◌, ◌≤◌, ℤ, pos, neg_ℤ, ◌+ℤ◌, ◌≤ℤ◌, Bool, ◌&&◌, int_le, List, length, IsTrue}
+use Rattle.std.specs.Prelude.{◌≡◌, ◌^◌, ◌≤◌, ℤ, pos, ◌+ℤ◌, ◌≤ℤ◌, Bool, ◌&&◌, int_le, List, length, IsTrue}
 use Rattle.std.specs.List.{list_all}
-use Rattle.std.proofs.Common.{arith}
-use Rattle.std.proofs.lemmas.Int.{ints, clamps}
-use Rattle.std.proofs.lemmas.Bool.{and_parts, and_from}
-use Rattle.benefit_rows.specs.Benefits.{size_of}
-use Rattle.dp_model.specs.NumberLaws.{int_le-is, int_le-from}
 use Rattle.max_two_sat.specs.declared.weights.UnitWeights.{UnitWeights}
 use Rattle.max_two_sat.specs.declared.weights.PairWeights.{PairWeights}
 use Rattle.max_two_sat.specs.Instance.{Instance, pair_count, units_total, pairs_total}
 use Rattle.max_two_sat.specs.Lines.{line_count, weighs}
-use Rattle.max_two_sat.specs.Program.{is_within}
 
 -- no weight of the entry is negative
 abbrev pub unit_is_positive : UnitWeights → Bool

@@ -1,11 +1,7 @@
 -- Where the rows of pairs stand, and the weight of the rows from each layer on.
-use Rattle.std.specs.Prelude.{◌≡◌, ℕ, zero, suc, ◌+◌, ◌-◌, ◌*◌, ◌^◌, ◌<◌, ◌≤◌, ℤ, pos, List, [], ◌∷◌, length, take, drop, refl}
-use Rattle.std.proofs.Common.{arith, get_or, ap, ◌∙◌}
-use Rattle.std.proofs.lemmas.List.{drop-drop}
-use Rattle.std.proofs.lemmas.Nat.{mul-le}
-use native.Mathlib.Numerals.{unary_clauses}
+use Rattle.std.specs.Prelude.{ℕ, zero, suc, ◌+◌, ℤ, pos, List, [], ◌∷◌}
 use Rattle.max_two_sat.specs.declared.weights.PairWeights.{PairWeights}
-use Rattle.max_two_sat.specs.Instance.{pair_count, rows_of, row_at, rows_total}
+use Rattle.max_two_sat.specs.Instance.{rows_total}
 
 -- the weight of the rows from each layer on, and zero for the end
 abbrev pub later_totals : List (List PairWeights) → List ℤ

@@ -1,7 +1,6 @@
 //! Instances that are drawn from a seed.
 
 ghost use Rattle.std.specs.Prelude.{◌≡◌, ◌<◌, ◌≤◌, ◌^◌, ◌+◌, IfOk};
-ghost use Rattle.draws.specs.Draws.{next};
 ghost use Rattle.max_two_sat.specs.Clauses.{FitsLiteral};
 ghost use Rattle.max_two_sat.specs.Drafted.{gathered_in};
 ghost use Rattle.max_two_sat.specs.Generating.{literal_drawn, behind_literal, clause_drawn, behind_clause, IsDrawing, generated};

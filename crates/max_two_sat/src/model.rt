@@ -1,5 +1,3 @@
-ghost use Rattle.std.specs.Prelude.{◌≡◌, length};
-
 use crate::instance::MaxTwoSat;
 use crate::limits::are_within_limits;
 use crate::row::{extend_row, is_zero_row, lesser_sum, step_gain, write_root, write_step};
@@ -8,7 +6,6 @@ use dp_model::{DpModel, Extended};
 
 #[tactic(auto, using(crate::specs::Laws::Numbers::reads_numbers))]
 impl DpModel for MaxTwoSat {
-    ghost use Rattle.std.specs.Prelude.{◌≡◌};
     ghost use Rattle.std.proofs.Common.{subst, sym};
     ghost use Rattle.dp_model.specs.Laws.{IsChained, IsLawful};
     ghost use Rattle.max_two_sat.specs.Shown.{instance_in};

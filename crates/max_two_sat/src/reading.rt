@@ -1,6 +1,6 @@
 //! The text of an instance, read.
 
-ghost use Rattle.std.specs.Prelude.{◌≡◌, ◌-◌, ◌^◌, ◌<◌, length};
+ghost use Rattle.std.specs.Prelude.{◌-◌, ◌^◌, ◌<◌, length};
 ghost use Rattle.dd_text.specs.Text.{text_start};
 ghost use Rattle.dd_text.specs.Grammar.{Reads};
 ghost use Rattle.dd_text.specs.declared.comment.Comment.TheVariants.{LetterC};

@@ -1,6 +1,6 @@
 //! The clauses of a text, read one after another.
 
-ghost use Rattle.std.specs.Prelude.{◌≡◌, ◌+◌, ◌^◌, ◌<◌, ◌≤◌, length, true, pos, negsuc, ◌≤ℤ◌, IfOk, OnOk};
+ghost use Rattle.std.specs.Prelude.{◌≡◌, ◌+◌, ◌^◌, ◌<◌, ◌≤◌, true, pos, negsuc, ◌≤ℤ◌, IfOk, OnOk};
 ghost use Rattle.dd_text.specs.Text.{place_of};
 ghost use Rattle.dd_text.specs.Grammar.{Reads, times};
 ghost use Rattle.dd_text.specs.declared.read_model_error.ReadModelError.TheVariants.{Text};

@@ -1,11 +1,11 @@
-ghost use Rattle.std.specs.Prelude.{◌≡◌, suc, ◌+◌, ◌^◌, pos, ◌+ℤ◌, ◌-ℤ◌, ◌≤ℤ◌, ◌++◌, ◌∷◌, length, replicate, slice_index_or, take, drop, IsTrue};
+ghost use Rattle.std.specs.Prelude.{◌≡◌, suc, ◌+◌, ◌^◌, pos, ◌+ℤ◌, ◌-ℤ◌, ◌≤ℤ◌, ◌++◌, length, replicate, slice_index_or, take, drop, IsTrue};
 ghost use Rattle.std.specs.Int.{int_min};
 ghost use Rattle.benefit_rows.specs.Benefits.{above_zero, below_zero, choice_gain, rank_of, size_of, sums_of};
 ghost use Rattle.max_two_sat.specs.Shifts.{half_lost};
 ghost use Rattle.max_two_sat.specs.Instance.{pair_total, unit_total, units_total};
 ghost use Rattle.max_two_sat.specs.Fitting.{FitsBenefits, FitsState};
 ghost use Rattle.max_two_sat.specs.Limits.{PairIsPositive, UnitIsPositive, units_are_positive};
-ghost use Rattle.max_two_sat.specs.Program.{all_zero, cell_part, grown, is_within, lesser_units, open_false, open_true, root_of, row_gain, row_step, settled, shared_gain, words_of};
+ghost use Rattle.max_two_sat.specs.Program.{all_zero, cell_part, is_within, lesser_units, open_false, open_true, root_of, row_gain, settled, shared_gain, words_of};
 
 use crate::weights::{PairWeights, UnitWeights};
 use benefit_rows::{above_zero, below_zero, size, write_sums, write_zeros};

@@ -1,8 +1,8 @@
 //! The problem's own words: a truth value for each variable, and the weight of the clauses that it satisfies.
 
-ghost use Rattle.std.specs.Prelude.{◌≡◌, ◌^◌, ◌≤◌, ◌==◌, ◌&&◌, pos, ◌+ℤ◌, ◌≤ℤ◌, length, IsTrue};
-ghost use Rattle.max_two_sat.specs.Instance.{pair_count, pair_total, pairs_total, rows_of, unit_total, units_total};
-ghost use Rattle.max_two_sat.specs.Limits.{PairIsPositive, UnitIsPositive, pairs_are_positive, units_are_positive};
+ghost use Rattle.std.specs.Prelude.{◌≡◌, ◌^◌, ◌≤◌, ◌==◌, ◌&&◌, pos, ◌≤ℤ◌, length, IsTrue};
+ghost use Rattle.max_two_sat.specs.Instance.{pair_count, pair_total, pairs_total, rows_of, units_total};
+ghost use Rattle.max_two_sat.specs.Limits.{PairIsPositive, pairs_are_positive, units_are_positive};
 ghost use Rattle.max_two_sat.specs.Shown.{instance_in};
 ghost use Rattle.max_two_sat.specs.OwnWords.{all_truth_values, own_value, pair_left, pair_value, row_value, rows_value, unit_value, units_value};
 ghost use Rattle.dp_model.specs.Solution.{SolutionGives};

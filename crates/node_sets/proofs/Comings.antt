@@ -3,7 +3,7 @@ use Rattle.std.proofs.Common.{◌≡◌, ℕ, ◌+◌, ◌-◌, ◌*◌, ◌%◌
 use Rattle.std.specs.Int.{bit_not, w32, trailing_zeros}
 use Rattle.std.proofs.lemmas.Bool.{cases_eq, cases_lt, false≢true, lt-ltb, le-ltb}
 use Rattle.std.proofs.lemmas.Nat.Bits.{bit_at_clear_same, bit_at_clear_other}
-use Rattle.node_sets.specs.Sets.{AreWords, IsNext, word_at, has}
+use Rattle.node_sets.specs.Sets.{AreWords, IsLeastFrom, row_word, has}
 use Rattle.node_sets.specs.Coming.{IsRest}
 use Rattle.node_sets.proofs.Bits.{on, on_zero, lowest_on}
 use Rattle.node_sets.proofs.Words.{has_in, has-past}
@@ -17,7 +17,7 @@ rest_behind_first : (row : List ℤ) (word from j : ℕ) → from ≤ 32 * word 
 rest_behind_first row word from j l = ap (λ b. not b && has row (32 * word + j)) (le-ltb (32 * word + j) from l)
 
 -- a whole word is left
-pub whole_word : (row : List ℤ) (i bits : ℕ) → AreWords row → length row < 2 ^ 32 → bits ≡ word_at row i → IsRest row i (32 * i) bits
+pub whole_word : (row : List ℤ) (i bits : ℕ) → AreWords row → length row < 2 ^ 32 → bits ≡ row_word row i → IsRest row i (32 * i) bits
 whole_word row i bits cells short e = record {
   cells = cells;
   short = short;
@@ -34,7 +34,7 @@ rest_at row word from bits r u a b =
     ap (has row) (sym place) ∙ sym (rest_behind_first row word from (u - 32 * word) (omega arith)) ∙ sym (r.left (u - 32 * word) (omega arith))
 
 pub next_in_rest : (row : List ℤ) (word from bits : ℕ) → IsRest row word from bits → 0 < bits → bits < 2 ^ 32
-    → (trailing_zeros w32 bits < 32) × IsNext (has row) from (32 * word + trailing_zeros w32 bits)
+    → (trailing_zeros w32 bits < 32) × IsLeastFrom (has row) from (32 * word + trailing_zeros w32 bits)
 next_in_rest row word from bits r some small =
     let t = trailing_zeros w32 bits in
     let lowest = lowest_on bits some small in
@@ -53,7 +53,7 @@ next_in_rest row word from bits r some small =
     )
 
 -- a member lies in the row
-pub next_small : (row : List ℤ) (from v : ℕ) → IsNext (has row) from v → v < 32 * length row
+pub next_small : (row : List ℤ) (from v : ℕ) → IsLeastFrom (has row) from v → v < 32 * length row
 next_small row from v next =
     elim (cases_lt v (32 * length row)) [
       | inl l ↦ l
@@ -61,7 +61,7 @@ next_small row from v next =
     ]
 
 -- the next member from a number on is the next one from an earlier number on, where none lies between
-pub next_from : (row : List ℤ) (first from v : ℕ) → first ≤ from → ((u : ℕ) → first ≤ u → u < from → has row u ≡ false) → IsNext (has row) from v → IsNext (has row) first v
+pub next_from : (row : List ℤ) (first from v : ℕ) → first ≤ from → ((u : ℕ) → first ≤ u → u < from → has row u ≡ false) → IsLeastFrom (has row) from v → IsLeastFrom (has row) first v
 next_from row first from v l none next = record {
   reached = (let reached = next.reached in omega arith);
   passes = next.passes;

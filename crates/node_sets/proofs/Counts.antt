@@ -9,7 +9,7 @@ use Rattle.std.proofs.lemmas.Nat.{div-add-mod'}
 use Rattle.std.proofs.Math.Nat.{div-lt_iff_lt-mul, pow-suc, add_comm}
 use lib.Pow.{pow_pos}
 use Rattle.node_sets.specs.Sums.{all_below, count_below}
-use Rattle.node_sets.specs.Sets.{IsWord, AreWords, IsSet, is_word, are_words, is_set, words_for, word_at, has}
+use Rattle.node_sets.specs.Sets.{IsWord, AreWords, IsSet, is_word, are_words, is_set, words_for, row_word, has}
 use Rattle.node_sets.proofs.Bits.{on}
 use Rattle.node_sets.proofs.Words.{IsWord-pos}
 use Rattle.node_sets.proofs.Words.{has_in, has-past}
@@ -42,13 +42,13 @@ ones_counted (suc k) n p =
     ap ones (sym parts) ∙ ones_cat k (n / 2 ^ k) (n % 2 ^ k) rest ∙ add_comm (ones (n / 2 ^ k)) (ones (n % 2 ^ k))
     ∙ ap₂ ◌+◌ (ones_counted k (n % 2 ^ k) rest ∙ low_bits k n parts) (small_ones (n / 2 ^ k) top ∙ small_mod (n / 2 ^ k) top)
 
-pub count_more : (row : List ℤ) (i a : ℕ) → a ≡ word_at row i → a < 2 ^ 32 → count_below (32 * (i + 1)) (has row) ≡ count_below (32 * i) (has row) + ones a
+pub count_more : (row : List ℤ) (i a : ℕ) → a ≡ row_word row i → a < 2 ^ 32 → count_below (32 * (i + 1)) (has row) ≡ count_below (32 * i) (has row) + ones a
 count_more row i a e p =
     let limit : 32 * (i + 1) ≡ 32 * i + 32 = omega arith in
     ap (λ k. count_below k (has row)) limit ∙ sum_below-add (32 * i) 32 (has row) (λ _. 1)
     ∙ ap (λ s. count_below (32 * i) (has row) + s) (sum_below-same 32 (λ v. has row (32 * i + v)) (on a) (λ _. 1) (λ v l. sym (has_in row i v l) ∙ ap (λ w. on w v) (sym e)) ∙ sym (ones_counted 32 a p))
 
-pub count_next : (row : List ℤ) (i a total : ℕ) → a ≡ word_at row i → a < 2 ^ 32 → total ≡ count_below (32 * i) (has row) → total + ones a ≡ count_below (32 * (i + 1)) (has row)
+pub count_next : (row : List ℤ) (i a total : ℕ) → a ≡ row_word row i → a < 2 ^ 32 → total ≡ count_below (32 * i) (has row) → total + ones a ≡ count_below (32 * (i + 1)) (has row)
 count_next row i a total e p t = ap (λ x. x + ones a) t ∙ sym (count_more row i a e p)
 
 -- the test of words

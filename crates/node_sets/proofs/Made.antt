@@ -3,7 +3,7 @@ use Rattle.std.proofs.Common.{◌≡◌, ℕ, zero, suc, ◌+◌, ◌-◌, ◌*�
 use Rattle.std.proofs.lemmas.Bool.{cases_eq}
 use Rattle.std.proofs.lemmas.Nat.Bits.{bit_at_cat_low, bit_at_cat_high}
 use Rattle.std.proofs.Math.Nat.{pow-suc}
-use Rattle.node_sets.specs.Sets.{AreWords, word_at, has, word_of, rows_from, row_of}
+use Rattle.node_sets.specs.Sets.{AreWords, row_word, has, word_of, rows_from, row_of}
 use Rattle.node_sets.proofs.Bits.{on}
 use Rattle.node_sets.proofs.Words.{has-on, IsWord-pos, same_row}
 
@@ -48,13 +48,13 @@ AreWords-rows_from zero first test i = IsWord-pos 0 (omega arith)
 AreWords-rows_from (suc words) first test zero = IsWord-pos (word_of test first 32) (word_of-lt test first 32)
 AreWords-rows_from (suc words) first test (suc i) = AreWords-rows_from words (first + 32) test i
 
-word_at-rows_from : (words first i : ℕ) (test : ℕ → Bool) → i < words → word_at (rows_from words first test) i ≡ word_of test (first + 32 * i) 32
-unfolding word_at
-word_at-rows_from zero first i test l = absurd (omega arith)
-word_at-rows_from (suc words) first zero test l = let e : first ≡ first + 32 * 0 = omega arith in ap (λ f. word_of test f 32) e
-word_at-rows_from (suc words) first (suc i) test l =
+row_word-rows_from : (words first i : ℕ) (test : ℕ → Bool) → i < words → row_word (rows_from words first test) i ≡ word_of test (first + 32 * i) 32
+unfolding row_word
+row_word-rows_from zero first i test l = absurd (omega arith)
+row_word-rows_from (suc words) first zero test l = let e : first ≡ first + 32 * 0 = omega arith in ap (λ f. word_of test f 32) e
+row_word-rows_from (suc words) first (suc i) test l =
     let e : first + 32 + 32 * i ≡ first + 32 * suc i = omega arith in
-    word_at-rows_from words (first + 32) i test (omega arith) ∙ ap (λ f. word_of test f 32) e
+    row_word-rows_from words (first + 32) i test (omega arith) ∙ ap (λ f. word_of test f 32) e
 
 pub length-row_of : (words : ℕ) (test : ℕ → Bool) → length (row_of words test) ≡ words
 length-row_of words test = length-rows_from words 0 test
@@ -65,7 +65,7 @@ AreWords-row_of words test = AreWords-rows_from words 0 test
 pub has-row_of : (words : ℕ) (test : ℕ → Bool) (v : ℕ) → v < 32 * words → has (row_of words test) v ≡ test v
 has-row_of words test v l =
     let e : 0 + 32 * (v / 32) + v % 32 ≡ v = omega arith in
-    has-on (row_of words test) v ∙ ap (λ w. on w (v % 32)) (word_at-rows_from words 0 (v / 32) test (omega arith))
+    has-on (row_of words test) v ∙ ap (λ w. on w (v % 32)) (row_word-rows_from words 0 (v / 32) test (omega arith))
     ∙ word_of-on test (0 + 32 * (v / 32)) 32 (v % 32) (omega arith) ∙ ap test e
 
 -- a row of words is the row of its members

@@ -3,23 +3,23 @@ use Rattle.std.proofs.Common.{◌≡◌, ◌≢◌, ℕ, ◌+◌, ◌-◌, ◌*�
 use Rattle.std.specs.Int.{bit_not, w32, trailing_zeros}
 use Rattle.std.proofs.lemmas.Bool.{cases_lt, false≢true}
 use lib.Bits.{or_lt, and_lt}
-use Rattle.node_sets.specs.Sets.{AreWords, IsNext, word_at, has}
+use Rattle.node_sets.specs.Sets.{AreWords, IsLeastFrom, row_word, has}
 use Rattle.node_sets.specs.declared.pairing.Pairing.TheVariants.{Difference}
 use Rattle.node_sets.proofs.Bits.{on, on_zero, on_or, on_shr, on_above, lowest_on}
-use Rattle.node_sets.proofs.Words.{has-on, has_in, has-past, some_bad, word_at-lt}
+use Rattle.node_sets.proofs.Words.{has-on, has_in, has-past, some_bad, row_word-lt}
 use Rattle.node_sets.proofs.Pairings.{made_bits}
 
 -- is_empty
 
-pub empty_all : (row : List ℤ) (i : ℕ) → length row ≤ i → ((k : ℕ) → k < i → word_at row k ≡ 0) → (v : ℕ) → has row v ≡ false
+pub empty_all : (row : List ℤ) (i : ℕ) → length row ≤ i → ((k : ℕ) → k < i → row_word row k ≡ 0) → (v : ℕ) → has row v ≡ false
 empty_all row i l zeros v =
     elim (cases_lt (v / 32) i) [
       | inl m ↦ has-on row v ∙ ap (λ w. on w (v % 32)) (zeros (v / 32) m) ∙ on_zero (v % 32)
       | inr m ↦ has-past row v (omega arith)
     ]
 
-pub empty_not : (row : List ℤ) (i a : ℕ) → AreWords row → a ≡ word_at row i → a ≢ 0 → ((v : ℕ) → has row v ≡ false) → ⊥
-empty_not row i a cells e n h = some_bad (word_at row i) (has row) i (word_at-lt row i cells) (has_in row i) (λ z. n (e ∙ z)) h
+pub empty_not : (row : List ℤ) (i a : ℕ) → AreWords row → a ≡ row_word row i → a ≢ 0 → ((v : ℕ) → has row v ≡ false) → ⊥
+empty_not row i a cells e n h = some_bad (row_word row i) (has row) i (row_word-lt row i cells) (has_in row i) (λ z. n (e ∙ z)) h
 
 -- what the tests of two sets say
 
@@ -48,17 +48,17 @@ both_not false false h = refl
 -- is_union_subset
 
 either : List ℤ → List ℤ → ℕ → ℕ
-either a b k = bit_or (word_at a k) (word_at b k)
+either a b k = bit_or (row_word a k) (row_word b k)
 
-either-on : (a b : List ℤ) (k j : ℕ) → on (either a b k) j ≡ on (word_at a k) j || on (word_at b k) j
+either-on : (a b : List ℤ) (k j : ℕ) → on (either a b k) j ≡ on (row_word a k) j || on (row_word b k) j
 unfolding either
-either-on a b k j = on_or (word_at a k) (word_at b k) j
+either-on a b k j = on_or (row_word a k) (row_word b k) j
 
 either-lt : (a b : List ℤ) (k : ℕ) → AreWords a → AreWords b → either a b k < 2 ^ 32
 unfolding either
-either-lt a b k p q = or_lt 32 (word_at a k) (word_at b k) (word_at-lt a k p) (word_at-lt b k q)
+either-lt a b k p q = or_lt 32 (row_word a k) (row_word b k) (row_word-lt a k p) (row_word-lt b k q)
 
-pub union_all : (one two wide more : List ℤ) (i : ℕ) → AreWords wide → AreWords more → length one ≡ length two → length one ≤ i → ((k : ℕ) → k < i → bit_and (bit_or (word_at one k) (word_at two k)) (bit_not w32 (bit_or (word_at wide k) (word_at more k))) ≡ 0) → (v : ℕ) → (has one v || has two v) ≡ true → (has wide v || has more v) ≡ true
+pub union_all : (one two wide more : List ℤ) (i : ℕ) → AreWords wide → AreWords more → length one ≡ length two → length one ≤ i → ((k : ℕ) → k < i → bit_and (bit_or (row_word one k) (row_word two k)) (bit_not w32 (bit_or (row_word wide k) (row_word more k))) ≡ 0) → (v : ℕ) → (has one v || has two v) ≡ true → (has wide v || has more v) ≡ true
 unfolding either
 union_all one two wide more i p q same l zeros v =
     elim (cases_lt (v / 32) i) [
@@ -69,7 +69,7 @@ union_all one two wide more i p q same l zeros v =
       | inr m ↦ (λ h. absurd (false≢true (sym (ap₂ ◌||◌ (has-past one v (omega arith)) (has-past two v (omega arith))) ∙ h)))
     ]
 
-pub union_not : (one two wide more : List ℤ) (i a b c d : ℕ) → AreWords one → AreWords two → AreWords wide → AreWords more → a ≡ word_at one i → b ≡ word_at two i → c ≡ word_at wide i → d ≡ word_at more i → bit_and (bit_or a b) (bit_not w32 (bit_or c d)) ≢ 0 → ((v : ℕ) → (has one v || has two v) ≡ true → (has wide v || has more v) ≡ true) → ⊥
+pub union_not : (one two wide more : List ℤ) (i a b c d : ℕ) → AreWords one → AreWords two → AreWords wide → AreWords more → a ≡ row_word one i → b ≡ row_word two i → c ≡ row_word wide i → d ≡ row_word more i → bit_and (bit_or a b) (bit_not w32 (bit_or c d)) ≢ 0 → ((v : ℕ) → (has one v || has two v) ≡ true → (has wide v || has more v) ≡ true) → ⊥
 unfolding either
 union_not one two wide more i a b c d p q r s ea eb ec ed n h =
     some_bad (bit_and (either one two i) (bit_not w32 (either wide more i))) (λ v. (has one v || has two v) && not (has wide v || has more v)) i
@@ -95,7 +95,7 @@ module _ (test : ℕ → Bool) (words : ℕ → ℕ) (bits : (v : ℕ) → test 
       bits v ∙ ap₂ (λ x y. on (words x) y) quotient rest ∙ ap (λ w. on w (from % 32 + (v - from))) (sym e) ∙ sym (on_shr a (from % 32) (v - from))
       ∙ ap (λ w. on w (v - from)) z ∙ on_zero (v - from)
 
-  pub next_from_first : (from a : ℕ) → a ≡ words (from / 32) → a < 2 ^ 32 → a / 2 ^ (from % 32) < 2 ^ 32 → 0 < a / 2 ^ (from % 32) → (from % 32 + trailing_zeros w32 (a / 2 ^ (from % 32)) < 32) × IsNext test from (from + trailing_zeros w32 (a / 2 ^ (from % 32)))
+  pub next_from_first : (from a : ℕ) → a ≡ words (from / 32) → a < 2 ^ 32 → a / 2 ^ (from % 32) < 2 ^ 32 → 0 < a / 2 ^ (from % 32) → (from % 32 + trailing_zeros w32 (a / 2 ^ (from % 32)) < 32) × IsLeastFrom test from (from + trailing_zeros w32 (a / 2 ^ (from % 32)))
   next_from_first from a e p q z =
       let t = trailing_zeros w32 (a / 2 ^ (from % 32)) in
       let low = lowest_on (a / 2 ^ (from % 32)) z q in
@@ -126,7 +126,7 @@ module _ (test : ℕ → Bool) (words : ℕ → ℕ) (bits : (v : ℕ) → test 
             bits v ∙ ap (λ x. on (words x) (v % 32)) quotient ∙ ap (λ w. on w (v % 32)) (sym e ∙ z) ∙ on_zero (v % 32)
       ]
 
-  pub next_from_word : (from i a : ℕ) → a ≡ words i → a < 2 ^ 32 → 0 < a → from ≤ 32 * i → ((v : ℕ) → from ≤ v → v < 32 * i → test v ≡ false) → (trailing_zeros w32 a < 32) × IsNext test from (32 * i + trailing_zeros w32 a)
+  pub next_from_word : (from i a : ℕ) → a ≡ words i → a < 2 ^ 32 → 0 < a → from ≤ 32 * i → ((v : ℕ) → from ≤ v → v < 32 * i → test v ≡ false) → (trailing_zeros w32 a < 32) × IsLeastFrom test from (32 * i + trailing_zeros w32 a)
   next_from_word from i a e p z l before =
       let t = trailing_zeros w32 a in
       let low = lowest_on a z p in (
@@ -143,17 +143,17 @@ module _ (test : ℕ → Bool) (words : ℕ → ℕ) (bits : (v : ℕ) → test 
 
 -- the members of one row
 
-pub none_in_first : (row : List ℤ) (from a : ℕ) → a ≡ word_at row (from / 32) → a / 2 ^ (from % 32) ≡ 0 → (v : ℕ) → from ≤ v → v < 32 * (from / 32 + 1) → has row v ≡ false
-none_in_first row = none_from_first (has row) (word_at row) (has-on row)
+pub none_in_first : (row : List ℤ) (from a : ℕ) → a ≡ row_word row (from / 32) → a / 2 ^ (from % 32) ≡ 0 → (v : ℕ) → from ≤ v → v < 32 * (from / 32 + 1) → has row v ≡ false
+none_in_first row = none_from_first (has row) (row_word row) (has-on row)
 
-pub next_in_first : (row : List ℤ) (from a : ℕ) → a ≡ word_at row (from / 32) → a < 2 ^ 32 → a / 2 ^ (from % 32) < 2 ^ 32 → 0 < a / 2 ^ (from % 32) → (from % 32 + trailing_zeros w32 (a / 2 ^ (from % 32)) < 32) × IsNext (has row) from (from + trailing_zeros w32 (a / 2 ^ (from % 32)))
-next_in_first row = next_from_first (has row) (word_at row) (has-on row)
+pub next_in_first : (row : List ℤ) (from a : ℕ) → a ≡ row_word row (from / 32) → a < 2 ^ 32 → a / 2 ^ (from % 32) < 2 ^ 32 → 0 < a / 2 ^ (from % 32) → (from % 32 + trailing_zeros w32 (a / 2 ^ (from % 32)) < 32) × IsLeastFrom (has row) from (from + trailing_zeros w32 (a / 2 ^ (from % 32)))
+next_in_first row = next_from_first (has row) (row_word row) (has-on row)
 
-pub none_in_word : (row : List ℤ) (from i a : ℕ) → a ≡ word_at row i → a ≡ 0 → ((v : ℕ) → from ≤ v → v < 32 * i → has row v ≡ false) → (v : ℕ) → from ≤ v → v < 32 * (i + 1) → has row v ≡ false
-none_in_word row = none_from_word (has row) (word_at row) (has-on row)
+pub none_in_word : (row : List ℤ) (from i a : ℕ) → a ≡ row_word row i → a ≡ 0 → ((v : ℕ) → from ≤ v → v < 32 * i → has row v ≡ false) → (v : ℕ) → from ≤ v → v < 32 * (i + 1) → has row v ≡ false
+none_in_word row = none_from_word (has row) (row_word row) (has-on row)
 
-pub next_in_word : (row : List ℤ) (from i a : ℕ) → a ≡ word_at row i → a < 2 ^ 32 → 0 < a → from ≤ 32 * i → ((v : ℕ) → from ≤ v → v < 32 * i → has row v ≡ false) → (trailing_zeros w32 a < 32) × IsNext (has row) from (32 * i + trailing_zeros w32 a)
-next_in_word row = next_from_word (has row) (word_at row) (has-on row)
+pub next_in_word : (row : List ℤ) (from i a : ℕ) → a ≡ row_word row i → a < 2 ^ 32 → 0 < a → from ≤ 32 * i → ((v : ℕ) → from ≤ v → v < 32 * i → has row v ≡ false) → (trailing_zeros w32 a < 32) × IsLeastFrom (has row) from (32 * i + trailing_zeros w32 a)
+next_in_word row = next_from_word (has row) (row_word row) (has-on row)
 
 pub none_at_end : (row : List ℤ) (from i : ℕ) → length row ≤ i → ((v : ℕ) → from ≤ v → v < 32 * i → has row v ≡ false) → (v : ℕ) → from ≤ v → has row v ≡ false
 none_at_end row from i l before v m =
@@ -167,33 +167,33 @@ none_at_end row from i l before v m =
 either-bits : (one two : List ℤ) (v : ℕ) → (has one v || has two v) ≡ on (either one two (v / 32)) (v % 32)
 either-bits one two v = ap₂ ◌||◌ (has-on one v) (has-on two v) ∙ sym (either-on one two (v / 32) (v % 32))
 
-either_is : (one two : List ℤ) (i a b : ℕ) → a ≡ word_at one i → b ≡ word_at two i → bit_or a b ≡ either one two i
+either_is : (one two : List ℤ) (i a b : ℕ) → a ≡ row_word one i → b ≡ row_word two i → bit_or a b ≡ either one two i
 unfolding either
 either_is one two i a b p q = ap₂ bit_or p q
 
-either_small : (one two : List ℤ) (i a b : ℕ) → AreWords one → AreWords two → a ≡ word_at one i → b ≡ word_at two i → bit_or a b < 2 ^ 32
+either_small : (one two : List ℤ) (i a b : ℕ) → AreWords one → AreWords two → a ≡ row_word one i → b ≡ row_word two i → bit_or a b < 2 ^ 32
 either_small one two i a b c d p q = subst (λ x. x < 2 ^ 32) (sym (either_is one two i a b p q)) (either-lt one two i c d)
 
 less_shifted : (x k : ℕ) → x < 2 ^ 32 → x / 2 ^ k < 2 ^ 32
 less_shifted x k l = omega arith
 
 module _ (one two : List ℤ) (one_cells : AreWords one) (two_cells : AreWords two) where
-  pub none_in_first_either : (from a b : ℕ) → a ≡ word_at one (from / 32) → b ≡ word_at two (from / 32) → bit_or a b / 2 ^ (from % 32) ≡ 0 → (v : ℕ) → from ≤ v → v < 32 * (from / 32 + 1) → (has one v || has two v) ≡ false
+  pub none_in_first_either : (from a b : ℕ) → a ≡ row_word one (from / 32) → b ≡ row_word two (from / 32) → bit_or a b / 2 ^ (from % 32) ≡ 0 → (v : ℕ) → from ≤ v → v < 32 * (from / 32 + 1) → (has one v || has two v) ≡ false
   none_in_first_either from a b p q zero =
       none_from_first (λ v. has one v || has two v) (either one two) (either-bits one two) from (bit_or a b) (either_is one two (from / 32) a b p q) zero
 
-  pub next_in_first_either : (from a b : ℕ) → a ≡ word_at one (from / 32) → b ≡ word_at two (from / 32) → bit_or a b / 2 ^ (from % 32) ≢ 0
-      → (from % 32 + trailing_zeros w32 (bit_or a b / 2 ^ (from % 32)) < 32) × IsNext (λ v. has one v || has two v) from (from + trailing_zeros w32 (bit_or a b / 2 ^ (from % 32)))
+  pub next_in_first_either : (from a b : ℕ) → a ≡ row_word one (from / 32) → b ≡ row_word two (from / 32) → bit_or a b / 2 ^ (from % 32) ≢ 0
+      → (from % 32 + trailing_zeros w32 (bit_or a b / 2 ^ (from % 32)) < 32) × IsLeastFrom (λ v. has one v || has two v) from (from + trailing_zeros w32 (bit_or a b / 2 ^ (from % 32)))
   next_in_first_either from a b p q some =
       let small = either_small one two (from / 32) a b one_cells two_cells p q in
       next_from_first (λ v. has one v || has two v) (either one two) (either-bits one two) from (bit_or a b) (either_is one two (from / 32) a b p q) small (less_shifted (bit_or a b) (from % 32) small) (omega arith)
 
-  pub none_in_word_either : (from i a b : ℕ) → a ≡ word_at one i → b ≡ word_at two i → bit_or a b ≡ 0 → ((v : ℕ) → from ≤ v → v < 32 * i → (has one v || has two v) ≡ false) → (v : ℕ) → from ≤ v → v < 32 * (i + 1) → (has one v || has two v) ≡ false
+  pub none_in_word_either : (from i a b : ℕ) → a ≡ row_word one i → b ≡ row_word two i → bit_or a b ≡ 0 → ((v : ℕ) → from ≤ v → v < 32 * i → (has one v || has two v) ≡ false) → (v : ℕ) → from ≤ v → v < 32 * (i + 1) → (has one v || has two v) ≡ false
   none_in_word_either from i a b p q zero before =
       none_from_word (λ v. has one v || has two v) (either one two) (either-bits one two) from i (bit_or a b) (either_is one two i a b p q) zero before
 
-  pub next_in_word_either : (from i a b : ℕ) → a ≡ word_at one i → b ≡ word_at two i → bit_or a b ≢ 0 → from ≤ 32 * i → ((v : ℕ) → from ≤ v → v < 32 * i → (has one v || has two v) ≡ false)
-      → (trailing_zeros w32 (bit_or a b) < 32) × IsNext (λ v. has one v || has two v) from (32 * i + trailing_zeros w32 (bit_or a b))
+  pub next_in_word_either : (from i a b : ℕ) → a ≡ row_word one i → b ≡ row_word two i → bit_or a b ≢ 0 → from ≤ 32 * i → ((v : ℕ) → from ≤ v → v < 32 * i → (has one v || has two v) ≡ false)
+      → (trailing_zeros w32 (bit_or a b) < 32) × IsLeastFrom (λ v. has one v || has two v) from (32 * i + trailing_zeros w32 (bit_or a b))
   next_in_word_either from i a b p q some low before =
       next_from_word (λ v. has one v || has two v) (either one two) (either-bits one two) from i (bit_or a b) (either_is one two i a b p q) (either_small one two i a b one_cells two_cells p q) (omega arith) low before
 
@@ -209,14 +209,14 @@ either_at_end one two from i same l before v m =
 
 -- is_set
 
-pub above_zero : (row : List ℤ) (n a : ℕ) → a ≡ word_at row (n / 32) → length row ≤ n / 32 + 1 → a / 2 ^ (n % 32) ≡ 0 → (v : ℕ) → n ≤ v → has row v ≡ false
+pub above_zero : (row : List ℤ) (n a : ℕ) → a ≡ row_word row (n / 32) → length row ≤ n / 32 + 1 → a / 2 ^ (n % 32) ≡ 0 → (v : ℕ) → n ≤ v → has row v ≡ false
 above_zero row n a e l z v m =
     elim (cases_lt v (32 * (n / 32 + 1))) [
       | inl k ↦ none_in_first row n a e z v m k
       | inr k ↦ has-past row v (omega arith)
     ]
 
-pub above_some : (row : List ℤ) (n a : ℕ) → a ≡ word_at row (n / 32) → a < 2 ^ 32 → a / 2 ^ (n % 32) < 2 ^ 32 → ((v : ℕ) → n ≤ v → has row v ≡ false) → a / 2 ^ (n % 32) ≡ 0
+pub above_some : (row : List ℤ) (n a : ℕ) → a ≡ row_word row (n / 32) → a < 2 ^ 32 → a / 2 ^ (n % 32) < 2 ^ 32 → ((v : ℕ) → n ≤ v → has row v ≡ false) → a / 2 ^ (n % 32) ≡ 0
 above_some row n a e p q h =
     elim (cases_lt 0 (a / 2 ^ (n % 32))) [
       | inl z ↦ (let next = next_in_first row n a e p q z in absurd (false≢true (sym (h (n + trailing_zeros w32 (a / 2 ^ (n % 32))) (omega arith)) ∙ next.1.passes)))

@@ -4,10 +4,10 @@ use Rattle.std.specs.Int.{bit_not, w32}
 use Rattle.std.proofs.lemmas.Bool.{cases_eq, cases_lt, false≢true, ne_eqb, lt-ltb, le-ltb}
 use Rattle.std.proofs.lemmas.List.{ext_get_or}
 use Rattle.std.proofs.lemmas.Nat.Bits.{bit_at_set_same, bit_at_set_other}
-use Rattle.node_sets.specs.Sets.{AreWords, word_at, has, row_of}
+use Rattle.node_sets.specs.Sets.{AreWords, row_word, has, row_of}
 use Rattle.node_sets.specs.declared.pairing.Pairing.TheVariants.{Difference}
 use Rattle.node_sets.proofs.Bits.{on, on_zero, on_or, same_word}
-use Rattle.node_sets.proofs.Words.{has_in, cell_is, word_at-lt}
+use Rattle.node_sets.proofs.Words.{has_in, cell_is, row_word-lt}
 use Rattle.node_sets.proofs.Pairings.{made_bits, made_small}
 use Rattle.node_sets.proofs.Made.{length-row_of, AreWords-row_of, has-row_of}
 
@@ -46,7 +46,7 @@ IsWritten row now i = (k : ℕ) → k < i → get_or now k (pos 0) ≡ get_or ro
 
 cell_written : (words i w : ℕ) (test : ℕ → Bool) → i < words → w < 2 ^ 32 → ((j : ℕ) → j < 32 → on w j ≡ test (32 * i + j)) → pos w ≡ get_or (row_of words test) i (pos 0)
 cell_written words i w test l p bits =
-    ap pos (same_word w (word_at (row_of words test) i) p (word_at-lt (row_of words test) i (AreWords-row_of words test))
+    ap pos (same_word w (row_word (row_of words test) i) p (row_word-lt (row_of words test) i (AreWords-row_of words test))
     (λ j m. bits j m ∙ sym (has-row_of words test (32 * i + j) (omega arith)) ∙ sym (has_in (row_of words test) i j m)))
     ∙ sym (cell_is (row_of words test) i (AreWords-row_of words test))
 
@@ -57,10 +57,10 @@ written_more words test now i w h l m p bits =
     (get_or-set_same now i (pos w) (pos 0) l ∙ cell_written words i w test m p bits)
 
 -- a word of a set without the number of another word
-pub without_more : (words v : ℕ) (from now : List ℤ) (i a b : ℕ) → AreWords from → IsWritten (row_of words (λ u. has from u && not (nat_eq u v))) now i → i < length now → i < words → a ≡ word_at from i → b < 2 ^ 32 → ((j : ℕ) → j < 32 → on b j ≡ nat_eq (32 * i + j) v) → IsWritten (row_of words (λ u. has from u && not (nat_eq u v))) (set now i (pos (bit_and a (bit_not w32 b)))) (i + 1)
+pub without_more : (words v : ℕ) (from now : List ℤ) (i a b : ℕ) → AreWords from → IsWritten (row_of words (λ u. has from u && not (nat_eq u v))) now i → i < length now → i < words → a ≡ row_word from i → b < 2 ^ 32 → ((j : ℕ) → j < 32 → on b j ≡ nat_eq (32 * i + j) v) → IsWritten (row_of words (λ u. has from u && not (nat_eq u v))) (set now i (pos (bit_and a (bit_not w32 b)))) (i + 1)
 without_more words v from now i a b cells h l m e p bits =
     written_more words (λ u. has from u && not (nat_eq u v)) now i (bit_and a (bit_not w32 b)) h l m
-    (made_small Difference a b (rw e (word_at-lt from i cells)) p)
+    (made_small Difference a b (rw e (row_word-lt from i cells)) p)
     (λ j n. made_bits Difference a b j p n ∙ ap₂ (λ x y. x && not y) (ap (λ x. on x j) e ∙ has_in from i j n) (bits j n))
 
 pub written_all : (words : ℕ) (test : ℕ → Bool) (now : List ℤ) (i : ℕ) → length now ≡ words → words ≤ i → IsWritten (row_of words test) now i → now ≡ row_of words test

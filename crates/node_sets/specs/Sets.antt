@@ -13,8 +13,8 @@ abbrev pub AreWords : List ℤ → Type 0
 AreWords row = (i : ℕ) → IsWord (get_or row i (pos 0))
 
 -- the word of a row at an index, and 0 past its end
-unfoldable pub word_at : List ℤ → ℕ → ℕ
-word_at row i = unsigned_abs (get_or row i (pos 0))
+unfoldable pub row_word : List ℤ → ℕ → ℕ
+row_word row i = unsigned_abs (get_or row i (pos 0))
 
 -- v is a member of the row
 unfoldable pub has : List ℤ → ℕ → Bool
@@ -61,7 +61,7 @@ abbrev pub row_of : ℕ → (ℕ → Bool) → List ℤ
 row_of words test = rows_from words 0 test
 
 -- the least number from `from` on that passes, or none below the limit
-pub record IsNext (test : ℕ → Bool) (from v : ℕ) : Type 0 where
+pub record IsLeastFrom (test : ℕ → Bool) (from v : ℕ) : Type 0 where
   pub reached : from ≤ v
   pub passes : test v ≡ true
   pub skipped : (u : ℕ) → from ≤ u → u < v → test u ≡ false

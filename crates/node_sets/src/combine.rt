@@ -1,7 +1,6 @@
 //! Sets made of two.
 
 ghost use Rattle.std.specs.Prelude.{◌≡◌, ◌&&◌, ◌||◌, not, length};
-ghost use Rattle.node_sets.specs.Pairs.{made};
 ghost use Rattle.node_sets.specs.Sets.{AreWords, HasMembers, has, row_of};
 
 use crate::pairing::Pairing;
@@ -16,43 +15,8 @@ pub fn union_with(row: &mut [i64], other: &[i64])
     ensures members { HasMembers row.new (λ v. has row.old v || has other.now v) }
     ensures row { row.new ≡ row_of (length row.old) (λ v. has row.old v || has other.now v) }
 {
-    combine(row, other, Pairing::Union);
-}
-
-/// Keeps only the members of `other`.
-pub fn intersect_with(row: &mut [i64], other: &[i64])
-    requires cells { AreWords row.old }
-    requires other_cells { AreWords other.now }
-    requires same { length row.old ≡ length other.now }
-    ensures cells { AreWords row.new }
-    ensures members { HasMembers row.new (λ v. has row.old v && has other.now v) }
-{
-    combine(row, other, Pairing::Intersection);
-}
-
-/// Takes the members of `other` out.
-pub fn subtract(row: &mut [i64], other: &[i64])
-    requires cells { AreWords row.old }
-    requires other_cells { AreWords other.now }
-    requires same { length row.old ≡ length other.now }
-    ensures cells { AreWords row.new }
-    ensures members { HasMembers row.new (λ v. has row.old v && not (has other.now v)) }
-{
-    combine(row, other, Pairing::Difference);
-}
-
-// Writes what is made of both over the first.
-#[inline]
-fn combine(row: &mut [i64], other: &[i64], how: Pairing)
-    requires cells { AreWords row.old }
-    requires other_cells { AreWords other.now }
-    requires same { length row.old ≡ length other.now }
-    ensures cells { AreWords row.new }
-    ensures members { HasMembers row.new (λ v. made how (has row.old v) (has other.now v)) }
-    ensures row { row.new ≡ row_of (length row.old) (λ v. made how (has row.old v) (has other.now v)) }
-{
     for i in 0..row.len() {
-        let word = how.words(word(row, i), word(other, i));
+        let word = Pairing::Union.words(word(row, i), word(other, i));
         put(row, i, word);
     }
 }

@@ -2,7 +2,7 @@
 
 ghost use Rattle.std.specs.Prelude.{◌≡◌, ℕ, ◌+◌, ◌*◌, ◌^◌, ◌<◌, ◌≤◌, false, length, IfSome, IfNone};
 ghost use Rattle.node_sets.specs.Sets as sets;
-ghost use Rattle.node_sets.specs.Sets.{AreWords, IsNext, has};
+ghost use Rattle.node_sets.specs.Sets.{AreWords, IsLeastFrom, has};
 ghost use Rattle.node_sets.specs.Coming.{IsRest};
 
 use crate::word::word;
@@ -37,7 +37,7 @@ impl<'a> Model for Members<'a> {
 #[inline]
 fn first_word(row: &[i64]) -> u32
     requires { AreWords row.now }
-    ensures { result ≡ sets.word_at row.now 0 }
+    ensures { result ≡ sets.row_word row.now 0 }
 {
     if row.is_empty() { 0 } else { word(row, 0) }
 }
@@ -91,7 +91,7 @@ impl<'a> Members<'a> {
     pub fn next(&mut self) -> Option<usize>
         ensures row { self.new.row ≡ self.old.row }
         ensures some { IfSome result (λ v. v < 32 * length self.old.row) }
-        ensures next { IfSome result (IsNext (has self.old.row) self.old.from) }
+        ensures next { IfSome result (IsLeastFrom (has self.old.row) self.old.from) }
         ensures from { IfSome result (λ v. self.new.from ≡ v + 1) }
         ensures none { IfNone result ((v : ℕ) → self.old.from ≤ v → has self.old.row v ≡ false) }
     {

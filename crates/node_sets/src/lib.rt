@@ -13,11 +13,11 @@ mod test;
 mod word;
 mod write;
 
-pub use combine::{intersect_with, join, subtract, union_with};
+pub use combine::{join, union_with};
 pub use iter::Members;
-pub use member::{clear, contains, insert, remove};
+pub use member::{clear, contains, insert};
 pub use test::{
     count, is_disjoint, is_empty, is_set, is_subset, is_union_subset, least, next_member,
     next_of_either, rows_are_sets, words_for,
 };
-pub use write::{write_one, write_others, write_split, write_without};
+pub use write::{write_one, write_others, write_split};

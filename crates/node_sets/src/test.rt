@@ -4,7 +4,7 @@ ghost use Rattle.std.specs.Prelude.{◌≡◌, ℕ, ℤ, List, ◌+◌, ◌*◌,
 ghost use Rattle.node_sets.specs.Pairs.{made};
 ghost use Rattle.node_sets.specs.Sums.{count_below};
 ghost use Rattle.node_sets.specs.Sets as sets;
-ghost use Rattle.node_sets.specs.Sets.{AreWords, IsNext, has};
+ghost use Rattle.node_sets.specs.Sets.{AreWords, IsLeastFrom, has};
 
 use crate::pairing::Pairing;
 use crate::word::word;
@@ -143,7 +143,7 @@ pub fn next_member(row: &[i64], from: usize) -> Option<usize>
     requires cells { AreWords row.now }
     requires short { length row.now < 2 ^ 32 }
     ensures some { IfSome result (λ v. v < 32 * length row.now) }
-    ensures next { IfSome result (IsNext (has row.now) from) }
+    ensures next { IfSome result (IsLeastFrom (has row.now) from) }
     ensures none { IfNone result ((v : ℕ) → from ≤ v → has row.now v ≡ false) }
 {
     if from / 32 >= row.len() {
@@ -170,7 +170,7 @@ pub fn next_of_either(one: &[i64], two: &[i64], from: usize) -> Option<usize>
     requires same { length one.now ≡ length two.now }
     requires short { length one.now < 2 ^ 32 }
     ensures some { IfSome result (λ v. v < 32 * length one.now) }
-    ensures next { IfSome result (IsNext (λ v. has one.now v || has two.now v) from) }
+    ensures next { IfSome result (IsLeastFrom (λ v. has one.now v || has two.now v) from) }
     ensures none { IfNone result ((v : ℕ) → from ≤ v → (has one.now v || has two.now v) ≡ false) }
 {
     if from / 32 >= one.len() {
@@ -194,7 +194,7 @@ pub fn least(row: &[i64]) -> Option<usize>
     requires cells { AreWords row.now }
     requires short { length row.now < 2 ^ 32 }
     ensures some { IfSome result (λ v. v < 32 * length row.now) }
-    ensures next { IfSome result (IsNext (has row.now) 0) }
+    ensures next { IfSome result (IsLeastFrom (has row.now) 0) }
     ensures none { IfNone result ((v : ℕ) → has row.now v ≡ false) }
 {
     next_member(row, 0)

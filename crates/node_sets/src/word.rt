@@ -6,11 +6,11 @@ ghost use Rattle.node_sets.specs.Sets.{AreWords};
 
 // The word at an index.
 #[inline]
-#[tactic(auto, unfolding(crate::specs::Sets::word_at))]
+#[tactic(auto, unfolding(crate::specs::Sets::row_word))]
 pub fn word(row: &[i64], i: usize) -> u32
     requires cells { AreWords row.now }
     requires within { i < length row.now }
-    ensures { result ≡ sets.word_at row.now i }
+    ensures { result ≡ sets.row_word row.now i }
 {
     row[i] as u32
 }

@@ -4,7 +4,7 @@ ghost use Rattle.std.specs.Prelude.{◌≡◌, ℕ, ◌+◌, ◌*◌, ◌<◌, �
 ghost use Rattle.std.specs.Int.{bit_at};
 ghost use Rattle.node_sets.specs.Sets.{AreWords, has, row_of};
 
-use crate::member::{clear, insert, remove};
+use crate::member::{clear, insert};
 use crate::word::{put, word};
 
 /// Writes the set of one number. What the cells held before does not matter.
@@ -26,17 +26,6 @@ pub fn write_others(row: &mut [i64], n: usize)
     'numbers: for v in 1..n {
         insert(row, v);
     }
-}
-
-/// Writes a set without a number. What the cells held before does not matter.
-pub fn write_without(row: &mut [i64], set: &[i64], v: usize)
-    requires cells { AreWords set.now }
-    requires same { length row.old ≡ length set.now }
-    requires within { v < 32 * length set.now }
-    ensures { row.new ≡ row_of (length row.old) (λ u. has set.now u && not (nat_eq u v)) }
-{
-    row.copy_from_slice(set);
-    remove(row, v);
 }
 
 // The word at an index of the set of one number.

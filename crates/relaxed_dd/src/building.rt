@@ -1,10 +1,8 @@
 //! The layers of a relaxed diagram, from the first to the last.
 
-ghost use Rattle.std.specs.Prelude.{◌≡◌, ◌+◌, ◌∷◌, [], ◌<◌, ◌≤◌, None, length};
-ghost use Rattle.dp_model.specs.Prefixes.{IsPrefix};
-ghost use Rattle.dp_model.specs.Reached.{reached};
+ghost use Rattle.std.specs.Prelude.{◌≡◌, ◌+◌, ◌<◌, ◌≤◌, length};
 ghost use Rattle.dp_laws.specs.Restricted.Beam.{is_reduced};
-ghost use Rattle.dp_laws.specs.Rules.Compiling.{is_wide, start_layer};
+ghost use Rattle.dp_laws.specs.Rules.Compiling.{is_wide};
 ghost use Rattle.layer_build.specs.Layers.{last_depth, last_layer};
 ghost use Rattle.layer_build.specs.UnderWay.{IsUnderWay};
 ghost use Rattle.relaxed_dd.specs.Building.{HasReduced, HasBuilt, HasCompiled, IsStarted};

@@ -3,7 +3,7 @@ ghost use Rattle.std.specs.Borrow.{sem};
 ghost use Rattle.dp_model.specs.Reached.{reached};
 ghost use Rattle.dp_model.specs.Subproblem.{IsOwn};
 ghost use Rattle.dp_laws.specs.Rules.Compiling.{relaxed};
-ghost use Rattle.layer_build.specs.Layers.{IsPreparedFor, diagram_of};
+ghost use Rattle.layer_build.specs.Layers.{IsPreparedFor};
 ghost use Rattle.relaxed_dd.specs.Building.{IsMade};
 ghost use Rattle.layer_build.specs.Kept.{StaysPrepared};
 ghost use Rattle.relaxed_dd.specs.Shown.{layers_of, width_of, IsDiagramOf};

@@ -1,4 +1,4 @@
-ghost use Rattle.std.specs.Prelude.{◌≡◌, ◌+◌, ◌-◌, ◌<◌, ◌≤◌, true, [], ◌∷◌, ◌++◌, Some, None, IsSome, length, take, slice_get, option_map, option_and_then};
+ghost use Rattle.std.specs.Prelude.{◌≡◌, ◌+◌, ◌-◌, ◌<◌, ◌≤◌, true, [], ◌∷◌, ◌++◌, Some, IsSome, length, take, slice_get, option_map, option_and_then};
 ghost use Rattle.dp_laws.specs.Diagrams.Nodes.{node_at};
 
 use dp_laws::DdArc;

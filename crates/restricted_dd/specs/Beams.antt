@@ -1,5 +1,5 @@
 -- A beam as it is found.
-use Rattle.std.specs.Prelude.{◌≡◌, ℤ, List, ℕ, Option, Some, None}
+use Rattle.std.specs.Prelude.{◌≡◌, Option, Some, None}
 use Rattle.dp_model.specs.Reached.{Reached}
 use Rattle.dp_model.specs.declared.found.Found.{Found}
 

@@ -1,4 +1,4 @@
-ghost use Rattle.std.specs.Prelude.{◌≡◌, is_some, List, ℕ, Option};
+ghost use Rattle.std.specs.Prelude.{◌≡◌, is_some, Option};
 ghost use Rattle.dp_model.specs.Reached.{Reached};
 ghost use Rattle.layer_candidates.specs.Beaming.{IsFirst};
 ghost use Rattle.std.specs.Borrow.{sem};

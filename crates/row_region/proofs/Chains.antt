@@ -1,11 +1,11 @@
 -- The chain of free rows.
-use Rattle.std.proofs.Common.{◌≡◌, ◌≢◌, ℕ, zero, suc, ◌+◌, ◌*◌, ◌<◌, ◌≤◌, ◌^◌, ℤ, pos, ◌≤ℤ◌, nat_eq, Bool, true, false, cond, List, [], ◌∷◌, ◌++◌, length, set, replicate, count_by, is_none, append_assoc, add-one, ◌-◌, Option, Some, None, refl, sym, ap, subst, ◌∙◌, ◌⊎◌, inl, inr, arith}
+use Rattle.std.proofs.Common.{◌≡◌, ◌≢◌, ℕ, zero, suc, ◌+◌, ◌*◌, ◌<◌, ◌≤◌, ◌^◌, ℤ, pos, ◌≤ℤ◌, nat_eq, Bool, true, false, cond, List, [], ◌∷◌, ◌++◌, length, set, count_by, is_none, Option, Some, None, refl, sym, ap, subst, ◌∙◌, ◌⊎◌, inl, inr, arith}
 use Rattle.std.proofs.lemmas.Int.{ints}
 use Rattle.std.proofs.lemmas.Bool.Decides.{eqb_tells, nat_tests}
-use Rattle.std.proofs.lemmas.List.{replicate_more, length-append, ext_get_or, get_or_append_left}
+use Rattle.std.proofs.lemmas.List.{length-append, ext_get_or, get_or_append_left}
 use Rattle.std.proofs.lemmas.List.Sums.{sum_by_push}
 use Rattle.row_region.specs.Layout.{named, first_cell, free_from, has, Apart, EachNumber, row_at, live_row_at, table, slots, IsFreeRow, HasFreeChain}
-use Rattle.row_region.proofs.Changes.{SameBut, IsThreaded}
+use Rattle.row_region.specs.Popping.{SameBut}
 use Rattle.row_region.proofs.Rows.{row_within, length-row, get-row, same_first, other_row, table_same, table_set}
 
 same_number : (p : ℕ) → nat_eq p p ≡ true
@@ -139,14 +139,6 @@ module _ (cells new : List ℤ) (words count p : ℕ) (positive : 0 < words) (ro
 pos_positive : (n : ℕ) → pos 0 ≤ℤ pos n
 pos_positive n = omega (arith, ints)
 
--- the place past the last row is not in the chain
-pub past_chain : (cells : List ℤ) (words count free spare : ℕ) → HasFreeChain cells words count free spare → has (free_from cells words spare free) count ≡ false
-past_chain cells words count free spare c = go (has (free_from cells words spare free) count) refl
-  where
-    go : (b : Bool) → has (free_from cells words spare free) count ≡ b → has (free_from cells words spare free) count ≡ false
-    go true e = absurd (let h = within_chain cells words count spare free count c.free_rows e in omega arith)
-    go false e = e
-
 -- a row joins the chain at its head
 pub push : (cells new : List ℤ) (words count more free spare p : ℕ) → HasFreeChain cells words count free spare → SameBut cells new words p → first_cell new words p ≡ pos free → has (free_from cells words spare free) p ≡ false → p < more → count ≤ more → more ≤ 2 ^ 32 → more * words ≤ length new
     → free_from new words (suc spare) p ≡ p ∷ free_from cells words spare free
@@ -242,21 +234,6 @@ give_slots cells new words count free spare p c but named_free live within size 
     kept_slot cells new words count p c.positive c.room but ps (free_from new words (suc spare) p) i less n (ap (λ (l : List ℕ). has l i) chain ∙ rw (other_number p i n) refl))
     ∙ ap (set (table f count) p) at
 
--- the row past the last one joins as a free one
-pub add_slots : (cells new : List ℤ) (words count free spare : ℕ) → HasFreeChain cells words count free spare → SameBut cells new words count → first_cell new words count ≡ pos free → suc count ≤ 2 ^ 32 → suc count * words ≤ length new
-    → slots new words (suc count) count (suc spare) ≡ slots cells words count free spare ++ None ∷ []
-add_slots cells new words count free spare c but named_free small room =
-    let ps = free_from cells words spare free in
-    let live = past_chain cells words count free spare c in
-    let chain = push cells new words count (suc count) free spare count c but named_free live (omega arith) (omega arith) small room in
-    let f = live_row_at cells words ps in
-    let g = live_row_at new words (free_from new words (suc spare) count) in
-    let at : g count ≡ None = rw (same_number count) refl in
-    let front : table g count ≡ table f count = table_same f g count (λ i less.
-    let n : i ≢ count = λ e. omega arith in
-    kept_slot cells new words count count c.positive c.room but ps (free_from new words (suc spare) count) i less n (ap (λ (l : List ℕ). has l i) chain ∙ rw (other_number count i n) refl)) in
-    ap (λ (l : List (Option (List ℤ))). l ++ g count ∷ []) front ∙ ap (λ (x : Option (List ℤ)). table f count ++ x ∷ []) at
-
 abbrev the_none : Option (List ℤ)
 the_none = None
 
@@ -273,32 +250,6 @@ live_slot cells words p ps row h = go (has ps p) refl
     go : (b : Bool) → has ps p ≡ b → (has ps p ≡ false) × (row_at cells words p ≡ row)
     go true e = absurd (none_some row (rw e at h))
     go false e = (e, same_some (row_at cells words p) row (rw e at h))
-
-replicate_more_none : (n : ℕ) → replicate n the_none ++ the_none ∷ [] ≡ replicate (suc n) the_none
-replicate_more_none n = replicate_more n the_none ∙ ap (λ (k : ℕ). replicate k the_none) (add-one n)
-
--- the first so many rows are there with a row more
-pub thread_step : (first now new : List ℤ) (words from to free next : ℕ) → from ≤ to → suc to ≤ 2 ^ 32 → suc to * words ≤ length new → IsThreaded first now words from to free next → SameBut now new words to → first_cell new words to ≡ pos next → IsThreaded first new words from (suc to) free to
-thread_step first now new words from to free next le small room t but named_next =
-    let count : suc to - from ≡ suc (to - from) = omega arith in
-    record {
-      size = but.size ∙ t.size;
-      small = omega arith;
-      chained = λ spare c.
-          let k = t.chained spare c in
-          let more = push_chained now new words to (suc to) next ((to - from) + spare) to k but named_next (past_chain now words to next ((to - from) + spare) k) (omega arith) (omega arith) small room in
-          let n : (suc to - from) + spare ≡ suc ((to - from) + spare) = omega arith in
-          rw n more;
-      slots = λ spare c.
-          let k = t.chained spare c in
-          let n : (suc to - from) + spare ≡ suc ((to - from) + spare) = omega arith in
-          let e = add_slots now new words to next ((to - from) + spare) k but named_next small room in
-          let old = slots first words from free spare in
-          ap (slots new words (suc to) to) n ∙ e
-          ∙ ap (λ (l : List (Option (List ℤ))). l ++ the_none ∷ []) (t.slots spare c)
-          ∙ append_assoc old (replicate (to - from) the_none) (the_none ∷ [])
-          ∙ ap (λ (l : List (Option (List ℤ))). old ++ l) (replicate_more_none (to - from) ∙ ap (λ (k : ℕ). replicate k the_none) (sym count));
-    }
 
 pub head_none : (cells : List ℤ) (words p : ℕ) (ps : List ℕ) → live_row_at cells words (p ∷ ps) p ≡ None
 head_none cells words p ps = rw (same_number p) refl
@@ -337,10 +288,6 @@ module _ (cells more : List ℤ) (words count : ℕ) (positive : 0 < words) (roo
   longer_slots free spare c =
       let e = longer_chain spare free c.free_rows in
       table_same (live_row_at cells words (free_from cells words spare free)) (live_row_at (cells ++ more) words (free_from (cells ++ more) words spare free)) count (λ i less. rw (e, longer_row i less) refl)
-
--- no rows at all
-pub empty_chained : (cells : List ℤ) (words : ℕ) → 0 < words → HasFreeChain cells words 0 0 0
-empty_chained cells words positive = record { positive = positive; room = omega arith; small = omega arith; first = omega arith; free_rows = tt; apart = tt }
 
 abbrev one_or_none : Bool → ℕ
 one_or_none b = cond b 1 0

@@ -1,14 +1,14 @@
 -- A live row is written.
-use Rattle.std.proofs.Common.{◌≡◌, ℕ, ◌+◌, ◌-◌, ◌*◌, ◌≤◌, ℤ, pos, List, ◌++◌, length, get_or, set, take, drop, Some, None, slice_get, sym, ap, ◌∙◌, arith}
-use Rattle.std.proofs.lemmas.List.{length-append, length-take-le, length-drop, get_or_append_left, get_or-append_right, get_or-take, get_or-drop, drop_at, take_at}
+use Rattle.std.proofs.Common.{◌≡◌, ℕ, ◌+◌, ◌-◌, ◌*◌, ◌≤◌, ℤ, pos, List, ◌++◌, length, get_or, set, take, drop, replicate, Option, Some, None, slice_get, sym, ap, ap₂, ◌∙◌, arith}
+use Rattle.std.proofs.lemmas.List.{length-append, length-take-le, length-drop, get_or_append_left, get_or-append_right, get_or-take, get_or-drop, drop_at, drop-drop, take_at}
 use Rattle.std.proofs.lemmas.Option.{get_or_from_slice_get}
 use Rattle.row_region.specs.Region.{refilled, row_or}
 use Rattle.row_region.specs.Parts.{written}
-use Rattle.row_region.specs.Layout.{row_at, slots, IsSound}
-use Rattle.row_region.proofs.Changes.{SameBut}
+use Rattle.row_region.specs.Layout.{row_at, slots, places, IsSound}
+use Rattle.row_region.specs.Popping.{SameBut}
 use Rattle.row_region.proofs.Rows.{length-row}
 use Rattle.row_region.proofs.Chains.{write_chained, write_slots}
-use Rattle.row_region.proofs.Live.{live_room, live_row, live_apart, live_within}
+use Rattle.row_region.proofs.Live.{live_room, live_row, live_apart, live_within, front_live, front_set}
 
 length-refilled : (words : ℕ) (old new : List ℤ) → length old ≡ words → length (refilled words old new) ≡ words
 length-refilled words old new long = length-take-le words (new ++ drop (length new) old) (omega (arith, length-append new (drop (length new) old), length-drop (length new) old))
@@ -61,28 +61,50 @@ module _ (cells : List ℤ) (words p : ℕ) (w : List ℤ) (room : p * words + w
   pub written_whole : (len : ℕ) → len ≡ length cells → take len (written at words cells w ++ drop (length (written at words cells w)) cells) ≡ written at words cells w
   written_whole len e = take_at (written at words cells w) (drop (length (written at words cells w)) cells) len (length-written ∙ sym e)
 
-module _ (cells : List ℤ) (words count free spare p len : ℕ) (row w : List ℤ) (sound : IsSound cells words count free spare) (live : slice_get (slots cells words count free spare) p ≡ Some (Some row)) (same : len ≡ length cells) where
+-- a row of as many cells is written as it is
+module _ (cells new : List ℤ) (words p : ℕ) (row : List ℤ) (room : p * words + words ≤ length cells) (long : length row ≡ words) (put : new ≡ take (p * words) cells ++ (row ++ drop (p * words + length row) cells)) where
+  as_written : new ≡ written (p * words) words cells row
+  as_written =
+      let whole : refilled words (row_at cells words p) row ≡ row = take_at row (drop (length row) (row_at cells words p)) words long in
+      let behind : drop (p * words + length row) cells ≡ drop words (drop (p * words) cells) = ap (λ (k : ℕ). drop (p * words + k) cells) long ∙ sym (drop-drop words (p * words) cells) in
+      put ∙ ap₂ (λ (r b : List ℤ). take (p * words) cells ++ (r ++ b)) (sym whole) behind
+
+  pub put_but : SameBut cells new words p
+  put_but = rw as_written (written_but cells words p row room)
+
+  pub put_row : row_at new words p ≡ row
+  put_row =
+      rw as_written (written_row cells words p row room) ∙ take_at row (drop (length row) (row_at cells words p)) words long
+
+module _ (cells : List ℤ) (words count fresh free given p len : ℕ) (row w : List ℤ) (sound : IsSound cells words count fresh free given) (live : slice_get (places cells words count fresh free given) p ≡ Some (Some row)) (same : len ≡ length cells) where
   abbrev now : List ℤ
   now = take len (written (p * words) words cells w ++ drop (length (written (p * words) words cells w)) cells)
 
-  is_written : now ≡ written (p * words) words cells w
-  is_written = written_whole cells words p w (live_room cells words count free spare p row sound live) len same
+  taken : slice_get (slots cells words fresh free given) p ≡ Some (Some row)
+  taken = front_live (slots cells words fresh free given) (count - fresh) p row live
 
-  pub lent_sound : IsSound now words count free spare
+  is_written : now ≡ written (p * words) words cells w
+  is_written = written_whole cells words p w (live_room cells words fresh free given p row sound.chained taken) len same
+
+  pub lent_sound : IsSound now words count fresh free given
   lent_sound =
-      let room = live_room cells words count free spare p row sound live in
+      let room = live_room cells words fresh free given p row sound.chained taken in
       let but = written_but cells words p w room in
       rw is_written (record {
-        chained = write_chained cells (written (p * words) words cells w) words count free spare p sound.chained but (live_apart cells words count free spare p row sound live);
+        chained = write_chained cells (written (p * words) words cells w) words fresh free given p sound.chained but (live_apart cells words fresh free given p row sound.chained taken);
+        within = sound.within;
+        few = sound.few;
         size = but.size ∙ sound.size;
       })
 
-  pub lent_slots : slots now words count free spare ≡ set (slots cells words count free spare) p (Some (refilled words (row_or (get_or (slots cells words count free spare) p None)) w))
-  lent_slots =
-      let room = live_room cells words count free spare p row sound live in
+  pub lent_places : places now words count fresh free given ≡ set (places cells words count fresh free given) p (Some (refilled words (row_or (get_or (places cells words count fresh free given) p None)) w))
+  lent_places =
+      let room = live_room cells words fresh free given p row sound.chained taken in
+      let within = live_within cells words fresh free given p row sound.chained taken in
       let but = written_but cells words p w room in
-      let old : row_or (get_or (slots cells words count free spare) p None) ≡ row_at cells words p =
-      ap row_or (get_or_from_slice_get (slots cells words count free spare) p (Some row) None live) ∙ sym (live_row cells words count free spare p row sound live) in
-      ap (λ (l : List ℤ). slots l words count free spare) is_written
-      ∙ write_slots cells (written (p * words) words cells w) words count free spare p sound.chained but (live_apart cells words count free spare p row sound live) (live_within cells words count free spare p row sound live)
-      ∙ ap (λ (l : List ℤ). set (slots cells words count free spare) p (Some l)) (written_row cells words p w room ∙ ap (λ (l : List ℤ). refilled words l w) (sym old))
+      let old : row_or (get_or (places cells words count fresh free given) p None) ≡ row_at cells words p =
+      ap row_or (get_or_from_slice_get (places cells words count fresh free given) p (Some row) None live) ∙ sym (live_row cells words fresh free given p row sound.chained taken) in
+      ap (λ (l : List ℤ). places l words count fresh free given) is_written
+      ∙ (ap (λ (l : List (Option (List ℤ))). l ++ replicate (count - fresh) None) (write_slots cells (written (p * words) words cells w) words fresh free given p sound.chained but (live_apart cells words fresh free given p row sound.chained taken) within)
+      ∙ (sym (front_set cells words fresh free given p (Some (row_at (written (p * words) words cells w) words p)) (replicate (count - fresh) None) within)
+      ∙ ap (λ (l : List ℤ). set (places cells words count fresh free given) p (Some l)) (written_row cells words p w room ∙ ap (λ (l : List ℤ). refilled words l w) (sym old))))

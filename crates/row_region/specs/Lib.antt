@@ -1,4 +1,5 @@
 pub mod Region
 pub mod Layout
+pub mod Popping
 pub mod Lending
 pub mod Parts

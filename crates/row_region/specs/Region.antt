@@ -16,12 +16,16 @@ pub record IsRow (r : RegionView) (place : ℕ) (row : List ℤ) : Type 0 where
 abbrev pub IsLive : RegionView → ℕ → Type 0
 IsLive r place = (row : List ℤ) × (slice_get r.rows place ≡ Some (Some row))
 
--- the place was free, and now has a row of zeros; nothing else changed
-pub record HasTaken (old : RegionView) (place : ℕ) (new : RegionView) : Type 0 where
+-- the place was free, and now has this row; nothing else changed
+pub record HasPut (old : RegionView) (place : ℕ) (row : List ℤ) (new : RegionView) : Type 0 where
   pub was_free : slice_get old.rows place ≡ Some None
   pub words : new.words ≡ old.words
-  pub rows : new.rows ≡ slice_set old.rows place (Some (replicate old.words (pos 0)))
+  pub rows : new.rows ≡ slice_set old.rows place (Some row)
   pub spare : old.spare ≡ new.spare + 1
+
+-- the row put there is one of zeros
+abbrev pub HasTaken : RegionView → ℕ → RegionView → Type 0
+HasTaken old place new = HasPut old place (replicate old.words (pos 0)) new
 
 -- the row, or nothing where there is none
 abbrev pub row_or : Option (List ℤ) → List ℤ

@@ -1,10 +1,10 @@
-ghost use Rattle.std.specs.Prelude.{◌≡◌, ℕ, ℤ, List, [], ◌+◌, ◌-◌, ◌*◌, ◌^◌, ◌<◌, ◌≤◌, ◌↔◌, ◌++◌, length, replicate, count_by, is_none, slice_get, slice_set, pos, Some, None, IsNone, IfSome, IfNone, IfOk, OnErr, OnOk};
+ghost use Rattle.std.specs.Prelude.{◌≡◌, ℕ, ℤ, List, [], ◌+◌, ◌-◌, ◌*◌, ◌^◌, ◌<◌, ◌≤◌, ◌↔◌, ◌++◌, length, replicate, count_by, is_none, take, drop, slice_get, slice_set, Some, None, IsNone, IfSome, IfNone, IfOk, OnErr, OnOk};
 ghost use Rattle.std.specs.Borrow.{sem};
-ghost use Rattle.row_region.specs.Region.{IsLive, IsRow, HasTaken};
+ghost use Rattle.row_region.specs.Region.{IsLive, IsRow, HasTaken, HasPut};
 ghost use Rattle.row_region.specs.Lending.{LendsRow};
 
 use crate::parting::part_of;
-use crate::threading::{thread, zero};
+use crate::threading::{pop, write, zero};
 use std::alloc::{AllocError, Global};
 use std::marker::Model;
 
@@ -17,16 +17,18 @@ pub struct RowId {
     pub place: u32,
 }
 
-/// Rows of one length in one block of cells. EachNumber is live or free.
+/// Rows of one length in one block of cells. Each is live or free.
 #[derive(Debug, Drop)]
 pub struct Region {
-    // the rows, one behind the other; the first cell of a free one is the place of the next free one
+    // the rows, one behind the other; the first cell of one that was given back is the place of the next such one
     cells: Vec<i64>,
     words: usize,
     count: usize,
-    // the place of the first free row, where there is one
+    // the place of the first row that was not taken yet; so were none behind it
+    fresh: usize,
+    // the place of the first row that was given back, where there is one, and how many were
     free: usize,
-    spare: usize,
+    given: usize,
 }
 
 impl Model for Region {
@@ -34,11 +36,12 @@ impl Model for Region {
 
     ghost Value = { RegionView };
 
-    ghost use Rattle.row_region.specs.Layout.{IsSound, slots};
+    ghost use Rattle.std.specs.Prelude.{◌+◌, ◌-◌};
+    ghost use Rattle.row_region.specs.Layout.{IsSound, places};
 
-    ghost view = { λ r. record { words = r.words; rows = slots r.cells.items r.words r.count r.free r.spare; spare = r.spare } };
+    ghost view = { λ r. record { words = r.words; rows = places r.cells.items r.words r.count r.fresh r.free r.given; spare = r.given + (r.count - r.fresh) } };
 
-    ghost invariant = { λ r. IsSound r.cells.items r.words r.count r.free r.spare };
+    ghost invariant = { λ r. IsSound r.cells.items r.words r.count r.fresh r.free r.given };
 }
 
 impl Region {
@@ -53,8 +56,9 @@ impl Region {
             cells: Vec::new(alloc),
             words,
             count: 0,
+            fresh: 0,
             free: 0,
-            spare: 0,
+            given: 0,
         }
     }
 
@@ -76,14 +80,43 @@ impl Region {
         ensures same { IfNone result (self.new ≡ self.old) }
         ensures taken { IfSome result (λ id. HasTaken self.old id.place self.new) }
     {
-        if self.spare == 0 {
+        if self.spare() == 0 {
             return None;
         }
-        let place = self.free;
+        let place = pop(
+            &self.cells,
+            self.words,
+            self.count,
+            &mut self.fresh,
+            &mut self.free,
+            &mut self.given,
+        );
         let at = place * self.words;
-        self.free = self.cells[at] as usize;
         zero(&mut self.cells, at, at + self.words);
-        self.spare -= 1;
+        Some(RowId {
+            place: place as u32,
+        })
+    }
+
+    /// Takes a free row and writes these cells to it; `None` exactly where no row is free.
+    pub fn put(&mut self, row: &[i64]) -> Option<RowId>
+        requires { length row.now ≡ self.old.words }
+        ensures none { IsNone result ↔ (self.old.spare ≡ 0) }
+        ensures same { IfNone result (self.new ≡ self.old) }
+        ensures taken { IfSome result (λ id. HasPut self.old id.place row.now self.new) }
+    {
+        if self.spare() == 0 {
+            return None;
+        }
+        let place = pop(
+            &self.cells,
+            self.words,
+            self.count,
+            &mut self.fresh,
+            &mut self.free,
+            &mut self.given,
+        );
+        write(&mut self.cells, place * self.words, row);
         Some(RowId {
             place: place as u32,
         })
@@ -97,7 +130,7 @@ impl Region {
         let place = id.place as usize;
         self.cells[place * self.words] = self.free as i64;
         self.free = place;
-        self.spare += 1;
+        self.given += 1;
     }
 
     /// The cells of a live row.
@@ -107,6 +140,14 @@ impl Region {
     {
         let at = id.place as usize * self.words;
         &self.cells[at..at + self.words]
+    }
+
+    /// All cells. A live row has those from its place times the cells of a row on.
+    pub fn cells(&self) -> &[i64]
+        ensures rows { (place : ℕ) (row : List ℤ) → slice_get self.now.rows place ≡ Some (Some row) → take self.now.words (drop (place * self.now.words) result.now) ≡ row }
+        ensures fits { (place : ℕ) (row : List ℤ) → slice_get self.now.rows place ≡ Some (Some row) → place * self.now.words + self.now.words ≤ length result.now }
+    {
+        self.cells.as_slice()
     }
 
     /// The cells of a live row, to be written. What is left in them is the row from then on.
@@ -125,7 +166,7 @@ impl Region {
         ensures spare { result ≡ self.now.spare }
         ensures counts { self.now.spare ≡ count_by is_none self.now.rows }
     {
-        self.spare
+        self.given + (self.count - self.fresh)
     }
 
     /// How many rows there are, the free ones among them: at most 2^32.
@@ -148,8 +189,8 @@ impl Region {
     pub fn clear(&mut self)
         ensures { self.new ≡ record self.old { rows = replicate (length self.old.rows) None; spare = length self.old.rows } }
     {
-        self.free = thread(&mut self.cells, self.words, 0, self.count, 0);
-        self.spare = self.count;
+        self.fresh = 0;
+        self.given = 0;
     }
 
     /// Adds so many free rows. It fails only for want of memory, and then changes nothing.
@@ -165,9 +206,7 @@ impl Region {
             return Err(AllocError);
         };
         self.cells.resize(size, 0)?;
-        self.free = thread(&mut self.cells, self.words, self.count, count, self.free);
         self.count = count;
-        self.spare += rows;
         Ok(())
     }
 }

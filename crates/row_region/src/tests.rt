@@ -1,4 +1,5 @@
-//! A region of one row: it is taken once, written and read, given back, and taken again as zeros; then the region grows.
+//! A region of one row: it is taken once, written and read, given back, and taken again as zeros; then the region grows. In the
+//! other test cells are put into it.
 
 use crate::region::Region;
 use std::test::Fail;
@@ -23,5 +24,18 @@ fn a_row_is_taken_once(rt: HostRuntime) -> Result<(), Fail> {
     assert_eq!(rt; region.spare(), 1);
     region.clear();
     assert_eq!(rt; (region.spare(), region.rows(), region.words()), (2, 2, 2));
+    Ok(())
+}
+
+#[test]
+#[tactic(auto, using(crate::proofs::Callers::put_live))]
+fn cells_are_put_into_a_row(rt: HostRuntime) -> Result<(), Fail> {
+    let mut region = Region::new(rt.alloc(), 2, 1)?;
+    let Some(place) = region.put([3, 4].as_slice()) else {
+        return Err(Fail::from("no row is free at first"));
+    };
+    assert_eq!(rt; region.row(place), [3, 4].as_slice());
+    assert_eq!(rt; region.cells(), [3, 4].as_slice());
+    assert!(rt; region.put([5, 6].as_slice()).is_none());
     Ok(())
 }

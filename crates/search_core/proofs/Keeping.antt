@@ -19,10 +19,10 @@ use Rattle.dp_model.proofs.Sizes.{value_of-size}
 use Rattle.shared_fringe.specs.Firsts.{first_taken}
 use Rattle.shared_fringe.specs.Fringe.{FringeView}
 use Rattle.shared_fringe.specs.Popping.{after_pop, taken_out}
-use Rattle.shared_fringe.specs.Tickets.{Ticketed, IsEarlier, without}
+use Rattle.shared_fringe.specs.Tickets.{Ticketed}
 use Rattle.dominance_table.specs.Dominator.{IsReached}
 use Rattle.dominance_table.specs.Entries.{TableEntry, TableView}
-use Rattle.board_laws.specs.Board.{AreSettings, BoardState, incumbent_value, value_held, reach, full_slots, slot_of, slot_at, frontier}
+use Rattle.board_laws.specs.Board.{AreSettings, BoardState, incumbent_value, value_held, reach, full_slots, slot_content, slot_at, frontier}
 use Rattle.board_laws.specs.Entering.{entering, entry_of, put_all, replaced, without_all}
 use Rattle.board_laws.specs.Fates.{fate_of, fates_on, tickets_after}
 use Rattle.board_laws.specs.Finishing.{MayFinish}
@@ -47,7 +47,7 @@ use Rattle.board_laws.proofs.Improving.{improve-keeps}
 use Rattle.board_laws.proofs.Lists.{each-back, one-each, one-out}
 use Rattle.board_laws.proofs.Pushing.{pushes-are-fates, puts-are-entries}
 use Rattle.board_laws.proofs.Slots.{slot-full, filled, emptied}
-use Rattle.board_laws.proofs.Taking.{hands, take-keeps}
+use Rattle.board_laws.proofs.Taking.{take-keeps}
 use Rattle.board_laws.proofs.With.{with-right, each-out, two-out, length-with}
 use Rattle.search_core.specs.Contents.{contents}
 use Rattle.search_core.specs.Kept.{best_of, HasRows, IsBoardInMemory}
@@ -262,13 +262,13 @@ finish-fits dp b who threshold cs fs g m =
 
 -- GiveBack.
 
-slot-within : (slots : List (Option Ticketed)) (who : ℕ) → IsSome (slot_of (slice_get slots who)) → who < length slots
+slot-within : (slots : List (Option Ticketed)) (who : ℕ) → IsSome (slot_content (slice_get slots who)) → who < length slots
 slot-within [] who h = absurd (cc)
 slot-within (slot ∷ slots) zero h = omega arith
 slot-within (slot ∷ slots) (suc who) h = let rest = slot-within slots who h in omega arith
 
 -- what stands in the worker's slot
-pub back-at : (slots : List (Option Ticketed)) (who : ℕ) (x : Option Ticketed) (one : Ticketed) → IsSome (slot_of (slice_get slots who)) → x ≡ get_or slots who x → x ≡ Some one → slice_get slots who ≡ Some (Some one)
+pub back-at : (slots : List (Option Ticketed)) (who : ℕ) (x : Option Ticketed) (one : Ticketed) → IsSome (slot_content (slice_get slots who)) → x ≡ get_or slots who x → x ≡ Some one → slice_get slots who ≡ Some (Some one)
 back-at slots who x one full is some = slice_get_read slots (length slots) who x refl (slot-within slots who full) is ∙ ap (λ y. Some y) some
 
 abbrev pub back : BoardState → ℕ → List Ticketed → BoardState
@@ -277,7 +277,7 @@ back b who os = record b { open_ones = os; slots = set b.slots who None }
 -- that is the step
 pub back-step : (b : BoardState) (who : ℕ) (o : Ticketed) (os : List Ticketed) → slice_get b.slots who ≡ Some (Some o) → os ≡ back_among (reach b) o b.open_ones → back b who os ≡ given_back b who
 back-step b who o os at put =
-    let slot : slot_at b who ≡ Some o = ap slot_of at in
+    let slot : slot_at b who ≡ Some o = ap slot_content at in
     ap (back b who) put ∙ ap (given_back_from b who) (sym slot)
 
 -- what the fringe asks of a subproblem that goes back
@@ -359,7 +359,7 @@ begin-kept dp laws b settings fringe table for_best cells spare_cells are is wor
 -- Slots.
 
 -- what was written there is what the worker has out
-pub slot-set : (slots : List (Option Ticketed)) (who : ℕ) (o : Ticketed) → who < length slots → slot_of (slice_get (set slots who (Some o)) who) ≡ Some o
+pub slot-set : (slots : List (Option Ticketed)) (who : ℕ) (o : Ticketed) → who < length slots → slot_content (slice_get (set slots who (Some o)) who) ≡ Some o
 slot-set [] who o h = absurd (omega arith)
 slot-set (slot ∷ slots) zero o h = refl
 slot-set (slot ∷ slots) (suc who) o h = slot-set slots who o (omega arith)

@@ -1,4 +1,4 @@
-ghost use Rattle.std.specs.Prelude.{◌≡◌, ℕ, ◌+◌, ◌-◌, ◌^◌, ◌<◌, ◌≤◌, ◌≢◌, ℤ, pos, List, [], length, slice_get, Option, Some, None, option_map, IsTrue, IfOk, OnOk, OnErr, IsSome, vec_capacity};
+ghost use Rattle.std.specs.Prelude.{◌≡◌, ℕ, ◌+◌, ◌-◌, ◌^◌, ◌<◌, ◌≤◌, ◌≢◌, pos, List, [], length, slice_get, Option, Some, None, option_map, IsTrue, IfOk, OnOk, OnErr, IsSome, vec_capacity};
 ghost use Rattle.std.specs.Arc.{arc_value};
 ghost use Rattle.dp_model.specs.Best.{IsBest};
 ghost use Rattle.dp_model.specs.Counts.{tree};

@@ -1,6 +1,6 @@
 //! What a board begins with.
 
-ghost use Rattle.std.specs.Prelude.{◌≡◌, ◌≤◌, [], length, IfOk, option_map, vec_len, vec_capacity};
+ghost use Rattle.std.specs.Prelude.{◌≡◌, [], IfOk, option_map, vec_len};
 ghost use Rattle.board_laws.specs.Steps.{empty_slots, root_bound, root_subproblem, first_incumbent, first_open};
 ghost use Rattle.search_core.specs.Kept.{best_of};
 

@@ -1,7 +1,5 @@
 //! A board under a turn.
 
-ghost use Rattle.std.specs.Prelude.{◌≡◌};
-
 use crate::board::Board;
 use crate::tag::BoardTag;
 use board_lock::Turned;

@@ -3,7 +3,7 @@ use Rattle.std.proofs.Common.{◌≡◌, ℕ, zero, suc, ◌+◌, ◌<◌, ℤ, 
 use Rattle.std.proofs.lemmas.List.{map-set, map-append, get_or-set_same, get_or-set_other, take_at, replicate_more}
 use Rattle.row_region.specs.Region.{RegionView, IsRow, IsLive, HasTaken, with_row, refilled, row_or}
 use Rattle.shared_fringe.specs.Tickets.{Ticketed, by_ticket}
-use Rattle.shared_fringe.specs.Slots.{IsSet, in_slot, key_of, key_row, opened}
+use Rattle.shared_fringe.specs.Slots.{IsSlotSet, in_slot, key_of, key_row, opened}
 
 pub some_of : (x : Option Ticketed) → IsSome x → (o : Ticketed) × (x ≡ Some o)
 some_of None h = absurd (cc)
@@ -53,7 +53,7 @@ pub keyed_less : (slots : List (Option Ticketed)) (rows : List (Option (List ℤ
 keyed_less slots rows s x keyed none =
     ap (λ (l : List (Option (List ℤ))). set l s None) keyed ∙ sym (map-set key_of slots s None) ∙ ap (λ (y : Option Ticketed). map key_of (set slots s y)) (sym none)
 
-pub set_of : (slots : List (Option Ticketed)) (s : ℕ) (x : Option Ticketed) → s < length slots → IsSet slots (set slots s x) s x
+pub set_of : (slots : List (Option Ticketed)) (s : ℕ) (x : Option Ticketed) → s < length slots → IsSlotSet slots (set slots s x) s x
 set_of slots s x within = record { changed = get_or-set_same slots s x None within; others = λ t other. get_or-set_other slots s t x None other }
 
 -- an empty slot more

@@ -6,7 +6,7 @@ use Rattle.dp_model.proofs.Members.{Has, each-has, each-of-all, Has-filter, Has-
 use Rattle.shared_fringe.specs.Tickets.{Ticketed, HasTickets, by_ticket, without}
 use Rattle.shared_fringe.proofs.Tickets.{tickets-by_ticket}
 use Rattle.dp_laws.proofs.Lists.{two-filter}
-use Rattle.shared_fringe.specs.Slots.{in_slot, opened, HaveOwnTickets, IsSet}
+use Rattle.shared_fringe.specs.Slots.{in_slot, opened, HaveOwnTickets, IsSlotSet}
 
 pub has_by_ticket : (o p : Ticketed) (os : List Ticketed) → Has p os → Has p (by_ticket o os)
 has_by_ticket o p [] h = absurd h
@@ -79,17 +79,17 @@ same_members (x ∷ xs) (y ∷ ys) hx hy f g =
     ap₂ (λ a l. a ∷ l) heads tails
 
 -- what another slot has, it had
-pub was : (old new : List (Option Ticketed)) (s : ℕ) (x : Option Ticketed) (t : ℕ) (p : Ticketed) → IsSet old new s x → t ≢ s → in_slot new t ≡ Some p → in_slot old t ≡ Some p
+pub was : (old new : List (Option Ticketed)) (s : ℕ) (x : Option Ticketed) (t : ℕ) (p : Ticketed) → IsSlotSet old new s x → t ≢ s → in_slot new t ≡ Some p → in_slot old t ≡ Some p
 was old new s x t p set other at = sym (set.others t other) ∙ at
 
-pub filled : (old new : List (Option Ticketed)) (s : ℕ) (o : Ticketed) (t : ℕ) (p : Ticketed) → IsSet old new s (Some o) → t ≡ s → in_slot new t ≡ Some p → p ≡ o
+pub filled : (old new : List (Option Ticketed)) (s : ℕ) (o : Ticketed) (t : ℕ) (p : Ticketed) → IsSlotSet old new s (Some o) → t ≡ s → in_slot new t ≡ Some p → p ≡ o
 filled old new s o t p set same at = let here : in_slot new s ≡ Some p = subst (λ n. in_slot new n ≡ Some p) same at in let now = set.changed in cc
 
-pub cleared : (old new : List (Option Ticketed)) (s t : ℕ) (p : Ticketed) → IsSet old new s None → t ≡ s → in_slot new t ≡ Some p → ⊥
+pub cleared : (old new : List (Option Ticketed)) (s t : ℕ) (p : Ticketed) → IsSlotSet old new s None → t ≡ s → in_slot new t ≡ Some p → ⊥
 cleared old new s t p set same at = let here : in_slot new s ≡ Some p = subst (λ n. in_slot new n ≡ Some p) same at in let now = set.changed in cc
 
 -- a slot was filled
-pub apart_filled : (old new : List (Option Ticketed)) (s : ℕ) (o : Ticketed) → IsSet old new s (Some o) → HaveOwnTickets old
+pub apart_filled : (old new : List (Option Ticketed)) (s : ℕ) (o : Ticketed) → IsSlotSet old new s (Some o) → HaveOwnTickets old
     → ((t : ℕ) (p : Ticketed) → in_slot old t ≡ Some p → p.ticket ≢ o.ticket) → HaveOwnTickets new
 apart_filled old new s o set apart fresh t u a b at bt same =
     elim (cases_eq t s) as (λ _. t ≡ u) [
@@ -104,7 +104,7 @@ apart_filled old new s o set apart fresh t u a b at bt same =
     ]
 
 -- a slot was emptied
-pub apart_cleared : (old new : List (Option Ticketed)) (s : ℕ) → IsSet old new s None → HaveOwnTickets old → HaveOwnTickets new
+pub apart_cleared : (old new : List (Option Ticketed)) (s : ℕ) → IsSlotSet old new s None → HaveOwnTickets old → HaveOwnTickets new
 apart_cleared old new s set apart t u a b at bt same =
     elim (cases_eq t s) as (λ _. t ≡ u) [
       | inl ts ↦ absurd (cleared old new s t a set ts at)
@@ -115,7 +115,7 @@ apart_cleared old new s set apart t u a b at bt same =
     ]
 
 -- an empty slot was filled: the open ones are those and one more
-pub opened_entered : (old new : List (Option Ticketed)) (s : ℕ) (o : Ticketed) → IsSet old new s (Some o) → in_slot old s ≡ None → HaveOwnTickets old
+pub opened_entered : (old new : List (Option Ticketed)) (s : ℕ) (o : Ticketed) → IsSlotSet old new s (Some o) → in_slot old s ≡ None → HaveOwnTickets old
     → ((t : ℕ) (p : Ticketed) → in_slot old t ≡ Some p → p.ticket ≢ o.ticket) → opened new ≡ by_ticket o (opened old)
 opened_entered old new s o set free apart fresh =
     same_members (opened new) (by_ticket o (opened old)) (opened_tickets new (apart_filled old new s o set apart fresh))
@@ -134,7 +134,7 @@ opened_entered old new s o set free apart fresh =
     ])
 
 -- a slot was emptied: the open ones are the others
-pub opened_taken : (old new : List (Option Ticketed)) (s : ℕ) (o : Ticketed) → IsSet old new s None → in_slot old s ≡ Some o → HaveOwnTickets old
+pub opened_taken : (old new : List (Option Ticketed)) (s : ℕ) (o : Ticketed) → IsSlotSet old new s None → in_slot old s ≡ Some o → HaveOwnTickets old
     → opened new ≡ without o.ticket (opened old)
 opened_taken old new s o set there apart =
     same_members (opened new) (without o.ticket (opened old)) (opened_tickets new (apart_cleared old new s set apart))

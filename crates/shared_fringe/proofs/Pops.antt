@@ -3,7 +3,7 @@ use Rattle.std.proofs.Common.{◌≡◌, ℕ, List, Option, Some, None, sym, ◌
 use Rattle.shared_fringe.specs.Firsts.{first_taken}
 use Rattle.shared_fringe.specs.Popping.{after_pop, taken_out}
 use Rattle.shared_fringe.specs.Tickets.{Ticketed}
-use Rattle.shared_fringe.specs.Slots.{HaveOwnTickets, IsFirstSlot, IsSet, in_slot, opened}
+use Rattle.shared_fringe.specs.Slots.{HaveOwnTickets, IsFirstSlot, IsSlotSet, in_slot, opened}
 use Rattle.shared_fringe.proofs.Openeds.{opened_taken}
 use Rattle.shared_fringe.proofs.Views.{best_first, opened_none}
 
@@ -16,7 +16,7 @@ none_after slots none = let e = opened_none slots none in e ∙ ap after_pop (sy
 pub best_taken : (slots : List (Option Ticketed)) (s : ℕ) (o : Ticketed) → HaveOwnTickets slots → IsFirstSlot slots s → in_slot slots s ≡ Some o → Some o ≡ first_taken (opened slots)
 best_taken slots s o apart best at = sym at ∙ (best.there ∙ sym (best_first slots s apart best))
 
-pub best_after : (slots slots' : List (Option Ticketed)) (s : ℕ) (o : Ticketed) → HaveOwnTickets slots → IsFirstSlot slots s → in_slot slots s ≡ Some o → IsSet slots slots' s None
+pub best_after : (slots slots' : List (Option Ticketed)) (s : ℕ) (o : Ticketed) → HaveOwnTickets slots → IsFirstSlot slots s → in_slot slots s ≡ Some o → IsSlotSet slots slots' s None
     → opened slots' ≡ after_pop (opened slots)
 best_after slots slots' s o apart best at set =
     opened_taken slots slots' s o set at apart ∙ ap (λ t. taken_out t (opened slots)) (best_taken slots s o apart best at)

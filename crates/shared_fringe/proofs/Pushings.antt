@@ -7,7 +7,7 @@ use Rattle.shared_fringe.specs.Fringe.{is_same, same_open}
 use Rattle.shared_fringe.specs.Pushing.{pushed_beside, after_push}
 use Rattle.shared_fringe.specs.Tickets.{Ticketed, by_ticket, without}
 use Rattle.shared_fringe.proofs.Rows.{same-depth, same-row}
-use Rattle.shared_fringe.specs.Slots.{IsOpen, IsSet, in_slot, is_same_in, opened}
+use Rattle.shared_fringe.specs.Slots.{IsOpen, IsSlotSet, in_slot, is_same_in, opened}
 use Rattle.shared_fringe.specs.Stored.{HasSame, HasNone}
 use Rattle.shared_fringe.proofs.Openeds.{has_opened, was, cleared}
 use Rattle.dp_laws.proofs.Lists.{each-filter}
@@ -17,7 +17,7 @@ use Rattle.shared_fringe.proofs.Views.{same_found, same_absent}
 pub fresh_of : (slots : List (Option Ticketed)) (ticket : ℕ) → Each (λ o. o.ticket ≢ ticket) (opened slots) → (t : ℕ) (p : Ticketed) → in_slot slots t ≡ Some p → p.ticket ≢ ticket
 fresh_of slots ticket fresh t p at = each-has (λ (o : Ticketed). o.ticket ≢ ticket) (opened slots) p fresh (has_opened slots t p at)
 
-pub fresh_less : (old new : List (Option Ticketed)) (s ticket : ℕ) → IsSet old new s None → Each (λ o. o.ticket ≢ ticket) (opened old)
+pub fresh_less : (old new : List (Option Ticketed)) (s ticket : ℕ) → IsSlotSet old new s None → Each (λ o. o.ticket ≢ ticket) (opened old)
     → (t : ℕ) (p : Ticketed) → in_slot new t ≡ Some p → p.ticket ≢ ticket
 fresh_less old new s ticket set fresh t p at =
     elim (cases_eq t s) as (λ _. p.ticket ≢ ticket) [
@@ -27,7 +27,7 @@ fresh_less old new s ticket set fresh t p at =
 
 -- without the one of the depth and state there is none
 pub alone_less : (words : ℕ) (old new : List (Option Ticketed)) (depth : ℕ) (row : List ℤ) (s : ℕ) (o : Ticketed) → IsOpen words old → in_slot old s ≡ Some o → is_same depth row o ≡ true
-    → IsSet old new s None → (t : ℕ) → is_same_in depth row (in_slot new t) ≡ false
+    → IsSlotSet old new s None → (t : ℕ) → is_same_in depth row (in_slot new t) ≡ false
 alone_less words old new depth row s o held there same set t =
     let go : (x : Option Ticketed) → in_slot new t ≡ x → is_same_in depth row x ≡ false =
     λ x. elim x as (λ x. in_slot new t ≡ x → is_same_in depth row x ≡ false) [

@@ -6,9 +6,9 @@ use Rattle.shared_fringe.proofs.Rows.{same-depth, same-row}
 use Rattle.shared_fringe.specs.declared.index.Node.{Node}
 use Rattle.dp_model.specs.Folds.{fold_of}
 use Rattle.shared_fringe.specs.Index.{entry_fold, entry_slot}
-use Rattle.shared_fringe.specs.Slots.{AreEntered, in_slot, is_same_in}
+use Rattle.shared_fringe.specs.Slots.{AreIndexed, in_slot, is_same_in}
 
-pub none_same : (slots : List (Option Ticketed)) (nodes : List Node) (depth : ℕ) (row : List ℤ) → AreEntered slots nodes
+pub none_same : (slots : List (Option Ticketed)) (nodes : List Node) (depth : ℕ) (row : List ℤ) → AreIndexed slots nodes
     → ((j : ℕ) → j < length nodes → entry_fold nodes j ≡ fold_of depth row → is_same_in depth row (in_slot slots (entry_slot nodes j)) ≡ false)
     → (s : ℕ) → is_same_in depth row (in_slot slots s) ≡ false
 none_same slots nodes depth row entered none s =

@@ -10,14 +10,14 @@ use Rattle.shared_fringe.proofs.Rows.{different-turned}
 use Rattle.shared_fringe.specs.declared.rank.Rank.{Rank}
 use Rattle.shared_fringe.specs.Index.{IndexView, HasEntered}
 use Rattle.shared_fringe.specs.Ranks.{RanksView}
-use Rattle.shared_fringe.specs.Slots.{IsOpen, IsSet, AreEntered, IsEntered, in_slot, rank_of, is_same_in, key_of, own_fold}
-use Rattle.shared_fringe.specs.Stored.{IsStored}
+use Rattle.shared_fringe.specs.Slots.{IsOpen, IsSlotSet, AreIndexed, IsIndexed, in_slot, rank_of, is_same_in, key_of, own_fold}
+use Rattle.shared_fringe.specs.Stored.{IsFringeStore}
 use Rattle.shared_fringe.proofs.Entries.{entered_more, entered_here}
 use Rattle.shared_fringe.proofs.Filters.{Contains-cons}
 use Rattle.shared_fringe.proofs.Keys.{key_free, set_of}
 use Rattle.shared_fringe.proofs.Openeds.{was, filled, apart_filled}
 
-open_filled : (words : ℕ) (old new : List (Option Ticketed)) (s : ℕ) (o : Ticketed) → IsSet old new s (Some o) → IsOpen words old
+open_filled : (words : ℕ) (old new : List (Option Ticketed)) (s : ℕ) (o : Ticketed) → IsSlotSet old new s (Some o) → IsOpen words old
     → ((t : ℕ) (p : Ticketed) → in_slot old t ≡ Some p → p.ticket ≢ o.ticket)
     → ((t : ℕ) → is_same_in (length o.subproblem.decisions) o.subproblem.row (in_slot old t) ≡ false)
     → length o.subproblem.row ≡ words → IsOpen words new
@@ -48,14 +48,14 @@ open_filled words old new s o set held fresh alone cells = record {
 
 -- a slot was filled
 pub stored_more : (words spare spare' : ℕ) (slots : List (Option Ticketed)) (keys taken keys' : RegionView) (ranks ranks' : RanksView) (index ready index' : IndexView) (s fold : ℕ) (o : Ticketed)
-    → IsStored words spare slots keys ranks index → spare' + 1 ≡ spare
+    → IsFringeStore words spare slots keys ranks index → spare' + 1 ≡ spare
     → HasTaken keys s taken → keys'.rows ≡ map key_of (set slots s (Some o)) → keys'.words ≡ taken.words → keys'.spare ≡ taken.spare
-    → AreEntered slots ready.nodes → index.room ≤ ready.room
+    → AreIndexed slots ready.nodes → index.room ≤ ready.room
     → HasEntered ready.nodes index'.nodes fold s → fold ≡ own_fold o → ready.room ≤ index'.room
     → IsPermutation (rank_of s o ∷ ranks.ranks) ranks'.ranks → ranks'.len ≡ ranks.len + 1 → ranks.room ≤ ranks'.room
     → ((t : ℕ) (p : Ticketed) → in_slot slots t ≡ Some p → p.ticket ≢ o.ticket)
     → ((t : ℕ) → is_same_in (length o.subproblem.decisions) o.subproblem.row (in_slot slots t) ≡ false)
-    → length o.subproblem.row ≡ words → IsStored words spare' (set slots s (Some o)) keys' ranks' index'
+    → length o.subproblem.row ≡ words → IsFringeStore words spare' (set slots s (Some o)) keys' ranks' index'
 stored_more words spare spare' slots keys taken keys' ranks ranks' index ready index' s fold o h less has keyed width left entered room more fold-is room' moved rlen rroom fresh alone cells =
     let free = key_free slots s (ap (λ (rows : List (Option (List ℤ))). slice_get rows s) (sym h.keyed) ∙ has.was_free) in
     let slots' = set slots s (Some o) in
@@ -69,10 +69,10 @@ stored_more words spare spare' slots keys taken keys' ranks ranks' index ready i
             (Contains-permutation (rank_of s o ∷ ranks.ranks) ranks'.ranks (rank_of s o) moved (0, omega arith, refl))
         | inr tn ↦ Contains-permutation (rank_of s o ∷ ranks.ranks) ranks'.ranks (rank_of t p) moved (Contains-cons (rank_of s o) (rank_of t p) ranks.ranks (h.ranked t p (was slots slots' s (Some o) t p set tn at)))
       ];
-      entered = λ t p at. elim (cases_eq t s) as (λ _. IsEntered index'.nodes t (own_fold p)) [
-        | inl ts ↦ subst (λ (q : Ticketed). IsEntered index'.nodes t (own_fold q)) (sym (filled slots slots' s o t p set ts at))
-            (subst (λ n. IsEntered index'.nodes n (own_fold o)) (sym ts)
-            (subst (λ n. IsEntered index'.nodes s n) fold-is (entered_here ready.nodes index'.nodes fold s more)))
+      entered = λ t p at. elim (cases_eq t s) as (λ _. IsIndexed index'.nodes t (own_fold p)) [
+        | inl ts ↦ subst (λ (q : Ticketed). IsIndexed index'.nodes t (own_fold q)) (sym (filled slots slots' s o t p set ts at))
+            (subst (λ n. IsIndexed index'.nodes n (own_fold o)) (sym ts)
+            (subst (λ n. IsIndexed index'.nodes s n) fold-is (entered_here ready.nodes index'.nodes fold s more)))
         | inr tn ↦ entered_more ready.nodes index'.nodes fold s t _ more (entered t p (was slots slots' s (Some o) t p set tn at))
       ];
       keys_room = omega arith;
@@ -81,10 +81,10 @@ stored_more words spare spare' slots keys taken keys' ranks ranks' index ready i
     }
 
 -- with more slots
-pub stored_longer : (words spare count : ℕ) (slots slots' : List (Option Ticketed)) (keys keys' : RegionView) (ranks : RanksView) (index index' : IndexView) → IsStored words spare slots keys ranks index
+pub stored_longer : (words spare count : ℕ) (slots slots' : List (Option Ticketed)) (keys keys' : RegionView) (ranks : RanksView) (index index' : IndexView) → IsFringeStore words spare slots keys ranks index
     → ((s : ℕ) → in_slot slots' s ≡ in_slot slots s) → map key_of slots' ≡ map key_of slots ++ replicate count None → length slots' ≡ length slots + count
     → keys'.rows ≡ keys.rows ++ replicate count None → keys'.words ≡ keys.words → keys'.spare ≡ keys.spare + count
-    → AreEntered slots index'.nodes → length slots + count < index'.room → IsStored words spare slots' keys' ranks index'
+    → AreIndexed slots index'.nodes → length slots + count < index'.room → IsFringeStore words spare slots' keys' ranks index'
 stored_longer words spare count slots slots' keys keys' ranks index index' h same keyed len rows width more entered room =
     let k = h.keys_room in record {
       held = record {

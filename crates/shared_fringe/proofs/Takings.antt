@@ -4,7 +4,7 @@ use Rattle.std.proofs.lemmas.Bool.Decides.{nat_tests}
 use Rattle.std.proofs.lemmas.Int.{ints}
 use Rattle.std.specs.Prelude.{int_lt, int_le}
 use Rattle.dp_model.specs.Lists.{OneOf}
-use Rattle.shared_fringe.specs.Firsts.{is_taken_before, first_from, first_taken, IsFirst}
+use Rattle.shared_fringe.specs.Firsts.{is_taken_before, first_from, first_taken, IsFirstTaken}
 use Rattle.shared_fringe.specs.Tickets.{Ticketed}
 
 before-self : (a : Ticketed) → is_taken_before a a ≡ false
@@ -46,10 +46,10 @@ before-then a b c h k =
     ] in
     go (is_taken_before b c) refl
 
-first_from-is : (first : Ticketed) (os : List Ticketed) → IsFirst (first ∷ os) (first_from first os)
+first_from-is : (first : Ticketed) (os : List Ticketed) → IsFirstTaken (first ∷ os) (first_from first os)
 first_from-is first [] = record { one = inl refl; first = (before-self first, tt) }
 first_from-is first (o ∷ os) =
-    let Goal : Bool → Type 0 = λ b. IsFirst (first ∷ o ∷ os) (first_from (cond b o first) os) in
+    let Goal : Bool → Type 0 = λ b. IsFirstTaken (first ∷ o ∷ os) (first_from (cond b o first) os) in
     let go : (b : Bool) → is_taken_before o first ≡ b → Goal b = λ b. elim b as (λ b. is_taken_before o first ≡ b → Goal b) [
       | true ↦ λ e. (let rest = first_from-is o os in record { one = inr rest.one; first = (before-then o first (first_from o os) e rest.first.0, rest.first) })
       | false ↦ λ e. (let rest = first_from-is first os in record {
@@ -60,6 +60,6 @@ first_from-is first (o ∷ os) =
     go (is_taken_before o first) refl
 
 -- the one to take is first
-pub first_taken-is : (os : List Ticketed) (o : Ticketed) → Some o ≡ first_taken os → IsFirst os o
+pub first_taken-is : (os : List Ticketed) (o : Ticketed) → Some o ≡ first_taken os → IsFirstTaken os o
 first_taken-is [] o h = absurd (cc)
-first_taken-is (first ∷ os) o h = let same : first_from first os ≡ o = cc in subst (IsFirst (first ∷ os)) same (first_from-is first os)
+first_taken-is (first ∷ os) o h = let same : first_from first os ≡ o = cc in subst (IsFirstTaken (first ∷ os)) same (first_from-is first os)

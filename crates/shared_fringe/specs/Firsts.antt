@@ -20,6 +20,6 @@ first_taken [] = None
 first_taken (o ∷ os) = Some (first_from o os)
 
 -- it is one of the list, and none of the list is taken before it
-pub record IsFirst (os : List Ticketed) (o : Ticketed) : Type 0 where
+pub record IsFirstTaken (os : List Ticketed) (o : Ticketed) : Type 0 where
   pub one : OneOf (λ a. a ≡ o) os
   pub first : Each (λ a. is_taken_before a o ≡ false) os

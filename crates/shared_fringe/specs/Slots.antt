@@ -40,15 +40,15 @@ abbrev pub AreRanked : List (Option Ticketed) → List Rank → Type 0
 AreRanked slots ranks = (s : ℕ) (o : Ticketed) → in_slot slots s ≡ Some o → Contains ranks (rank_of s o)
 
 -- the slot was entered under the fold
-pub record IsEntered (nodes : List Node) (s fold : ℕ) : Type 0 where
+pub record IsIndexed (nodes : List Node) (s fold : ℕ) : Type 0 where
   pub place : ℕ
   pub within : place < length nodes
   pub slot_is : entry_slot nodes place ≡ s
   pub fold_is : entry_fold nodes place ≡ fold
 
 -- each open one was entered under the fold of its depth and state
-abbrev pub AreEntered : List (Option Ticketed) → List Node → Type 0
-AreEntered slots nodes = (s : ℕ) (o : Ticketed) → in_slot slots s ≡ Some o → IsEntered nodes s (own_fold o)
+abbrev pub AreIndexed : List (Option Ticketed) → List Node → Type 0
+AreIndexed slots nodes = (s : ℕ) (o : Ticketed) → in_slot slots s ≡ Some o → IsIndexed nodes s (own_fold o)
 
 -- whether the slot has the one of a depth and state
 abbrev pub is_same_in : ℕ → List ℤ → Option Ticketed → Bool
@@ -77,7 +77,7 @@ pub record IsOpen (words : ℕ) (slots : List (Option Ticketed)) : Type 0 where
   pub cells : (s : ℕ) (o : Ticketed) → in_slot slots s ≡ Some o → length o.subproblem.row ≡ words
 
 -- the slot has this now, and the others what they had
-pub record IsSet (old new : List (Option Ticketed)) (s : ℕ) (one : Option Ticketed) : Type 0 where
+pub record IsSlotSet (old new : List (Option Ticketed)) (s : ℕ) (one : Option Ticketed) : Type 0 where
   pub changed : in_slot new s ≡ one
   pub others : (t : ℕ) → t ≢ s → in_slot new t ≡ in_slot old t
 

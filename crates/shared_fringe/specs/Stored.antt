@@ -5,16 +5,16 @@ use Rattle.shared_fringe.specs.Tickets.{Ticketed}
 use Rattle.shared_fringe.specs.Fringe.{is_same, same_at}
 use Rattle.shared_fringe.specs.Index.{IndexView}
 use Rattle.shared_fringe.specs.Ranks.{RanksView}
-use Rattle.shared_fringe.specs.Slots.{IsOpen, AreRanked, AreEntered, in_slot, is_same_in, key_of, opened}
+use Rattle.shared_fringe.specs.Slots.{IsOpen, AreRanked, AreIndexed, in_slot, is_same_in, key_of, opened}
 
 -- each slot has the key of its open one in the region, each open one its rank in the heap and its entry in the index, and there is
 -- room for `spare` more
-pub record IsStored (words spare : ℕ) (slots : List (Option Ticketed)) (keys : RegionView) (ranks : RanksView) (index : IndexView) : Type 0 where
+pub record IsFringeStore (words spare : ℕ) (slots : List (Option Ticketed)) (keys : RegionView) (ranks : RanksView) (index : IndexView) : Type 0 where
   pub held : IsOpen words slots
   pub keyed : keys.rows ≡ map key_of slots
   pub width : keys.words ≡ 1
   pub ranked : AreRanked slots ranks.ranks
-  pub entered : AreEntered slots index.nodes
+  pub entered : AreIndexed slots index.nodes
   pub keys_room : spare ≤ keys.spare
   pub ranks_room : ranks.len + spare ≤ ranks.room
   pub index_room : 0 < length slots → length slots < index.room

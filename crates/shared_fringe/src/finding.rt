@@ -2,7 +2,7 @@
 
 ghost use Rattle.std.specs.Prelude.{◌≡◌, ℕ, true, false, MatchOption};
 ghost use Rattle.dp_model.specs.Folds.{fold_of};
-ghost use Rattle.shared_fringe.specs.Slots.{AreEntered, is_same_in, in_slot};
+ghost use Rattle.shared_fringe.specs.Slots.{AreIndexed, is_same_in, in_slot};
 
 use crate::index::Index;
 use crate::listed::Listed;
@@ -17,7 +17,7 @@ pub fn slot_of_same(
     row: &[i64],
 ) -> Option<u32>
     requires fold { fold ≡ fold_of depth row.now }
-    requires entered { AreEntered slots.now index.now.nodes }
+    requires entered { AreIndexed slots.now index.now.nodes }
     ensures { MatchOption result ((s : ℕ) → is_same_in depth row.now (in_slot slots.now s) ≡ false) (λ s. is_same_in depth row.now (in_slot slots.now s) ≡ true) }
 {
     let mut at = index.last(fold);

@@ -1,7 +1,7 @@
 ghost use Rattle.std.specs.Prelude.{◌≡◌, ◌≢◌, ◌+◌, ◌*◌, ◌<◌, ◌≤◌, [], map, length, nat_eq, Some, option_map, IfOk, IfSome, OnOk, OnErr, OnSome};
 ghost use Rattle.dp_model.specs.Lists.{Each};
 ghost use Rattle.dp_model.specs.Numbers.{greatest};
-ghost use Rattle.shared_fringe.specs.Firsts.{first_taken, IsFirst};
+ghost use Rattle.shared_fringe.specs.Firsts.{first_taken, IsFirstTaken};
 ghost use Rattle.shared_fringe.specs.Fringe.{IsFringe, same_at};
 ghost use Rattle.shared_fringe.specs.Listing.{referred};
 ghost use Rattle.shared_fringe.specs.Popping.{after_pop};
@@ -34,7 +34,7 @@ pub struct Fringe {
 impl Model for Fringe {
     ghost use Rattle.shared_fringe.specs.Fringe.{FringeView};
     ghost use Rattle.shared_fringe.specs.Slots.{opened};
-    ghost use Rattle.shared_fringe.specs.Stored.{IsStored, HasFewRanks};
+    ghost use Rattle.shared_fringe.specs.Stored.{IsFringeStore, HasFewRanks};
 
     ghost Value = { FringeView };
 
@@ -44,7 +44,7 @@ impl Model for Fringe {
       spare = f.store.spare;
     } };
 
-    ghost invariant = { λ f. IsStored f.store.words f.store.spare f.store.slots.items f.store.keys f.store.ranks f.store.index
+    ghost invariant = { λ f. IsFringeStore f.store.words f.store.spare f.store.slots.items f.store.keys f.store.ranks f.store.index
         × HasFewRanks f.store.slots.items f.store.ranks };
 }
 
@@ -106,7 +106,7 @@ impl Fringe {
     /// Takes out the open one with the greatest bound, then the greatest value, then the least ticket; `None` exactly where
     /// nothing is open. Where it gives one, `spare` rises by one at least.
     pub fn pop_best(&mut self) -> Option<(u64, Sub)>
-        ensures first { IfSome result (λ p. IsFirst self.old.open_ones (record { ticket = p.0; subproblem = p.1.subproblem })) }
+        ensures first { IfSome result (λ p. IsFirstTaken self.old.open_ones (record { ticket = p.0; subproblem = p.1.subproblem })) }
         ensures best { option_map (λ p. record { ticket = p.0; subproblem = p.1.subproblem }) result ≡ first_taken self.old.open_ones }
         ensures step { self.new.open_ones ≡ after_pop self.old.open_ones }
         ensures words { self.new.words ≡ self.old.words }

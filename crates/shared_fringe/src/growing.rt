@@ -2,7 +2,7 @@
 
 ghost use Rattle.std.specs.Prelude.{◌≡◌, ℕ, ◌+◌, ◌≤◌, ◌++◌, length, map, replicate, None, OnOk, OnErr, vec_len, vec_capacity};
 ghost use Rattle.shared_fringe.specs.Slots.{in_slot, key_of, opened};
-ghost use Rattle.shared_fringe.specs.Stored.{IsStored, HasFewRanks};
+ghost use Rattle.shared_fringe.specs.Stored.{IsFringeStore, HasFewRanks};
 
 use crate::listed::Listed;
 use crate::reindexing::index_for;
@@ -26,8 +26,8 @@ fn push_empty(slots: &mut Vec<Option<Listed>>, count: usize)
 /// at a constant cost for each, and few slots stay empty. The index has room for half as many entries again as there are slots, so
 /// that it is made anew after so many pushes at the least.
 fn more_slots(alloc: Global, store: &mut Store, count: usize) -> Result<(), AllocError>
-    requires stored { IsStored store.old.words store.old.spare store.old.slots.items store.old.keys store.old.ranks store.old.index }
-    ensures stored { IsStored store.new.words store.new.spare store.new.slots.items store.new.keys store.new.ranks store.new.index }
+    requires stored { IsFringeStore store.old.words store.old.spare store.old.slots.items store.old.keys store.old.ranks store.old.index }
+    ensures stored { IsFringeStore store.new.words store.new.spare store.new.slots.items store.new.keys store.new.ranks store.new.index }
     ensures opened { opened store.new.slots.items ≡ opened store.old.slots.items }
     ensures words { store.new.words ≡ store.old.words }
     ensures spare { store.new.spare ≡ store.old.spare }
@@ -48,9 +48,9 @@ fn more_slots(alloc: Global, store: &mut Store, count: usize) -> Result<(), Allo
 
 /// Makes room for so many more. A refusal leaves the open ones and `spare` as they were.
 pub fn make_room(alloc: Global, store: &mut Store, count: usize) -> Result<(), AllocError>
-    requires stored { IsStored store.old.words store.old.spare store.old.slots.items store.old.keys store.old.ranks store.old.index }
+    requires stored { IsFringeStore store.old.words store.old.spare store.old.slots.items store.old.keys store.old.ranks store.old.index }
     requires few { HasFewRanks store.old.slots.items store.old.ranks }
-    ensures stored { IsStored store.new.words store.new.spare store.new.slots.items store.new.keys store.new.ranks store.new.index }
+    ensures stored { IsFringeStore store.new.words store.new.spare store.new.slots.items store.new.keys store.new.ranks store.new.index }
     ensures few { HasFewRanks store.new.slots.items store.new.ranks }
     ensures opened { opened store.new.slots.items ≡ opened store.old.slots.items }
     ensures words { store.new.words ≡ store.old.words }

@@ -5,7 +5,7 @@ ghost use Rattle.dp_model.specs.Folds.{fold_of};
 ghost use Rattle.dp_model.specs.Lists.{Each};
 ghost use Rattle.shared_fringe.specs.Pushing.{push_gives, after_push};
 ghost use Rattle.shared_fringe.specs.Slots.{opened};
-ghost use Rattle.shared_fringe.specs.Stored.{IsStored, HasFewRanks, HasSame, HasNone};
+ghost use Rattle.shared_fringe.specs.Stored.{IsFringeStore, HasFewRanks, HasSame, HasNone};
 
 use crate::fate::FringeFate;
 use crate::finding::slot_of_same;
@@ -28,7 +28,7 @@ fn same_of(one: &Listed) -> Same
 
 /// The slot of the one of the depth and state, which have this fold, with its ticket and value.
 pub fn find_same(store: &Store, fold: u64, depth: usize, row: &[i64]) -> Option<(u32, Same)>
-    requires stored { IsStored store.now.words store.now.spare store.now.slots.items store.now.keys store.now.ranks store.now.index }
+    requires stored { IsFringeStore store.now.words store.now.spare store.now.slots.items store.now.keys store.now.ranks store.now.index }
     requires fold { fold ≡ fold_of depth row.now }
     ensures { MatchOption result (HasNone store.now.slots.items depth row.now) (λ r. HasSame store.now.slots.items depth row.now r.0 r.1.ticket r.1.value) }
 {
@@ -42,14 +42,14 @@ pub fn find_same(store: &Store, fold: u64, depth: usize, row: &[i64]) -> Option<
 
 /// Pushes one.
 pub fn push_in(store: &mut Store, one: Listed) -> FringeFate
-    requires stored { IsStored store.old.words store.old.spare store.old.slots.items store.old.keys store.old.ranks store.old.index }
+    requires stored { IsFringeStore store.old.words store.old.spare store.old.slots.items store.old.keys store.old.ranks store.old.index }
     requires few { HasFewRanks store.old.slots.items store.old.ranks }
     requires room { 0 < store.old.spare }
     requires fresh { Each (λ o. o.ticket ≢ one.ticket) (opened store.old.slots.items) }
     requires cells { length one.subproblem.row ≡ store.old.words }
     ensures answer { result ≡ push_gives one (opened store.old.slots.items) }
     ensures step { opened store.new.slots.items ≡ after_push one (opened store.old.slots.items) }
-    ensures stored { IsStored store.new.words store.new.spare store.new.slots.items store.new.keys store.new.ranks store.new.index }
+    ensures stored { IsFringeStore store.new.words store.new.spare store.new.slots.items store.new.keys store.new.ranks store.new.index }
     ensures few { HasFewRanks store.new.slots.items store.new.ranks }
     ensures words { store.new.words ≡ store.old.words }
     ensures spare { store.old.spare ≤ store.new.spare + 1 }

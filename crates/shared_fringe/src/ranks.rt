@@ -1,6 +1,6 @@
 //! The ranks of the open ones, the greatest first, and ranks of those that are gone.
 
-ghost use Rattle.std.specs.Prelude.{◌≡◌, ◌+◌, ◌<◌, ◌≤◌, ◌∷◌, [], IfSome, IfNone, OnOk, OnErr, OnSome, IsPermutation, Contains, true};
+ghost use Rattle.std.specs.Prelude.{◌≡◌, ◌+◌, ◌<◌, ◌≤◌, ◌∷◌, [], IfSome, IfNone, OnOk, OnSome, IsPermutation, Contains, true};
 ghost use Rattle.std.specs.BinaryHeap.{IsUpperBound};
 ghost use Rattle.shared_fringe.specs.Ranks.{rank_cmp};
 ghost use Rattle.shared_fringe.specs.Slots.{has_rank, in_slot};

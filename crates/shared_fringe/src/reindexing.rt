@@ -1,7 +1,7 @@
 //! The index made anew.
 
 ghost use Rattle.std.specs.Prelude.{◌≡◌, ℕ, ◌+◌, ◌^◌, ◌<◌, ◌≤◌, length, map, Some, IfOk, IsSome};
-ghost use Rattle.shared_fringe.specs.Slots.{AreEntered, IsEntered, in_slot, key_of, own_fold};
+ghost use Rattle.shared_fringe.specs.Slots.{AreIndexed, IsIndexed, in_slot, key_of, own_fold};
 ghost use Rattle.shared_fringe.specs.Tickets.{Ticketed};
 
 use crate::index::Index;
@@ -31,8 +31,8 @@ fn fold_in(slots: &[Option<Listed>], keys: &Region, slot: u32) -> u64
 fn enter_slot(slots: &[Option<Listed>], keys: &Region, slot: u32, index: &mut Index)
     requires keyed { keys.now.rows ≡ map key_of slots.now }
     requires room { length index.old.nodes < index.old.room }
-    ensures entered { (o : Ticketed) → in_slot slots.now slot ≡ Some o → IsEntered index.new.nodes slot (own_fold o) }
-    ensures kept { (s fold : ℕ) → IsEntered index.old.nodes s fold → IsEntered index.new.nodes s fold }
+    ensures entered { (o : Ticketed) → in_slot slots.now slot ≡ Some o → IsIndexed index.new.nodes slot (own_fold o) }
+    ensures kept { (s fold : ℕ) → IsIndexed index.old.nodes s fold → IsIndexed index.new.nodes s fold }
     ensures len { length index.new.nodes ≤ length index.old.nodes + 1 }
     ensures room { index.old.room ≤ index.new.room }
 {
@@ -46,7 +46,7 @@ fn reindex(slots: &[Option<Listed>], keys: &Region, index: &mut Index)
     requires keyed { keys.now.rows ≡ map key_of slots.now }
     requires room { length slots.now ≤ index.old.room }
     requires most { length slots.now ≤ 2 ^ 32 }
-    ensures entered { AreEntered slots.now index.new.nodes }
+    ensures entered { AreIndexed slots.now index.new.nodes }
     ensures len { length index.new.nodes ≤ length slots.now }
     ensures room { index.old.room ≤ index.new.room }
 {
@@ -61,8 +61,8 @@ pub fn ready_index(slots: &[Option<Listed>], keys: &Region, index: &mut Index)
     requires keyed { keys.now.rows ≡ map key_of slots.now }
     requires room { length slots.now < index.old.room }
     requires most { length slots.now ≤ 2 ^ 32 }
-    requires entered { AreEntered slots.now index.old.nodes }
-    ensures entered { AreEntered slots.now index.new.nodes }
+    requires entered { AreIndexed slots.now index.old.nodes }
+    ensures entered { AreIndexed slots.now index.new.nodes }
     ensures free { length index.new.nodes < index.new.room }
     ensures room { index.old.room ≤ index.new.room }
 {
@@ -81,7 +81,7 @@ pub fn index_for(
     requires keyed { keys.now.rows ≡ map key_of slots.now }
     requires room { length slots.now ≤ room }
     requires most { length slots.now ≤ 2 ^ 32 }
-    ensures entered { IfOk result (λ x. AreEntered slots.now x.nodes) }
+    ensures entered { IfOk result (λ x. AreIndexed slots.now x.nodes) }
     ensures room { IfOk result (λ x. room ≤ x.room) }
 {
     let mut index = Index::with_room(alloc, room)?;

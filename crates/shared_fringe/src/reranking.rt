@@ -1,6 +1,6 @@
 //! The ranks made anew.
 
-ghost use Rattle.std.specs.Prelude.{◌≡◌, ℕ, ◌+◌, ◌^◌, ◌<◌, ◌≤◌, length, Some, None, Contains};
+ghost use Rattle.std.specs.Prelude.{◌≡◌, ◌+◌, ◌^◌, ◌<◌, ◌≤◌, length, Some, None, Contains};
 ghost use Rattle.shared_fringe.specs.Slots.{AreRanked, in_slot, opened, rank_of};
 ghost use Rattle.shared_fringe.specs.Tickets.{Ticketed};
 ghost use Rattle.shared_fringe.specs.declared.rank.Rank.{Rank};

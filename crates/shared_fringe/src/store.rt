@@ -4,8 +4,8 @@ ghost use Rattle.std.specs.Prelude.{◌≡◌, ◌≢◌, ℕ, ◌+◌, ◌<◌,
 ghost use Rattle.shared_fringe.specs.Firsts.{first_taken};
 ghost use Rattle.shared_fringe.specs.Popping.{after_pop};
 ghost use Rattle.shared_fringe.specs.Tickets.{Ticketed, by_ticket, without};
-ghost use Rattle.shared_fringe.specs.Slots.{in_slot, is_same_in, key_of, opened, own_fold, IsSet};
-ghost use Rattle.shared_fringe.specs.Stored.{IsStored, HasFewRanks};
+ghost use Rattle.shared_fringe.specs.Slots.{in_slot, is_same_in, key_of, opened, own_fold, IsSlotSet};
+ghost use Rattle.shared_fringe.specs.Stored.{IsFringeStore, HasFewRanks};
 
 use crate::index::Index;
 use crate::listed::Listed;
@@ -30,14 +30,14 @@ pub struct Store {
 
 /// One more, with its fold. It takes no memory.
 pub fn put_in(store: &mut Store, one: Listed, fold: u64)
-    requires stored { IsStored store.old.words store.old.spare store.old.slots.items store.old.keys store.old.ranks store.old.index }
+    requires stored { IsFringeStore store.old.words store.old.spare store.old.slots.items store.old.keys store.old.ranks store.old.index }
     requires few { HasFewRanks store.old.slots.items store.old.ranks }
     requires room { 0 < store.old.spare }
     requires fresh { (t : ℕ) (p : Ticketed) → in_slot store.old.slots.items t ≡ Some p → p.ticket ≢ one.ticket }
     requires alone { (t : ℕ) → is_same_in (length one.subproblem.decisions) one.subproblem.row (in_slot store.old.slots.items t) ≡ false }
     requires cells { length one.subproblem.row ≡ store.old.words }
     requires fold { fold ≡ own_fold one }
-    ensures stored { IsStored store.new.words store.new.spare store.new.slots.items store.new.keys store.new.ranks store.new.index }
+    ensures stored { IsFringeStore store.new.words store.new.spare store.new.slots.items store.new.keys store.new.ranks store.new.index }
     ensures few { HasFewRanks store.new.slots.items store.new.ranks }
     ensures listed { opened store.new.slots.items ≡ by_ticket one (opened store.old.slots.items) }
     ensures words { store.new.words ≡ store.old.words }
@@ -64,7 +64,7 @@ fn clear_slot(store: &mut Store, slot: u32) -> Listed
     requires keyed { store.old.keys.rows ≡ map key_of store.old.slots.items }
     requires there { IsSome (in_slot store.old.slots.items slot) }
     ensures one { in_slot store.old.slots.items slot ≡ Some result }
-    ensures slots { IsSet store.old.slots.items store.new.slots.items slot None }
+    ensures slots { IsSlotSet store.old.slots.items store.new.slots.items slot None }
     ensures len { length store.new.slots.items ≡ length store.old.slots.items }
     ensures keyed { store.new.keys.rows ≡ map key_of store.new.slots.items }
     ensures keys { store.new.keys.spare ≡ store.old.keys.spare + 1 }
@@ -90,8 +90,8 @@ pub fn count_open(slots: &[Option<Listed>], keys: &Region) -> usize
 /// Where those that are gone have more than half of the ranks, drops the ranks of those: so they never outnumber the open ones
 /// by more than a constant factor, and each rank is dropped once. Where equal ranks are left, it makes the ranks anew.
 fn trim_ranks(store: &mut Store)
-    requires stored { IsStored store.old.words store.old.spare store.old.slots.items store.old.keys store.old.ranks store.old.index }
-    ensures stored { IsStored store.new.words store.new.spare store.new.slots.items store.new.keys store.new.ranks store.new.index }
+    requires stored { IsFringeStore store.old.words store.old.spare store.old.slots.items store.old.keys store.old.ranks store.old.index }
+    ensures stored { IsFringeStore store.new.words store.new.spare store.new.slots.items store.new.keys store.new.ranks store.new.index }
     ensures kept { store.new ≡ record store.old { ranks = store.new.ranks } }
     ensures few { HasFewRanks store.new.slots.items store.new.ranks }
 {
@@ -107,13 +107,13 @@ fn trim_ranks(store: &mut Store)
 
 /// Takes out the one in the slot.
 pub fn take_out(store: &mut Store, slot: u32) -> Listed
-    requires stored { IsStored store.old.words store.old.spare store.old.slots.items store.old.keys store.old.ranks store.old.index }
+    requires stored { IsFringeStore store.old.words store.old.spare store.old.slots.items store.old.keys store.old.ranks store.old.index }
     requires there { IsSome (in_slot store.old.slots.items slot) }
     ensures one { in_slot store.old.slots.items slot ≡ Some result }
-    ensures stored { IsStored store.new.words store.new.spare store.new.slots.items store.new.keys store.new.ranks store.new.index }
+    ensures stored { IsFringeStore store.new.words store.new.spare store.new.slots.items store.new.keys store.new.ranks store.new.index }
     ensures few { HasFewRanks store.new.slots.items store.new.ranks }
     ensures listed { opened store.new.slots.items ≡ without result.ticket (opened store.old.slots.items) }
-    ensures slots { IsSet store.old.slots.items store.new.slots.items slot None }
+    ensures slots { IsSlotSet store.old.slots.items store.new.slots.items slot None }
     ensures len { length store.new.slots.items ≡ length store.old.slots.items }
     ensures words { store.new.words ≡ store.old.words }
     ensures spare { store.new.spare ≡ store.old.spare }
@@ -125,10 +125,10 @@ pub fn take_out(store: &mut Store, slot: u32) -> Listed
 
 /// Takes out the one that is taken first; `None` exactly where there is none.
 pub fn take_first(store: &mut Store) -> Option<Listed>
-    requires stored { IsStored store.old.words store.old.spare store.old.slots.items store.old.keys store.old.ranks store.old.index }
+    requires stored { IsFringeStore store.old.words store.old.spare store.old.slots.items store.old.keys store.old.ranks store.old.index }
     requires few { HasFewRanks store.old.slots.items store.old.ranks }
     ensures first { result ≡ first_taken (opened store.old.slots.items) }
-    ensures stored { IsStored store.new.words store.new.spare store.new.slots.items store.new.keys store.new.ranks store.new.index }
+    ensures stored { IsFringeStore store.new.words store.new.spare store.new.slots.items store.new.keys store.new.ranks store.new.index }
     ensures few { HasFewRanks store.new.slots.items store.new.ranks }
     ensures listed { opened store.new.slots.items ≡ after_pop (opened store.old.slots.items) }
     ensures words { store.new.words ≡ store.old.words }

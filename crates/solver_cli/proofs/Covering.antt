@@ -4,7 +4,6 @@ use Rattle.std.specs.Prelude.{codes, Ok, MatchResult}
 use Rattle.std.specs.declared.alloc.Global.{Global}
 use Rattle.std.proofs.lemmas.Int.{ints}
 use Rattle.std.proofs.lemmas.List.{append-nil}
-use Rattle.dp_model.specs.Best.{best}
 use Rattle.dp_model.specs.Dp.{Dp}
 use Rattle.dp_model.specs.Laws.{IsLawful}
 use Rattle.dp_model.specs.Lists.{Each}
@@ -55,11 +54,6 @@ pub true-told : (dp : Dp) (own : List ℕ → Option ℤ) (budget : ℕ) (board 
 true-told dp own budget board (Proved found) final h = h
 true-told dp own budget board Infeasible final h = h
 true-told dp own budget board (Stopped stop incumbent bound) final h = absurd (cc)
-
--- whose value is the best
-pub best-true : (dp : Dp) (own : List ℕ → Option ℤ) (value : Option ℤ) (x : List ℕ) → IsTrueReport dp own value x → value ≡ best dp
-best-true dp own None x h = sym h.no_best
-best-true dp own (Some value) x h = sym h.is_best
 
 -- decisions have 32 bits
 path-small : (dp : Dp) → IsLawful dp → (k : ℕ) (s : List ℤ) (x : List ℕ) → IsPath dp k s x → Each (λ d. d < 2 ^ 32) x

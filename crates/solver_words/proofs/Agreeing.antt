@@ -1,5 +1,5 @@
 -- What the rows that clap found say of a line.
-use Rattle.std.specs.Prelude.{⊤, ◌≡◌, ℕ, List, Option, Some, None}
+use Rattle.std.specs.Prelude.{◌≡◌, List, Option, Some, None}
 use Rattle.clap.specs.Walk.{Row}
 use Rattle.solver_words.specs.Grammar.{Syntax, Argument}
 use Rattle.solver_words.specs.Commands.{RowsTell}

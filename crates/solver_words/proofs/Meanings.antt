@@ -15,7 +15,7 @@ use Rattle.solver_words.specs.declared.words_error.WordsError.{WordsError}
 use Rattle.solver_words.specs.declared.words_error.WordsError.TheVariants.{Usage, Model, Number, Cutset, OutOfMemory}
 use Rattle.solver_words.specs.Grammar.{Syntax, Argument, Text, contains, has_flag, setting_of, words_of}
 use Rattle.solver_words.specs.Commands.{IsOutside, RowsTell, Tells}
-use Rattle.solver_words.specs.Words.{IsAnswer, by_command, meaning, is_refused, last_is_equals, asked, digest, digest_syntax, digest_line, usage, Refusal, JobView, and_then, digest_of, least_size, most_size, model_of, placed, optional, cover_of, generate, solve, resume, refusal_of, job_view, generate_syntax, generate_line, generate_of, resume_syntax, resume_line, resume_of, settings_of, solve_syntax, solve_line}
+use Rattle.solver_words.specs.Words.{IsAnswer, by_command, meaning, is_refused, last_is_equals, asked, digest, digest_syntax, digest_line, usage, Refusal, JobView, and_then, digest_of, least_size, most_size, model_of, positional_number, optional, cover_of, generate, solve, resume, refusal_of, job_view, generate_syntax, generate_line, generate_of, resume_syntax, resume_line, resume_of, settings_of, solve_syntax, solve_line}
 
 -- what the matches tell of a line
 module _ (f : Syntax) (arguments : List Argument) (m : ArgMatches) (reads : RowsTell f arguments (rows_of (found_of m))) where
@@ -69,25 +69,25 @@ module _ (m : ArgMatches) (arguments : List Argument) (reads : RowsTell generate
 
   module _ (name : ModelName) (k : model_of (at_name (codes "model")) ≡ Ok name) (least most : ℕ) (low : least ≡ least_size name) (high : most ≡ most_size name) where
     abbrev numbered : Result ℕ Refusal
-    numbered = placed (codes "n") (least_size name) (most_size name) (at_name (codes "n"))
+    numbered = positional_number (codes "n") (least_size name) (most_size name) (at_name (codes "n"))
 
-    same_bounds : placed (codes "n") least most (at_name (codes "n")) ≡ numbered
-    same_bounds = λ i. placed (codes "n") (low i) (high i) (at_name (codes "n"))
+    same_bounds : positional_number (codes "n") least most (at_name (codes "n")) ≡ numbered
+    same_bounds = λ i. positional_number (codes "n") (low i) (high i) (at_name (codes "n"))
 
     pub generate_no_n : (r : Result Job WordsError) (e : WordsError) → IsErrAnd r (λ y. y ≡ e)
-        → IfSome (refusal_of e) (λ why. placed (codes "n") least most (at_name (codes "n")) ≡ Err why) → IsAnswer job_view (generate_line arguments) r
+        → IfSome (refusal_of e) (λ why. positional_number (codes "n") least most (at_name (codes "n")) ≡ Err why) → IsAnswer job_view (generate_line arguments) r
     generate_no_n r e is h =
-        ends r e is (rw k (fails _ numbered (refusal_of e) (moved (placed (codes "n") least most (at_name (codes "n"))) numbered (refusal_of e) same_bounds h)))
+        ends r e is (rw k (fails _ numbered (refusal_of e) (moved (positional_number (codes "n") least most (at_name (codes "n"))) numbered (refusal_of e) same_bounds h)))
 
-    module _ (n : ℕ) (d : placed (codes "n") least most (at_name (codes "n")) ≡ Ok n) where
+    module _ (n : ℕ) (d : positional_number (codes "n") least most (at_name (codes "n")) ≡ Ok n) where
       at_n : numbered ≡ Ok n
       at_n = sym same_bounds ∙ d
 
       pub generate_no_seed : (r : Result Job WordsError) (e : WordsError) → IsErrAnd r (λ y. y ≡ e)
-          → IfSome (refusal_of e) (λ why. placed (codes "seed") 0 2147483647 (at_name (codes "seed")) ≡ Err why) → IsAnswer job_view (generate_line arguments) r
-      generate_no_seed r e is h = ends r e is (rw (k, at_n) (fails _ (placed (codes "seed") 0 2147483647 (at_name (codes "seed"))) (refusal_of e) h))
+          → IfSome (refusal_of e) (λ why. positional_number (codes "seed") 0 2147483647 (at_name (codes "seed")) ≡ Err why) → IsAnswer job_view (generate_line arguments) r
+      generate_no_seed r e is h = ends r e is (rw (k, at_n) (fails _ (positional_number (codes "seed") 0 2147483647 (at_name (codes "seed"))) (refusal_of e) h))
 
-      pub generate_all : (seed : ℕ) (solved : Bool) → placed (codes "seed") 0 2147483647 (at_name (codes "seed")) ≡ Ok seed
+      pub generate_all : (seed : ℕ) (solved : Bool) → positional_number (codes "seed") 0 2147483647 (at_name (codes "seed")) ≡ Ok seed
           → ((b : Bool) → one_text (found_of m) (codes "solve") ≡ Some (cond b (codes "true") (codes "false")) → solved ≡ b) → generate_line arguments ≡ Ok (generate name n seed solved)
       generate_all seed solved h given =
           sym (generate_same solved (given (has_flag (codes "solve") arguments) (flag_read generate_syntax arguments m reads (codes "solve") refl))) ∙ rw (k, at_n, h) refl

@@ -183,17 +183,17 @@ IsDrawable (Generate name n seed solved) = (least_size name ≤ n) × (n ≤ mos
 IsDrawable _ = Unit {0}
 
 -- the number that a positional word writes
-abbrev pub placed : Text → ℕ → ℕ → Option Text → Result ℕ Refusal
-placed name least most None = Err (number name)
-placed name least most (Some word) = or_number name (ranged least most word)
+abbrev pub positional_number : Text → ℕ → ℕ → Option Text → Result ℕ Refusal
+positional_number name least most None = Err (number name)
+positional_number name least most (Some word) = or_number name (ranged least most word)
 
 abbrev pub generate_of : Option Text → Option Text → Option Text → Bool → Result JobView Refusal
 generate_of name n seed solved =
     and_then (λ name.
     and_then (λ n.
     and_then (λ seed. Ok (generate name n seed solved))
-    (placed (codes "seed") 0 2147483647 seed))
-    (placed (codes "n") (least_size name) (most_size name) n))
+    (positional_number (codes "seed") 0 2147483647 seed))
+    (positional_number (codes "n") (least_size name) (most_size name) n))
     (model_of name)
 
 -- ---- whole lines

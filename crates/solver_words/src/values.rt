@@ -1,6 +1,6 @@
-ghost use Rattle.std.specs.Prelude.{◌≡◌, ◌≤◌, ◌<◌, ◌^◌, Bool, IfOk, IfSome, Some, cond, codes, option_map};
+ghost use Rattle.std.specs.Prelude.{◌≡◌, ◌≤◌, ◌<◌, Bool, IfOk, IfSome, Some, cond, codes};
 ghost use Rattle.clap.specs.Matches.{first_value, found_of, one_text};
-ghost use Rattle.solver_words.specs.Words.{IsAnswer, natural_in_64_bits, ranged, optional, settings_of, cut_named, model_of, placed};
+ghost use Rattle.solver_words.specs.Words.{IsAnswer, natural_in_64_bits, ranged, optional, settings_of, cut_named, model_of, positional_number};
 
 use crate::job::JobSettings;
 use crate::words_error::WordsError;
@@ -62,7 +62,7 @@ pub(crate) fn read_placed(
     least: u64,
     most: u64,
 ) -> Result<u64, WordsError>
-    ensures answer { IsAnswer (λ n. n) (placed place.entry.now least most (first_value (found_of matches.now) place.entry.now)) result }
+    ensures answer { IsAnswer (λ n. n) (positional_number place.entry.now least most (first_value (found_of matches.now) place.entry.now)) result }
     ensures bounds { IfOk result (λ n. (least ≤ n) × (n ≤ most)) }
 {
     let Some(word) = matches.get_str(place) else {

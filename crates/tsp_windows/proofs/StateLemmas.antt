@@ -5,13 +5,13 @@ use Rattle.std.proofs.lemmas.Int.{to_z-of_z}
 use Rattle.std.proofs.lemmas.Bool.{cases_eq, cases_lt, false≢true, or_cases, not-true, cases_Bool, ne_eqb, lt-leb}
 use Rattle.std.proofs.lemmas.Bool.Decides.{same_from_decides}
 use Rattle.node_sets.specs.Sums.{all_below, lesser, least_amount}
-use Rattle.node_sets.specs.Sets.{IsNext, IsSet, has, is_set, words_for}
+use Rattle.node_sets.specs.Sets.{IsLeastFrom, IsSet, has, is_set, words_for}
 use Rattle.node_sets.proofs.Below.{all_below-gives, all_below-from, least_amount-same, least_amount-next, least_amount-none}
 use Rattle.node_sets.proofs.Counts.{is_set-gives}
 use Rattle.tsp_windows.specs.States.{TourState, positions_of, must_of, may_of, time_of, shown, leg, arrival, may_visit, may_return, is_open, covers, is_sound, is_state_row}
 use Rattle.tsp_windows.specs.Instance.{Instance, closing, near}
 use Rattle.tsp_windows.specs.Apart.{IsApart}
-use Rattle.tsp_windows.specs.Laws.Moves.{IsSound, near-le-arrival, all_below-not, sound-gives, sound-from}
+use Rattle.tsp_windows.specs.Laws.Moves.{IsSoundState, near-le-arrival, all_below-not, sound-gives, sound-from}
 use Rattle.tsp_windows.specs.Laws.Walks.{CoversTour, covers-gives, covers-from}
 
 pub fits_time : (t : ℕ) → t ≤ 1000000000000 → FitsSigned w64 (pos t)
@@ -134,7 +134,7 @@ pub visit_no : (i : Instance) (t : TourState) (d : ℕ) → (t.must d || t.may d
 visit_no i t d e = and_no (not (nat_eq d 0)) _ (no_and (t.must d || t.may d) _ e)
 
 -- node 0 is none that must or may be visited
-pub open_elsewhere : (n : ℕ) (t : TourState) (d : ℕ) → IsSound n t → is_open t d ≡ true → d ≢ 0
+pub open_elsewhere : (n : ℕ) (t : TourState) (d : ℕ) → IsSoundState n t → is_open t d ≡ true → d ≢ 0
 open_elsewhere n t d sound there home = false≢true (sym (ap₂ ◌||◌ sound.no_must sound.no_may) ∙ ap (is_open t) (sym home) ∙ there)
 
 -- a node that is not reached in time even on its least way
@@ -181,7 +181,7 @@ open_inside n m y v ms ys h = elim (or_cases (has m v) (has y v) h) [ inl e ↦ 
 least_kept : (b : Bool) (n v : ℕ) (o : Option ℕ) → v ≤ n → o ≡ Some v → cond b (lesser n o) o ≡ Some v
 least_kept b n v o l e = ap (λ o. cond b (lesser n o) o) e ∙ (elim b as (λ b. cond b (Some (min v n)) (Some v) ≡ Some v) [ true ↦ (let m : min v n ≡ v = omega arith in ap Some m) | false ↦ refl ])
 
-least_is : (n : ℕ) (p : List ℤ) (v : ℕ) → v < n → IsNext (has p) 0 v → least_amount n (has p) (λ q. q) ≡ Some v
+least_is : (n : ℕ) (p : List ℤ) (v : ℕ) → v < n → IsLeastFrom (has p) 0 v → least_amount n (has p) (λ q. q) ≡ Some v
 least_is zero p v l next = absurd (omega arith)
 least_is (suc n) p v l next =
     elim (cases_eq v n) [
@@ -190,7 +190,7 @@ least_is (suc n) p v l next =
     ]
 
 -- the least position
-pub least_position : (n w : ℕ) (s p : List ℤ) (v : ℕ) → p ≡ positions_of w s → IsSet n p → IsNext (has p) 0 v → v ≡ unwrap_or (least_amount n (shown w s).positions (λ q. q)) 0
+pub least_position : (n w : ℕ) (s p : List ℤ) (v : ℕ) → p ≡ positions_of w s → IsSet n p → IsLeastFrom (has p) 0 v → v ≡ unwrap_or (least_amount n (shown w s).positions (λ q. q)) 0
 least_position n w s p v e set next =
     let inside = inside_set n p v set next.passes in
     sym (ap (λ o. unwrap_or o 0) (least_amount-same n (shown w s).positions (has p) (λ q. q) (λ u l. sym (positions-shown w s p u e)) ∙ least_is n p v inside next))

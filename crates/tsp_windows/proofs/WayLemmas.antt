@@ -2,11 +2,11 @@
 use Rattle.std.proofs.Common.{◌≡◌, ◌≢◌, ℕ, ◌+◌, ◌*◌, ◌<◌, ◌≤◌, ℤ, Bool, true, false, not, ◌&&◌, ◌||◌, nat_eq, nat_lt, List, get_or, Option, refl, sym, ap, ap₂, ◌∙◌, arith, inl, inr, eq-eqb}
 use Rattle.std.proofs.lemmas.Bool.{cases_eq, cases_lt, false≢true, or_left, or_right, ne_eqb, lt-ltb, le-ltb}
 use Rattle.node_sets.specs.Sums.{all_below, sum_below, lesser, least_amount}
-use Rattle.node_sets.specs.Sets.{IsNext, IsSet, has}
+use Rattle.node_sets.specs.Sets.{IsLeastFrom, IsSet, has}
 use Rattle.node_sets.proofs.Below.{all_below-gives, all_below-from, sum_below-skip, sum_below-next, sum_below-le, least_amount-skip, least_amount-next}
 
 -- a member is one of the nodes
-pub member_inside : (n : ℕ) (row : List ℤ) (from v : ℕ) → IsSet n row → IsNext (has row) from v → v < n
+pub member_inside : (n : ℕ) (row : List ℤ) (from v : ℕ) → IsSet n row → IsLeastFrom (has row) from v → v < n
 member_inside n row from v set next =
     elim (cases_lt v n) [
       | inl l ↦ l
@@ -14,13 +14,13 @@ member_inside n row from v set next =
     ]
 
 -- the next member that counts
-pub leg_takes : (row : List ℤ) (f : ℕ → ℕ) (from p to way : ℕ) (least : Option ℕ) → IsNext (has row) from p → p ≢ to → way ≡ f p → least ≡ least_amount from (λ p. has row p && not (nat_eq p to)) f → lesser way least ≡ least_amount (p + 1) (λ p. has row p && not (nat_eq p to)) f
+pub leg_takes : (row : List ℤ) (f : ℕ → ℕ) (from p to way : ℕ) (least : Option ℕ) → IsLeastFrom (has row) from p → p ≢ to → way ≡ f p → least ≡ least_amount from (λ p. has row p && not (nat_eq p to)) f → lesser way least ≡ least_amount (p + 1) (λ p. has row p && not (nat_eq p to)) f
 leg_takes row f from p to way least next apart e l =
     ap₂ lesser e l
     ∙ sym (least_amount-next from p (λ p. has row p && not (nat_eq p to)) f next.reached (λ u a b. ap (λ x. x && not (nat_eq u to)) (next.skipped u a b)) (ap₂ (λ x y. x && not y) next.passes (ne_eqb p to apart)))
 
 -- the member that does not count
-pub leg_skips : (row : List ℤ) (f : ℕ → ℕ) (from p to : ℕ) (least : Option ℕ) → IsNext (has row) from p → p ≡ to → least ≡ least_amount from (λ p. has row p && not (nat_eq p to)) f → least ≡ least_amount (p + 1) (λ p. has row p && not (nat_eq p to)) f
+pub leg_skips : (row : List ℤ) (f : ℕ → ℕ) (from p to : ℕ) (least : Option ℕ) → IsLeastFrom (has row) from p → p ≡ to → least ≡ least_amount from (λ p. has row p && not (nat_eq p to)) f → least ≡ least_amount (p + 1) (λ p. has row p && not (nat_eq p to)) f
 leg_skips row f from p to least next same l =
     l ∙ sym (least_amount-skip from (p + 1) (λ p. has row p && not (nat_eq p to)) f (let r = next.reached in omega (arith, r)) passed)
   where
@@ -45,7 +45,7 @@ abbrev pub in_time : List ℕ → List ℤ → ℕ → ℕ → Bool
 in_time too_late members time v = nat_lt time (get_or too_late v 0) || not (has members v)
 
 -- a member for which it is too late to leave
-pub members_late : (n : ℕ) (too_late : List ℕ) (members : List ℤ) (time from v : ℕ) → v < n → IsNext (has members) from v → get_or too_late v 0 ≤ time → all_below n (in_time too_late members time) ≡ false
+pub members_late : (n : ℕ) (too_late : List ℕ) (members : List ℤ) (time from v : ℕ) → v < n → IsLeastFrom (has members) from v → get_or too_late v 0 ≤ time → all_below n (in_time too_late members time) ≡ false
 members_late n too_late members time from v inside next late =
     not_all (all_below n (in_time too_late members time)) (λ all. false≢true (sym (ap₂ (λ x y. x || not y) (le-ltb time (get_or too_late v 0) late) next.passes) ∙ all_below-gives n (in_time too_late members time) all v inside))
   where
@@ -53,7 +53,7 @@ members_late n too_late members time from v inside next late =
     not_all true h = absurd (h refl)
     not_all false h = refl
 
-pub members_early : (too_late : List ℕ) (members : List ℤ) (time from v : ℕ) → IsNext (has members) from v → time < get_or too_late v 0 → ((u : ℕ) → u < from → in_time too_late members time u ≡ true) → (u : ℕ) → u < v + 1 → in_time too_late members time u ≡ true
+pub members_early : (too_late : List ℕ) (members : List ℤ) (time from v : ℕ) → IsLeastFrom (has members) from v → time < get_or too_late v 0 → ((u : ℕ) → u < from → in_time too_late members time u ≡ true) → (u : ℕ) → u < v + 1 → in_time too_late members time u ≡ true
 members_early too_late members time from v next early before u l =
     elim (cases_lt u from) [
       | inl a ↦ before u a
@@ -70,7 +70,7 @@ members_end n too_late members time from none before =
       | inr a ↦ or_right (nat_lt time (get_or too_late u 0)) (not (has members u)) (ap not (none u a))
     ])
 
-pub members_add : (nearest : List ℕ) (members : List ℤ) (from v total way : ℕ) → IsNext (has members) from v → way ≡ get_or nearest v 0 → total ≡ sum_below from (has members) (λ v. get_or nearest v 0) → total + way ≡ sum_below (v + 1) (has members) (λ v. get_or nearest v 0)
+pub members_add : (nearest : List ℕ) (members : List ℤ) (from v total way : ℕ) → IsLeastFrom (has members) from v → way ≡ get_or nearest v 0 → total ≡ sum_below from (has members) (λ v. get_or nearest v 0) → total + way ≡ sum_below (v + 1) (has members) (λ v. get_or nearest v 0)
 members_add nearest members from v total way next e t =
     ap₂ ◌+◌ t e ∙ sym (sum_below-next from v (has members) (λ v. get_or nearest v 0) next.reached next.skipped next.passes)
 

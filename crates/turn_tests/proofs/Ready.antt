@@ -6,10 +6,10 @@ use Rattle.board_lock.specs.declared.turn.Seat.{Seat}
 use Rattle.board_lock.specs.declared.turn.Turn.{Turn}
 use Rattle.board_lock.proofs.Numbers.{all_within}
 use Rattle.turn_tests.specs.Counter.{CounterView}
-use Rattle.turn_tests.specs.Work.{IsReady}
+use Rattle.turn_tests.specs.Work.{IsReadyAtCounter}
 use Rattle.turn_tests.specs.declared.counter.Terms.{Terms}
 
-pub ready : (turn : Turn CounterView Terms) (items : List (Seat CounterView)) (n : ℕ) → All (IsFresh turn) items → map number_of items ≡ range_with_len 0 n → length (first_of turn).slots ≡ n → All (IsReady turn) items
+pub ready : (turn : Turn CounterView Terms) (items : List (Seat CounterView)) (n : ℕ) → All (IsFresh turn) items → map number_of items ≡ range_with_len 0 n → length (first_of turn).slots ≡ n → All (IsReadyAtCounter turn) items
 ready turn items n fresh numbers wide k d lt =
     let f = fresh k d lt in
     record { own = f.own; nothing_out = f.nothing_out; within = let w = all_within items n numbers k d lt in omega arith }

@@ -7,7 +7,7 @@ use Rattle.turn_tests.specs.Counter.{CounterView}
 use Rattle.turn_tests.specs.declared.counter.Terms.{Terms}
 
 -- the seat is one of the turn's, its number is one of the counter's workers, and it has nothing out
-pub record IsReady (turn : Turn CounterView Terms) (seat : Seat CounterView) : Type 0 where
+pub record IsReadyAtCounter (turn : Turn CounterView Terms) (seat : Seat CounterView) : Type 0 where
   pub own : IsSeatOf turn seat
   pub nothing_out : out_of seat ≡ None
   pub within : seat.number < length (first_of turn).slots

@@ -4,7 +4,7 @@ ghost use Rattle.std.specs.List.{All, range_with_len};
 ghost use Rattle.board_lock.specs.Order.{NoLess};
 ghost use Rattle.board_lock.specs.Seats.{first_of, seats_of, seen_of, number_of};
 ghost use Rattle.board_laws.specs.Board.{full_slots};
-ghost use Rattle.worker_gate.specs.Ready.{IsReady};
+ghost use Rattle.worker_gate.specs.Ready.{IsReadySeat};
 
 use board_lock::{NoTurn, Seat, Turn};
 use dp_model::{DpModel, OutOfMemory};
@@ -20,7 +20,7 @@ pub fn open_board(
     model: Knapsack,
 ) -> Result<(Turn<Board<Knapsack>>, Vec<Seat<Board<Knapsack>>>), OutOfMemory>
     ensures idle { IfOk result (λ r. full_slots (first_of r.0).board.slots ≡ []) }
-    ensures ready { IfOk result (λ r. All (IsReady r.0) r.1.items) }
+    ensures ready { IfOk result (λ r. All (IsReadySeat r.0) r.1.items) }
     ensures numbers { IfOk result (λ r. map number_of r.1.items ≡ range_with_len 0 (seats_of r.0)) }
 {
     let settings = Settings {
@@ -46,8 +46,8 @@ fn incumbent_found<M: DpModel, R: Wait>(
     turn: &Turn<Board<M>>,
     seat: &mut Seat<Board<M>>,
 ) -> Option<i64>
-    requires { IsReady turn.now seat.old }
-    ensures ready { IsReady turn.now seat.new }
+    requires { IsReadySeat turn.now seat.old }
+    ensures ready { IsReadySeat turn.now seat.new }
     ensures number { seat.new.number ≡ seat.old.number }
     ensures least { NoLess (seen_of seat.old) result }
 {
@@ -63,8 +63,8 @@ fn found_by_first<M: DpModel, R: Wait>(
     turn: &Turn<Board<M>>,
     seats: &mut [Seat<Board<M>>],
 ) -> Option<Option<i64>>
-    requires { All (IsReady turn.now) seats.old }
-    ensures ready { All (IsReady turn.now) seats.new }
+    requires { All (IsReadySeat turn.now) seats.old }
+    ensures ready { All (IsReadySeat turn.now) seats.new }
     ensures numbers { map number_of seats.new ≡ map number_of seats.old }
 {
     let seat = seats.first_mut()?;
@@ -78,8 +78,8 @@ fn found_after<M: DpModel, R: Wait>(
     seat: &mut Seat<Board<M>>,
     decisions: &[u32],
 ) -> Option<i64>
-    requires { IsReady turn.now seat.old }
-    ensures ready { IsReady turn.now seat.new }
+    requires { IsReadySeat turn.now seat.old }
+    ensures ready { IsReadySeat turn.now seat.new }
     ensures number { seat.new.number ≡ seat.old.number }
     ensures least { NoLess (seen_of seat.old) result }
 {
@@ -95,11 +95,11 @@ fn meet_first<M: DpModel, R: Wait>(
     others: &mut [Seat<Board<M>>],
     decisions: &[u32],
 ) -> (Option<i64>, Option<Option<i64>>)
-    requires first { IsReady turn.now seat.old }
-    requires others { All (IsReady turn.now) others.old }
-    ensures first { IsReady turn.now seat.new }
+    requires first { IsReadySeat turn.now seat.old }
+    requires others { All (IsReadySeat turn.now) others.old }
+    ensures first { IsReadySeat turn.now seat.new }
     ensures number { seat.new.number ≡ seat.old.number }
-    ensures others { All (IsReady turn.now) others.new }
+    ensures others { All (IsReadySeat turn.now) others.new }
     ensures numbers { map number_of others.new ≡ map number_of others.old }
 {
     let again = found_after(rt, turn, seat, decisions);
@@ -113,8 +113,8 @@ pub fn meet_over_board<M: DpModel, R: Wait>(
     seats: &mut [Seat<Board<M>>],
     decisions: &[u32],
 ) -> Option<(Option<i64>, Option<Option<i64>>)>
-    requires { All (IsReady turn.now) seats.old }
-    ensures ready { All (IsReady turn.now) seats.new }
+    requires { All (IsReadySeat turn.now) seats.old }
+    ensures ready { All (IsReadySeat turn.now) seats.new }
     ensures numbers { map number_of seats.new ≡ map number_of seats.old }
 {
     if let Some((seat, others)) = seats.split_first_mut() {

@@ -1,6 +1,6 @@
 //! The counter and its two steps.
-ghost use Rattle.std.specs.Prelude.{◌≡◌, ◌⊎◌, ℕ, ◌+◌, ◌<◌, ◌^◌, ◌≤◌, List, [], Option, Some, None, length, pos, slice_get, slice_set, replicate, IfOk, IsSome, MatchOption};
-ghost use Rattle.turn_tests.specs.Counter.{CounterView, with_taken, with_finished, slot_of, Took, Finished, IsStep};
+ghost use Rattle.std.specs.Prelude.{◌≡◌, ℕ, ◌+◌, ◌<◌, ◌≤◌, Option, Some, None, length, slice_get, replicate, IfOk, MatchOption};
+ghost use Rattle.turn_tests.specs.Counter.{CounterView, with_taken, with_finished, slot_of, IsStep};
 
 use board_lock::Turned;
 use std::alloc::{AllocError, Global};

@@ -1,10 +1,10 @@
 //! The workers.
-ghost use Rattle.std.specs.Prelude.{◌≡◌, ℕ, ◌<◌, ◌≤◌, IfOk, IfSome, vec_len, map, length, ◌∷◌, [], Option, Some, None, pos, MatchOption, IsSome};
+ghost use Rattle.std.specs.Prelude.{◌≡◌, ℕ, ◌<◌, ◌≤◌, IfOk, IfSome, vec_len, map, length, ◌∷◌, [], Option, Some, None, pos, MatchOption};
 ghost use Rattle.std.specs.List.{All, range_with_len};
 ghost use Rattle.std.specs.Thread.{IsSync};
 ghost use Rattle.board_lock.specs.Order.{NoLess};
 ghost use Rattle.board_lock.specs.Seats.{first_of, seats_of, seen_of, out_of, number_of, IsSeatOf};
-ghost use Rattle.turn_tests.specs.Work.{IsReady};
+ghost use Rattle.turn_tests.specs.Work.{IsReadyAtCounter};
 ghost use Rattle.turn_tests.specs.Counter.{slot_of};
 
 use crate::counter::Counter;
@@ -21,7 +21,7 @@ pub struct Desk {
 
 /// Takes a number, if one is left.
 fn take_one<R: Wait>(rt: &R, turn: &Turn<Counter>, seat: &mut Seat<Counter>) -> Option<u32>
-    requires { IsReady turn.now seat.old }
+    requires { IsReadyAtCounter turn.now seat.old }
     ensures own { IsSeatOf turn.now seat.new }
     ensures number { seat.new.number ≡ seat.old.number }
     ensures seen { NoLess (seen_of seat.old) (seen_of seat.new) }
@@ -52,8 +52,8 @@ fn finish_one<R: Wait>(rt: &R, turn: &Turn<Counter>, seat: &mut Seat<Counter>, n
 
 /// Takes numbers and gives them back, until none is left.
 pub fn work<R: Wait>(rt: &R, turn: &Turn<Counter>, seat: &mut Seat<Counter>, desk: &mut Desk)
-    requires { IsReady turn.now seat.old }
-    ensures ready { IsReady turn.now seat.new }
+    requires { IsReadyAtCounter turn.now seat.old }
+    ensures ready { IsReadyAtCounter turn.now seat.new }
     ensures number { seat.new.number ≡ seat.old.number }
     ensures seen { NoLess (seen_of seat.old) (seen_of seat.new) }
 {
@@ -76,23 +76,23 @@ fn beside<R: Threads + Wait + Sync>(
     desk: &mut Desk,
     desks: &mut [Desk],
 )
-    requires first { IsReady turn.now seat.old }
-    requires others { All (IsReady turn.now) seats.old }
+    requires first { IsReadyAtCounter turn.now seat.old }
+    requires others { All (IsReadyAtCounter turn.now) seats.old }
     requires lengths { length seats.old ≡ length desks.old }
-    ensures first { IsReady turn.now seat.new }
+    ensures first { IsReadyAtCounter turn.now seat.new }
     ensures number { seat.new.number ≡ seat.old.number }
-    ensures others { All (IsReady turn.now) seats.new }
+    ensures others { All (IsReadyAtCounter turn.now) seats.new }
     ensures numbers { map number_of seats.new ≡ map number_of seats.old }
 {
     join_mut(
         rt,
         &mut ||
-            requires { IsSync R.row × IsReady turn.now seat.now }
-            ensures { IsReady turn.entry.now seat.exit.now × (seat.exit.now.number ≡ seat.entry.now.number) }
+            requires { IsSync R.row × IsReadyAtCounter turn.now seat.now }
+            ensures { IsReadyAtCounter turn.entry.now seat.exit.now × (seat.exit.now.number ≡ seat.entry.now.number) }
         { work(rt, turn, seat, desk) },
         &mut ||
-            requires { IsSync R.row × (length seats.now ≡ length desks.now) × All (IsReady turn.now) seats.now }
-            ensures { All (IsReady turn.entry.now) seats.exit.now × (map number_of seats.exit.now ≡ map number_of seats.entry.now) }
+            requires { IsSync R.row × (length seats.now ≡ length desks.now) × All (IsReadyAtCounter turn.now) seats.now }
+            ensures { All (IsReadyAtCounter turn.entry.now) seats.exit.now × (map number_of seats.exit.now ≡ map number_of seats.entry.now) }
         { fan_out(rt, turn, seats, desks) },
     );
 }
@@ -105,9 +105,9 @@ pub fn fan_out<R: Threads + Wait + Sync>(
     seats: &mut [Seat<Counter>],
     desks: &mut [Desk],
 )
-    requires ready { All (IsReady turn.now) seats.old }
+    requires ready { All (IsReadyAtCounter turn.now) seats.old }
     requires lengths { length seats.old ≡ length desks.old }
-    ensures ready { All (IsReady turn.now) seats.new }
+    ensures ready { All (IsReadyAtCounter turn.now) seats.new }
     ensures numbers { map number_of seats.new ≡ map number_of seats.old }
 {
     if let Some((seat, rest)) = seats.split_first_mut() {
@@ -124,9 +124,9 @@ fn fan_all<R: Threads + Wait + Sync>(
     seats: &mut Vec<Seat<Counter>>,
     desks: &mut Vec<Desk>,
 )
-    requires ready { All (IsReady turn.now) seats.old.items }
+    requires ready { All (IsReadyAtCounter turn.now) seats.old.items }
     requires lengths { vec_len seats.old ≡ vec_len desks.old }
-    ensures ready { All (IsReady turn.now) seats.new.items }
+    ensures ready { All (IsReadyAtCounter turn.now) seats.new.items }
     ensures numbers { map number_of seats.new.items ≡ map number_of seats.old.items }
 {
     fan_out(rt, turn, seats.as_mut_slice(), desks.as_mut_slice());
@@ -140,7 +140,7 @@ pub fn open(
 ) -> Result<(Turn<Counter>, Vec<Seat<Counter>>), AllocError>
     requires { 1 ≤ workers }
     ensures limit { IfOk result (λ r. (first_of r.0).limit ≡ limit) }
-    ensures ready { IfOk result (λ r. All (IsReady r.0) r.1.items) }
+    ensures ready { IfOk result (λ r. All (IsReadyAtCounter r.0) r.1.items) }
     ensures numbers { IfOk result (λ r. map number_of r.1.items ≡ range_with_len 0 (seats_of r.0)) }
     ensures count { IfOk result (λ r. seats_of r.0 ≡ workers) }
 {
@@ -156,7 +156,7 @@ pub fn open(
 
 /// Ends the turn. No worker has a number out.
 pub fn close(turn: Turn<Counter>, seats: Vec<Seat<Counter>>) -> Counter
-    requires ready { All (IsReady turn) seats.items }
+    requires ready { All (IsReadyAtCounter turn) seats.items }
     requires numbers { map number_of seats.items ≡ range_with_len 0 (seats_of turn) }
     ensures limit { result.limit ≡ (first_of turn).limit }
     ensures nothing_out { (who : ℕ) → slot_of result who ≡ None }
@@ -184,8 +184,8 @@ pub fn count_all<R: Threads + Wait + Sync>(
 
 /// The greatest number that came back, as the seat finds it.
 fn best_found<R: Wait>(rt: &R, turn: &Turn<Counter>, seat: &mut Seat<Counter>) -> Option<i64>
-    requires { IsReady turn.now seat.old }
-    ensures ready { IsReady turn.now seat.new }
+    requires { IsReadyAtCounter turn.now seat.old }
+    ensures ready { IsReadyAtCounter turn.now seat.new }
     ensures number { seat.new.number ≡ seat.old.number }
     ensures least { NoLess (seen_of seat.old) result }
     ensures seen { seen_of seat.new ≡ result }
@@ -203,8 +203,8 @@ fn found_by_first<R: Wait>(
     turn: &Turn<Counter>,
     seats: &mut [Seat<Counter>],
 ) -> Option<Option<i64>>
-    requires ready { All (IsReady turn.now) seats.old }
-    ensures ready { All (IsReady turn.now) seats.new }
+    requires ready { All (IsReadyAtCounter turn.now) seats.old }
+    ensures ready { All (IsReadyAtCounter turn.now) seats.new }
     ensures numbers { map number_of seats.new ≡ map number_of seats.old }
 {
     let seat = seats.first_mut()?;
@@ -218,8 +218,8 @@ fn found_after<R: Wait>(
     seat: &mut Seat<Counter>,
     number: u32,
 ) -> Option<i64>
-    requires { IsReady turn.now seat.old }
-    ensures ready { IsReady turn.now seat.new }
+    requires { IsReadyAtCounter turn.now seat.old }
+    ensures ready { IsReadyAtCounter turn.now seat.new }
     ensures number { seat.new.number ≡ seat.old.number }
     ensures least { NoLess (Some (pos number)) result }
 {
@@ -235,11 +235,11 @@ fn meet_first<R: Wait>(
     others: &mut [Seat<Counter>],
     number: u32,
 ) -> (Option<i64>, Option<Option<i64>>)
-    requires first { IsReady turn.now seat.old }
-    requires others { All (IsReady turn.now) others.old }
-    ensures first { IsReady turn.now seat.new }
+    requires first { IsReadyAtCounter turn.now seat.old }
+    requires others { All (IsReadyAtCounter turn.now) others.old }
+    ensures first { IsReadyAtCounter turn.now seat.new }
     ensures number { seat.new.number ≡ seat.old.number }
-    ensures others { All (IsReady turn.now) others.new }
+    ensures others { All (IsReadyAtCounter turn.now) others.new }
     ensures numbers { map number_of others.new ≡ map number_of others.old }
     ensures least { NoLess (Some (pos number)) result.0 }
 {
@@ -254,8 +254,8 @@ pub fn meet<R: Wait>(
     seats: &mut [Seat<Counter>],
     number: u32,
 ) -> Option<(Option<i64>, Option<Option<i64>>)>
-    requires ready { All (IsReady turn.now) seats.old }
-    ensures ready { All (IsReady turn.now) seats.new }
+    requires ready { All (IsReadyAtCounter turn.now) seats.old }
+    ensures ready { All (IsReadyAtCounter turn.now) seats.new }
     ensures numbers { map number_of seats.new ≡ map number_of seats.old }
     ensures first { IfSome result (λ r. NoLess (Some (pos number)) r.0) }
 {

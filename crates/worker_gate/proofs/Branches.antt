@@ -27,7 +27,7 @@ use Rattle.layer_build.specs.Layers.{IsWidth}
 use Rattle.restricted_dd.specs.Beams.{ShowsBeam}
 use Rattle.exact_cutset.specs.Seen.{ShowsSolution}
 use Rattle.worker_gate.specs.Branched.{AreBranched, IsBranched}
-use Rattle.worker_gate.specs.Offered.{solution_of}
+use Rattle.worker_gate.specs.Offered.{found_solution}
 
 abbrev solution : List ℕ → ℤ → Solution
 solution x v = record { decisions = x; value = v }
@@ -41,7 +41,7 @@ same-solution x y v w same equal = ap (λ z. solution z v) same ∙ ap (solution
 abbrev pub beam_value : Option Reached → Option ℤ
 beam_value b = option_map (λ (r : Reached). r.value) b
 
-pub beam-held : (dp : Dp) (p : List ℕ) (w : ℕ) (t : Option ℤ) (found : Option Found) → IsPrefix dp p → (b : Option Reached) → b ≡ beam dp p w t → ShowsBeam b found → IncumbentHolds dp (solution_of found)
+pub beam-held : (dp : Dp) (p : List ℕ) (w : ℕ) (t : Option ℤ) (found : Option Found) → IsPrefix dp p → (b : Option Reached) → b ≡ beam dp p w t → ShowsBeam b found → IncumbentHolds dp (found_solution found)
 beam-held dp p w t None prefix b is shows = tt
 beam-held dp p w t (Some f) prefix None is shows = absurd shows
 beam-held dp p w t (Some f) prefix (Some r) is shows =
@@ -51,7 +51,7 @@ beam-held dp p w t (Some f) prefix (Some r) is shows =
       value = shows.value ∙ (whole.value ∙ ap (value_of dp) (sym shows.decisions));
     }
 
-pub beam-value-held : (b : Option Reached) (found : Option Found) → ShowsBeam b found → beam_value b ≡ found_value (solution_of found)
+pub beam-value-held : (b : Option Reached) (found : Option Found) → ShowsBeam b found → beam_value b ≡ found_value (found_solution found)
 beam-value-held None None shows = refl
 beam-value-held None (Some f) shows = absurd shows
 beam-value-held (Some r) None shows = absurd shows
@@ -67,7 +67,7 @@ not-some (Some x) h = absurd (cc)
 
 -- where the width took nothing away and the beam was offered, nothing is left to branch
 pub whole-branched-for : (dp : Dp) → IsLawful dp → (v : ℕ) (most : Option ℤ) (p : List ℕ) (w : ℕ) (t : Option ℤ) (found : Option Found) → IsPrefix dp p → false ≡ is_some (wide dp p w t) → ShowsBeam (beam dp p w t) found
-    → OptionAtMost t most → OptionAtMost (found_value (solution_of found)) most → AreBranched dp v most p t []
+    → OptionAtMost t most → OptionAtMost (found_value (found_solution found)) most → AreBranched dp v most p t []
 whole-branched-for dp laws v most p w t found prefix whole shows low best =
     let same = beam-value-held (beam dp p w t) found shows in
     record {
@@ -81,20 +81,20 @@ whole-branched-for dp laws v most p w t found prefix whole shows low best =
         held = tt;
         matched = λ x k. elim (whole_beams-best dp laws p w t prefix (not-some (wide dp p w t) whole) x k) as (λ _. AtMost (value_of dp x) most ⊎ ⊥) [
           | inl a ↦ inl (at-most-raised (value_of dp x) t most low a)
-          | inr a ↦ inl (at-most-raised (value_of dp x) (found_value (solution_of found)) most best (subst (AtMost (value_of dp x)) same a))
+          | inr a ↦ inl (at-most-raised (value_of dp x) (found_value (found_solution found)) most best (subst (AtMost (value_of dp x)) same a))
         ];
       };
       deep = none-deep (wide dp p v t);
     }
 
 pub whole-branched : (dp : Dp) → IsLawful dp → (b : BoardState) (p : List ℕ) (w : ℕ) (t : Option ℤ) (found : Option Found) → IsPrefix dp p → false ≡ is_some (wide dp p w t) → ShowsBeam (beam dp p w t) found
-    → OptionAtMost t (reach b) → OptionAtMost (found_value (solution_of found)) (reach b) → IsBranched dp b p t []
+    → OptionAtMost t (reach b) → OptionAtMost (found_value (found_solution found)) (reach b) → IsBranched dp b p t []
 whole-branched dp laws b p w t found prefix whole shows low best = whole-branched-for dp laws b.settings.width (reach b) p w t found prefix whole shows low best
 
 -- The relaxed diagram.
 
 -- what is shown is the solution
-pub shown-solution : (s : Option Solution) (f : Option Found) → ShowsSolution s f → solution_of f ≡ s
+pub shown-solution : (s : Option Solution) (f : Option Found) → ShowsSolution s f → found_solution f ≡ s
 shown-solution None None shows = refl
 shown-solution None (Some f) shows = absurd shows
 shown-solution (Some s) None shows = absurd shows

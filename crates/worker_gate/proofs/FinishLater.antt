@@ -1,11 +1,12 @@
 -- What was enough for the value that a seat saw is enough for each board whose incumbent is no less.
 use Rattle.std.proofs.Common.{◌≡◌, ℕ, ℤ, ◌≤◌, List, length, Option, Some, None, ⊎_elim, inl, inr, sym, ap, subst, ◌∙◌}
+use Rattle.std.specs.Int.Signed.{≤ℤ_refl}
 use Rattle.board_lock.specs.Order.{NoLess}
 use Rattle.dp_model.specs.Cover.{IsHeld}
 use Rattle.dp_model.specs.Dp.{Dp}
 use Rattle.dp_model.specs.Lists.{Each}
-use Rattle.dp_model.specs.Numbers.{OptionAtMost}
-use Rattle.dp_model.specs.Prefixes.{value_of}
+use Rattle.dp_model.specs.Numbers.{AtMost, OptionAtMost}
+use Rattle.dp_model.specs.Prefixes.{IsSolution, value_of}
 use Rattle.dp_model.specs.Subproblem.{Subproblem, IsOwn, IsChild}
 use Rattle.dp_model.proofs.Members.{Each-then}
 use Rattle.dp_laws.specs.Children.{AreChildren, StandDeep}
@@ -47,6 +48,19 @@ offer-no-less dp b x Yes seen gives less =
     (subst (λ (later : BoardState). OptionAtMost (incumbent_value b) (incumbent_value later)) (sym (better-offered dp b x gives.1)) (step-follows dp b (Improve x)).better))
 offer-no-less dp b x NotBetter seen gives less = less
 offer-no-less dp b x NoSolution seen gives less = less
+
+-- an offer leaves an incumbent that is no less than the solution
+offer-reaches : (dp : Dp) (b : BoardState) (x : List ℕ) (answer : Improved) → ImproveGives dp b x answer → IsSolution dp x → AtMost (value_of dp x) (incumbent_value (after_offer dp answer b x))
+offer-reaches dp b x Yes gives is = ≤ℤ_refl (value_of dp x)
+offer-reaches dp b x NotBetter gives is = gives.1
+offer-reaches dp b x NoSolution gives is = absurd (gives is)
+
+-- and so no less is what a seat has seen then
+pub offer-seen : (meaning : List ℤ → Dp) (numbers first : List ℤ) (b : BoardState) (x : List ℕ) (answer : Improved) (seen : Option ℤ) → ImproveGives (meaning numbers) b x answer → numbers ≡ first
+    → seen ≡ incumbent_value (after_offer (meaning numbers) answer b x) → IsSolution (meaning first) x → AtMost (value_of (meaning first) x) seen
+offer-seen meaning numbers first b x answer seen gives same is solution =
+    subst (λ (ns : List ℤ). AtMost (value_of (meaning ns) x) seen) same
+    (subst (AtMost (value_of (meaning numbers) x)) (sym is) (offer-reaches (meaning numbers) b x answer gives (subst (λ (ns : List ℤ). IsSolution (meaning ns) x) (sym same) solution)))
 
 -- what was seen is at most the reach of a board whose incumbent is no less
 seen-below : (dp : Dp) (b : BoardState) (seen : Option ℤ) → IsBoard dp b → NoLess seen (incumbent_value b) → OptionAtMost seen (reach b)

@@ -5,7 +5,7 @@ use Rattle.dp_model.specs.Counts.{tree}
 use Rattle.dp_model.specs.Dp.{Dp}
 use Rattle.dp_model.specs.Subproblem.{Subproblem}
 use Rattle.shared_fringe.specs.Tickets.{Ticketed}
-use Rattle.board_laws.specs.Board.{BoardState, full_slots, slot_of, slot_at, is_explored}
+use Rattle.board_laws.specs.Board.{BoardState, full_slots, slot_content, slot_at, is_explored}
 use Rattle.board_laws.specs.GoodBoard.{IsGood}
 use Rattle.board_laws.specs.Runs.{Step, IsRun, MayGiveBack}
 use Rattle.board_laws.specs.Runs.Step.{GiveBack, Halt}
@@ -54,7 +54,7 @@ still_under_way dp b taken now c way offered = record {
 
 -- what is under way is out
 pub way_out : (dp : Dp) (b now : BoardState) (c : Subproblem) (way : IsRoundUnderWay dp b now c) → slice_get b.slots 0 ≡ Some None → slot_at now 0 ≡ Some way.out
-way_out dp b now c way empty = ap (λ s. slot_of (slice_get s 0)) way.slots ∙ slot_set b.slots way.out empty
+way_out dp b now c way empty = ap (λ s. slot_content (slice_get s 0)) way.slots ∙ slot_set b.slots way.out empty
 
 pub way_out_is : (dp : Dp) (b now : BoardState) (c : Subproblem) → IsRoundUnderWay dp b now c → slice_get b.slots 0 ≡ Some None → option_map (λ (o : Ticketed). o.subproblem) (slot_at now 0) ≡ Some c
 way_out_is dp b now c way empty = ap (option_map (λ (o : Ticketed). o.subproblem)) (way_out dp b now c way empty) ∙ ap Some way.same

@@ -3,7 +3,7 @@ use Rattle.std.proofs.Common.{◌≡◌, ℕ, zero, suc, ◌<◌, ◌≤◌, Lis
 use Rattle.dp_model.specs.Dp.{Dp}
 use Rattle.dp_model.specs.Lists.{Each}
 use Rattle.shared_fringe.specs.Tickets.{Ticketed}
-use Rattle.board_laws.specs.Board.{BoardState, slot_of, slot_at, full_slots}
+use Rattle.board_laws.specs.Board.{BoardState, slot_content, slot_at, full_slots}
 use Rattle.board_laws.specs.GoodBoard.{IsBoard}
 use Rattle.board_laws.specs.Steps.{given_back_from, given_back}
 use Rattle.search_core.specs.Moves.{out_at}
@@ -12,7 +12,7 @@ empty_of : (s : Option Ticketed) → option_map (λ o. o.subproblem.decisions) s
 empty_of None e = refl
 empty_of (Some o) e = absurd (cc)
 
-empty_at : (slots : List (Option Ticketed)) (who : ℕ) → who < length slots → option_map (λ o. o.subproblem.decisions) (slot_of (slice_get slots who)) ≡ None → slice_get slots who ≡ Some None
+empty_at : (slots : List (Option Ticketed)) (who : ℕ) → who < length slots → option_map (λ o. o.subproblem.decisions) (slot_content (slice_get slots who)) ≡ None → slice_get slots who ≡ Some None
 empty_at [] who lt e = absurd (omega arith)
 empty_at (s ∷ slots) zero lt e = ap Some (empty_of s e)
 empty_at (s ∷ slots) (suc who) lt e = empty_at slots who (omega arith) e
@@ -31,28 +31,28 @@ pub full_of : (s : Option Ticketed) (decisions : List ℕ) → option_map (λ o.
 full_of None decisions e = absurd (cc)
 full_of (Some o) decisions e = record { parent = o; full = refl; decisions_are = cc }
 
-pub some_full : (slots : List (Option Ticketed)) (who : ℕ) (o : Ticketed) → slot_of (slice_get slots who) ≡ Some o → 1 ≤ length (full_slots slots)
+pub some_full : (slots : List (Option Ticketed)) (who : ℕ) (o : Ticketed) → slot_content (slice_get slots who) ≡ Some o → 1 ≤ length (full_slots slots)
 some_full [] who o e = absurd (cc)
 some_full (None ∷ slots) zero o e = absurd (cc)
 some_full (None ∷ slots) (suc who) o e = some_full slots who o e
 some_full (Some p ∷ slots) who o e = omega arith
 
 -- what holds of all that is out or open holds of what a slot has
-pub of_slot : (P : Ticketed → Type 0) (slots : List (Option Ticketed)) (open_ones : List Ticketed) (who : ℕ) (o : Ticketed) → Each P (full_slots slots ++ open_ones) → slot_of (slice_get slots who) ≡ Some o → P o
+pub of_slot : (P : Ticketed → Type 0) (slots : List (Option Ticketed)) (open_ones : List Ticketed) (who : ℕ) (o : Ticketed) → Each P (full_slots slots ++ open_ones) → slot_content (slice_get slots who) ≡ Some o → P o
 of_slot P [] open_ones who o all e = absurd (cc)
 of_slot P (None ∷ slots) open_ones zero o all e = absurd (cc)
 of_slot P (None ∷ slots) open_ones (suc who) o all e = of_slot P slots open_ones who o all e
 of_slot P (Some p ∷ slots) open_ones zero o all e = subst P (let same : p ≡ o = cc in same) all.0
 of_slot P (Some p ∷ slots) open_ones (suc who) o all e = of_slot P slots open_ones who o all.1 e
 
-cleared_in : (l : List (Option Ticketed)) (i : ℕ) → option_map (λ o. o.subproblem.decisions) (slot_of (slice_get (slice_set l i None) i)) ≡ None
+cleared_in : (l : List (Option Ticketed)) (i : ℕ) → option_map (λ o. o.subproblem.decisions) (slot_content (slice_get (slice_set l i None) i)) ≡ None
 cleared_in [] i = refl
 cleared_in (x ∷ xs) zero = refl
 cleared_in (x ∷ xs) (suc i) = cleared_in xs i
 
 -- a slot that was emptied has nothing out
 pub out_cleared : (b c : BoardState) (who : ℕ) → c.slots ≡ slice_set b.slots who None → out_at c who ≡ None
-out_cleared b c who at = ap (λ s. option_map (λ o. o.subproblem.decisions) (slot_of (slice_get s who))) at ∙ cleared_in b.slots who
+out_cleared b c who at = ap (λ s. option_map (λ o. o.subproblem.decisions) (slot_content (slice_get s who))) at ∙ cleared_in b.slots who
 
 full_slot_of : (slot : Option Ticketed) → IsSome (option_map (λ o. o.subproblem.decisions) slot) → IsSome slot
 full_slot_of None some = absurd (cc)

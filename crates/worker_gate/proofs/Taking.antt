@@ -8,7 +8,7 @@ use Rattle.dp_model.specs.Subproblem.{Subproblem, IsOwn}
 use Rattle.dp_model.proofs.Paths.{state_of-state}
 use Rattle.shared_fringe.specs.Firsts.{first_from, first_taken}
 use Rattle.shared_fringe.specs.Tickets.{Ticketed}
-use Rattle.board_laws.specs.Board.{BoardState, full_slots, slot_of, is_explored}
+use Rattle.board_laws.specs.Board.{BoardState, full_slots, slot_content, is_explored}
 use Rattle.board_laws.specs.GoodBoard.{IsBoard}
 use Rattle.board_laws.specs.Runs.Step.{Take}
 use Rattle.board_laws.specs.Taking.{take_open, take_unless, take_gives, checked_out, after_answer, after_take, copy_of, handed_out}
@@ -36,7 +36,7 @@ first_set : (slots : List (Option Ticketed)) (o : Ticketed) → 1 ≤ length slo
 first_set [] o some = absurd (omega arith)
 first_set (s ∷ slots) o some = refl
 
-pub first_full : (slots : List (Option Ticketed)) (o : Ticketed) → slot_of (slice_get slots 0) ≡ Some o → 1 ≤ length (full_slots slots)
+pub first_full : (slots : List (Option Ticketed)) (o : Ticketed) → slot_content (slice_get slots 0) ≡ Some o → 1 ≤ length (full_slots slots)
 first_full [] o full = absurd (cc)
 first_full (None ∷ slots) o full = absurd (cc)
 first_full (Some p ∷ slots) o full = omega arith
@@ -45,7 +45,7 @@ pub set_back : (slots : List (Option Ticketed)) (o : Option Ticketed) → slice_
 set_back [] o empty = refl
 set_back (s ∷ slots) o empty = let same : s ≡ None = cc in ap (λ t. t ∷ slots) (sym same)
 
-pub slot_set : (slots : List (Option Ticketed)) (o : Ticketed) → slice_get slots 0 ≡ Some None → slot_of (slice_get (slice_set slots 0 (Some o)) 0) ≡ Some o
+pub slot_set : (slots : List (Option Ticketed)) (o : Ticketed) → slice_get slots 0 ≡ Some None → slot_content (slice_get (slice_set slots 0 (Some o)) 0) ≡ Some o
 slot_set [] o empty = absurd (cc)
 slot_set (s ∷ slots) o empty = refl
 

@@ -7,8 +7,8 @@ use Rattle.board_laws.specs.Board.{BoardState}
 use Rattle.board_laws.specs.Runs.{Step, IsRun}
 
 -- what was found, as data
-abbrev pub solution_of : Option Found → Option Solution
-solution_of found = option_map (λ (f : Found). record { decisions = f.decisions.now; value = f.value }) found
+abbrev pub found_solution : Option Found → Option Solution
+found_solution found = option_map (λ (f : Found). record { decisions = f.decisions.now; value = f.value }) found
 
 -- a board after offers, which are steps of a run: beside the incumbent only what is open may have changed
 pub record IsOffered (dp : Dp) (b later : BoardState) : Type 0 where

@@ -15,7 +15,7 @@ pub record IsWorker (turn : Turn BoardView Tag) (seat : Seat BoardView) : Type 0
   pub within : seat.number < (first_of turn).board.settings.workers
 
 -- such a seat with nothing out
-pub record IsReady (turn : Turn BoardView Tag) (seat : Seat BoardView) : Type 0 where
+pub record IsReadySeat (turn : Turn BoardView Tag) (seat : Seat BoardView) : Type 0 where
   pub worker : IsWorker turn seat
   pub nothing_out : out_of seat ≡ None
 

@@ -49,6 +49,28 @@ impl CoverBuilder {
         }
     }
 
+    /// The same in the memory of a cover that is not needed any more.
+    pub fn reusing(spare: Cover) -> CoverBuilder
+        ensures { result ≡ record { cover = []; words = []; arcs = [] } }
+    {
+        let mut starts = spare.starts;
+        let mut heads = spare.heads;
+        let mut words = spare.words;
+        let mut arcs = spare.arcs;
+        starts.clear();
+        heads.clear();
+        words.clear();
+        arcs.clear();
+        CoverBuilder {
+            starts,
+            heads,
+            words,
+            arcs,
+            words_from: 0,
+            arcs_from: 0,
+        }
+    }
+
     /// How many layers there are.
     pub fn layers(&self) -> usize
         ensures { result ≡ length self.now.cover }

@@ -25,7 +25,7 @@ use Rattle.dp_laws.specs.declared.arc.DdArc.{DdArc}
 use Rattle.dp_laws.specs.Diagrams.Nodes.{DdNode, DdLayers, node_at, as_member}
 use Rattle.dp_laws.specs.Diagrams.Seen.{HasArcs, Leads, LeadsTo, IsReachedBy, AreLayers, IsDiagram, suffix_at, suffix_from, exact_layers, decisions_at}
 use Rattle.dp_laws.specs.Diagrams.Cutsets.{lesser_of, bound_of, ChildAt, places_where, last_exact_at, is_border, all_borders_at, passes, outermost, with_bound, child_from, path_at, frontier_at, children_at, children_of}
-use Rattle.dp_laws.specs.Diagrams.Placed.{IsPlaced, ChildrenFit}
+use Rattle.dp_laws.specs.Diagrams.Placed.{IsChildPlaced, ChildrenFit}
 use Rattle.dp_laws.proofs.Diagrams.Places.{same-Some, Has-at, Has-filter_map-from}
 use Rattle.dp_laws.proofs.Diagrams.Following.{covers-within, states-of}
 use Rattle.dp_laws.proofs.Diagrams.Walks.{keeps-at, from-at, layer-above}
@@ -135,7 +135,7 @@ layer-of d depth place node e =
       | Some layer ↦ λ at e. (layer, at, e)
     ] refl e
 
-pub child-far : (dp : Dp) → IsLawful dp → (p : List ℕ) (w : ℕ) (t : Option ℤ) (d : DdLayers) → length p < dp.vars → IsDiagram dp p w t d → (c : ChildAt) → IsPlaced dp d c → IsFar c.bound
+pub child-far : (dp : Dp) → IsLawful dp → (p : List ℕ) (w : ℕ) (t : Option ℤ) (d : DdLayers) → length p < dp.vars → IsDiagram dp p w t d → (c : ChildAt) → IsChildPlaced dp d c → IsFar c.bound
 child-far dp laws p w t d short h c here =
     let node = here.node in
     let below = here.below in let above = here.above in let first = h.first in let long = h.depth in

@@ -9,7 +9,7 @@ use Rattle.dp_model.proofs.Members.{Has, each-of-all, Has-append-cases}
 use Rattle.dp_laws.specs.Diagrams.Nodes.{DdNode, DdLayers, node_at}
 use Rattle.dp_laws.specs.Diagrams.Seen.{IsDiagram, exact_layers}
 use Rattle.dp_laws.specs.Diagrams.Cutsets.{bound_of, ChildAt, places_where, last_exact_at, is_border, leaves, all_borders_at, passes, outermost, path_at, frontier_at, children_at}
-use Rattle.dp_laws.specs.Diagrams.Placed.{IsPlaced, ChildrenArePlaced}
+use Rattle.dp_laws.specs.Diagrams.Placed.{IsChildPlaced, ChildrenArePlaced}
 use Rattle.dp_laws.proofs.Diagrams.Places.{Has-at}
 use Rattle.dp_laws.proofs.Diagrams.Starts.{reducible}
 use Rattle.dp_laws.proofs.Diagrams.LastExact.{all-exact}
@@ -119,7 +119,7 @@ length-tail (x ∷ xs) h = omega arith
 node-is : (d : DdLayers) (depth place : ℕ) (layer : List DdNode) (node : DdNode) → slice_get d.layers (depth - d.first) ≡ Some layer → slice_get layer place ≡ Some node → node_at d depth place ≡ Some node
 node-is d depth place layer node at is = ap (λ o. option_and_then (λ (l : List DdNode). slice_get l place) o) at ∙ is
 
-frontier-placed : (dp : Dp) (p : List ℕ) (w : ℕ) (t : Option ℤ) (d : DdLayers) → length p < dp.vars → IsDiagram dp p w t d → (c : ChildAt) → Has c (frontier_at dp d) → IsPlaced dp d c
+frontier-placed : (dp : Dp) (p : List ℕ) (w : ℕ) (t : Option ℤ) (d : DdLayers) → length p < dp.vars → IsDiagram dp p w t d → (c : ChildAt) → Has c (frontier_at dp d) → IsChildPlaced dp d c
 frontier-placed dp p w t d short h c has =
     let b = in-borders-at dp (d.first + 1) (drop 1 d.layers) c (left-from (path_at d) [] (all_borders_at dp (d.first + 1) (drop 1 d.layers)) c has) in
     let depth = b.depth in
@@ -138,15 +138,15 @@ frontier-placed dp p w t d short h c has =
       bound = b.bound;
     }
 
-last-placed : (dp : Dp) (p : List ℕ) (w : ℕ) (t : Option ℤ) (d : DdLayers) → length p < dp.vars → IsDiagram dp p w t d → (o : Option ℕ) → d.first_reduced ≡ o → (c : ChildAt) → Has c (last_exact_at dp d o) → IsPlaced dp d c
+last-placed : (dp : Dp) (p : List ℕ) (w : ℕ) (t : Option ℤ) (d : DdLayers) → length p < dp.vars → IsDiagram dp p w t d → (o : Option ℕ) → d.first_reduced ≡ o → (c : ChildAt) → Has c (last_exact_at dp d o) → IsChildPlaced dp d c
 last-placed dp p w t d short h None e c has = absurd has
 last-placed dp p w t d short h (Some depth) e c has =
     let r = reducible dp p w t depth (sym h.first_reduced ∙ e) in
     let low = r.below_first in let high = r.above_last in let long = h.depth in
     let first = h.first in
     let k = depth - 1 in
-    let split : (o : Option (List DdNode)) → slice_get d.layers (k - d.first) ≡ o → Has c (places_where (λ node. true) dp k 0 (unwrap_or o [])) → IsPlaced dp d c = λ o.
-    elim o as (λ o. slice_get d.layers (k - d.first) ≡ o → Has c (places_where (λ node. true) dp k 0 (unwrap_or o [])) → IsPlaced dp d c) [
+    let split : (o : Option (List DdNode)) → slice_get d.layers (k - d.first) ≡ o → Has c (places_where (λ node. true) dp k 0 (unwrap_or o [])) → IsChildPlaced dp d c = λ o.
+    elim o as (λ o. slice_get d.layers (k - d.first) ≡ o → Has c (places_where (λ node. true) dp k 0 (unwrap_or o [])) → IsChildPlaced dp d c) [
       | None ↦ λ at has. absurd has
       | Some layer ↦ λ at has. (
           let a = in-places (λ node. true) dp k 0 layer c has in
@@ -167,9 +167,9 @@ last-placed dp p w t d short h (Some depth) e c has =
     ] in
     split (slice_get d.layers (k - d.first)) refl has
 
-pub placed : (dp : Dp) (p : List ℕ) (w : ℕ) (t : Option ℤ) (d : DdLayers) (kind : CutKind) → length p < dp.vars → IsDiagram dp p w t d → (c : ChildAt) → Has c (children_at dp d kind) → IsPlaced dp d c
+pub placed : (dp : Dp) (p : List ℕ) (w : ℕ) (t : Option ℤ) (d : DdLayers) (kind : CutKind) → length p < dp.vars → IsDiagram dp p w t d → (c : ChildAt) → Has c (children_at dp d kind) → IsChildPlaced dp d c
 placed dp p w t d LastExactLayer short h c has = last-placed dp p w t d short h d.first_reduced refl c has
 placed dp p w t d Frontier short h c has = frontier-placed dp p w t d short h c has
 
 pub children-placed : (dp : Dp) → ChildrenArePlaced dp
-children-placed dp p w t d kind short h = each-of-all (IsPlaced dp d) (children_at dp d kind) (placed dp p w t d kind short h)
+children-placed dp p w t d kind short h = each-of-all (IsChildPlaced dp d) (children_at dp d kind) (placed dp p w t d kind short h)

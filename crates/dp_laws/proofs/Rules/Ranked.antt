@@ -17,7 +17,7 @@ use Rattle.dp_laws.specs.Restricted.Beam.{expanded}
 use Rattle.dp_laws.specs.Diagrams.Nodes.{DdNode, DdLayers, prefix_at}
 use Rattle.dp_laws.specs.Diagrams.Seen.{IsReachedBy, IsDiagram, suffix_from}
 use Rattle.dp_laws.specs.Diagrams.Cutsets.{ChildAt, bound_of, places_where, last_exact_at, is_border, all_borders_at, passes, outermost, with_bound, child_from, path_at, children_at, children_of}
-use Rattle.dp_laws.specs.Diagrams.Placed.{IsPlaced}
+use Rattle.dp_laws.specs.Diagrams.Placed.{IsChildPlaced}
 use Rattle.dp_laws.specs.Rules.Redirects.{Redirect, with_redirected}
 use Rattle.dp_laws.specs.Rules.Expanding.{node_for, new_layer, with_arcs}
 use Rattle.dp_laws.specs.Rules.Pruning.{Leader, at_leader, is_struck, leaders_past, pruned_nodes, prune_redirects}
@@ -272,7 +272,7 @@ module _ (dp : Dp) (laws : IsLawful dp) (chained : IsChained dp) (p : List ℕ) 
     ranked : AreRanked dp t c.depth layer
     child : child_from d c ≡ record { decisions = node.path; row = node.row; value = node.value; bound = c.bound }
 
-  in-layer : (c : ChildAt) → IsPlaced dp d c → InLayer c
+  in-layer : (c : ChildAt) → IsChildPlaced dp d c → InLayer c
   in-layer c h =
       let below = h.below in
       let at = layer-of d c.depth c.place h.node h.is in

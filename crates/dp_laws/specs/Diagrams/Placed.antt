@@ -12,7 +12,7 @@ use Rattle.dp_laws.specs.Diagrams.Seen.{IsDiagram}
 use Rattle.dp_laws.specs.Diagrams.Cutsets.{ChildAt, bound_of, children_at, children_of}
 
 -- the child's place has an exact node, below the first layer and above the last one, with the child's bound
-pub record IsPlaced (dp : Dp) (d : DdLayers) (c : ChildAt) : Type 0 where
+pub record IsChildPlaced (dp : Dp) (d : DdLayers) (c : ChildAt) : Type 0 where
   pub node : DdNode
   pub is : node_at d c.depth c.place ≡ Some node
   pub exact : IsTrue node.exact
@@ -21,7 +21,7 @@ pub record IsPlaced (dp : Dp) (d : DdLayers) (c : ChildAt) : Type 0 where
   pub bound : bound_of dp c.depth node ≡ Some c.bound
 
 abbrev pub ChildrenArePlaced : Dp → Type 0
-ChildrenArePlaced dp = (p : List ℕ) (w : ℕ) (t : Option ℤ) (d : DdLayers) (kind : CutKind) → length p < dp.vars → IsDiagram dp p w t d → Each (IsPlaced dp d) (children_at dp d kind)
+ChildrenArePlaced dp = (p : List ℕ) (w : ℕ) (t : Option ℤ) (d : DdLayers) (kind : CutKind) → length p < dp.vars → IsDiagram dp p w t d → Each (IsChildPlaced dp d) (children_at dp d kind)
 
 -- bounds are at most 2^62 in size; where the width fits there are at most 2^24 children, and a record that names all children of
 -- the last exact layer has at most 2^32 - 1 bytes

@@ -7,7 +7,7 @@ use Rattle.dp_model.specs.Prefixes.{IsSolution, value_of}
 use Rattle.dp_model.specs.Laws.{StepsAreStates, GapsAreSound, RoughBounds, IsLawful, IsChained}
 use Rattle.knapsack.specs.declared.item.Item.{Item}
 use Rattle.knapsack.specs.Instance.{Instance, instance_of, numbers_of, item_numbers, items_of, is_small}
-use Rattle.knapsack.specs.Order.{in_order, fill}
+use Rattle.knapsack.specs.Order.{ratio_order, fill}
 use Rattle.knapsack.specs.OwnWords.{has_copies, total_weight, total_profit, packed_value}
 use Rattle.dp_model.specs.Solution.{IsSolutionWith, SolutionGives}
 use Rattle.knapsack.specs.Laws.Greedy.{packing-le-fill}
@@ -73,7 +73,7 @@ rough_holds i = record {
       let worth = p.worth in
       let less = packing-le-fill (drop k i.items) c (left s) p.copies p.fits in
       omega (arith, ints);
-  last = λ s state. ap (λ (l : List Item). Some (pos (fill (in_order l) (left s)))) (drop-length i.items);
+  last = λ s state. ap (λ (l : List Item). Some (pos (fill (ratio_order l) (left s)))) (drop-length i.items);
 }
 
 -- the dynamic program of an instance within the limits meets the laws

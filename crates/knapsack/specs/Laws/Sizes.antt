@@ -15,8 +15,8 @@ use Rattle.knapsack.specs.declared.item.Item.{Item}
 use Rattle.knapsack.specs.Instance.{Instance, is_small, is_small_item}
 use Rattle.knapsack.specs.Limits.{IsSmallItem}
 use Rattle.knapsack.specs.Laws.Limits.{is_small_item-is, is_small-is}
-use Rattle.knapsack.specs.Order.{in_order, fill}
-use Rattle.knapsack.specs.Laws.Greedy.{worth, worth-in_order, fill-le-worth}
+use Rattle.knapsack.specs.Order.{ratio_order, fill}
+use Rattle.knapsack.specs.Laws.Greedy.{worth, worth-ratio_order, fill-le-worth}
 use Rattle.knapsack.specs.Program.{left, item_at, rough_from, program_of}
 use Rattle.knapsack.specs.Laws.States.{is_left-is, gap-is}
 
@@ -46,8 +46,8 @@ rough_small items k rest h few =
     let all = list_all-from_AllPass is_small_item (drop k items) (All-drop (λ x. is_small_item x ≡ true) k items (AllPass-from_list_all is_small_item items h)) in
     let most : worth (drop k items) ≤ length (drop k items) * 1000000000000 = worth_of_small (drop k items) all in
     let count : length (drop k items) ≡ length items - k = length-drop k items in
-    let total : worth (in_order (drop k items)) ≡ worth (drop k items) = worth-in_order (drop k items) in
-    let fill_most : fill (in_order (drop k items)) rest ≤ worth (in_order (drop k items)) = fill-le-worth (in_order (drop k items)) rest in
+    let total : worth (ratio_order (drop k items)) ≡ worth (drop k items) = worth-ratio_order (drop k items) in
+    let fill_most : fill (ratio_order (drop k items)) rest ≤ worth (ratio_order (drop k items)) = fill-le-worth (ratio_order (drop k items)) rest in
     omega arith
 
 some-inj : {a b : ℤ} → Some a ≡ Some b → a ≡ b

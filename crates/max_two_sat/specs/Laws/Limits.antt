@@ -1,6 +1,5 @@
 -- What the tests of the limits say.
-use Rattle.std.specs.Prelude.{◌≡◌, ◌^◌, ◌≤◌, ℤ, pos, neg_ℤ, ◌+ℤ◌, ◌≤ℤ◌, Bool, ◌&&◌, int_le, List, length, IsTrue}
-use Rattle.std.specs.List.{list_all}
+use Rattle.std.specs.Prelude.{◌≤◌, ℤ, pos, neg_ℤ, ◌≤ℤ◌, ◌&&◌, int_le, IsTrue}
 use Rattle.std.proofs.Common.{arith}
 use Rattle.std.proofs.lemmas.Int.{ints, clamps}
 use Rattle.std.proofs.lemmas.Bool.{and_parts, and_from}
@@ -8,8 +7,6 @@ use Rattle.benefit_rows.specs.Benefits.{size_of}
 use Rattle.dp_model.specs.NumberLaws.{int_le-is, int_le-from}
 use Rattle.max_two_sat.specs.declared.weights.UnitWeights.{UnitWeights}
 use Rattle.max_two_sat.specs.declared.weights.PairWeights.{PairWeights}
-use Rattle.max_two_sat.specs.Instance.{Instance, pair_count, units_total, pairs_total}
-use Rattle.max_two_sat.specs.Lines.{line_count, weighs}
 use Rattle.max_two_sat.specs.Program.{is_within}
 use Rattle.max_two_sat.specs.Limits.{unit_is_positive, pair_is_positive, UnitIsPositive, PairIsPositive}
 

@@ -1,9 +1,10 @@
 -- When what is answered to a whole output with a cover is right.
 use Rattle.std.specs.Prelude.{◌≡◌, ℕ, ℤ, pos, List, Option, Some, None, MatchResult}
+use Rattle.bound_cover.specs.Covers.{CoverRow}
 use Rattle.bound_cover.specs.Verdicts.{verdict}
 use Rattle.bound_cover.specs.declared.cover.Verdict.{Verdict}
 use Rattle.bound_cover.specs.declared.cover.Verdict.TheVariants.{Accepted}
-use Rattle.cover_text.specs.Texts.{CoverTextView, text_of}
+use Rattle.cover_text.specs.Texts.{CoverTextView, OpenView, cover_behind, held_with, text_of}
 use Rattle.cover_text.specs.declared.cover_error.CoverError.{CoverError}
 use Rattle.cover_text.specs.declared.cover_error.CoverError.TheVariants as causes
 use Rattle.dd_text.specs.Grammar.{of_text}
@@ -53,6 +54,14 @@ abbrev pub RefusesCover : CoverError → Answer → Type 0
 RefusesCover e (answers.CoverRefused given) = told e ≡ Some given
 RefusesCover e answers.OutOfMemory = Unit {0}
 RefusesCover e _ = ⊥
+
+-- what may be answered to sections: to the cover that they are read as, or to their first fault
+abbrev pub ToSections : OpenView → (List (List CoverRow) → Answer → Type 0) → Answer → Type 0
+ToSections o held answer = MatchResult (cover_behind o.before o.behind) (λ cover. held cover answer) (λ e. RefusesCover e answer)
+
+-- what may be answered to a text up to its sections, and to these
+abbrev pub ChecksOpened : Theory → OpenView → Answer → Type 0
+ChecksOpened t o answer = ToSections o (λ cover. ChecksText t (held_with o cover)) answer
 
 -- what may be answered to a whole output: for what it holds by its problem, or the first fault of its text
 abbrev pub IsChecked : List ℕ → Answer → Type 0

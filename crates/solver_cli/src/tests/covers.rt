@@ -110,6 +110,12 @@ fn checks_covers(rt: HostRuntime) -> Result<(), Fail> {
         ),
         (
             "check",
+            "proved\nvalue 4\nassignment 1\ncover knapsack\ninstance 8\n1 1\n4 x\nlayer 0 1\n4 ; 1 ; 0 0 1 0\nlayer 1 1\n0 ; 1\n",
+            "cover end-of-text 12 1\n",
+            3,
+        ),
+        (
+            "check",
             "proved\nvalue 4\nassignment 1\ntaken 3\nfinished 2\ncover knapsack\ninstance 8\n1 1\n4 1\nlayer 0 1\n4 ; 1 ; 0 0 1 0\nlayer 1 1\n0 ; 1\nend\n",
             "accepted\n",
             0,

@@ -6,7 +6,7 @@ use Rattle.node_sets.specs.Sums.{all_below, lesser, least_amount}
 use Rattle.node_sets.proofs.Below.{all_below-gives, all_below-from}
 use Rattle.tsp_windows.specs.Instance.{Instance, distance, closing, near, least_way}
 use Rattle.tsp_windows.specs.States.{TourState, from_elsewhere, leg, arrival, may_visit, may_return, may_go, moved, is_open, joined, is_within, start, is_sound}
-use Rattle.tsp_windows.specs.Laws.States.{IsBounded}
+use Rattle.tsp_windows.specs.Laws.States.{IsWithinNodes}
 
 -- ---- tests
 
@@ -167,7 +167,7 @@ near-le-arrival i t d e = let least = near-le-leg i t d e in omega (arith, least
 
 -- ---- the state behind a step
 
-pub moved-bounded : (i : Instance) (t : TourState) (d : ℕ) → d < i.nodes → IsBounded i.nodes t → IsBounded i.nodes (moved i t d)
+pub moved-bounded : (i : Instance) (t : TourState) (d : ℕ) → d < i.nodes → IsWithinNodes i.nodes t → IsWithinNodes i.nodes (moved i t d)
 unfolding moved
 moved-bounded i t d l b = record {
   positions = λ v m. ne_eqb v d (omega arith);
@@ -175,7 +175,7 @@ moved-bounded i t d l b = record {
   may = λ v m. ap (λ x. x && not (nat_eq v d)) (b.may v m);
 }
 
-pub joined-bounded : (n : ℕ) (a b : TourState) → IsBounded n a → IsBounded n b → IsBounded n (joined a b)
+pub joined-bounded : (n : ℕ) (a b : TourState) → IsWithinNodes n a → IsWithinNodes n b → IsWithinNodes n (joined a b)
 unfolding joined
 joined-bounded n a b p q = record {
   positions = λ v m. ap₂ ◌||◌ (p.positions v m) (q.positions v m);
@@ -183,7 +183,7 @@ joined-bounded n a b p q = record {
   may = λ v m. ap (λ x. x && not (a.must v && b.must v)) (ap₂ ◌||◌ (ap₂ ◌||◌ (p.must v m) (p.may v m)) (ap₂ ◌||◌ (q.must v m) (q.may v m)));
 }
 
-pub start-bounded : (i : Instance) → 1 ≤ i.nodes → IsBounded i.nodes (start i)
+pub start-bounded : (i : Instance) → 1 ≤ i.nodes → IsWithinNodes i.nodes (start i)
 unfolding start
 start-bounded i some = record {
   positions = λ v m. ne_eqb v 0 (omega arith);
@@ -193,7 +193,7 @@ start-bounded i some = record {
 
 -- ---- what a state is
 
-pub record IsSound (n : ℕ) (t : TourState) : Type 0 where
+pub record IsSoundState (n : ℕ) (t : TourState) : Type 0 where
   pub position : ℕ
   pub inside : position < n
   pub there : t.positions position ≡ true
@@ -209,7 +209,7 @@ one_of-from : (a b : Bool) → (a ≡ true → b ≡ false) → not (a && b) ≡
 one_of-from true b h = ap not (h refl)
 one_of-from false b h = refl
 
-pub sound-gives : (n : ℕ) (t : TourState) → is_sound n t ≡ true → IsSound n t
+pub sound-gives : (n : ℕ) (t : TourState) → is_sound n t ≡ true → IsSoundState n t
 sound-gives n t e =
     let first = (and_parts (not (all_below n (λ p. not (t.positions p)))) (all_below n (λ v. not (t.must v && t.may v)) && (not (t.must 0) && not (t.may 0))) e).0 in
     let rest = (and_parts (not (all_below n (λ p. not (t.positions p)))) (all_below n (λ v. not (t.must v && t.may v)) && (not (t.must 0) && not (t.may 0))) e).1 in
@@ -228,7 +228,7 @@ sound-gives n t e =
     still true e = refl
     still false e = absurd (false≢true (sym e))
 
-pub sound-from : (n : ℕ) (t : TourState) → IsSound n t → is_sound n t ≡ true
+pub sound-from : (n : ℕ) (t : TourState) → IsSoundState n t → is_sound n t ≡ true
 sound-from n t s =
     and_from (not (all_below n (λ p. not (t.positions p)))) _ (ap not (some (cases_Bool (all_below n (λ p. not (t.positions p))))))
     (and_from (all_below n (λ v. not (t.must v && t.may v))) _ (all_below-from n (λ v. not (t.must v && t.may v)) (λ v l. one_of-from (t.must v) (t.may v) (s.either v l)))
@@ -238,7 +238,7 @@ sound-from n t s =
     some (inl e) = absurd (false≢true (sym (not-true (t.positions s.position) (all_below-gives n (λ p. not (t.positions p)) e s.position s.inside)) ∙ s.there))
     some (inr e) = e
 
-pub moved-sound : (i : Instance) (t : TourState) (d : ℕ) → d < i.nodes → IsSound i.nodes t → IsSound i.nodes (moved i t d)
+pub moved-sound : (i : Instance) (t : TourState) (d : ℕ) → d < i.nodes → IsSoundState i.nodes t → IsSoundState i.nodes (moved i t d)
 unfolding moved
 moved-sound i t d l s = record {
   position = d;
@@ -249,7 +249,7 @@ moved-sound i t d l s = record {
   no_may = ap (λ x. x && not (nat_eq 0 d)) s.no_may;
 }
 
-pub joined-sound : (n : ℕ) (a b : TourState) → IsSound n a → IsSound n b → IsSound n (joined a b)
+pub joined-sound : (n : ℕ) (a b : TourState) → IsSoundState n a → IsSoundState n b → IsSoundState n (joined a b)
 unfolding joined
 joined-sound n a b p q = record {
   position = p.position;
@@ -265,7 +265,7 @@ joined-sound n a b p q = record {
     neither false true e = refl
     neither x false e = absurd (false≢true e)
 
-pub start-sound : (i : Instance) → 1 ≤ i.nodes → IsSound i.nodes (start i)
+pub start-sound : (i : Instance) → 1 ≤ i.nodes → IsSoundState i.nodes (start i)
 unfolding start
 start-sound i some = record {
   position = 0;

@@ -18,9 +18,9 @@ use Rattle.dp_model.specs.Numbers.{AtMost, IsSmall as IsSmallNumber}
 use Rattle.dp_model.specs.Laws.{StepsAreStates, GapsAreSound, RoughBounds, SizesHold, IsLawful, IsChained}
 use Rattle.tsp_windows.specs.Instance.{Instance, IsTourInstance, distance, opening, closing, near, least_way}
 use Rattle.tsp_windows.specs.States.{TourState, positions_of, must_of, may_of, time_of, shown, row_for, arrival, departure, moved, joined, covers, is_lost, way_left, start, is_sound, is_state_row}
-use Rattle.tsp_windows.specs.Laws.States.{IsBounded, shown-row_for, positions_of-row_for, must_of-row_for, may_of-row_for, time_of-row_for, length-row_for, words_enough}
+use Rattle.tsp_windows.specs.Laws.States.{IsWithinNodes, shown-row_for, positions_of-row_for, must_of-row_for, may_of-row_for, time_of-row_for, length-row_for, words_enough}
 use Rattle.tsp_windows.specs.Program.{program_of, rough_of, gap_of}
-use Rattle.tsp_windows.specs.Laws.Moves.{IsSound, sound-gives, sound-from, moved-sound, joined-sound, start-sound, moved-bounded, joined-bounded, start-bounded, least_amount-most, visits, returns, goes_on, goes_home}
+use Rattle.tsp_windows.specs.Laws.Moves.{IsSoundState, sound-gives, sound-from, moved-sound, joined-sound, start-sound, moved-bounded, joined-bounded, start-bounded, least_amount-most, visits, returns, goes_on, goes_home}
 use Rattle.tsp_windows.specs.Laws.Walks.{IsGone, last_time, CoversTour, covers-gives, covers-from, CoversTour-self, CoversTour-chain, joined-covers-left, joined-covers-right, tour-covered, Costs, costs, tour-of_path, path-of_tour, gain-of_tour}
 
 -- ---- rows that are states
@@ -30,10 +30,10 @@ pub record IsStateRow (n : ℕ) (s : List ℤ) : Type 0 where
   pub positions : IsSet n (positions_of (words_for n) s)
   pub must : IsSet n (must_of (words_for n) s)
   pub may : IsSet n (may_of (words_for n) s)
-  pub sound : IsSound n (shown (words_for n) s)
+  pub sound : IsSoundState n (shown (words_for n) s)
   pub time : time_of (words_for n) s ≡ pos (shown (words_for n) s).time
   pub in_time : (shown (words_for n) s).time ≤ 1000000000000
-  pub bounded : IsBounded n (shown (words_for n) s)
+  pub bounded : IsWithinNodes n (shown (words_for n) s)
 
 record IsTime (z : ℤ) : Type 0 where
   is : z ≡ pos (nat_abs z)
@@ -77,7 +77,7 @@ set-row_of n test h = is_set-from n (row_of (words_for n) test) (record {
   ];
 })
 
-pub state_row-from : (n : ℕ) (t : TourState) → IsBounded n t → IsSound n t → t.time ≤ 1000000000000 → is_state_row n (row_for (words_for n) t) ≡ true
+pub state_row-from : (n : ℕ) (t : TourState) → IsWithinNodes n t → IsSoundState n t → t.time ≤ 1000000000000 → is_state_row n (row_for (words_for n) t) ≡ true
 state_row-from n t b s l =
     and_from (nat_eq (length (row_for (words_for n) t)) (3 * words_for n + 1)) _ (eq-eqb (length (row_for (words_for n) t)) (3 * words_for n + 1) (length-row_for (words_for n) t))
     (and_from (is_set n (positions_of (words_for n) (row_for (words_for n) t))) _ (ap (is_set n) (positions_of-row_for (words_for n) t) ∙ set-row_of n t.positions b.positions)

@@ -9,7 +9,7 @@ use Rattle.node_sets.proofs.Made.{length-row_of, has-row_of}
 use Rattle.tsp_windows.specs.States.{TourState, positions_of, must_of, may_of, time_of, shown, row_for}
 
 -- no set of the state has a member at or above n
-pub record IsBounded (n : ℕ) (t : TourState) : Type 0 where
+pub record IsWithinNodes (n : ℕ) (t : TourState) : Type 0 where
   pub positions : (v : ℕ) → n ≤ v → t.positions v ≡ false
   pub must : (v : ℕ) → n ≤ v → t.must v ≡ false
   pub may : (v : ℕ) → n ≤ v → t.may v ≡ false
@@ -65,7 +65,7 @@ length-row_for words t =
     total words = omega arith
 
 -- a row stands for the state that it was made for
-pub shown-row_for : (words n : ℕ) (t : TourState) → n ≤ 32 * words → IsBounded n t → shown words (row_for words t) ≡ t
+pub shown-row_for : (words n : ℕ) (t : TourState) → n ≤ 32 * words → IsWithinNodes n t → shown words (row_for words t) ≡ t
 unfolding shown
 shown-row_for words n t l h =
     ap₂ (λ (p : ℕ → Bool) (m : ℕ → Bool). let s : TourState = record { positions = p; must = m; may = has (may_of words (row_for words t)); time = nat_abs (time_of words (row_for words t)) } in s)

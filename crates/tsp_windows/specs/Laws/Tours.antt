@@ -10,7 +10,7 @@ use Rattle.node_sets.proofs.Below.{sum_below-removed, sum_below-none, least_amou
 use Rattle.dp_model.specs.Prefixes.{IsSolution, gain_of, value_of}
 use Rattle.tsp_windows.specs.Instance.{Instance, IsTourInstance, distance, opening, closing}
 use Rattle.tsp_windows.specs.States.{TourState, from_elsewhere, leg, arrival, departure, moved, start, shown, row_for}
-use Rattle.tsp_windows.specs.Laws.States.{IsBounded, shown-row_for, words_enough}
+use Rattle.tsp_windows.specs.Laws.States.{IsWithinNodes, shown-row_for, words_enough}
 use Rattle.tsp_windows.specs.Program.{program_of}
 use Rattle.tsp_windows.specs.OwnWords.{are_different, ends_at_home, is_order, end_time, negated, tour_value}
 use Rattle.dp_model.specs.Solution.{IsSolutionWith, SolutionGives}
@@ -20,14 +20,14 @@ use Rattle.tsp_windows.specs.Laws.Walks.{IsGone, IsTour, last_time, tour-of_path
 -- ---- a state of one position, as every state is that a tour reaches
 
 -- at one node, with no node that may be left out
-pub record IsAt (n here : ℕ) (t : TourState) : Type 0 where
+pub record IsAtNode (n here : ℕ) (t : TourState) : Type 0 where
   pub inside : here < n
   pub there : (p : ℕ) → t.positions p ≡ nat_eq p here
   pub none : (v : ℕ) → t.may v ≡ false
   pub left : t.must here ≡ false
   pub home : t.must 0 ≡ false
 
-elsewhere-at : (n here d p : ℕ) (t : TourState) → IsAt n here t → here ≢ d → from_elsewhere t d p ≡ nat_eq p here
+elsewhere-at : (n here d p : ℕ) (t : TourState) → IsAtNode n here t → here ≢ d → from_elsewhere t d p ≡ nat_eq p here
 elsewhere-at n here d p t a apart_ =
     elim (cases_eq p here) [
       | inl s ↦ ap₂ ◌&&◌ (a.there p ∙ eq-eqb p here s) (ap not (ne_eqb p d (λ e. apart_ (sym s ∙ e)))) ∙ sym (eq-eqb p here s)
@@ -35,17 +35,17 @@ elsewhere-at n here d p t a apart_ =
     ]
 
 -- from there each other node is reached on one way
-leg-at : (i : Instance) (here d : ℕ) (t : TourState) → IsAt i.nodes here t → here ≢ d → leg i t d ≡ Some (distance i here d)
+leg-at : (i : Instance) (here d : ℕ) (t : TourState) → IsAtNode i.nodes here t → here ≢ d → leg i t d ≡ Some (distance i here d)
 unfolding leg
 leg-at i here d t a far =
     least_amount-same i.nodes (from_elsewhere t d) (λ p. nat_eq p here) (λ p. distance i p d) (λ v l. elsewhere-at i.nodes here d v t a far)
     ∙ least_amount-skip (here + 1) i.nodes (λ p. nat_eq p here) (λ p. distance i p d) (omega (arith, a.inside)) (λ v l m. ne_eqb v here (omega arith))
     ∙ least_amount-next 0 here (λ p. nat_eq p here) (λ p. distance i p d) (omega arith) (λ v l m. ne_eqb v here (omega arith)) (eq-eqb here here refl)
 
-pub arrival-at : (i : Instance) (here d : ℕ) (t : TourState) → IsAt i.nodes here t → here ≢ d → arrival i t d ≡ t.time + distance i here d
+pub arrival-at : (i : Instance) (here d : ℕ) (t : TourState) → IsAtNode i.nodes here t → here ≢ d → arrival i t d ≡ t.time + distance i here d
 arrival-at i here d t a far = ap (λ o. t.time + unwrap_or o 0) (leg-at i here d t a far)
 
-leg-same : (i : Instance) (here : ℕ) (t : TourState) → IsAt i.nodes here t → leg i t here ≡ None
+leg-same : (i : Instance) (here : ℕ) (t : TourState) → IsAtNode i.nodes here t → leg i t here ≡ None
 unfolding leg
 leg-same i here t a = least_amount-none i.nodes (from_elsewhere t here) (λ p. distance i p here) (λ v l.
     elim (cases_eq v here) [
@@ -59,7 +59,7 @@ leg-same i here t a = least_amount-none i.nodes (from_elsewhere t here) (λ p. d
     right x false e = absurd (false≢true e)
 
 -- nor is there a way to itself
-arrival-anywhere : (i : Instance) (here d : ℕ) (t : TourState) → IsTourInstance i → IsAt i.nodes here t → arrival i t d ≡ t.time + distance i here d
+arrival-anywhere : (i : Instance) (here d : ℕ) (t : TourState) → IsTourInstance i → IsAtNode i.nodes here t → arrival i t d ≡ t.time + distance i here d
 arrival-anywhere i here d t small a =
     elim (cases_eq here d) [
       | inl s ↦ (let none = ap (λ v. leg i t v) (sym s) ∙ leg-same i here t a in
@@ -68,7 +68,7 @@ arrival-anywhere i here d t small a =
       | inr s ↦ arrival-at i here d t a s
     ]
 
-pub moved-at : (i : Instance) (here d : ℕ) (t : TourState) → IsAt i.nodes here t → d < i.nodes → IsAt i.nodes d (moved i t d)
+pub moved-at : (i : Instance) (here d : ℕ) (t : TourState) → IsAtNode i.nodes here t → d < i.nodes → IsAtNode i.nodes d (moved i t d)
 unfolding moved
 moved-at i here d t a l = record {
   inside = l;
@@ -164,7 +164,7 @@ time-moved-is i t d = refl
 
 -- ---- a tour is such a list that is kept within the windows
 
-pub record IsKept (i : Instance) (here : ℕ) (t : TourState) (ds : List ℕ) : Type 0 where
+pub record IsInTime (i : Instance) (here : ℕ) (t : TourState) (ds : List ℕ) : Type 0 where
   pub visits : Lists i.nodes t.must ds
   pub time : end_time i here t.time ds ≡ Some (last_time i t ds)
 
@@ -178,7 +178,7 @@ all-same (v ∷ vs) p q h = ap₂ ◌&&◌ (h v) (all-same vs p q h)
 far : (t : TourState) (here d : ℕ) → t.must here ≡ false → t.must d ≡ true → here ≢ d
 far t here d e f s = false≢true (sym e ∙ ap t.must s ∙ f)
 
-pending-must : (n here : ℕ) (t : TourState) (d : ℕ) → IsAt n here t → (t.must d || t.may d) ≡ true → t.must d ≡ true
+pending-must : (n here : ℕ) (t : TourState) (d : ℕ) → IsAtNode n here t → (t.must d || t.may d) ≡ true → t.must d ≡ true
 pending-must n here t d a e = only (t.must d) (t.may d) (a.none d) e
   where
     only : (x y : Bool) → y ≡ false → (x || y) ≡ true → x ≡ true
@@ -186,7 +186,7 @@ pending-must n here t d a e = only (t.must d) (t.may d) (a.none d) e
     only false y e h = absurd (false≢true (sym e ∙ h))
 
 -- the last decision
-kept-last : (i : Instance) (here : ℕ) (t : TourState) (d k : ℕ) → IsTourInstance i → IsAt i.nodes here t → i.nodes ≤ k + 1 → IsGone i k t d → IsKept i here t (d ∷ [])
+kept-last : (i : Instance) (here : ℕ) (t : TourState) (d k : ℕ) → IsTourInstance i → IsAtNode i.nodes here t → i.nodes ≤ k + 1 → IsGone i k t d → IsInTime i here t (d ∷ [])
 kept-last i here t d k small a l g =
     let r = returns i t d (sym (goes_home i k t d l) ∙ g.test) in
     let way = arrival-anywhere i here d t small a in
@@ -205,7 +205,7 @@ kept-last i here t d k small a l g =
     right true y e = refl
     right false y e = e
 
-kept-more : (i : Instance) (here : ℕ) (t : TourState) (d k : ℕ) (ds : List ℕ) → IsAt i.nodes here t → k + 1 < i.nodes → IsGone i k t d → ends_at_home ds ≡ true → IsKept i d (moved i t d) ds → ends_at_home (d ∷ ds) ≡ true → IsKept i here t (d ∷ ds)
+kept-more : (i : Instance) (here : ℕ) (t : TourState) (d k : ℕ) (ds : List ℕ) → IsAtNode i.nodes here t → k + 1 < i.nodes → IsGone i k t d → ends_at_home ds ≡ true → IsInTime i d (moved i t d) ds → ends_at_home (d ∷ ds) ≡ true → IsInTime i here t (d ∷ ds)
 kept-more i here t d k ds a l g tail rest home =
     let v = visits i t d (sym (goes_on i k t d l) ∙ g.test) in
     let must = pending-must i.nodes here t d a v.pending in
@@ -224,7 +224,7 @@ kept-more i here t d k ds a l g tail rest home =
           ∙ ap (λ x. end_time i d (max x (opening i d)) ds) (sym way) ∙ ap (λ x. end_time i d x ds) (sym (time-moved-is i t d)) ∙ rest.time;
     }
 
-pub kept-of_tour : (i : Instance) (k here : ℕ) (t : TourState) (ds : List ℕ) → IsTourInstance i → IsAt i.nodes here t → k < i.nodes → k + length ds ≡ i.nodes → IsTour i k t ds → IsKept i here t ds
+pub kept-of_tour : (i : Instance) (k here : ℕ) (t : TourState) (ds : List ℕ) → IsTourInstance i → IsAtNode i.nodes here t → k < i.nodes → k + length ds ≡ i.nodes → IsTour i k t ds → IsInTime i here t ds
 kept-of_tour i k here t [] small a l e w = absurd (omega arith)
 kept-of_tour i k here t (d ∷ []) small a l e w = kept-last i here t d k small a (omega arith) w.0
 kept-of_tour i k here t (d ∷ f ∷ ds) small a l e w =
@@ -247,7 +247,7 @@ late i here d time last vs e =
     ]
 
 -- the list, and its end in time
-pub record IsMade (i : Instance) (k : ℕ) (t : TourState) (ds : List ℕ) (last : ℕ) : Type 0 where
+pub record IsTourWithEnd (i : Instance) (k : ℕ) (t : TourState) (ds : List ℕ) (last : ℕ) : Type 0 where
   pub tour : IsTour i k t ds
   pub last_is : last_time i t ds ≡ last
 
@@ -266,7 +266,7 @@ none-must (suc n) p e v l =
     off true e = absurd (omega arith)
     off false e = refl
 
-made-last : (i : Instance) (k here : ℕ) (t : TourState) (d last : ℕ) → IsTourInstance i → IsAt i.nodes here t → k + 1 ≡ i.nodes → (here ≡ 0 → i.nodes ≡ 1) → Lists i.nodes t.must (d ∷ []) → end_time i here t.time (d ∷ []) ≡ Some last → IsMade i k t (d ∷ []) last
+made-last : (i : Instance) (k here : ℕ) (t : TourState) (d last : ℕ) → IsTourInstance i → IsAtNode i.nodes here t → k + 1 ≡ i.nodes → (here ≡ 0 → i.nodes ≡ 1) → Lists i.nodes t.must (d ∷ []) → end_time i here t.time (d ∷ []) ≡ Some last → IsTourWithEnd i k t (d ∷ []) last
 made-last i k here t d last small a l single h e =
     let home : d ≡ 0 = eqb-true d 0 h.home in
     let soon = late i here d t.time last [] e in
@@ -315,7 +315,7 @@ lists-rest i t d f ds h l must =
           ∙ any-none d (f ∷ ds) different t.must (and_parts (t.must d || nat_eq d 0) (list_all (λ v. t.must v || nat_eq v 0) (f ∷ ds)) h.wanted).1;
     }
 
-pub is_made : (i : Instance) (k here : ℕ) (t : TourState) (ds : List ℕ) (last : ℕ) → IsTourInstance i → IsAt i.nodes here t → k + length ds ≡ i.nodes → (here ≡ 0 → k ≡ 0) → Lists i.nodes t.must ds → end_time i here t.time ds ≡ Some last → IsMade i k t ds last
+pub is_made : (i : Instance) (k here : ℕ) (t : TourState) (ds : List ℕ) (last : ℕ) → IsTourInstance i → IsAtNode i.nodes here t → k + length ds ≡ i.nodes → (here ≡ 0 → k ≡ 0) → Lists i.nodes t.must ds → end_time i here t.time ds ≡ Some last → IsTourWithEnd i k t ds last
 is_made i k here t [] last small a l single h e = absurd (omega (arith, h.whole))
 is_made i k here t (d ∷ []) last small a l single h e = made-last i k here t d last small a (omega arith) (λ z. omega (arith, single z)) h e
 is_made i k here t (d ∷ f ∷ ds) last small a l single h e =
@@ -346,7 +346,7 @@ is_made i k here t (d ∷ f ∷ ds) last small a l single h e =
 
 -- ---- from the start
 
-start-at : (i : Instance) → 1 ≤ i.nodes → IsAt i.nodes 0 (start i)
+start-at : (i : Instance) → 1 ≤ i.nodes → IsAtNode i.nodes 0 (start i)
 unfolding start
 start-at i some = record {
   inside = some;
@@ -418,8 +418,8 @@ order-from i ds some h =
 root-shown : (i : Instance) → 1 ≤ i.nodes → shown (words_for i.nodes) (row_for (words_for i.nodes) (start i)) ≡ start i
 root-shown i some = shown-row_for (words_for i.nodes) i.nodes (start i) (words_enough i.nodes) (start-bounded i some)
 
-root-bounded : (i : Instance) → 1 ≤ i.nodes → IsBounded i.nodes (shown (words_for i.nodes) (row_for (words_for i.nodes) (start i)))
-root-bounded i some = subst (IsBounded i.nodes) (sym (root-shown i some)) (start-bounded i some)
+root-bounded : (i : Instance) → 1 ≤ i.nodes → IsWithinNodes i.nodes (shown (words_for i.nodes) (row_for (words_for i.nodes) (start i)))
+root-bounded i some = subst (IsWithinNodes i.nodes) (sym (root-shown i some)) (start-bounded i some)
 
 -- the value of a tour from the start is the negated time of its end
 value-is : (i : Instance) (ds : List ℕ) (last : ℕ) → IsTourInstance i → IsTour i 0 (start i) ds → last_time i (start i) ds ≡ last → neg_ℤ (pos last) ≡ value_of (program_of i) ds
@@ -433,7 +433,7 @@ value-is i ds last small tour e =
     sum : (a b : ℕ) (g : ℤ) → g ≡ pos a -ℤ pos b → neg_ℤ (pos b) ≡ neg_ℤ (pos a) +ℤ g
     sum a b g e = omega (arith, ints, e)
 
-solution-kept : (i : Instance) (ds : List ℕ) → IsTourInstance i → IsSolution (program_of i) ds → IsTour i 0 (start i) ds × IsKept i 0 (start i) ds
+solution-kept : (i : Instance) (ds : List ℕ) → IsTourInstance i → IsSolution (program_of i) ds → IsTour i 0 (start i) ds × IsInTime i 0 (start i) ds
 solution-kept i ds small x =
     let tour = subst (λ t. IsTour i 0 t ds) (root-shown i small.some) (tour-of_path i 0 (row_for (words_for i.nodes) (start i)) ds (root-bounded i small.some) x.prefix) in
     (tour, kept-of_tour i 0 0 (start i) ds small (start-at i small.some) small.some (omega (arith, x.whole)) tour)

@@ -10,7 +10,7 @@ use Rattle.node_sets.proofs.Below.{sum_below-same, sum_below-removed, sum_below-
 use Rattle.dp_model.specs.Prefixes.{IsPath, gain_of}
 use Rattle.tsp_windows.specs.Instance.{Instance, distance, closing, near}
 use Rattle.tsp_windows.specs.States.{TourState, from_elsewhere, leg, arrival, departure, may_go, moved, is_open, joined, is_within, covers, way_left, shown, row_for}
-use Rattle.tsp_windows.specs.Laws.States.{IsBounded, shown-row_for, words_enough}
+use Rattle.tsp_windows.specs.Laws.States.{IsWithinNodes, shown-row_for, words_enough}
 use Rattle.tsp_windows.specs.Program.{program_of}
 use Rattle.tsp_windows.specs.Laws.Moves.{within-gives, within-from, NoMore, least_amount-wider, NoMore-or, NoMore-some, near-le-arrival, near-alone, leg-alone, visits, returns, may_visit-from, may_return-from, goes_on, goes_home, moved-bounded}
 
@@ -260,22 +260,22 @@ costs i k t (d ∷ f ∷ ds) l e w =
 
 -- ---- paths of the program are tours
 
-pub tour-of_path : (i : Instance) (k : ℕ) (s : List ℤ) (ds : List ℕ) → IsBounded i.nodes (shown (words_for i.nodes) s) → IsPath (program_of i) k s ds → IsTour i k (shown (words_for i.nodes) s) ds
+pub tour-of_path : (i : Instance) (k : ℕ) (s : List ℤ) (ds : List ℕ) → IsWithinNodes i.nodes (shown (words_for i.nodes) s) → IsPath (program_of i) k s ds → IsTour i k (shown (words_for i.nodes) s) ds
 tour-of_path i k s [] b p = tt
 tour-of_path i k s (d ∷ ds) b p =
     let next = moved-bounded i (shown (words_for i.nodes) s) d p.0.choice b in
     let same = shown-row_for (words_for i.nodes) i.nodes (moved i (shown (words_for i.nodes) s) d) (words_enough i.nodes) next in (
       record { layer = p.0.layer; choice = p.0.choice; test = p.0.test },
-      subst (λ t. IsTour i (k + 1) t ds) same (tour-of_path i (k + 1) (row_for (words_for i.nodes) (moved i (shown (words_for i.nodes) s) d)) ds (subst (IsBounded i.nodes) (sym same) next) p.1),
+      subst (λ t. IsTour i (k + 1) t ds) same (tour-of_path i (k + 1) (row_for (words_for i.nodes) (moved i (shown (words_for i.nodes) s) d)) ds (subst (IsWithinNodes i.nodes) (sym same) next) p.1),
     )
 
-pub path-of_tour : (i : Instance) (k : ℕ) (s : List ℤ) (ds : List ℕ) → IsBounded i.nodes (shown (words_for i.nodes) s) → IsTour i k (shown (words_for i.nodes) s) ds → IsPath (program_of i) k s ds
+pub path-of_tour : (i : Instance) (k : ℕ) (s : List ℤ) (ds : List ℕ) → IsWithinNodes i.nodes (shown (words_for i.nodes) s) → IsTour i k (shown (words_for i.nodes) s) ds → IsPath (program_of i) k s ds
 path-of_tour i k s [] b w = tt
 path-of_tour i k s (d ∷ ds) b w =
     let next = moved-bounded i (shown (words_for i.nodes) s) d w.0.choice b in
     let same = shown-row_for (words_for i.nodes) i.nodes (moved i (shown (words_for i.nodes) s) d) (words_enough i.nodes) next in (
       record { layer = w.0.layer; choice = w.0.choice; test = w.0.test },
-      path-of_tour i (k + 1) (row_for (words_for i.nodes) (moved i (shown (words_for i.nodes) s) d)) ds (subst (IsBounded i.nodes) (sym same) next) (subst (λ t. IsTour i (k + 1) t ds) (sym same) w.1),
+      path-of_tour i (k + 1) (row_for (words_for i.nodes) (moved i (shown (words_for i.nodes) s) d)) ds (subst (IsWithinNodes i.nodes) (sym same) next) (subst (λ t. IsTour i (k + 1) t ds) (sym same) w.1),
     )
 
 time-moved-is : (i : Instance) (t : TourState) (d : ℕ) → (moved i t d).time ≡ departure i t d
@@ -283,13 +283,13 @@ unfolding moved
 time-moved-is i t d = refl
 
 -- what they gain is the time that they begin at less the time that they end at
-pub gain-of_tour : (i : Instance) (k : ℕ) (s : List ℤ) (ds : List ℕ) → IsBounded i.nodes (shown (words_for i.nodes) s) → IsTour i k (shown (words_for i.nodes) s) ds → gain_of (program_of i) k s ds ≡ pos (shown (words_for i.nodes) s).time -ℤ pos (last_time i (shown (words_for i.nodes) s) ds)
+pub gain-of_tour : (i : Instance) (k : ℕ) (s : List ℤ) (ds : List ℕ) → IsWithinNodes i.nodes (shown (words_for i.nodes) s) → IsTour i k (shown (words_for i.nodes) s) ds → gain_of (program_of i) k s ds ≡ pos (shown (words_for i.nodes) s).time -ℤ pos (last_time i (shown (words_for i.nodes) s) ds)
 gain-of_tour i k s [] b w = omega (arith, ints)
 gain-of_tour i k s (d ∷ ds) b w =
     let t = shown (words_for i.nodes) s in
     let next = moved-bounded i (shown (words_for i.nodes) s) d w.0.choice b in
     let same = shown-row_for (words_for i.nodes) i.nodes (moved i (shown (words_for i.nodes) s) d) (words_enough i.nodes) next in
-    let rest = gain-of_tour i (k + 1) (row_for (words_for i.nodes) (moved i (shown (words_for i.nodes) s) d)) ds (subst (IsBounded i.nodes) (sym same) next) (subst (λ t. IsTour i (k + 1) t ds) (sym same) w.1) in
+    let rest = gain-of_tour i (k + 1) (row_for (words_for i.nodes) (moved i (shown (words_for i.nodes) s) d)) ds (subst (IsWithinNodes i.nodes) (sym same) next) (subst (λ t. IsTour i (k + 1) t ds) (sym same) w.1) in
     let rest' = subst (λ t. gain_of (program_of i) (k + 1) (row_for (words_for i.nodes) (moved i (shown (words_for i.nodes) s) d)) ds ≡ pos t.time -ℤ pos (last_time i t ds)) same rest in
     let left = time-moved-is i (shown (words_for i.nodes) s) d in
     joined_gain (shown (words_for i.nodes) s).time (departure i (shown (words_for i.nodes) s) d) (last_time i (moved i (shown (words_for i.nodes) s) d) ds) (gain_of (program_of i) (k + 1) (row_for (words_for i.nodes) (moved i (shown (words_for i.nodes) s) d)) ds) (rest' ∙ ap (λ x. pos x -ℤ pos (last_time i (moved i (shown (words_for i.nodes) s) d) ds)) left)

@@ -1,6 +1,6 @@
 //! Rounds, and the search that they make.
 
-ghost use Rattle.std.specs.Prelude.{◌≡◌, ◌+◌, ◌≤◌, true, false, [], ◌∷◌, length, IsSome, IfOk, option_map, Some, None, vec_capacity};
+ghost use Rattle.std.specs.Prelude.{◌≡◌, ◌+◌, ◌≤◌, true, false, [], ◌∷◌, length, IsSome, IfOk, option_map, Some, vec_capacity};
 ghost use Rattle.dp_model.specs.Subproblem.{IsOwn};
 ghost use Rattle.board_laws.specs.Board.{full_slots, slot_at};
 ghost use Rattle.board_laws.specs.Runs.{IsRun};
@@ -11,7 +11,7 @@ ghost use Rattle.search_core.specs.View.{tag_of};
 ghost use Rattle.worker_gate.specs.Branched.{IsBranched};
 ghost use Rattle.worker_gate.specs.Later.{IsLater, NoRoundFollows, IsComplete};
 ghost use Rattle.worker_gate.specs.Offered.{IsOffered};
-ghost use Rattle.worker_gate.specs.Prepared.{HasDeskRoom, IsPreparedDesk};
+ghost use Rattle.worker_gate.specs.Prepared.{IsPreparedDesk};
 ghost use Rattle.worker_gate.specs.UnderWay.{IsRoundUnderWay};
 
 use super::compiling::{relax, restrict};

@@ -3,7 +3,7 @@
 ghost use Rattle.std.specs.Prelude.{◌≡◌, None, IsSome, MatchBool};
 ghost use Rattle.board_lock.specs.Order.{NoLess};
 ghost use Rattle.board_lock.specs.Seats.{seen_of, out_of};
-ghost use Rattle.worker_gate.specs.Ready.{IsWorker, IsReady};
+ghost use Rattle.worker_gate.specs.Ready.{IsWorker, IsReadySeat};
 
 use board_lock::{Seat, Turn};
 use dp_model::DpModel;
@@ -56,7 +56,7 @@ fn give_back_one<M: DpModel, R: Wait>(
 pub fn give_up<M: DpModel, R: Wait>(rt: &R, turn: &Turn<Board<M>>, seat: &mut Seat<Board<M>>)
     requires worker { IsWorker turn.now seat.old }
     requires full { IsSome (out_of seat.old) }
-    ensures ready { IsReady turn.now seat.new }
+    ensures ready { IsReadySeat turn.now seat.new }
     ensures number { seat.new.number ≡ seat.old.number }
     ensures no_less { NoLess (seen_of seat.old) (seen_of seat.new) }
 {

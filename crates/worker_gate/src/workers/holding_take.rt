@@ -4,7 +4,7 @@ ghost use Rattle.std.specs.Prelude.{◌≡◌};
 ghost use Rattle.board_lock.specs.Order.{NoLess};
 ghost use Rattle.board_lock.specs.Seats.{first_of, seen_of, out_of};
 ghost use Rattle.worker_gate.specs.Prepared.{CanHold};
-ghost use Rattle.worker_gate.specs.Ready.{IsWorker, IsReady, TakenOut};
+ghost use Rattle.worker_gate.specs.Ready.{IsWorker, IsReadySeat, TakenOut};
 
 use board_lock::{Seat, Turn};
 use dp_model::{DpModel, Sub};
@@ -28,7 +28,7 @@ pub fn take_one<M: DpModel, R: Wait>(
     model: &M,
 ) -> Asked
     requires numbers { (first_of turn.now).numbers ≡ M.numbers model.now }
-    requires ready { IsReady turn.now seat.old }
+    requires ready { IsReadySeat turn.now seat.old }
     requires room { CanHold (M.meaning (M.numbers model.now)) into.old }
     ensures worker { IsWorker turn.now seat.new }
     ensures number { seat.new.number ≡ seat.old.number }

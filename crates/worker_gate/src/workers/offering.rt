@@ -9,7 +9,7 @@ ghost use Rattle.dp_laws.specs.Children.{found_value};
 ghost use Rattle.board_laws.specs.GoodBoard.{IncumbentHolds};
 ghost use Rattle.layer_build.specs.Layers.{IsPreparedFor};
 ghost use Rattle.worker_gate.specs.Branched.{AreBranched};
-ghost use Rattle.worker_gate.specs.Offered.{solution_of};
+ghost use Rattle.worker_gate.specs.Offered.{found_solution};
 ghost use Rattle.worker_gate.specs.Prepared.{HoldsChildren};
 ghost use Rattle.worker_gate.specs.Ready.{IsWorker};
 
@@ -45,13 +45,13 @@ fn offer_one<M: DpModel, G: Gate, R: Wait>(
 ) -> Option<i64>
     requires worker { IsWorker turn.now seat.old }
     requires seen { seen_of seat.old ≡ seen }
-    requires held { IncumbentHolds (M.meaning (first_of turn.now).numbers) (solution_of found) }
+    requires held { IncumbentHolds (M.meaning (first_of turn.now).numbers) (found_solution found) }
     ensures worker { IsWorker turn.now seat.new }
     ensures number { seat.new.number ≡ seat.old.number }
     ensures out { out_of seat.new ≡ out_of seat.old }
     ensures seen { seen_of seat.new ≡ result }
     ensures no_less { NoLess (seen_of seat.old) (seen_of seat.new) }
-    ensures found { OptionAtMost (found_value (solution_of found.entry)) (seen_of seat.new) }
+    ensures found { OptionAtMost (found_value (found_solution found.entry)) (seen_of seat.new) }
 {
     let Some(found) = found else {
         return seen;

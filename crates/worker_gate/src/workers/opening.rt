@@ -7,7 +7,7 @@ ghost use Rattle.board_lock.specs.Seats.{first_of, seats_of, seen_of, number_of}
 ghost use Rattle.board_laws.specs.Board.{full_slots, incumbent_value};
 ghost use Rattle.search_core.specs.View.{tag_of};
 ghost use Rattle.worker_gate.specs.Later.{IsLater};
-ghost use Rattle.worker_gate.specs.Ready.{IsReady};
+ghost use Rattle.worker_gate.specs.Ready.{IsReadySeat};
 
 use board_lock::{NoTurn, Seat, Turn};
 use dp_model::DpModel;
@@ -25,7 +25,7 @@ pub fn open<M: DpModel>(
     requires workers { board.board.settings.workers ≡ workers }
     ensures first { IfOk result (λ r. first_of r.0 ≡ board) }
     ensures count { IfOk result (λ r. seats_of r.0 ≡ workers) }
-    ensures ready { IfOk result (λ r. All (IsReady r.0) r.1.items) }
+    ensures ready { IfOk result (λ r. All (IsReadySeat r.0) r.1.items) }
     ensures numbers { IfOk result (λ r. map number_of r.1.items ≡ range_with_len 0 (seats_of r.0)) }
     ensures err { IfErr result (λ n. n.value ≡ board) }
 {
@@ -41,7 +41,7 @@ pub fn open<M: DpModel>(
 /// halted it, and its incumbent is no less than what any seat has seen. It takes no memory.
 pub fn close<M: DpModel>(turn: Turn<Board<M>>, seats: Vec<Seat<Board<M>>>) -> Board<M>
     requires idle { full_slots (first_of turn).board.slots ≡ [] }
-    requires ready { All (IsReady turn) seats.items }
+    requires ready { All (IsReadySeat turn) seats.items }
     requires numbers { map number_of seats.items ≡ range_with_len 0 (seats_of turn) }
     ensures tag { tag_of result ≡ tag_of (first_of turn) }
     ensures later { IsLater (M.meaning (first_of turn).numbers) (first_of turn).board result.board }

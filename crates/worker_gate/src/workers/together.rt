@@ -2,13 +2,12 @@
 
 ghost use Rattle.std.specs.Prelude.{◌≡◌, [], length, map, IfOk, vec_len};
 ghost use Rattle.std.specs.List.{All};
-ghost use Rattle.std.specs.Thread.{IsSync};
 ghost use Rattle.board_lock.specs.Seats.{first_of, number_of};
 ghost use Rattle.board_laws.specs.Board.{full_slots};
 ghost use Rattle.search_core.specs.View.{tag_of};
 ghost use Rattle.worker_gate.specs.Later.{IsLater, NoRoundFollows, IsComplete};
 ghost use Rattle.worker_gate.specs.Prepared.{IsPreparedDesk};
-ghost use Rattle.worker_gate.specs.Ready.{IsReady};
+ghost use Rattle.worker_gate.specs.Ready.{IsReadySeat};
 
 use super::fanning::side_by_side;
 use super::gate::Gate;
@@ -35,17 +34,17 @@ pub fn fan_out<M: DpModel, G: Gate + Sync, R: Threads + Wait + Sync>(
     gate: &G,
 )
     requires numbers { (first_of turn.now).numbers ≡ M.numbers model.now }
-    requires ready { All (IsReady turn.now) seats.old }
+    requires ready { All (IsReadySeat turn.now) seats.old }
     requires prepared { All (IsPreparedDesk (M.meaning (M.numbers model.now)) (first_of turn.now).board.settings.width) desks.old }
     requires lengths { length seats.old ≡ length desks.old }
-    ensures ready { All (IsReady turn.now) seats.new }
+    ensures ready { All (IsReadySeat turn.now) seats.new }
     ensures seats { map number_of seats.new ≡ map number_of seats.old }
     ensures prepared { All (IsPreparedDesk (M.meaning (M.numbers model.now)) (first_of turn.now).board.settings.width) desks.new }
     ensures desks { length desks.new ≡ length desks.old }
 {
     let one = |seat: &mut Seat<Board<M>>, desk: &mut Desk|
-        requires { ((first_of turn.now).numbers ≡ M.numbers model.now) × IsReady turn.now seat.now × IsPreparedDesk (M.meaning (M.numbers model.now)) (first_of turn.now).board.settings.width desk.now }
-        ensures { IsReady turn.entry.now seat.exit.now × (seat.exit.now.number ≡ seat.entry.now.number) × IsPreparedDesk (M.meaning (M.numbers model.entry.now)) (first_of turn.entry.now).board.settings.width desk.exit.now }
+        requires { ((first_of turn.now).numbers ≡ M.numbers model.now) × IsReadySeat turn.now seat.now × IsPreparedDesk (M.meaning (M.numbers model.now)) (first_of turn.now).board.settings.width desk.now }
+        ensures { IsReadySeat turn.entry.now seat.exit.now × (seat.exit.now.number ≡ seat.entry.now.number) × IsPreparedDesk (M.meaning (M.numbers model.entry.now)) (first_of turn.entry.now).board.settings.width desk.exit.now }
     { work(rt, alloc, turn, seat, desk, model, gate) };
     side_by_side(rt, &one, seats, desks);
 }
@@ -61,10 +60,10 @@ fn fan_all<M: DpModel, G: Gate + Sync, R: Threads + Wait + Sync>(
     gate: &G,
 )
     requires numbers { (first_of turn.now).numbers ≡ M.numbers model.now }
-    requires ready { All (IsReady turn.now) seats.old.items }
+    requires ready { All (IsReadySeat turn.now) seats.old.items }
     requires prepared { All (IsPreparedDesk (M.meaning (M.numbers model.now)) (first_of turn.now).board.settings.width) desks.old.items }
     requires lengths { vec_len seats.old ≡ vec_len desks.old }
-    ensures ready { All (IsReady turn.now) seats.new.items }
+    ensures ready { All (IsReadySeat turn.now) seats.new.items }
     ensures seats { map number_of seats.new.items ≡ map number_of seats.old.items }
     ensures prepared { All (IsPreparedDesk (M.meaning (M.numbers model.now)) (first_of turn.now).board.settings.width) desks.new.items }
     ensures desks { vec_len desks.new ≡ vec_len desks.old }

@@ -1,12 +1,11 @@
 //! What one worker does.
 
 ghost use Rattle.std.specs.Prelude.{◌≡◌, ◌≤◌, true, false, None, length, IfOk, IsSome, OnOk, OnErr, vec_capacity};
-ghost use Rattle.board_lock.specs.Order.{NoLess};
 ghost use Rattle.board_lock.specs.Seats.{first_of, seen_of, out_of};
 ghost use Rattle.search_core.specs.Contents.{contents};
 ghost use Rattle.worker_gate.specs.Prepared.{IsPreparedDesk};
 ghost use Rattle.worker_gate.specs.FinishLater.{MayFinishLater};
-ghost use Rattle.worker_gate.specs.Ready.{IsWorker, IsReady, IsOut};
+ghost use Rattle.worker_gate.specs.Ready.{IsWorker, IsReadySeat, IsOut};
 
 use super::gate::{Gate, Step};
 use super::holding_finish::finish_one;
@@ -36,9 +35,9 @@ pub fn work<M: DpModel, G: Gate + Sync, R: Wait>(
     gate: &G,
 )
     requires numbers { (first_of turn.now).numbers ≡ M.numbers model.now }
-    requires ready { IsReady turn.now seat.old }
+    requires ready { IsReadySeat turn.now seat.old }
     requires prepared { IsPreparedDesk (M.meaning (M.numbers model.now)) (first_of turn.now).board.settings.width desk.old }
-    ensures ready { IsReady turn.now seat.new }
+    ensures ready { IsReadySeat turn.now seat.new }
     ensures number { seat.new.number ≡ seat.old.number }
     ensures prepared { IsPreparedDesk (M.meaning (M.numbers model.now)) (first_of turn.now).board.settings.width desk.new }
 {
@@ -61,9 +60,9 @@ fn round<M: DpModel, G: Gate + Sync, R: Wait>(
     gate: &G,
 ) -> bool
     requires numbers { (first_of turn.now).numbers ≡ M.numbers model.now }
-    requires ready { IsReady turn.now seat.old }
+    requires ready { IsReadySeat turn.now seat.old }
     requires prepared { IsPreparedDesk (M.meaning (M.numbers model.now)) (first_of turn.now).board.settings.width desk.old }
-    ensures ready { IsReady turn.now seat.new }
+    ensures ready { IsReadySeat turn.now seat.new }
     ensures number { seat.new.number ≡ seat.old.number }
     ensures prepared { IsPreparedDesk (M.meaning (M.numbers model.now)) (first_of turn.now).board.settings.width desk.new }
 {
@@ -99,7 +98,7 @@ fn go_on<M: DpModel, G: Gate + Sync, R: Wait>(
     requires seen { seen_of seat.old ≡ seen }
     requires out { IsOut (M.meaning (M.numbers model.now)) (out_of seat.old) desk.old.taken.subproblem }
     requires prepared { IsPreparedDesk (M.meaning (M.numbers model.now)) (first_of turn.now).board.settings.width desk.old }
-    ensures ready { IsReady turn.now seat.new }
+    ensures ready { IsReadySeat turn.now seat.new }
     ensures number { seat.new.number ≡ seat.old.number }
     ensures prepared { IsPreparedDesk (M.meaning (M.numbers model.now)) (first_of turn.now).board.settings.width desk.new }
 {

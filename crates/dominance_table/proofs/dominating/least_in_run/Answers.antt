@@ -1,5 +1,5 @@
 use Rattle.std.proofs.Common.{◌≡◌, ◌+◌, ◌<◌, length, take, Some, sym, ◌∙◌, ap, subst, arith}
-use Rattle.dominance_table.specs.Dominator.{lesser, dominates, dominator, IsReached}
+use Rattle.dominance_table.specs.Dominator.{lesser, entry_dominates, dominator, IsReached}
 use Rattle.dominance_table.specs.Entries.{entry_at, with_row, with_rows}
 use Rattle.dominance_table.proofs.Walks.{past_then, past_else, state_at, found_one, settled}
 use Rattle.dominance_table.proofs.dominating.least_in_run.Goals as goal
@@ -25,7 +25,7 @@ returns-then-seen g c =
     let e = entry_at s.entries.now at in
     let test = c.loop-at-test.true in
     let less : at < length s.entries.now = (let end = c.requires.end in omega arith) in
-    let is = sym (c.dominates.ensures ∙ ap (λ r. dominates dp a.sought.now.depth a.sought.now.row.now a.sought.now.value (with_row e r)) c.row_at.ensures) ∙ c.if-dominates.true in
+    let is = sym (c.dominates.ensures ∙ ap (λ r. entry_dominates dp a.sought.now.depth a.sought.now.row.now a.sought.now.value (with_row e r)) c.row_at.ensures) ∙ c.if-dominates.true in
     let one = found_one dp a.sought.now.depth a.sought.now.row.now a.sought.now.value s.words s.entries.now s.cells.now at in
     let now = past_then dp a.sought.now.depth a.sought.now.row.now a.sought.now.value s.words s.entries.now s.cells.now at less is in
     let rest = settled dp a.sought.now.depth a.sought.now.row.now a.sought.now.value s.words s.entries.now s.cells.now (at + 1) a.end one.0 (omega arith) c.requires.end (c.requires.rising c.if-seen.true) (now ∙ one.1) in
@@ -40,7 +40,7 @@ loop-at-preserved g c =
     let e = entry_at s.entries.now at in
     let test = c.loop-at-test.true in
     let less : at < length s.entries.now = (let end = c.requires.end in omega arith) in
-    let tells = c.dominates.ensures ∙ ap (λ r. dominates dp a.sought.now.depth a.sought.now.row.now a.sought.now.value (with_row e r)) c.row_at.ensures in
+    let tells = c.dominates.ensures ∙ ap (λ r. entry_dominates dp a.sought.now.depth a.sought.now.row.now a.sought.now.value (with_row e r)) c.row_at.ensures in
     let now : c.if-dominates.least ≡ dominator dp (take (at + 1) (with_rows s.words s.entries.now s.cells.now)) a.sought.now.depth a.sought.now.row.now a.sought.now.value =
     elim c.if-dominates.branch [
       | then-dominates+else-seen w ↦ w.least-is ∙ (w.lesser-least.ensures ∙ (ap (λ o. lesser o (Some e.ticket)) c.loop-at.invariant.least

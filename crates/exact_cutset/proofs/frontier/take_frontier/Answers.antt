@@ -1,4 +1,4 @@
-use Rattle.std.proofs.Common.{◌≡◌, ◌+◌, ◌<◌, ◌≤◌, arith}
+use Rattle.std.proofs.Common.{◌≡◌, arith}
 use Rattle.relaxed_dd.specs.Shown.{layers_of, last_of}
 use Rattle.exact_cutset.proofs.Looked.{walk-ends, has-frontier}
 use Rattle.exact_cutset.proofs.frontier.take_frontier.Goals as goal

@@ -1,7 +1,7 @@
-use Rattle.std.proofs.Common.{◌≡◌, ◌+◌, ◌-◌, ◌<◌, ◌≤◌, Bool, [], length, refl, sym, ◌∙◌, ap, subst, arith}
+use Rattle.std.proofs.Common.{◌≡◌, ◌-◌, length, refl, sym, ◌∙◌, ap, subst, arith}
 use Rattle.relaxed_dd.specs.Shown.{layers_of, layer_in}
 use Rattle.exact_cutset.specs.Seen.{ChildrenView}
-use Rattle.exact_cutset.specs.Walking.{IsWalkable, HasLooked, IsTakenNode}
+use Rattle.exact_cutset.specs.Walking.{HasLooked, IsTakenNode}
 use Rattle.exact_cutset.proofs.Looked.{layer-starts, layer-ends}
 use Rattle.exact_cutset.proofs.Walked.{further}
 use Rattle.exact_cutset.proofs.frontier.take_layer.Goals as goal

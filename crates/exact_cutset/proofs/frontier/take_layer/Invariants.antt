@@ -1,4 +1,4 @@
-use Rattle.std.proofs.Common.{◌≡◌, ◌≤◌, length, map, vec_len, vec_capacity}
+use Rattle.std.proofs.Common.{◌≡◌, ◌≤◌, length, map, vec_capacity}
 use Rattle.dp_laws.specs.Diagrams.Cutsets.{child_from}
 use Rattle.relaxed_dd.specs.Shown.{layers_of}
 use Rattle.exact_cutset.specs.Walking.{HasLooked}

@@ -1,4 +1,4 @@
-use Rattle.std.proofs.Common.{◌≡◌, ℕ, ◌*◌, ◌∷◌, ◌++◌, [], List, length, vec_len, rules, ap, ap₂, ◌∙◌, arith, append_assoc}
+use Rattle.std.proofs.Common.{◌≡◌, ℕ, ◌+◌, ◌*◌, ◌∷◌, ◌++◌, [], List, length, replicate, None, vec_len, rules, ap, ap₂, ◌∙◌, arith, append_assoc}
 use Rattle.layer_nodes.specs.Nodes.{LayerView}
 use Rattle.layer_build.specs.Stacked.{empty_layer}
 use Rattle.layer_build.proofs.Memory.{count-below}
@@ -33,15 +33,17 @@ returns g c =
     let dp = g.M.DpModel.meaning (g.M.DpModel.numbers c.args.model.now) in
     let words = c.words-words.ensures in
     record {
-      nodes = c.most_choices.result;
+      nodes = c.most_choices-most.result;
       arcs = c.room_for.result;
-      vars = c.vars.ensures;
+      vars = c.vars-vars.ensures;
       first = search rules;
       last = search rules;
       layers = c.push_reserved-2.ensures.items ∙ (ap₂ (λ (l : List LayerView) (x : LayerView). l ++ x ∷ []) (c.push_reserved.ensures.items ∙ ap₂ (λ (l : List LayerView) (x : LayerView). l ++ x ∷ []) c.in_ok-layers.ensures.layers
-          (c.in_ok-prepare.ensures ∙ ap (λ (n : ℕ). empty_layer n c.most_choices.result c.room_for.result) words)) (c.in_ok-prepare-2.ensures ∙ ap (λ (n : ℕ). empty_layer n 0 0) words) ∙ simp append_assoc);
-      few = c.most_choices.ensures.few;
-      choices = c.most_choices.ensures.choices;
+          (c.in_ok-second.ensures ∙ ap (λ (n : ℕ). empty_layer n c.most_choices-most.result c.room_for.result) words)) (c.in_ok-top.ensures ∙ ap (λ (n : ℕ). empty_layer n 0 0) words) ∙ simp append_assoc);
+      few = c.most_choices-most.ensures.few;
+      choices = c.most_choices-most.ensures.choices;
       pairs = c.room_for.ensures.second;
-      newest = c.in_ok-prepare-3.ensures ∙ ap (λ (n : ℕ). empty_layer n c.args.room 0) words;
+      region = c.in_ok-region.ensures ∙ (ap₂ (λ (n v : ℕ). record { words = n; rows = replicate (v * c.args.width + c.most_choices-most.result + c.args.members) None; spare = v * c.args.width + c.most_choices-most.result + c.args.members }) words c.vars-vars.ensures
+          ∙ ap (λ (m : ℕ). record { words = dp.words; rows = replicate (dp.vars * c.args.width + c.most_choices-most.result + m) None; spare = dp.vars * c.args.width + c.most_choices-most.result + m }) c.requires.members);
+      newest = c.in_ok-prepare.ensures ∙ ap (λ (n : ℕ). empty_layer n c.args.room 0) words;
     }

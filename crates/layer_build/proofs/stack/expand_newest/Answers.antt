@@ -1,33 +1,25 @@
-use Rattle.std.proofs.Common.{List, map, sym, ap, ◌∙◌, subst}
-use Rattle.dp_model.specs.Lists.{Each}
-use Rattle.dp_model.proofs.Members.{Each-map, Each-then}
-use Rattle.dp_laws.specs.Diagrams.Nodes.{DdNode}
-use Rattle.dp_laws.specs.Rules.Compiling.{expand}
-use Rattle.layer_nodes.specs.Nodes.{NodeView, shown_layer, without_arcs}
-use Rattle.layer_nodes.specs.Steps.{IsParent}
-use Rattle.layer_build.proofs.Bare.{bare-next, bare-above, shown-bare, bare-twice}
+use Rattle.std.proofs.Common.{◌∙◌}
+use Rattle.layer_nodes.proofs.Holding.{held-nodes}
+use Rattle.layer_build.proofs.Bare.{alike-next, alike-above, alike-parents}
 use Rattle.layer_build.proofs.stack.expand_newest.Goals as goal
 
 pub expand-requires-clause-nodes : goal.expand-requires-clause-nodes
 expand-requires-clause-nodes g c κs within =
     let dp = g.M.DpModel.meaning (g.M.DpModel.numbers c.args.model.now) in
-    let n = c.args.newest.now.nodes in
-    subst (Each (IsParent dp c.args.k)) (sym c.copy_nodes.ensures.nodes)
-    (Each-map without_arcs (IsParent dp c.args.k) n (Each-then (IsParent dp c.args.k) (λ (x : NodeView). IsParent dp c.args.k (without_arcs x)) n (λ x p. record { state = p.state; rank = p.rank; value = p.value }) c.requires.nodes))
+    alike-parents dp c.args.k c.args.newest.now.nodes c.keep.new.self.nodes c.keep.ensures.nodes c.requires.nodes
 
 pub returns-clause-above : goal.returns-clause-above
-returns-clause-above g c =
+returns-clause-above g c paths =
     let dp = g.M.DpModel.meaning (g.M.DpModel.numbers c.args.model.now) in
-    λ paths. c.expand.ensures.above paths
-    ∙ (ap (λ (l : List NodeView). (expand dp c.args.k (shown_layer paths l)).above) c.copy_nodes.ensures.nodes
-    ∙ (ap (λ (l : List DdNode). (expand dp c.args.k l).above) (shown-bare paths c.args.newest.now.nodes) ∙ bare-above dp c.args.k (shown_layer paths c.args.newest.now.nodes)))
+    c.expand.ensures.above paths ∙ alike-above dp c.args.k paths c.args.newest.now.nodes c.keep.new.self.nodes c.keep.ensures.nodes
 
 pub returns-clause-next : goal.returns-clause-next
-returns-clause-next g c =
+returns-clause-next g c paths =
     let dp = g.M.DpModel.meaning (g.M.DpModel.numbers c.args.model.now) in
-    λ paths. c.expand.ensures.next paths
-    ∙ (ap (λ (l : List NodeView). (expand dp c.args.k (shown_layer paths l)).next) c.copy_nodes.ensures.nodes
-    ∙ (ap (λ (l : List DdNode). (expand dp c.args.k l).next) (shown-bare paths c.args.newest.now.nodes) ∙ bare-next dp c.args.k (shown_layer paths c.args.newest.now.nodes)))
+    c.expand.ensures.next paths ∙ alike-next dp c.args.k paths c.args.newest.now.nodes c.keep.new.self.nodes c.keep.ensures.nodes
 
 pub returns-clause-rest : goal.returns-clause-rest
-returns-clause-rest g c = c.expand.ensures.rest.nodes ∙ (ap (map without_arcs) c.copy_nodes.ensures.nodes ∙ bare-twice c.args.newest.now.nodes)
+returns-clause-rest g c = c.expand.ensures.rest.nodes ∙ c.keep.ensures.nodes
+
+pub returns-clause-held : goal.returns-clause-held
+returns-clause-held g c = held-nodes c.keep.new.region c.keep.new.self c.expand.new.above c.expand.ensures.rest c.keep.ensures.held

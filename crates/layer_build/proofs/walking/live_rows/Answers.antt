@@ -1,6 +1,5 @@
-use Rattle.std.proofs.Common.{◌≡◌, ℕ, ◌-◌, max, drop, length, ap, ◌∙◌, arith}
-use Rattle.layer_nodes.specs.Nodes.{LayerView}
-use Rattle.layer_build.specs.Stacked.{layer_in, nodes_in, shown_stack}
+use Rattle.std.proofs.Common.{◌≡◌, ℕ, ◌-◌, max, drop, ap, ◌∙◌, arith}
+use Rattle.layer_build.specs.Stacked.{shown_stack}
 use Rattle.layer_build.proofs.Walked.{counted-more, counted-end, count_all, room-few}
 use Rattle.layer_build.proofs.walking.live_rows.Goals as goal
 
@@ -11,10 +10,8 @@ layers-preserved c =
     let begun = c.layers.auto.depth in
     let more = c.layers-test.true in
     let room = room-few s c.layers.depth c.requires.stored (omega arith) in
-    let same : c.layer_at.result.now.nodes_room ≡ (layer_in s c.layers.depth).nodes_room = ap (λ (l : LayerView). l.nodes_room) c.layer_at.ensures in
-    let few = c.len-rows.ensures.room in
-    let count : c.len-rows.result ≡ length (nodes_in s c.layers.depth) = c.len-rows.ensures.count ∙ ap (λ (l : LayerView). length l.nodes) c.layer_at.ensures in
-    counted-more s (max s.first c.args.held) c.layers.depth c.layers.rows c.len-rows.result c.layers.invariant (grind arith) (omega arith) count (omega arith)
+    let few = c.len_at-rows.ensures.room in
+    counted-more s (max s.first c.args.held) c.layers.depth c.layers.rows c.len_at-rows.result c.layers.invariant (grind arith) (omega arith) c.len_at-rows.ensures.count (omega arith)
 
 pub returns : goal.returns
 returns c prefix =

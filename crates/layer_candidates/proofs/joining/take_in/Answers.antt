@@ -3,7 +3,7 @@ use Rattle.std.proofs.lemmas.List.{with_items_is, length_push}
 use Rattle.layer_candidates.specs.Rows.{row_at, live_at}
 use Rattle.dp_model.specs.Folds.{fold_of}
 use Rattle.layer_candidates.specs.Table.{IsTable}
-use Rattle.layer_candidates.specs.Ways.{all_reached, bettered, AreApart, AreJoined}
+use Rattle.layer_candidates.specs.Ways.{all_reached, bettered, AreDistinctRows, AreJoined}
 use Rattle.layer_candidates.proofs.Blocks.{zeros-same}
 use Rattle.layer_candidates.proofs.Joined.{pushed_list, pushed_apart, pushed_ways, bettered_list, bettered_ways, length-bettered, strict}
 use Rattle.layer_candidates.proofs.joining.take_in.Goals as goal
@@ -20,7 +20,7 @@ returns-then-place-count-clause-joined c = λ dp k j new.
     let put = c.insert.ensures.table a.rows.now a.words a.live (subst (λ (n : ℕ). IsTable a.rows.now a.words a.live n a.folds.now a.heads.now a.next.now) (sym size) j.table) (subst (λ (n : ℕ). n * a.words + a.words ≤ length a.rows.now) (sym size) c.requires.room) folded in
     subst (λ l. AreJoined dp k a.rows.now a.words a.live l c.insert.new.folds c.insert.new.heads c.insert.new.next) (sym items) (record {
       table = subst (λ (n : ℕ). IsTable a.rows.now a.words a.live n c.insert.new.folds c.insert.new.heads c.insert.new.next) (ap (λ (n : ℕ). n + 1) size ∙ sym longer) put;
-      apart = subst (AreApart a.rows.now a.words) (sym (longer ∙ add-one (length a.ways.now.items))) (pushed_apart a.rows.now a.words a.ways.now.items a.way j.apart none);
+      apart = subst (AreDistinctRows a.rows.now a.words) (sym (longer ∙ add-one (length a.ways.now.items))) (pushed_apart a.rows.now a.words a.ways.now.items a.way j.apart none);
       good = pushed_ways a.rows.now a.words a.ways.now.items a.way dp k j.good new;
     })
 
@@ -47,7 +47,7 @@ returns-else-place-count-clause-joined c = λ dp k j new.
     let items = with_items_is a.ways.now c.better.new.ways whole ∙ is in
     subst (λ l. AreJoined dp k a.rows.now a.words a.live l a.folds.now a.heads.now a.next.now) (sym items) (record {
       table = subst (λ (n : ℕ). IsTable a.rows.now a.words a.live n a.folds.now a.heads.now a.next.now) (sym count) j.table;
-      apart = subst (AreApart a.rows.now a.words) (sym count) j.apart;
+      apart = subst (AreDistinctRows a.rows.now a.words) (sym count) j.apart;
       good = bettered_ways a.rows.now a.words a.ways.now.items a.way dp k c.find-place.result less same j.good new;
     })
 

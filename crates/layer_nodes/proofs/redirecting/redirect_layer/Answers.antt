@@ -2,12 +2,13 @@ use Rattle.std.proofs.Common.{rules, ◌≡◌, length, map, sym, ◌∙◌, ap,
 use Rattle.std.proofs.lemmas.List.{with_items_is}
 use Rattle.dp_model.specs.Lists.{Each}
 use Rattle.dp_laws.specs.Rules.Redirects.{with_redirected}
-use Rattle.layer_nodes.specs.Nodes.{LayerView, shown_layer, without_arcs}
+use Rattle.layer_candidates.specs.HeldRows.{held_row}
+use Rattle.layer_nodes.specs.Nodes.{NodeView, LayerView, shown_layer, without_arcs}
 use Rattle.layer_nodes.specs.Redirecting.{AreRedirected}
 use Rattle.layer_nodes.specs.Steps.{MayBeLengthened}
-use Rattle.layer_nodes.specs.Stored.{node_view}
+use Rattle.layer_nodes.specs.Stored.{node_view_by}
 use Rattle.layer_nodes.proofs.Redirected.{redirected-length}
-use Rattle.layer_nodes.proofs.Shown.{views-redirected, shown-redirected, bare-redirected}
+use Rattle.layer_nodes.proofs.Shown.{views-redirected, shown-redirected, bare-redirected, places-seen}
 use Rattle.layer_nodes.proofs.redirecting.redirect_layer.Goals as goal
 
 pub returns-clause-nodes : goal.returns-clause-nodes
@@ -19,9 +20,9 @@ returns-clause-nodes c =
     let size : length new ≡ l.arcs.len = redirected-length ls l.arcs.items new each ∙ search rules in
     let nodes = ap (λ (v : LayerView). v.nodes) c.layer.view_is in
     let far = subst (Each MayBeLengthened) (sym nodes) c.requires.lengths in
-    λ paths. ap (λ a. shown_layer paths (map (node_view l.words l.rows.items a) l.nodes.items)) (with_items_is l.arcs new size)
-    ∙ (ap (shown_layer paths) (views-redirected ls l.words l.rows.items l.arcs.items new l.nodes.items each far)
-    ∙ (shown-redirected paths 0 ls (map (node_view l.words l.rows.items l.arcs.items) l.nodes.items)
+    λ paths. ap (λ a. shown_layer paths (map (node_view_by (held_row l.held.value) a) l.nodes.items)) (with_items_is l.arcs new size)
+    ∙ (ap (shown_layer paths) (views-redirected ls (held_row l.held.value) l.arcs.items new l.nodes.items each far)
+    ∙ (shown-redirected paths 0 ls (map (node_view_by (held_row l.held.value) l.arcs.items) l.nodes.items)
     ∙ ap (λ n. with_redirected ls (shown_layer paths n)) nodes))
 
 pub returns-clause-rest : goal.returns-clause-rest
@@ -29,7 +30,8 @@ returns-clause-rest c =
     let l = c.layer.inside in
     record {
       words = ap (λ (v : LayerView). v.words) c.layer.view_is;
-      nodes = bare-redirected l.words l.rows.items l.arcs.items _ l.nodes.items ∙ ap (λ (v : LayerView). map without_arcs v.nodes) c.layer.view_is;
+      nodes = bare-redirected (held_row l.held.value) l.arcs.items _ l.nodes.items ∙ ap (λ (v : LayerView). map without_arcs v.nodes) c.layer.view_is;
+      places = places-seen (held_row l.held.value) _ l.nodes.items ∙ (sym (places-seen (held_row l.held.value) l.arcs.items l.nodes.items) ∙ ap (λ (v : LayerView). map (λ (n : NodeView). n.place) v.nodes) c.layer.view_is);
       nodes_room = ap (λ (v : LayerView). v.nodes_room) c.layer.view_is;
       arcs_room = search rules;
     }

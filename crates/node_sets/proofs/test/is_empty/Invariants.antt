@@ -1,6 +1,6 @@
 use Rattle.std.proofs.Common.{◌≡◌, ℕ, ◌<◌}
-use Rattle.node_sets.specs.Sets.{word_at}
+use Rattle.node_sets.specs.Sets.{row_word}
 use Rattle.node_sets.proofs.test.is_empty.Given as goal
 
 abbrev pub invariant-loop-i : goal.invariant-loop-i
-invariant-loop-i l = (k : ℕ) → k < l.i → word_at l.row k ≡ 0
+invariant-loop-i l = (k : ℕ) → k < l.i → row_word l.row k ≡ 0

@@ -1,12 +1,12 @@
 use Rattle.std.proofs.Common.{◌≡◌, ℕ, ◌<◌, false, Some, length}
 use Rattle.shared_fringe.specs.Tickets.{Ticketed}
 use Rattle.shared_fringe.specs.Slots.{in_slot, is_low}
-use Rattle.shared_fringe.specs.Stored.{IsStored, HasFewRanks}
+use Rattle.shared_fringe.specs.Stored.{IsFringeStore, HasFewRanks}
 use Rattle.shared_fringe.proofs.dropping.drop_up_to.Given as goal
 
 abbrev pub invariant-loop-place : goal.invariant-loop-place
 invariant-loop-place l = record {
-  stored : IsStored l.store.words l.store.spare l.store.slots.items l.store.keys l.store.ranks l.store.index;
+  stored : IsFringeStore l.store.words l.store.spare l.store.slots.items l.store.keys l.store.ranks l.store.index;
   few : HasFewRanks l.store.slots.items l.store.ranks;
   words : l.store.words ≡ l.initial.store.words;
   spare : l.store.spare ≡ l.initial.store.spare;

@@ -2,7 +2,7 @@ use Rattle.std.proofs.Common.{rules, ◌≡◌, ◌+◌, length, List, Option, �
 use Rattle.std.proofs.lemmas.List.{length-map}
 use Rattle.row_region.specs.Region.{RegionView}
 use Rattle.shared_fringe.specs.Tickets.{Ticketed}
-use Rattle.shared_fringe.specs.Slots.{AreEntered, in_slot, key_of, opened}
+use Rattle.shared_fringe.specs.Slots.{AreIndexed, in_slot, key_of, opened}
 use Rattle.shared_fringe.proofs.Stores.{stored_longer}
 use Rattle.shared_fringe.proofs.growing.more_slots.Goals as goal
 
@@ -18,7 +18,7 @@ returns-clause-stored c =
     (c.push_empty.ensures.keys ∙ (search rules))
     (c.push_empty.ensures.len ∙ ap (λ (l : List (Option Ticketed)). length l + c.max-more.result) kept)
     (ap (λ (v : RegionView). v.rows) grown) (ap (λ (v : RegionView). v.words) grown) (ap (λ (v : RegionView). v.spare) grown)
-    (subst (λ (l : List (Option Ticketed)). AreEntered l c.in_ok-index.index.nodes) (c.as_slice.ensures.value ∙ kept) c.in_ok-index.ensures.entered)
+    (subst (λ (l : List (Option Ticketed)). AreIndexed l c.in_ok-index.index.nodes) (c.as_slice.ensures.value ∙ kept) c.in_ok-index.ensures.entered)
     (let a = c.in_ok-index.ensures.room in let x = c.saturating_add-slots.ensures in let y = c.saturating_add-room.ensures in let w = c.in_ok-reserve.ensures.ok in let v = c.reserve.new.self.small in let m = c.rows-rows.ensures.most in let len = s.slots.ok.0 in omega arith)
 
 pub returns-clause-opened : goal.returns-clause-opened

@@ -1,6 +1,6 @@
 use Rattle.std.proofs.Common.{◌≡◌, ℕ, Some, arith, inl, inr, sym, subst}
 use Rattle.std.proofs.lemmas.Bool.{cases_eq}
-use Rattle.shared_fringe.specs.Slots.{IsEntered, in_slot, own_fold}
+use Rattle.shared_fringe.specs.Slots.{IsIndexed, in_slot, own_fold}
 use Rattle.shared_fringe.proofs.reindexing.reindex.Goals as goal
 
 pub loop-slot-preserved : goal.loop-slot-preserved
@@ -11,7 +11,7 @@ loop-slot-preserved c =
       room = (let a = i.room in let b = e.room in omega arith);
       len = (let a = i.len in let b = e.len in omega arith);
       entered = λ s o less at. elim (cases_eq s c.loop-slot.slot) [
-        | inl same ↦ subst (λ (n : ℕ). IsEntered c.enter_slot.new.index.nodes n (own_fold o)) (sym same) (e.entered o (subst (λ (n : ℕ). in_slot c.args.slots.now n ≡ Some o) same at))
+        | inl same ↦ subst (λ (n : ℕ). IsIndexed c.enter_slot.new.index.nodes n (own_fold o)) (sym same) (e.entered o (subst (λ (n : ℕ). in_slot c.args.slots.now n ≡ Some o) same at))
         | inr other ↦ e.kept s _ (i.entered s o (omega arith) at)
       ];
     }

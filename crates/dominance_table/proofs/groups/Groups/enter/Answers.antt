@@ -1,6 +1,6 @@
 use Rattle.std.proofs.Common.{vec_capacity, ◌<◌, length, Some, nat_eq, subst, sym, ◌∙◌, ap, arith}
 use Rattle.indexmap.specs.IndexMap.{get}
-use Rattle.dominance_table.specs.Groups.{GroupsView, AreChained, HasHeadRoom, IsAppended, ends_after}
+use Rattle.dominance_table.specs.Groups.{GroupsView, AreChained, HasRunHeadRoom, IsAppended, ends_after}
 use Rattle.dominance_table.proofs.Chains.{chained_longer, chained_more}
 use Rattle.dominance_table.proofs.groups.Groups.enter.Goals as goal
 
@@ -21,7 +21,7 @@ invariant_of-self-2 c =
     let same = c.lengthen.ensures.kept c.if-lengthen.false in
     let runs = c.lengthen.new.runs in
     let chained = subst (λ v. AreChained heads v.items) (sym same) c.self.invariant.0 in
-    let room = subst (λ v. HasHeadRoom heads v.items c.self.inside.room (vec_capacity v)) (sym same) c.self.invariant.1 in
+    let room = subst (λ v. HasRunHeadRoom heads v.items c.self.inside.room (vec_capacity v)) (sym same) c.self.invariant.1 in
     let appended = subst (λ o. IsAppended runs.items c.append.new.runs.items o fold) c.set_last-last.ensures.was c.append.ensures.appended in
     let place = c.len.ensures ∙ runs.ok.0 in
     let ends = c.set_last-last.ensures.ends ∙ ap (λ n. Some (ends_after (get nat_eq heads fold) n)) place in

@@ -1,6 +1,6 @@
 use Rattle.std.proofs.Common.{vec_len, ◌≡◌, ℕ, ◌+◌, ◌*◌, ◌≤◌, List, length, true, sym, ◌∙◌, ap, subst, arith}
 use Rattle.dominance_table.specs.declared.entry.Entry.{Entry}
-use Rattle.dominance_table.specs.Groups.{HasEntered, group_fold}
+use Rattle.dominance_table.specs.Groups.{HasEnteredRun, group_fold}
 use Rattle.dominance_table.specs.Entries.{TableView, HasRunRoom, entry_at}
 use Rattle.dominance_table.proofs.Puts.{full_then, full_else, answers_full, answers_put, stays_full, room_left, row_fits, row_put, kept_room, put_step, run_room_more, grouped_more, rising_more}
 use Rattle.dominance_table.proofs.table.Table.put_entry.Goals as goal
@@ -34,7 +34,7 @@ invariant_of-self c =
     let blocks = c.self.invariant.0.blocks in
     let end : c.len-2.result + 1 ≡ length c.self.inside.entries.items + 1 = ap (λ n. n + 1) (c.len-2.ensures ∙ c.self.inside.entries.ok.0) in
     let e = c.args.entry in
-    let entered = subst (λ n. HasEntered c.self.inside.groups.runs c.enter.new.self.runs e.depth e.bucket (group_fold e.depth e.bucket) n) end c.enter.ensures.entered in
+    let entered = subst (λ n. HasEnteredRun c.self.inside.groups.runs c.enter.new.self.runs e.depth e.bucket (group_fold e.depth e.bucket) n) end c.enter.ensures.entered in
     let last = subst (λ (l : List Entry). (i : ℕ) → c.rise_with-self-inside.result ≡ true → i + 1 ≡ length l → (entry_at l i).ticket ≤ e.ticket) c.as_slice.ensures.value c.rise_with-self-inside.ensures.last in
     rw (c.push_reserved.ensures.items, c.push_reserved.ensures.len, c.push_reserved.ensures.capacity, put.1) (
       record { some = kept.some; limited = kept.limited; placed = kept.placed; entries = kept.entries; rows = kept.rows; blocks = omega arith },

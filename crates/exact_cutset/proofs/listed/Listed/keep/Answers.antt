@@ -7,7 +7,7 @@ use Rattle.dp_laws.specs.Diagrams.Nodes.{node_at}
 use Rattle.relaxed_dd.specs.Shown.{layers_of}
 use Rattle.exact_cutset.specs.declared.child.Child.{Child}
 use Rattle.exact_cutset.specs.Seen.{ChildrenView, MayKeep, with_child}
-use Rattle.exact_cutset.specs.Stored.{place_of, HasChildren}
+use Rattle.exact_cutset.specs.Stored.{child_place, HasChildren}
 use Rattle.exact_cutset.proofs.Kept.{row-long, room-for-row, room-for-path, seen_as, seen-kept, has-one-more, rewritten-length}
 use Rattle.exact_cutset.proofs.listed.Listed.keep.Goals as goal
 
@@ -20,7 +20,7 @@ append_row-requires c =
     let words : i.words ≡ s.words = ap (λ (w : ChildrenView). w.words) c.self.view_is in
     let vars : i.vars ≡ s.vars = ap (λ (w : ChildrenView). w.vars) c.self.view_is in
     let room : i.room ≡ s.room = ap (λ (w : ChildrenView). w.room) c.self.view_is in
-    let count : length i.places.items ≡ length s.places = sym (length-map i.places.items place_of) ∙ ap (λ (w : ChildrenView). length w.places) c.self.view_is in
+    let count : length i.places.items ≡ length s.places = sym (length-map i.places.items child_place) ∙ ap (λ (w : ChildrenView). length w.places) c.self.view_is in
     let may : MayKeep i.words o = subst (λ n. MayKeep n o) (sym words) c.requires.node in
     let less : length i.places.items < i.room = (let r = c.requires.room in omega arith) in
     let deep : c.args.depth ≤ i.vars = (let r = c.requires.depth in omega arith) in
@@ -37,7 +37,7 @@ append_path-requires-clause-room c =
     let words : i.words ≡ s.words = ap (λ (w : ChildrenView). w.words) c.self.view_is in
     let vars : i.vars ≡ s.vars = ap (λ (w : ChildrenView). w.vars) c.self.view_is in
     let room : i.room ≡ s.room = ap (λ (w : ChildrenView). w.room) c.self.view_is in
-    let count : length i.places.items ≡ length s.places = sym (length-map i.places.items place_of) ∙ ap (λ (w : ChildrenView). length w.places) c.self.view_is in
+    let count : length i.places.items ≡ length s.places = sym (length-map i.places.items child_place) ∙ ap (λ (w : ChildrenView). length w.places) c.self.view_is in
     let may : MayKeep i.words o = subst (λ n. MayKeep n o) (sym words) c.requires.node in
     let less : length i.places.items < i.room = (let r = c.requires.room in omega arith) in
     let deep : c.args.depth ≤ i.vars = (let r = c.requires.depth in omega arith) in
@@ -52,7 +52,7 @@ returns c =
     let words : i.words ≡ s.words = ap (λ (w : ChildrenView). w.words) c.self.view_is in
     let vars : i.vars ≡ s.vars = ap (λ (w : ChildrenView). w.vars) c.self.view_is in
     let room : i.room ≡ s.room = ap (λ (w : ChildrenView). w.room) c.self.view_is in
-    let count : length i.places.items ≡ length s.places = sym (length-map i.places.items place_of) ∙ ap (λ (w : ChildrenView). length w.places) c.self.view_is in
+    let count : length i.places.items ≡ length s.places = sym (length-map i.places.items child_place) ∙ ap (λ (w : ChildrenView). length w.places) c.self.view_is in
     let may : MayKeep i.words o = subst (λ n. MayKeep n o) (sym words) c.requires.node in
     let less : length i.places.items < i.room = (let r = c.requires.room in omega arith) in
     let deep : c.args.depth ≤ i.vars = (let r = c.requires.depth in omega arith) in
@@ -64,7 +64,7 @@ returns c =
     ap (λ ps. seen_as i.width i.words i.vars i.wide i.room ps c.append_row.new.rows.items c.append_path.new.paths.items i.found i.decisions.items) pushed
     ∙ (seen-kept (layers_of c.args.diagram.now) i.width i.words i.vars i.wide i.room i.places.items i.rows.items i.paths.items i.found i.decisions.items child c.row.result.now c.append_row.new.rows.items c.append_path.new.paths.items
     may v.rows_are v.paths_are c.value-value.ensures c.row.ensures c.append_row.ensures.items c.append_path.ensures.items c.append_path.ensures.len
-    ∙ ap (with_child (layers_of c.args.diagram.now) (place_of child)) c.self.view_is)
+    ∙ ap (with_child (layers_of c.args.diagram.now) (child_place child)) c.self.view_is)
 
 pub invariant_of-self : goal.invariant_of-self
 invariant_of-self c =
@@ -75,7 +75,7 @@ invariant_of-self c =
     let words : i.words ≡ s.words = ap (λ (w : ChildrenView). w.words) c.self.view_is in
     let vars : i.vars ≡ s.vars = ap (λ (w : ChildrenView). w.vars) c.self.view_is in
     let room : i.room ≡ s.room = ap (λ (w : ChildrenView). w.room) c.self.view_is in
-    let count : length i.places.items ≡ length s.places = sym (length-map i.places.items place_of) ∙ ap (λ (w : ChildrenView). length w.places) c.self.view_is in
+    let count : length i.places.items ≡ length s.places = sym (length-map i.places.items child_place) ∙ ap (λ (w : ChildrenView). length w.places) c.self.view_is in
     let may : MayKeep i.words o = subst (λ n. MayKeep n o) (sym words) c.requires.node in
     let less : length i.places.items < i.room = (let r = c.requires.room in omega arith) in
     let deep : c.args.depth ≤ i.vars = (let r = c.requires.depth in omega arith) in

@@ -1,10 +1,22 @@
 use Rattle.std.proofs.Common.{ℕ, List, is_some, sym, ap, ◌∙◌}
 use Rattle.std.specs.Vec.{with_items}
+use Rattle.dp_model.specs.Laws.{IsLawful}
 use Rattle.dp_model.specs.Subproblem.{SubView}
 use Rattle.dp_laws.specs.Restricted.Beams.{wide}
 use Rattle.layer_build.specs.Layers.{SpaceView}
+use Rattle.layer_build.proofs.Held.{rows-for-beam, rows-same}
 use Rattle.layer_build.proofs.Memory.{other-layers}
+use Rattle.layer_build.proofs.workspace.Workspace.beam.Given as given
 use Rattle.layer_build.proofs.workspace.Workspace.beam.Goals as goal
+
+laws_of : (g : given.Over) (m : g.row.M.Denot) → IsLawful (g.M.DpModel.meaning (g.M.DpModel.numbers m))
+laws_of g m = (g.met.M.DpModel g.world.𝓛 g.world.𝓜 g.world.𝓡 ((λ s x. x), (λ x. x), (λ x. x), λ x. x)).lawful m
+
+pub beam-requires-clause-region_room : goal.beam-requires-clause-region_room
+beam-requires-clause-region_room g c κs within =
+    let dp = g.M.DpModel.meaning (g.M.DpModel.numbers c.args.model.now) in
+    let i = c.self.inside in
+    rows-for-beam dp (laws_of g c.args.model.now) i.words i.width i.held i.stack c.self.invariant.rows
 
 pub invariant_of-self : goal.invariant_of-self
 invariant_of-self g c =
@@ -13,7 +25,8 @@ invariant_of-self g c =
     let p = c.requires.prepared in
     let long = (with_items i.path c.beam.new.out).ok.0 in
     record {
-      stack = h.stack;
+      stack = record { small = h.stack.small; first = h.stack.first; last = h.stack.last; rooms = h.stack.rooms; newest_words = h.stack.newest_words; top = h.stack.top };
+      rows = rows-same i.words i.width i.held i.stack c.beam.new.region c.beam.ensures.region h.rows;
       first = h.first;
       prefix_fits = h.prefix_fits;
       expands = h.expands;

@@ -84,11 +84,11 @@ invariant_of-self g c =
     let fits-value : FitsSigned w64 c.sub.inside.value = search rules in
     let value : to_z w64 (of_z w64 c.sub.inside.value) ≡ value_of dp p = to_z-of_z w64 c.sub.inside.value fits-value ∙ (ap (λ (s : SubView). s.subproblem.value) c.sub.view_is ∙ c.requires.value) in
     let written : c.write_all.new.to.items ≡ p = c.write_all.ensures.items ∙ (c.as_slice-2.ensures.value ∙ decisions) in
-    let seen = started-layers dp i p c.len-first.result n c.as_slice-3.result.now (to_z w64 (of_z w64 c.sub.inside.value)) (to_z w64 (of_z w64 c.rank-rank.result)) c.start.ensures.node row value in
+    let seen = started-layers dp i p c.len-first.result n c.clear.new.self c.as_slice-3.result.now (to_z w64 (of_z w64 c.sub.inside.value)) (to_z w64 (of_z w64 c.rank-rank.result)) c.start.ensures.node row value in
     let room = c.write_all.ensures.room in
     let fits = h.prefix_fits in
-    subst (λ (q : List ℕ). HasSpace i.words i.width i.choices.items q (vec_capacity c.write_all.new.to) (started i c.len-first.result n) i.expansion i.redirects i.path.items i.beam) (sym written)
-    (started-space dp i h p (vec_capacity c.write_all.new.to) c.len-first.result n (omega arith) first (omega arith) c.start.ensures.rooms seen)
+    subst (λ (q : List ℕ). HasSpace i.words i.width c.len-first.result i.choices.items q (vec_capacity c.write_all.new.to) (started i c.len-first.result n c.clear.new.self) i.expansion i.redirects i.path.items i.beam) (sym written)
+    (started-space dp i h p (vec_capacity c.write_all.new.to) c.len-first.result n c.clear.new.self (omega arith) first (omega arith) c.start.ensures.rooms c.clear.ensures seen)
 
 pub returns-clause-layers : goal.returns-clause-layers
 returns-clause-layers g c =
@@ -105,11 +105,11 @@ returns-clause-layers g c =
     let fits-value : FitsSigned w64 c.sub.inside.value = search rules in
     let value : to_z w64 (of_z w64 c.sub.inside.value) ≡ value_of dp p = to_z-of_z w64 c.sub.inside.value fits-value ∙ (ap (λ (s : SubView). s.subproblem.value) c.sub.view_is ∙ c.requires.value) in
     let written : c.write_all.new.to.items ≡ p = c.write_all.ensures.items ∙ (c.as_slice-2.ensures.value ∙ decisions) in
-    let seen = started-layers dp i p c.len-first.result n c.as_slice-3.result.now (to_z w64 (of_z w64 c.sub.inside.value)) (to_z w64 (of_z w64 c.rank-rank.result)) c.start.ensures.node row value in
-    let here : the_view (record i { prefix = c.write_all.new.to; stack = started i c.len-first.result n; first_reduced = None; held = c.len-first.result })
+    let seen = started-layers dp i p c.len-first.result n c.clear.new.self c.as_slice-3.result.now (to_z w64 (of_z w64 c.sub.inside.value)) (to_z w64 (of_z w64 c.rank-rank.result)) c.start.ensures.node row value in
+    let here : the_view (record i { prefix = c.write_all.new.to; stack = started i c.len-first.result n c.clear.new.self; first_reduced = None; held = c.len-first.result })
     ≡ record c.args.self.now { prefix = p; layers = start_layer (reached dp p) ∷ []; ranks = map (λ (node : NodeView). node.rank) n.nodes; first_reduced = None; held = length p } =
-    ap (λ (q : List ℕ). record (the_view i) { room = n.nodes_room; prefix = q; layers = shown_stack q (started i c.len-first.result n); ranks = map (λ (node : NodeView). node.rank) n.nodes; first_reduced = None; held = c.len-first.result }) written
-    ∙ (ap (λ (k : ℕ). record (the_view i) { room = n.nodes_room; prefix = p; layers = shown_stack p (started i c.len-first.result n); ranks = map (λ (node : NodeView). node.rank) n.nodes; first_reduced = None; held = k }) first
+    ap (λ (q : List ℕ). record (the_view i) { room = n.nodes_room; prefix = q; layers = shown_stack q (started i c.len-first.result n c.clear.new.self); ranks = map (λ (node : NodeView). node.rank) n.nodes; first_reduced = None; held = c.len-first.result }) written
+    ∙ (ap (λ (k : ℕ). record (the_view i) { room = n.nodes_room; prefix = p; layers = shown_stack p (started i c.len-first.result n c.clear.new.self); ranks = map (λ (node : NodeView). node.rank) n.nodes; first_reduced = None; held = k }) first
     ∙ (ap₂ (λ (r : ℕ) (l : List (List DdNode)). record (the_view i) { room = r; prefix = p; layers = l; ranks = map (λ (node : NodeView). node.rank) n.nodes; first_reduced = None; held = length p }) c.start.ensures.rooms.nodes_room seen
     ∙ ap (λ (s : SpaceView). record s { prefix = p; layers = start_layer (reached dp p) ∷ []; ranks = map (λ (node : NodeView). node.rank) n.nodes; first_reduced = None; held = length p }) c.self.view_is)) in
     here
@@ -129,11 +129,11 @@ returns-clause-under_way g c =
     let fits-value : FitsSigned w64 c.sub.inside.value = search rules in
     let value : to_z w64 (of_z w64 c.sub.inside.value) ≡ value_of dp p = to_z-of_z w64 c.sub.inside.value fits-value ∙ (ap (λ (s : SubView). s.subproblem.value) c.sub.view_is ∙ c.requires.value) in
     let written : c.write_all.new.to.items ≡ p = c.write_all.ensures.items ∙ (c.as_slice-2.ensures.value ∙ decisions) in
-    let seen = started-layers dp i p c.len-first.result n c.as_slice-3.result.now (to_z w64 (of_z w64 c.sub.inside.value)) (to_z w64 (of_z w64 c.rank-rank.result)) c.start.ensures.node row value in
-    let here : the_view (record i { prefix = c.write_all.new.to; stack = started i c.len-first.result n; first_reduced = None; held = c.len-first.result })
+    let seen = started-layers dp i p c.len-first.result n c.clear.new.self c.as_slice-3.result.now (to_z w64 (of_z w64 c.sub.inside.value)) (to_z w64 (of_z w64 c.rank-rank.result)) c.start.ensures.node row value in
+    let here : the_view (record i { prefix = c.write_all.new.to; stack = started i c.len-first.result n c.clear.new.self; first_reduced = None; held = c.len-first.result })
     ≡ record c.args.self.now { prefix = p; layers = start_layer (reached dp p) ∷ []; ranks = map (λ (node : NodeView). node.rank) n.nodes; first_reduced = None; held = length p } =
-    ap (λ (q : List ℕ). record (the_view i) { room = n.nodes_room; prefix = q; layers = shown_stack q (started i c.len-first.result n); ranks = map (λ (node : NodeView). node.rank) n.nodes; first_reduced = None; held = c.len-first.result }) written
-    ∙ (ap (λ (k : ℕ). record (the_view i) { room = n.nodes_room; prefix = p; layers = shown_stack p (started i c.len-first.result n); ranks = map (λ (node : NodeView). node.rank) n.nodes; first_reduced = None; held = k }) first
+    ap (λ (q : List ℕ). record (the_view i) { room = n.nodes_room; prefix = q; layers = shown_stack q (started i c.len-first.result n c.clear.new.self); ranks = map (λ (node : NodeView). node.rank) n.nodes; first_reduced = None; held = c.len-first.result }) written
+    ∙ (ap (λ (k : ℕ). record (the_view i) { room = n.nodes_room; prefix = p; layers = shown_stack p (started i c.len-first.result n c.clear.new.self); ranks = map (λ (node : NodeView). node.rank) n.nodes; first_reduced = None; held = k }) first
     ∙ (ap₂ (λ (r : ℕ) (l : List (List DdNode)). record (the_view i) { room = r; prefix = p; layers = l; ranks = map (λ (node : NodeView). node.rank) n.nodes; first_reduced = None; held = length p }) c.start.ensures.rooms.nodes_room seen
     ∙ ap (λ (s : SpaceView). record s { prefix = p; layers = start_layer (reached dp p) ∷ []; ranks = map (λ (node : NodeView). node.rank) n.nodes; first_reduced = None; held = length p }) c.self.view_is)) in
     let laws = laws_of g c.args.model.now in

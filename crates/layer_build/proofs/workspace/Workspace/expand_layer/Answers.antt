@@ -6,7 +6,7 @@ use Rattle.layer_build.specs.Layers.{SpaceView, last_depth, expand_last}
 use Rattle.layer_build.specs.Stacked.{place_of}
 use Rattle.layer_build.specs.UnderWay.{IsUnderWay}
 use Rattle.layer_build.proofs.Expansions.{expands}
-use Rattle.layer_build.proofs.Going.{parents-seen, under, low-of, words-seen, fits-seen, narrow-seen, lent, place-within, words-of, expanded-space, expanded-seen, expanded-kept}
+use Rattle.layer_build.proofs.Going.{parents-seen, under, low-of, words-seen, fits-seen, narrow-seen, spare-seen, lent, place-within, words-of, expanded-space, expanded-seen, expanded-kept}
 use Rattle.layer_build.proofs.workspace.Workspace.expand_layer.Given as given
 use Rattle.layer_build.proofs.workspace.Workspace.expand_layer.Goals as goal
 
@@ -96,6 +96,14 @@ expand_newest-requires-clause-room g c κs within =
     let fits = fits-seen dp i h u low (narrow-seen i h c.args.self.now c.self.view_is c.requires.narrow) in
     subst (λ (n : ℕ). length i.stack.newest.nodes * dp.choices i.stack.last ≤ n) (sym h.expands) fits.candidates
 
+pub expand_newest-requires-clause-spare : goal.expand_newest-requires-clause-spare
+expand_newest-requires-clause-spare g c κs within =
+    let dp = g.M.DpModel.meaning (g.M.DpModel.numbers c.args.model.now) in
+    let i = c.self.inside in let h = c.self.invariant in
+    let u = under dp i c.args.self.now c.self.view_is c.requires.under_way in
+    let low = low-of dp i h c.args.self.now c.self.view_is c.requires.under_way c.requires.below in
+    spare-seen dp i h u low (narrow-seen i h c.args.self.now c.self.view_is c.requires.narrow)
+
 pub overflow_add-self : goal.overflow_add-self
 overflow_add-self g c = (let low = c.self.invariant.stack.last in let small = c.self.invariant.stack.small in omega arith)
 
@@ -106,7 +114,7 @@ invariant_of-self g c =
     let u = under dp i c.args.self.now c.self.view_is c.requires.under_way in
     let low = low-of dp i h c.args.self.now c.self.view_is c.requires.under_way c.requires.below in
     let e = c.expand_newest.ensures in
-    expanded-space dp (expand dp) (expands dp (laws_of g c.args.model.now)) i h u low c.expand_newest.new.above c.expand_newest.new.newest c.place_of-at.result c.expand_newest.new.expansion _ _ c.place_of-at.ensures c.index_mut.ensures.value e.rest e.above e.next e.above_rooms e.next_rooms e.expansion
+    expanded-space dp (expand dp) (expands dp (laws_of g c.args.model.now)) i h u low (narrow-seen i h c.args.self.now c.self.view_is c.requires.narrow) c.expand_newest.new.above c.expand_newest.new.newest c.expand_newest.new.region c.place_of-at.result c.expand_newest.new.expansion _ _ c.place_of-at.ensures c.index_mut.ensures.value e.rest e.above e.next e.above_rooms e.next_rooms e.expansion (record { held = e.held; others = e.others; spare = e.spare })
 
 pub returns-clause-layers : goal.returns-clause-layers
 returns-clause-layers g c =
@@ -115,7 +123,7 @@ returns-clause-layers g c =
     let low = low-of dp i h c.args.self.now c.self.view_is c.requires.under_way c.requires.below in
     let e = c.expand_newest.ensures in
     let n = c.expand_newest.new.newest in
-    let seen = expanded-seen (expand dp) i h low c.expand_newest.new.above n c.place_of-at.result c.expand_newest.new.expansion c.place_of-at.ensures e.rest e.above e.next e.next_rooms in
+    let seen = expanded-seen (expand dp) i h low c.expand_newest.new.above n c.expand_newest.new.region c.place_of-at.result c.expand_newest.new.expansion c.place_of-at.ensures e.rest e.above e.next e.next_rooms in
     seen ∙ ap (λ (s : SpaceView). record s { layers = expand_last (expand dp (last_depth s)) s.layers; ranks = map (λ (node : NodeView). node.rank) n.nodes }) c.self.view_is
 
 pub returns-clause-under_way : goal.returns-clause-under_way
@@ -126,5 +134,5 @@ returns-clause-under_way g c =
     let low = low-of dp i h c.args.self.now c.self.view_is c.requires.under_way c.requires.below in
     let e = c.expand_newest.ensures in
     let n = c.expand_newest.new.newest in
-    let seen = expanded-seen (expand dp) i h low c.expand_newest.new.above n c.place_of-at.result c.expand_newest.new.expansion c.place_of-at.ensures e.rest e.above e.next e.next_rooms in
+    let seen = expanded-seen (expand dp) i h low c.expand_newest.new.above n c.expand_newest.new.region c.place_of-at.result c.expand_newest.new.expansion c.place_of-at.ensures e.rest e.above e.next e.next_rooms in
     subst (IsUnderWay dp) (sym seen) (expanded-kept dp (expand dp) (expands dp (laws_of g c.args.model.now)) i h u low n (narrow-seen i h c.args.self.now c.self.view_is c.requires.narrow) e.next e.ranked e.unmerged e.few)

@@ -5,7 +5,7 @@ use Rattle.layer_build.specs.Layers.{AreEnough}
 use Rattle.layer_build.specs.Stacked.{HaveDepths, path_in, shown_down, nodes_in}
 use Rattle.layer_build.proofs.Rooms.{has-layers}
 use Rattle.layer_build.proofs.Memory.{other-layers}
-use Rattle.layer_build.proofs.Ready.{ready-stack}
+use Rattle.layer_build.proofs.Ready.{ready-rows, ready-stack}
 use Rattle.layer_build.proofs.Stacks.{newest-at}
 use Rattle.layer_build.proofs.workspace.Workspace.make.Given as given
 use Rattle.layer_build.proofs.workspace.Workspace.make.Goals as goal
@@ -28,6 +28,7 @@ invariant_of-result g c =
     let empty : nodes_in s s.first ≡ [] = newest-at s.vars s.first s.last s.layers.items s.newest s.first (r.first ∙ sym r.last) ∙ ap (λ (l : LayerView). l.nodes) r.newest in
     record {
       stack = ready-stack dp laws c.args.width c.room_for-room.result c.words-words.result c.in_ok-choices_of.field-0.items s c.requires c.room_for-room.ensures.few r c.words-words.ensures c.in_ok-choices_of.ensures;
+      rows = ready-rows dp c.args.width c.room_for-room.result c.words-words.result s r c.words-words.ensures;
       first = r.first ∙ sym (ap (λ (l : List ℕ). length l) prefix);
       prefix_fits = omega arith;
       expands = c.in_ok-prepare.ensures ∙ sym room;

@@ -1,22 +1,17 @@
 use Rattle.std.proofs.Common.{◌≤◌, length, sym, ap, ◌∙◌, arith}
-use Rattle.layer_nodes.specs.Nodes.{LayerView}
 use Rattle.layer_build.specs.Layers.{SpaceView, last_depth, layer_at}
 use Rattle.layer_build.proofs.Going.{deep}
-use Rattle.layer_build.proofs.Reading.{begun-low, small-first, layer-within, layer-seen}
+use Rattle.layer_build.proofs.Reading.{begun-low, layer-seen}
+use Rattle.layer_build.proofs.Standing.{has-depth}
 use Rattle.layer_build.proofs.workspace.Workspace.nodes.Goals as goal
 
-pub layer_at-requires-clause-few : goal.layer_at-requires-clause-few
-layer_at-requires-clause-few c = small-first c.self.inside c.self.invariant
-
-pub layer_at-requires-clause-place : goal.layer_at-requires-clause-place
-layer_at-requires-clause-place c =
+pub len_at-requires : goal.len_at-requires
+len_at-requires c =
     let i = c.self.inside in let h = c.self.invariant in
-    let low = begun-low i h c.args.self.now c.self.view_is c.args.depth c.requires.first in
     let at = ap last_depth c.self.view_is in
     let here = deep i h in
     let last = c.requires.last in
-    let high : c.args.depth ≤ i.stack.last = omega arith in
-    λ other. layer-within i h c.args.depth high
+    has-depth i h c.args.depth (omega arith)
 
 pub returns : goal.returns
 returns c =
@@ -26,5 +21,4 @@ returns c =
     let here = deep i h in
     let last = c.requires.last in
     let high : c.args.depth ≤ i.stack.last = omega arith in
-    c.len.ensures.count ∙ (ap (λ (l : LayerView). length l.nodes) c.layer_at.ensures
-    ∙ (sym (layer-seen i h c.args.depth low high) ∙ ap (λ (s : SpaceView). length (layer_at s c.args.depth)) c.self.view_is))
+    c.len_at.ensures.count ∙ (sym (layer-seen i h c.args.depth low high) ∙ ap (λ (s : SpaceView). length (layer_at s c.args.depth)) c.self.view_is)

@@ -46,6 +46,7 @@ invariant_of-self c =
     let long : length buffer ≡ i.path.len = c.as_mut_slice.ensures.len in
     record {
       stack = h.stack;
+      rows = h.rows;
       first = h.first;
       prefix_fits = h.prefix_fits;
       expands = h.expands;

@@ -1,8 +1,13 @@
-use Rattle.std.proofs.Common.{rules, ◌≡◌, ◌++◌, length, drop, vec_len, refl, sym, ap, subst, ◌∙◌, arith}
-use Rattle.std.proofs.lemmas.List.{with_items_is}
+use Rattle.std.proofs.Common.{rules, ◌≡◌, ◌++◌, ◌∷◌, [], ℕ, List, length, refl, sym, ap, subst, ◌∙◌}
 use Rattle.dp_model.specs.Gaps.{IsStateOf}
 use Rattle.dp_model.specs.Laws.{IsLawful}
-use Rattle.layer_candidates.proofs.Started.{prefix-state, prefix-cells, built-start}
+use Rattle.layer_candidates.specs.Beaming.{AreEnoughMembers}
+use Rattle.layer_candidates.specs.HeldRows.{HasExchanged}
+use Rattle.layer_candidates.specs.declared.beam.Beam.{Beam}
+use Rattle.layer_candidates.specs.declared.member.Member.{Member}
+use Rattle.row_region.proofs.Callers.{put_row}
+use Rattle.layer_candidates.proofs.HeldRows.{exchange-put}
+use Rattle.layer_candidates.proofs.Started.{prefix-state, prefix-cells, layers-same, built-start}
 use Rattle.layer_candidates.proofs.beam.Beam.begin.Given as given
 use Rattle.layer_candidates.proofs.beam.Beam.begin.Goals as goal
 
@@ -14,22 +19,44 @@ rank-rank-requires g c =
     let dp = g.M.DpModel.meaning (g.M.DpModel.numbers c.args.model.now) in
     subst (IsStateOf dp (length c.args.prefix.now)) (sym c.requires.row) (prefix-state dp (laws_of g c.args.model.now) c.args.prefix.now c.requires.prefix)
 
-pub write_first-requires : goal.write_first-requires
-write_first-requires g c =
-    let dp = g.M.DpModel.meaning (g.M.DpModel.numbers c.args.model.now) in
-    let cells : length c.args.row.now ≡ dp.words = ap length c.requires.row ∙ prefix-cells dp (laws_of g c.args.model.now) c.args.prefix.now c.requires.prefix in
-    let words = c.requires.words in
-    let some = c.requires.some_row in
-    let long : length c.as_mut_slice.result.now ≡ vec_len c.args.self.now.above = search rules in
-    omega arith
-
-pub returns : goal.returns
-returns g c = λ w t h.
+pub put_row-place-requires-clause-cells : goal.put_row-place-requires-clause-cells
+put_row-place-requires-clause-cells g c =
     let dp = g.M.DpModel.meaning (g.M.DpModel.numbers c.args.model.now) in
     let a = c.args in
-    let s = a.self.now in
-    let is : c.write_first.new.rows ≡ a.row.now ++ drop (length a.row.now) s.above.items = c.write_first.ensures ∙ ap (λ l. a.row.now ++ drop (length a.row.now) l) c.as_mut_slice.ensures.value in
-    let size : length c.write_first.new.rows ≡ s.above.len = search rules in
-    let items = with_items_is s.above c.write_first.new.rows size ∙ is in
-    built-start dp (laws_of g a.model.now) a.prefix.now w t a.row.now a.value c.rank-rank.result s _ c.requires.prefix c.requires.shorter c.requires.row c.requires.value c.rank-rank.ensures h refl refl refl items (search rules)
-    (c.push_reserved.ensures.items ∙ search rules) c.clear.ensures.items (search rules) (search rules) (search rules)
+    prefix-cells dp (laws_of g a.model.now) a.prefix.now a.row.now a.self.now.words a.region.now.words c.requires.prefix c.requires.row c.requires.words c.requires.region_words
+
+pub returns-clause-built : goal.returns-clause-built
+returns-clause-built g c = λ w t h enough.
+    let dp = g.M.DpModel.meaning (g.M.DpModel.numbers c.args.model.now) in
+    let laws = laws_of g c.args.model.now in
+    let a = c.args in
+    let put = c.put_row-place.ensures in
+    let region = c.put_row-place.new.region in
+    let place = c.put_row-place.result in
+    let long = prefix-cells dp laws a.prefix.now a.row.now a.self.now.words a.region.now.words c.requires.prefix c.requires.row c.requires.words c.requires.region_words in
+    let member : c.first_member.result ≡ record { value = a.value; rank = c.rank-rank.result; row = place; step = 0 } = search rules in
+    let members : c.push_reserved-2.new.self.items ≡ c.first_member.result ∷ [] = c.push_reserved-2.ensures.items ∙ ap (λ (l : List Member). l ++ c.first_member.result ∷ []) c.clear-3.ensures.items in
+    let new : Beam = record a.self.now { members = c.push_reserved-2.new.self; held = c.push_reserved.new.self; steps = c.clear.new.self } in
+    built-start dp laws a.prefix.now w t new region place a.row.now a.value c.rank-rank.result c.requires.prefix c.requires.shorter
+    (layers-same dp w a.self.now new h refl refl (λ n m. m) (search rules) (search rules) (search rules))
+    (subst (AreEnoughMembers dp w) put.spare enough)
+    (record {
+      region_words = put.words ∙ c.requires.region_words;
+      found = (put_row a.region.now region place a.row.now put long).found;
+      row_is = c.requires.row;
+      value_is = c.requires.value;
+      rank_is = c.rank-rank.ensures;
+      members = members ∙ ap (λ (m : Member). m ∷ []) member;
+      held = c.push_reserved.ensures.items ∙ ap (λ (l : List ℕ). l ++ place ∷ []) c.clear-2.ensures.items;
+      steps = c.clear.ensures.items;
+    })
+
+pub returns-clause-exchanged : goal.returns-clause-exchanged
+returns-clause-exchanged g c =
+    let dp = g.M.DpModel.meaning (g.M.DpModel.numbers c.args.model.now) in
+    let a = c.args in
+    let region = c.put_row-place.new.region in
+    let place = c.put_row-place.result in
+    let long = prefix-cells dp (laws_of g a.model.now) a.prefix.now a.row.now a.self.now.words a.region.now.words c.requires.prefix c.requires.row c.requires.words c.requires.region_words in
+    subst (HasExchanged a.region.now [] region) (sym (c.push_reserved.ensures.items ∙ ap (λ (l : List ℕ). l ++ place ∷ []) c.clear-2.ensures.items))
+    (exchange-put a.region.now region [] place a.row.now (record { live = tt; apart = tt }) long c.put_row-place.ensures)

@@ -1,8 +1,20 @@
-use Rattle.std.proofs.Common.{◌≡◌, count_by, is_none, subst}
+use Rattle.std.proofs.Common.{◌≡◌, count_by, is_none, arith, subst}
 use Rattle.row_region.specs.Region.{RegionView}
-use Rattle.row_region.proofs.Chains.{spare_counts}
+use Rattle.row_region.proofs.Chains.{spare_few}
+use Rattle.row_region.proofs.Live.{places_count}
 use Rattle.row_region.proofs.region.Region.spare.Goals as goal
+
+pub overflow_sub-result : goal.overflow_sub-result
+overflow_sub-result c = c.self.invariant.within
+
+pub overflow_add-result : goal.overflow_add-result
+overflow_add-result c =
+    let few = spare_few _ _ _ _ _ c.self.invariant.chained in
+    let within = c.self.invariant.within in
+    let most = c.self.invariant.few in
+    omega arith
 
 pub returns-clause-counts : goal.returns-clause-counts
 returns-clause-counts c =
-    subst (λ (v : RegionView). v.spare ≡ count_by is_none v.rows) c.self.view_is (spare_counts _ _ _ _ _ c.self.invariant.chained)
+    let i = c.self.inside in
+    subst (λ (v : RegionView). v.spare ≡ count_by is_none v.rows) c.self.view_is (places_count i.cells.items i.words i.count i.fresh i.free i.given c.self.invariant.chained)

@@ -4,7 +4,7 @@ use Rattle.std.specs.Arc.{arc_value}
 use Rattle.std.specs.List.{slice_get}
 use Rattle.std.specs.Prelude.{option_map}
 use Rattle.dp_model.specs.Laws.{IsLawful}
-use Rattle.shared_fringe.specs.Firsts.{IsFirst}
+use Rattle.shared_fringe.specs.Firsts.{IsFirstTaken}
 use Rattle.shared_fringe.specs.Tickets.{Ticketed}
 use Rattle.board_laws.specs.Taking.{take_gives, HasFirst}
 use Rattle.board_laws.specs.declared.taken.Taken.TheVariants.{Sub}
@@ -49,7 +49,7 @@ returns-clause-first g c =
     let empty = subst (λ (v : BoardView). slice_get v.board.slots c.args.who ≡ Some None) (sym c.self.view_is) c.requires.empty in
     let slot = slot-set c.self.inside.slots.items c.args.who o (slice_get_within c.self.inside.slots.items c.args.who None empty) in
     subst (HasFirst c.args.self.now.board.open_ones) (sym slot)
-    (subst (λ (v : BoardView). IsFirst v.board.open_ones o) c.self.view_is (first_taken-is c.self.inside.fringe.open_ones o c.in-Some.ensures.best))
+    (subst (λ (v : BoardView). IsFirstTaken v.board.open_ones o) c.self.view_is (first_taken-is c.self.inside.fringe.open_ones o c.in-Some.ensures.best))
 
 pub returns-clause-out : goal.returns-clause-out
 returns-clause-out g c =

@@ -8,7 +8,7 @@ use Rattle.dominance_table.specs.Dominator.{IsReached}
 use Rattle.dominance_table.specs.Entries.{TableEntry}
 use Rattle.search_core.specs.Contents.{contents}
 use Rattle.search_core.specs.View.{BoardView}
-use Rattle.search_core.proofs.Keeping.{children-cells, children-states, entries-reached, full-fits}
+use Rattle.search_core.proofs.Keeping.{children-cells, children-states, entries-reached}
 use Rattle.search_core.proofs.board.Board.fates.Given as given
 use Rattle.search_core.proofs.board.Board.fates.Goals as goal
 

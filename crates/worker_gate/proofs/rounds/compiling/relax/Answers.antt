@@ -8,7 +8,7 @@ use Rattle.board_laws.specs.Board.{reach}
 use Rattle.board_laws.specs.GoodBoard.{IncumbentHolds}
 use Rattle.search_core.specs.View.{Tag}
 use Rattle.worker_gate.specs.Branched.{IsBranched}
-use Rattle.worker_gate.specs.Offered.{solution_of}
+use Rattle.worker_gate.specs.Offered.{found_solution}
 use Rattle.worker_gate.proofs.Branches.{shown-solution, relaxed-held, relaxed-branched}
 use Rattle.worker_gate.proofs.rounds.compiling.relax.Given as given
 use Rattle.worker_gate.proofs.rounds.compiling.relax.Goals as goal
@@ -23,7 +23,7 @@ pub offer-requires-after_bounds : goal.offer-requires-after_bounds
 offer-requires-after_bounds g c κs within =
     let dp = g.M.DpModel.meaning (g.M.DpModel.numbers c.args.model.now) in
     let found = shown-solution _ _ c.found.ensures ∙ c.fill.ensures.found in
-    subst (λ ns. IncumbentHolds (g.M.DpModel.meaning ns) (solution_of c.found.result)) (sym c.requires.numbers)
+    subst (λ ns. IncumbentHolds (g.M.DpModel.meaning ns) (found_solution c.found.result)) (sym c.requires.numbers)
     (subst (λ (f : Option Solution). IncumbentHolds dp f) (sym found)
     (relaxed-held dp (laws_of g c.args.model.now) (chain_of g c.args.model.now) c.args.taken.now.subproblem c.args.space.now.width c.incumbent_value-threshold.result c.requires.own c.requires.prepared.width))
 

@@ -3,7 +3,7 @@ use Rattle.dp_model.specs.Laws.{IsLawful}
 use Rattle.dp_model.specs.Numbers.{OptionAtMost}
 use Rattle.board_laws.specs.Board.{reach}
 use Rattle.board_laws.specs.GoodBoard.{IncumbentHolds}
-use Rattle.worker_gate.specs.Offered.{solution_of}
+use Rattle.worker_gate.specs.Offered.{found_solution}
 use Rattle.worker_gate.proofs.Branches.{beam-held, whole-branched}
 use Rattle.worker_gate.proofs.rounds.compiling.restrict.Given as given
 use Rattle.worker_gate.proofs.rounds.compiling.restrict.Goals as goal
@@ -13,7 +13,7 @@ laws_of g m = (g.met.M.DpModel g.world.𝓛 g.world.𝓜 g.world.𝓡 ((λ s x. 
 
 pub offer-requires-after_bounds : goal.offer-requires-after_bounds
 offer-requires-after_bounds g c κs within =
-    subst (λ ns. IncumbentHolds (g.M.DpModel.meaning ns) (solution_of c.compile-compiled.result.found)) (sym c.requires.numbers)
+    subst (λ ns. IncumbentHolds (g.M.DpModel.meaning ns) (found_solution c.compile-compiled.result.found)) (sym c.requires.numbers)
     (beam-held _ _ _ _ _ c.requires.own.prefix _ refl c.compile-compiled.ensures.beam)
 
 pub returns-clause-whole : goal.returns-clause-whole

@@ -1,9 +1,9 @@
 use Rattle.std.proofs.Common.{rules, subst}
 use Rattle.board_lock.specs.Order.{NoLess}
-use Rattle.board_lock.specs.Seats.{seen_of}
+use Rattle.board_lock.specs.Seats.{first_of, seen_of}
 use Rattle.board_laws.specs.Board.{incumbent_value}
 use Rattle.board_laws.specs.Improving.{after_offer}
-use Rattle.worker_gate.proofs.FinishLater.{offer-no-less}
+use Rattle.worker_gate.proofs.FinishLater.{offer-no-less, offer-seen}
 use Rattle.worker_gate.proofs.Moves.{offer-step}
 use Rattle.worker_gate.proofs.workers.holding_improve.improve_one.Goals as goal
 
@@ -19,3 +19,7 @@ returns-clause-no_less g c =
     let later = after_offer dp c.improve.result b c.args.decisions.now in
     let less : NoLess (seen_of c.args.seat.now) (incumbent_value b) = search rules in
     subst (NoLess (seen_of c.args.seat.now)) (search rules) (offer-no-less dp b c.args.decisions.now c.improve.result (seen_of c.args.seat.now) c.improve.ensures.answer less)
+
+pub returns-clause-better : goal.returns-clause-better
+returns-clause-better g c =
+    offer-seen g.M.DpModel.meaning c.value.result.now.numbers (first_of c.args.turn.now).numbers c.value.result.now.board c.args.decisions.now c.improve.result _ c.improve.ensures.answer (search rules) (search rules)

@@ -7,7 +7,7 @@ use Rattle.dp_model.specs.Subproblem.{Subproblem}
 use Rattle.dp_laws.specs.Children.{found_value}
 use Rattle.board_laws.specs.GoodBoard.{IncumbentHolds}
 use Rattle.worker_gate.specs.Branched.{AreBranched}
-use Rattle.worker_gate.specs.Offered.{solution_of}
+use Rattle.worker_gate.specs.Offered.{found_solution}
 use Rattle.worker_gate.proofs.Branches.{shown-solution, relaxed-held, relaxed-branched-for}
 use Rattle.worker_gate.proofs.FinishLater.{at-most-of}
 use Rattle.worker_gate.proofs.workers.offering.relax_one.Given as given
@@ -23,7 +23,7 @@ pub offer_one-requires-clause-held : goal.offer_one-requires-clause-held
 offer_one-requires-clause-held g c κs within =
     let dp = g.M.DpModel.meaning (g.M.DpModel.numbers c.args.model.now) in
     let found = shown-solution _ _ c.found.ensures ∙ c.fill.ensures.found in
-    subst (λ ns. IncumbentHolds (g.M.DpModel.meaning ns) (solution_of c.found.result)) (sym c.requires.numbers)
+    subst (λ ns. IncumbentHolds (g.M.DpModel.meaning ns) (found_solution c.found.result)) (sym c.requires.numbers)
     (subst (λ (f : Option Solution). IncumbentHolds dp f) (sym found)
     (relaxed-held dp (laws_of g c.args.model.now) (chain_of g c.args.model.now) c.args.taken.now.subproblem c.args.space.now.width c.args.seen c.requires.own c.requires.prepared.width))
 

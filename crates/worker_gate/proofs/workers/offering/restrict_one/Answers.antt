@@ -3,7 +3,7 @@ use Rattle.board_lock.specs.Seats.{first_of, seen_of}
 use Rattle.dp_model.specs.Laws.{IsLawful}
 use Rattle.dp_model.specs.Numbers.{OptionAtMost}
 use Rattle.board_laws.specs.GoodBoard.{IncumbentHolds}
-use Rattle.worker_gate.specs.Offered.{solution_of}
+use Rattle.worker_gate.specs.Offered.{found_solution}
 use Rattle.worker_gate.proofs.Branches.{beam-held, whole-branched-for}
 use Rattle.worker_gate.proofs.FinishLater.{at-most-of}
 use Rattle.worker_gate.proofs.workers.offering.restrict_one.Given as given
@@ -14,7 +14,7 @@ laws_of g m = (g.met.M.DpModel g.world.𝓛 g.world.𝓜 g.world.𝓡 ((λ s x. 
 
 pub offer_one-seen-requires-clause-held : goal.offer_one-seen-requires-clause-held
 offer_one-seen-requires-clause-held g c κs within =
-    subst (λ ns. IncumbentHolds (g.M.DpModel.meaning ns) (solution_of c.compile-compiled.result.found)) (sym c.requires.numbers)
+    subst (λ ns. IncumbentHolds (g.M.DpModel.meaning ns) (found_solution c.compile-compiled.result.found)) (sym c.requires.numbers)
     (beam-held _ _ _ _ _ c.requires.own.prefix _ refl c.compile-compiled.ensures.beam)
 
 pub returns-clause-whole : goal.returns-clause-whole

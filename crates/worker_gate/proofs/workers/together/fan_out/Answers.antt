@@ -4,7 +4,7 @@ use Rattle.board_lock.specs.declared.turn.Seat.{Seat}
 use Rattle.search_core.specs.View.{BoardView}
 use Rattle.worker_gate.specs.Prepared.{IsPreparedDesk}
 use Rattle.worker_gate.specs.declared.desk.Desk.{Desk}
-use Rattle.worker_gate.specs.Ready.{IsReady}
+use Rattle.worker_gate.specs.Ready.{IsReadySeat}
 use Rattle.worker_gate.proofs.Calls.{may_call, have_left, all_right, pairs_map, desks_left, left_long}
 use Rattle.worker_gate.proofs.workers.together.fan_out.Goals as goal
 
@@ -12,21 +12,21 @@ pub side_by_side-requires-after_bounds : goal.side_by_side-requires-after_bounds
 side_by_side-requires-after_bounds g c κs within =
     let t = c.args.turn.now in
     let D : Desk → Type 0 = IsPreparedDesk (g.M.DpModel.meaning (g.M.DpModel.numbers c.args.model.now)) (first_of t).board.settings.width in
-    may_call _ _ (IsReady t) D (λ s k h d p q ep eq. ((c.requires.numbers, subst (IsReady t) (sym ep) h, subst D (sym eq) d), (search rules, search rules, search rules, search rules)))
+    may_call _ _ (IsReadySeat t) D (λ s k h d p q ep eq. ((c.requires.numbers, subst (IsReadySeat t) (sym ep) h, subst D (sym eq) d), (search rules, search rules, search rules, search rules)))
     c.args.seats.now c.args.desks.now c.requires.lengths c.requires.ready c.requires.prepared
 
 pub returns-clause-ready : goal.returns-clause-ready
 returns-clause-ready g c =
     let t = c.args.turn.now in
-    let Q : Seat BoardView → Seat BoardView → Type 0 = λ a b. IsReady t b × (b.number ≡ a.number) in
-    let pairs = have_left _ _ Q (λ a b k l x. (subst (IsReady t) x.seat_left x.call.0, ap number_of (sym x.seat_left) ∙ (x.call.1 ∙ ap number_of x.seat_is))) c.args.seats.now c.side_by_side.new.seats c.args.desks.now c.side_by_side.new.desks c.side_by_side.ensures in
-    all_right Q (IsReady t) (λ a b h. h.0) c.args.seats.now c.side_by_side.new.seats pairs
+    let Q : Seat BoardView → Seat BoardView → Type 0 = λ a b. IsReadySeat t b × (b.number ≡ a.number) in
+    let pairs = have_left _ _ Q (λ a b k l x. (subst (IsReadySeat t) x.seat_left x.call.0, ap number_of (sym x.seat_left) ∙ (x.call.1 ∙ ap number_of x.seat_is))) c.args.seats.now c.side_by_side.new.seats c.args.desks.now c.side_by_side.new.desks c.side_by_side.ensures in
+    all_right Q (IsReadySeat t) (λ a b h. h.0) c.args.seats.now c.side_by_side.new.seats pairs
 
 pub returns-clause-seats : goal.returns-clause-seats
 returns-clause-seats g c =
     let t = c.args.turn.now in
-    let Q : Seat BoardView → Seat BoardView → Type 0 = λ a b. IsReady t b × (b.number ≡ a.number) in
-    let pairs = have_left _ _ Q (λ a b k l x. (subst (IsReady t) x.seat_left x.call.0, ap number_of (sym x.seat_left) ∙ (x.call.1 ∙ ap number_of x.seat_is))) c.args.seats.now c.side_by_side.new.seats c.args.desks.now c.side_by_side.new.desks c.side_by_side.ensures in
+    let Q : Seat BoardView → Seat BoardView → Type 0 = λ a b. IsReadySeat t b × (b.number ≡ a.number) in
+    let pairs = have_left _ _ Q (λ a b k l x. (subst (IsReadySeat t) x.seat_left x.call.0, ap number_of (sym x.seat_left) ∙ (x.call.1 ∙ ap number_of x.seat_is))) c.args.seats.now c.side_by_side.new.seats c.args.desks.now c.side_by_side.new.desks c.side_by_side.ensures in
     pairs_map Q number_of (λ a b h. h.1) c.args.seats.now c.side_by_side.new.seats pairs
 
 pub returns-clause-prepared : goal.returns-clause-prepared

@@ -1,8 +1,14 @@
-use Rattle.std.proofs.Common.{arith}
+use Rattle.std.proofs.Common.{arith, subst, slice_index_or}
 use Rattle.board_lock.specs.Seats.{seats_of}
 use Rattle.board_lock.proofs.Numbers.{length_is}
+use Rattle.search_core.specs.View.{BoardView}
+use Rattle.worker_gate.specs.Prepared.{IsPreparedDesk}
 use Rattle.worker_gate.proofs.workers.together.work_together.Goals as goal
 
 pub fan_all-requires-clause-lengths : goal.fan_all-requires-clause-lengths
 fan_all-requires-clause-lengths g c κs within =
     omega (arith, c.requires.workers, c.len.ensures, c.in-Ok.seats.ok.0, length_is c.in-Ok.seats.items 0 (seats_of c.in-Ok.turn) c.in-Ok.ensures.numbers, c.in-Ok.ensures.count)
+
+pub returns-in-Ok-clause-prepared : goal.returns-in-Ok-clause-prepared
+returns-in-Ok-clause-prepared g c k d less =
+    subst (λ (v : BoardView). IsPreparedDesk (g.M.DpModel.meaning (g.M.DpModel.numbers c.args.model.now)) v.board.settings.width (slice_index_or c.fan_all.new.desks.items k d)) c.in-Ok.ensures.first (c.fan_all.ensures.prepared k d less)

@@ -1,10 +1,10 @@
 use Rattle.std.proofs.Common.{◌≡◌}
 use Rattle.board_lock.specs.Seats.{first_of}
 use Rattle.worker_gate.specs.Prepared.{IsPreparedDesk}
-use Rattle.worker_gate.specs.Ready.{IsReady}
+use Rattle.worker_gate.specs.Ready.{IsReadySeat}
 use Rattle.worker_gate.proofs.workers.working.work.Given as goal
 
 abbrev pub invariant-loop : goal.invariant-loop
 invariant-loop g l =
-    IsReady l.turn l.seat × (l.seat.number ≡ l.fn.seat.number)
+    IsReadySeat l.turn l.seat × (l.seat.number ≡ l.fn.seat.number)
     × IsPreparedDesk (g.M.DpModel.meaning (g.M.DpModel.numbers l.model)) (first_of l.turn).board.settings.width l.desk

@@ -1,0 +1,5 @@
+use Rattle.row_region.proofs.Callers.{taken_live}
+use Rattle.row_region.proofs.tests.a_row_is_taken_once.Goals as goal
+
+pub row-requires-3 : goal.row-requires-3
+row-requires-3 g c = taken_live _ _ c.in-Some-take.again.place c.in-Some-take.ensures.taken
