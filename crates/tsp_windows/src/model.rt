@@ -150,6 +150,7 @@ impl TspWindows {
 
     /// When a node other than 0 that must or may be visited is reached, or none where it is no such node or is not reached
     /// in time. Node 0 never must or may be.
+    #[inline(always)]
     fn visited(&self, s: &[i64], to: usize) -> Option<u64>
         requires state { IsTrue (is_state_row self.now.nodes s.now) }
         requires inside { to < self.now.nodes }
@@ -171,6 +172,7 @@ impl TspWindows {
 
     /// When node 0 is reached again, or none where it is another node, a node is left to be visited or it is not reached in
     /// time. So many nodes as the rank must be visited.
+    #[inline(always)]
     fn returned(&self, s: &[i64], rank: i64, to: usize) -> Option<u64>
         requires state { IsTrue (is_state_row self.now.nodes s.now) }
         requires rank { rank ≡ pos (count_below self.now.nodes (shown (sets.words_for self.now.nodes) s.now).must) }
@@ -199,6 +201,7 @@ impl TspWindows {
     }
 
     /// When the node of a decision is reached, or none where the decision is not allowed.
+    #[inline(always)]
     fn reached(&self, k: usize, s: &[i64], rank: i64, to: usize) -> Option<u64>
         requires layer { k < self.now.nodes }
         requires state { IsTrue (is_state_row self.now.nodes s.now) }
@@ -309,7 +312,8 @@ fn write_root(out: &mut [i64], model: &TspWindows)
     time[0] = model.windows[0].opening as i64;
 }
 
-/// Writes the state behind a visit, by when the node is left.
+/// Writes the state behind a visit, by when the node is left. A set takes at most 10 words, which is said where it can be seen by a
+/// compiler.
 #[inline]
 fn write_moved(out: &mut [i64], model: &TspWindows, s: &[i64], to: usize, departure: u64)
     requires cells { length out.old ≡ 3 * sets.words_for model.now.nodes + 1 }
@@ -319,7 +323,7 @@ fn write_moved(out: &mut [i64], model: &TspWindows, s: &[i64], to: usize, depart
     requires small { departure < 2 ^ 62 }
     ensures { out.new ≡ row_for (sets.words_for model.now.nodes) (states.moved (instance_in model.now) (shown (sets.words_for model.now.nodes) s.now) to) }
 {
-    let words = few_words(model.nodes);
+    let words = words_for(model.nodes).min(10);
     let state = parts_of(model.nodes, s);
     let (positions, rest) = out.split_at_mut(words);
     let (must, rest) = rest.split_at_mut(words);
@@ -380,6 +384,7 @@ impl DpModel for TspWindows {
         -(self.windows[0].opening as i64)
     }
 
+    #[inline(always)]
     fn allowed(&self, k: usize, s: &[i64], d: u32) -> bool {
         self.reached(k, s, self.left(s), d as usize).is_some()
     }

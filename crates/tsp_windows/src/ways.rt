@@ -21,13 +21,10 @@ fn lesser(least: Option<u32>, way: u32) -> Option<u32>
     }
 }
 
-/// The least distance to a node from a position other than it, or none where there is no such position.
-pub(crate) fn least_leg(
-    nodes: usize,
-    distances: &[u32],
-    positions: &[i64],
-    to: usize,
-) -> Option<u32>
+/// The least distance to a node from one of many positions other than it, or none where there is no such position. It stands apart
+/// from the way from an only position, which is what is built into each try of a decision.
+#[inline(never)]
+fn least_of_legs(nodes: usize, distances: &[u32], positions: &[i64], to: usize) -> Option<u32>
     requires few { nodes ≤ 300 }
     requires square { length distances.now ≡ nodes * nodes }
     requires set { IsSet nodes positions.now }
@@ -42,6 +39,32 @@ pub(crate) fn least_leg(
         }
     }
     least
+}
+
+/// The least distance to a node from a position other than it, or none where there is no such position. Most states have a single
+/// position.
+#[inline]
+pub(crate) fn least_leg(
+    nodes: usize,
+    distances: &[u32],
+    positions: &[i64],
+    to: usize,
+) -> Option<u32>
+    requires few { nodes ≤ 300 }
+    requires square { length distances.now ≡ nodes * nodes }
+    requires set { IsSet nodes positions.now }
+    requires inside { to < nodes }
+    ensures { result ≡ least_amount nodes (λ p. has positions.now p && not (nat_eq p to)) (λ p. get_or distances.now (p * nodes + to) 0) }
+{
+    let mut rest = Members::of(positions);
+    let first = rest.next()?;
+    if rest.next().is_some() {
+        return least_of_legs(nodes, distances, positions, to);
+    }
+    if first == to {
+        return None;
+    }
+    Some(distances[first * nodes + to])
 }
 
 /// The least distance to a node from another one, or 0 where there is no other.

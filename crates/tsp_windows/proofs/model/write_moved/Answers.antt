@@ -9,8 +9,8 @@ pub returns : goal.returns
 unfolding moved shown
 returns c =
     assembled (words_for c.args.model.now.nodes) (moved (instance_in c.args.model.now) (shown (words_for c.args.model.now.nodes) c.args.s.now) c.args.to) _ _ _ _ _ _ _ _
-    c.write_split.ensures.one (omega (arith, c.split_at_mut-positions.ensures.front_len, c.few_words-words.ensures))
-    (c.write_split.ensures.must ∙ ap (λ (r : List ℤ). row_of (length c.split_at_mut-must.result.0.now) (λ v. has r v && not (nat_eq v c.args.to))) c.parts_of-state.ensures.must) (omega (arith, c.split_at_mut-must.ensures.front_len, c.few_words-words.ensures))
-    (c.write_split.ensures.may ∙ ap (λ (r : List ℤ). row_of (length c.split_at_mut-may.result.0.now) (λ v. has r v && not (nat_eq v c.args.to))) c.parts_of-state.ensures.may) (omega (arith, c.split_at_mut-may.ensures.front_len, c.few_words-words.ensures))
-    (omega (arith, c.split_at_mut-positions.ensures.back_len, c.split_at_mut-must.ensures.back_len, c.split_at_mut-may.ensures.back_len, c.few_words-words.ensures, c.requires.cells))
+    c.write_split.ensures.one (omega (arith, c.split_at_mut-positions.ensures.front_len, c.min-words.ensures, c.words_for.ensures, c.args.model.now.few))
+    (c.write_split.ensures.must ∙ ap (λ (r : List ℤ). row_of (length c.split_at_mut-must.result.0.now) (λ v. has r v && not (nat_eq v c.args.to))) c.parts_of-state.ensures.must) (omega (arith, c.split_at_mut-must.ensures.front_len, c.min-words.ensures, c.words_for.ensures, c.args.model.now.few))
+    (c.write_split.ensures.may ∙ ap (λ (r : List ℤ). row_of (length c.split_at_mut-may.result.0.now) (λ v. has r v && not (nat_eq v c.args.to))) c.parts_of-state.ensures.may) (omega (arith, c.split_at_mut-may.ensures.front_len, c.min-words.ensures, c.words_for.ensures, c.args.model.now.few))
+    (omega (arith, c.split_at_mut-positions.ensures.back_len, c.split_at_mut-must.ensures.back_len, c.split_at_mut-may.ensures.back_len, c.min-words.ensures, c.words_for.ensures, c.args.model.now.few, c.requires.cells))
     (time_cell _ _ c.requires.departure c.requires.small)

@@ -1,7 +1,7 @@
 use Rattle.std.proofs.Common.{◌≡◌, ◌+◌, ◌-◌, ◌*◌, ◌≤◌, ◌&&◌, not, nat_eq, get_or}
 use Rattle.node_sets.specs.Sums.{least_amount}
 use Rattle.node_sets.specs.Sets.{has}
-use Rattle.tsp_windows.proofs.ways.least_leg.Given as goal
+use Rattle.tsp_windows.proofs.ways.least_of_legs.Given as goal
 
 abbrev pub invariant-positions : goal.invariant-positions
 invariant-positions l =
