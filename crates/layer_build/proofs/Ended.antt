@@ -18,11 +18,11 @@ use Rattle.layer_build.specs.declared.stack.Stack.{Stack}
 use Rattle.layer_build.specs.declared.workspace.Workspace.TheInside.{Inside}
 use Rattle.layer_build.specs.Layers.{SpaceView, last_depth, layer_at}
 use Rattle.layer_build.specs.Ended.{ended, ended_at, longest_from, with_suffix, HasSuffixesAt}
-use Rattle.layer_build.specs.Stacked.{no_layer, place_of, room_of, nodes_in, path_in, paths_below, paths_at, shown_down, shown_stack, HoldFew, HaveDepths, HaveRooms}
-use Rattle.layer_nodes.specs.Holding.{AreHeld}
+use Rattle.layer_build.specs.Stacked.{no_layer, place_of, room_of, nodes_in, path_in, paths_below, paths_at, shown_down, shown_stack, HasAllDepths, HaveDepths, HaveRooms}
+use Rattle.layer_nodes.specs.Holding.{AreHeld, places_of}
 use Rattle.layer_build.specs.UnderWay.{IsUnderWay}
 use Rattle.layer_build.proofs.Going.{deep}
-use Rattle.layer_build.proofs.Held.{rows-like}
+use Rattle.layer_build.proofs.Held.{HaveSameRows, same-rows, rows-still, room-as}
 use Rattle.layer_build.proofs.Reading.{layer-down}
 use Rattle.layer_build.proofs.Stacks.{newest-at, above-at, kept-at, put-at, place-low, places-apart, rooms-set, is-or}
 use Rattle.layer_build.proofs.Suffixed.{ended_by, like-ended, depths-like, like-under-way, same-down}
@@ -77,7 +77,7 @@ down-to : (j last : ℕ) → j ≤ last → (j < last) ⊎ (j ≡ last)
 down-to j last low = grind arith
 
 -- a layer above it
-pub layer-ended : (s : Stack) (depth at : ℕ) (layers : List LayerView) (x : LayerView) → HoldFew s → depth < s.last → at ≡ place_of s.vars s.first depth
+pub layer-ended : (s : Stack) (depth at : ℕ) (layers : List LayerView) (x : LayerView) → HasAllDepths s → depth < s.last → at ≡ place_of s.vars s.first depth
     → x ≡ ended_layer (map (λ (below : NodeView). below.suffix) (nodes_in s (depth + 1))) (slice_index_or s.layers.items at no_layer) → layers ≡ set s.layers.items at x
     → (new : Stack) → new.vars ≡ s.vars → new.first ≡ s.first → new.last ≡ s.last → new.region ≡ s.region → new.newest ≡ s.newest → new.layers.items ≡ layers → HasSuffixesAt depth s new
 layer-ended s depth at layers x few low place is put new vars first last region newest items =
@@ -181,16 +181,21 @@ held-with : (region : RegionView) (rule : List DdArc → Option ℤ) (nodes : Li
 held-with region rule [] held = tt
 held-with region rule (node ∷ nodes) held = (record { found = held.0.found; size = held.0.size }, held-with region rule nodes held.1)
 
+places-with : (rule : List DdArc → Option ℤ) (nodes : List NodeView) → places_of (map (with_suffix rule) nodes) ≡ places_of nodes
+places-with rule [] = refl
+places-with rule (node ∷ nodes) = ap (λ (l : List ℕ). node.place ∷ l) (places-with rule nodes)
+
+rows-with : (rule : List DdArc → Option ℤ) (nodes : List NodeView) → HaveSameRows nodes (map (with_suffix rule) nodes)
+rows-with rule nodes = record { places = places-with rule nodes; held = λ region held. held-with region rule nodes held }
+
 pub ended-space : (i : Inside) → the_invariant i → (depth : ℕ) (new : Stack) → i.stack.first ≤ depth → depth ≤ i.stack.last → HasSuffixesAt depth i.stack new → the_invariant (record i { stack = new })
 ended-space i h depth new above low e =
     let s = i.stack in
     let rule = longest_from s depth in
     let words : new.newest.words ≡ s.newest.words = ap (λ (l : LayerView). l.words) e.newest in
     let room : new.newest.nodes_room ≡ s.newest.nodes_room = ap (λ (l : LayerView). l.nodes_room) e.newest in
-    let rooms : HaveRooms new.vars i.words i.width new.newest.nodes_room i.choices.items (map room_of new.layers.items) =
-    subst (λ (v : ℕ). HaveRooms v i.words i.width new.newest.nodes_room i.choices.items (map room_of new.layers.items)) (sym e.vars)
-    (subst (λ (r : ℕ). HaveRooms s.vars i.words i.width r i.choices.items (map room_of new.layers.items)) (sym room)
-    (subst (HaveRooms s.vars i.words i.width s.newest.nodes_room i.choices.items) (sym e.rooms) h.stack.rooms)) in
+    let rooms : HaveRooms new.vars i.words i.width i.choices.items (map room_of new.layers.items) =
+    subst (λ (v : ℕ). HaveRooms v i.words i.width i.choices.items (map room_of new.layers.items)) (sym e.vars) (subst (HaveRooms s.vars i.words i.width i.choices.items) (sym e.rooms) h.stack.rooms) in
     let depths : HaveDepths s.first (shown_stack i.prefix.items new) = subst (HaveDepths s.first) (sym (layers-ended i h depth new above low e))
     (depths-like s.first (the_view i).layers (ended_by rule (depth - length i.prefix.items) (the_view i).layers) (like-ended rule (depth - length i.prefix.items) (the_view i).layers) h.depths) in
     let vars = e.vars in
@@ -211,21 +216,22 @@ ended-space i h depth new above low e =
         newest_words = words ∙ h.stack.newest_words;
         top = ap (λ (v : ℕ). (slice_index_or new.layers.items (v + 1) no_layer).nodes) e.vars ∙ (e.top ∙ h.stack.top);
       };
-      rows = rows-like i.words i.width i.held s new (record { vars = e.vars; first = e.first; last = e.last; region = e.region; rooms = e.rooms }) (λ k from less held. kept k less held (is-or k depth)) h.rows;
+      rows = rows-still i.words i.width i.held s new h.stack.first
+          (record { vars = e.vars; first = e.first; last = e.last; region = e.region; rooms = e.rooms; newest_room = room; rows = λ k from deep. kept k deep (is-or k depth) }) h.rows;
       first = e.first ∙ h.first;
       prefix_fits = omega arith;
-      expands = h.expands ∙ sym room;
-      redirects_fit = h.redirects_fit ∙ sym room;
+      expands = room-as room h.expands;
+      redirects_fit = room-as room h.redirects_fit;
       path = h.path ∙ sym e.vars;
       depths = subst (λ (f : ℕ). HaveDepths f (shown_stack i.prefix.items new)) (sym e.first) depths;
       has_layers = λ dp a b c. h.has_layers dp a (sym e.vars ∙ b) c;
     }
   where
-    kept : (k : ℕ) → k < i.stack.last → AreHeld i.stack.region (nodes_in i.stack k) → (k ≡ depth) ⊎ (k ≢ depth) → AreHeld i.stack.region (nodes_in new k)
-    kept k less held (inl same) =
-        subst (λ (d : ℕ). AreHeld i.stack.region (nodes_in new d)) (sym same)
-        (subst (AreHeld i.stack.region) (sym e.nodes) (held-with i.stack.region (longest_from i.stack depth) (nodes_in i.stack depth) (subst (λ (d : ℕ). AreHeld i.stack.region (nodes_in i.stack d)) same held)))
-    kept k less held (inr apart) = subst (AreHeld i.stack.region) (sym (e.others k (omega arith) apart)) held
+    kept : (k : ℕ) → k ≤ i.stack.last → (k ≡ depth) ⊎ (k ≢ depth) → HaveSameRows (nodes_in i.stack k) (nodes_in new k)
+    kept k deep (inl same) =
+        subst (λ (d : ℕ). HaveSameRows (nodes_in i.stack d) (nodes_in new d)) (sym same)
+        (subst (HaveSameRows (nodes_in i.stack depth)) (sym e.nodes) (rows-with (longest_from i.stack depth) (nodes_in i.stack depth)))
+    kept k deep (inr apart) = same-rows _ _ (e.others k deep apart)
 
 -- what is seen of it
 pub ended-seen : (i : Inside) → the_invariant i → (depth : ℕ) (new : Stack) → i.stack.first ≤ depth → depth ≤ i.stack.last → HasSuffixesAt depth i.stack new

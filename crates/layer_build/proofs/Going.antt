@@ -10,22 +10,23 @@ use Rattle.dp_laws.specs.declared.arc.DdArc.{DdArc}
 use Rattle.dp_laws.specs.Diagrams.Nodes.{DdNode, path_below}
 use Rattle.dp_laws.specs.Rules.Compiling.{TwoLayers}
 use Rattle.dp_laws.specs.Rules.Within.{IsLayerWithin, IsArcWithin, AreWithin}
-use Rattle.layer_candidates.specs.HeldRows.{HoldsMore}
+use Rattle.layer_candidates.specs.HeldRows.{HasExchanged}
 use Rattle.layer_nodes.specs.Nodes.{NodeView, LayerView, shown, shown_from, shown_layer, shown_below, without_arcs}
 use Rattle.layer_nodes.specs.Steps.{IsParent, IsNodeOf, MayBeLengthened, IsRanked, KeepsRoom}
 use Rattle.row_region.specs.Region.{RegionView}
-use Rattle.layer_nodes.specs.Holding.{AreHeld}
+use Rattle.layer_nodes.specs.Holding.{AreHeld, places_of}
+use Rattle.layer_nodes.specs.Stored.{Room}
 use Rattle.layer_build.specs.contracts.workspace.Workspace.{the_view, the_invariant}
 use Rattle.layer_build.specs.declared.workspace.Workspace.TheInside.{Inside}
 use Rattle.layer_build.specs.declared.stack.Stack.{Stack}
 use Rattle.layer_build.specs.Layers.{SpaceView, last_depth, last_layer, expand_last, on_last_two}
-use Rattle.layer_build.specs.Stacked.{no_layer, place_of, place_above, room_of, HaveRooms, HasStack, HasRows, HaveDepths, path_in, paths_at, paths_below, shown_down, nodes_in}
+use Rattle.layer_build.specs.Stacked.{no_layer, place_of, place_above, HaveRooms, HasStack, HasRows, HaveDepths, path_in, paths_at, paths_below, shown_down, nodes_in}
 use Rattle.layer_build.specs.UnderWay.{IsUnderWay, last_two}
 use Rattle.layer_build.proofs.Depths.{depths-expanded}
 use Rattle.layer_build.proofs.Expansions.{Expands}
-use Rattle.layer_build.proofs.Held.{kept_stack, IsNarrow, rows-fit, rows-more}
-use Rattle.layer_build.proofs.Kept.{last-of-two, expanded-under-way, wide-deep}
-use Rattle.layer_build.proofs.Shown.{length-down, parents-of, nodes-of, far-of, length-shown, last-is, two-are, as-below, expand-shown, two-shown, bare-all, have-parents, have-paths, ranks-of}
+use Rattle.layer_build.proofs.Held.{kept_stack, room-as, IsNarrow, rows-fit, rows-more}
+use Rattle.layer_build.proofs.Kept.{expanded-under-way, wide-deep}
+use Rattle.layer_build.proofs.Shown.{length-down, parents-of, nodes-of, far-of, length-shown, last-is, two-are, as-below, expand-shown, two-shown, bare-all, have-paths, ranks-of}
 use Rattle.layer_build.proofs.Stacks.{at_depth, newest-at, above-at, depth-is, kept-at, put-at, place-low, place-other, place-second, room-at, places-apart, above-first, above-later, above-low, count-of, words-at, FitsAbove, fits-above, rooms-set, map-length}
 
 -- the layer above the last one in memory
@@ -123,14 +124,6 @@ lengths-seen dp i h u = go (first-or i h)
         lengths-in (last_depth (the_view i) - 1) _ (path_in (above_paths i)) 0 (above_of i).nodes (omega arith) here.arcs
     go (inr same) = subst (Each MayBeLengthened) (sym (top-empty i h same)) tt
 
--- a wide last layer has no merged node
-pub unmerged-seen : (dp : Dp) (i : Inside) → the_invariant i → IsUnderWay dp (the_view i) → i.stack.first < i.stack.last → i.width < length (last_layer (the_view i).layers) → Each (λ (n : NodeView). IsSome n.parent) i.stack.newest.nodes
-unmerged-seen dp i h u less wide =
-    let paths = u.unmerged wide in
-    let two = two-seen i h less in
-    let last : last_layer (the_view i).layers ≡ shown_below (path_in (above_paths i)) i.stack.newest.nodes = sym (last-of-two (the_view i).layers) ∙ ap (λ (t : TwoLayers). t.next) two in
-    have-parents (path_in (above_paths i)) i.stack.newest.nodes (subst (Each (λ (n : DdNode). 1 ≤ length n.path)) last paths)
-
 -- ---- what is seen after a step
 
 pub expanded-view : (rule : List DdNode → TwoLayers) (i : Inside) → the_invariant i → i.stack.last < i.stack.vars → (x n : LayerView)
@@ -142,7 +135,7 @@ pub expanded-view : (rule : List DdNode → TwoLayers) (i : Inside) → the_inva
 expanded-view rule i h low x n rest above next =
     let vars = i.stack.vars in let first = i.stack.first in let last = i.stack.last in let items = i.stack.layers.items in
     let ordered = h.stack.first in
-    let count : length items ≡ vars + 2 = count-of _ _ _ _ _ items h.stack.rooms in
+    let count : length items ≡ vars + 2 = count-of _ _ _ _ items h.stack.rooms in
     let place = place-low vars first last (omega arith) in
     let new = at_depth vars first (last + 1) (set items (place_of vars first last) x) n in
     let same : (j : ℕ) → j < last → new j ≡ nodes_in i.stack j = λ j less. kept-at vars first last (last + 1) (place_of vars first last) items x i.stack.newest n j less (omega arith) (places-apart vars first last j low (omega arith) (λ e. absurd (omega arith))) in
@@ -165,7 +158,7 @@ pub two-view : (rule : TwoLayers → TwoLayers) (i : Inside) → the_invariant i
 two-view rule i h less x n rest above next =
     let vars = i.stack.vars in let first = i.stack.first in let last = i.stack.last in let items = i.stack.layers.items in
     let low = h.stack.last in
-    let count : length items ≡ vars + 2 = count-of _ _ _ _ _ items h.stack.rooms in
+    let count : length items ≡ vars + 2 = count-of _ _ _ _ items h.stack.rooms in
     let at = place-is i less in
     let place = place-low vars first (last - 1) (omega arith) in
     let new = at_depth vars first last (set items (place_above vars first last) x) n in
@@ -230,17 +223,17 @@ lent items at place x d e same within = e ∙ (ap (λ (k : ℕ). get_or items k 
 pub place-within : (i : Inside) → the_invariant i → i.stack.last < i.stack.vars → place_of i.stack.vars i.stack.first i.stack.last < length i.stack.layers.items
 place-within i h low =
     let place = place-low i.stack.vars i.stack.first i.stack.last (omega arith) in
-    let count = count-of _ _ _ _ _ i.stack.layers.items h.stack.rooms in
+    let count = count-of _ _ _ _ i.stack.layers.items h.stack.rooms in
     omega arith
 
 pub above-within : (i : Inside) → the_invariant i → place_above i.stack.vars i.stack.first i.stack.last < length i.stack.layers.items
 above-within i h =
     let place = above-low i.stack.vars i.stack.first i.stack.last h.stack.first h.stack.last in
-    let count = count-of _ _ _ _ _ i.stack.layers.items h.stack.rooms in
+    let count = count-of _ _ _ _ i.stack.layers.items h.stack.rooms in
     omega arith
 
 pub words-of : (dp : Dp) (i : Inside) → the_invariant i → (k : ℕ) → k < length i.stack.layers.items → (slice_index_or i.stack.layers.items k no_layer).words ≡ i.words
-words-of dp i h k within = (let count = count-of _ _ _ _ _ i.stack.layers.items h.stack.rooms in words-at _ _ _ _ _ i.stack.layers.items h.stack.rooms k (omega arith))
+words-of dp i h k within = (let count = count-of _ _ _ _ i.stack.layers.items h.stack.rooms in words-at _ _ _ _ i.stack.layers.items h.stack.rooms k (omega arith))
 
 -- ---- what a workspace keeps
 
@@ -255,20 +248,21 @@ expanded-stack dp i h low x n region at old d same e rooms next =
       small = h.stack.small;
       first = omega arith;
       last = omega arith;
-      rooms = subst (λ (r : ℕ). HaveRooms i.stack.vars i.words i.width r i.choices.items (map room_of (set i.stack.layers.items at x))) (sym next.nodes_room)
-          (subst (HaveRooms i.stack.vars i.words i.width i.stack.newest.nodes_room i.choices.items) (sym (rooms-set i.stack.layers.items at x old d e rooms)) h.stack.rooms);
+      rooms = subst (HaveRooms i.stack.vars i.words i.width i.choices.items) (sym (rooms-set i.stack.layers.items at x old d e rooms)) h.stack.rooms;
       newest_words = next.words ∙ h.stack.newest_words;
       top = ap (λ (l : LayerView). l.nodes) (get_or-set_other i.stack.layers.items at (i.stack.vars + 1) x no_layer (λ f. absurd (omega arith))) ∙ h.stack.top;
     }
 
--- its rows are held
-pub record IsHeld (s : Stack) (x : LayerView) (region : RegionView) : Type 0 where
-  pub held : AreHeld region x.nodes
-  pub others : HoldsMore s.region region
-  pub spare : region.spare + length s.newest.nodes ≡ s.region.spare
+-- it has the rows of the last layer, and those of the next one were taken besides
+pub record IsHeld (s : Stack) (x n : LayerView) (region : RegionView) : Type 0 where
+  pub places : places_of x.nodes ≡ places_of s.newest.nodes
+  pub above_held : AreHeld region x.nodes
+  pub held : AreHeld region n.nodes
+  pub exchanged : HasExchanged s.region [] region (places_of n.nodes)
+  pub few : length n.nodes ≤ s.newest.nodes_room
 
 -- the last layer is narrow enough to be kept
-narrow-kept : (dp : Dp) (i : Inside) → the_invariant i → IsUnderWay dp (the_view i) → i.stack.last < i.stack.vars → (i.stack.first + 2 ≤ i.stack.last → length i.stack.newest.nodes ≤ i.width) → IsNarrow i.stack i.width (length i.stack.newest.nodes)
+narrow-kept : (dp : Dp) (i : Inside) → the_invariant i → IsUnderWay dp (the_view i) → i.stack.last < i.stack.vars → (i.stack.first + 2 ≤ i.stack.last → length i.stack.newest.nodes ≤ i.width) → IsNarrow i.stack i.width
 narrow-kept dp i h u low narrow = record {
   second = λ e. subst (λ (k : ℕ). length i.stack.newest.nodes ≤ (slice_index_or i.stack.layers.items k no_layer).nodes_room) (place-second i.stack.vars i.stack.first i.stack.last e) fits.nodes;
   other = λ n. subst (λ (r : ℕ). length i.stack.newest.nodes ≤ r)
@@ -279,20 +273,28 @@ narrow-kept dp i h u low narrow = record {
     fits : FitsAbove (length i.stack.newest.nodes) (dp.choices i.stack.last) i.stack.newest.nodes_room (slice_index_or i.stack.layers.items (place_of i.stack.vars i.stack.first i.stack.last) no_layer)
     fits = fits-seen dp i h u low narrow
 
-pub spare-seen : (dp : Dp) (i : Inside) → the_invariant i → IsUnderWay dp (the_view i) → i.stack.last < i.stack.vars → (i.stack.first + 2 ≤ i.stack.last → length i.stack.newest.nodes ≤ i.width) → length i.stack.newest.nodes ≤ i.stack.region.spare
-spare-seen dp i h u low narrow = rows-fit i.words i.width i.held (length i.stack.newest.nodes) i.stack low (narrow-kept dp i h u low narrow) h.rows
+-- there are rows to spare for all candidates, and one more
+pub spare-seen : (dp : Dp) (i : Inside) → the_invariant i → IsUnderWay dp (the_view i) → i.stack.last < i.stack.vars → (i.stack.first + 2 ≤ i.stack.last → length i.stack.newest.nodes ≤ i.width)
+    → length i.stack.newest.nodes * dp.choices i.stack.last + 1 ≤ i.stack.region.spare
+spare-seen dp i h u low narrow =
+    let fits = (fits-seen dp i h u low narrow).candidates in
+    let all = rows-fit i.words i.width i.held i.stack low (narrow-kept dp i h u low narrow) h.rows in
+    omega arith
 
 expanded-rows : (dp : Dp) (i : Inside) → the_invariant i → IsUnderWay dp (the_view i) → i.stack.last < i.stack.vars → (i.stack.first + 2 ≤ i.stack.last → length i.stack.newest.nodes ≤ i.width)
     → (x n : LayerView) (region : RegionView) (at : ℕ) (old d : LayerView) → at ≡ place_of i.stack.vars i.stack.first i.stack.last → old ≡ get_or i.stack.layers.items at d → KeepsRoom old x
-    → IsHeld i.stack x region → HasRows i.words i.width i.held (kept_stack i.stack (with_item i.stack.layers at x) n region)
-expanded-rows dp i h u low narrow x n region at old d same e rooms put =
-    rows-more i.words i.width i.held (length i.stack.newest.nodes) i.stack (with_item i.stack.layers at x) n region low (narrow-kept dp i h u low narrow)
+    → KeepsRoom i.stack.newest n → IsHeld i.stack x n region → HasRows i.words i.width i.held (kept_stack i.stack (with_item i.stack.layers at x) n region)
+expanded-rows dp i h u low narrow x n region at old d same e rooms next_rooms put =
+    rows-more i.words i.width i.held i.stack (with_item i.stack.layers at x) n region low (narrow-kept dp i h u low narrow)
     (record {
-      held = subst (AreHeld region) (sym (ap (λ (k : ℕ). at_depth vars first (last + 1) (set items k x) n last) same ∙ put-at vars first (last + 1) items x n last (omega arith) within)) put.held;
-      others = put.others;
-      spare = put.spare;
       above = λ k less. kept-at vars first last (last + 1) at items x i.stack.newest n k less (omega arith) (λ f. places-apart vars first last k low (omega arith) (λ g. absurd (omega arith)) (sym same ∙ f));
+      places = ap places_of here ∙ put.places;
+      above_held = subst (AreHeld region) (sym here) put.above_held;
+      held = put.held;
+      exchanged = put.exchanged;
       rooms = rooms-set items at x old d e rooms;
+      newest_room = next_rooms.nodes_room;
+      few = put.few;
     }) h.rows
   where
     vars : ℕ
@@ -308,18 +310,18 @@ expanded-rows dp i h u low narrow x n region at old d same e rooms put =
     items = i.stack.layers.items
 
     within : place_of i.stack.vars i.stack.first i.stack.last < length i.stack.layers.items
-    within =
-        let count = count-of _ _ _ _ _ i.stack.layers.items h.stack.rooms in
-        let place = place-low i.stack.vars i.stack.first i.stack.last (omega arith) in
-        omega arith
+    within = place-within i h low
+
+    here : at_depth i.stack.vars i.stack.first (i.stack.last + 1) (set i.stack.layers.items at x) n i.stack.last ≡ x.nodes
+    here = ap (λ (k : ℕ). at_depth vars first (last + 1) (set items k x) n last) same ∙ put-at vars first (last + 1) items x n last (omega arith) within
 
 pub expanded-space : (dp : Dp) (rule : ℕ → List DdNode → TwoLayers) → Expands dp rule → (i : Inside) → the_invariant i → IsUnderWay dp (the_view i) → i.stack.last < i.stack.vars
-    → (i.stack.first + 2 ≤ i.stack.last → length i.stack.newest.nodes ≤ i.width) → (x n : LayerView) (region : RegionView) (at expansion : ℕ) (old d : LayerView)
+    → (i.stack.first + 2 ≤ i.stack.last → length i.stack.newest.nodes ≤ i.width) → (x n : LayerView) (region : RegionView) (at : ℕ) (expansion : Room) (old d : LayerView)
     → at ≡ place_of i.stack.vars i.stack.first i.stack.last → old ≡ get_or i.stack.layers.items at d
     → map without_arcs x.nodes ≡ map without_arcs i.stack.newest.nodes
     → ((paths : ℕ → List ℕ) → shown_layer paths x.nodes ≡ (rule i.stack.last (shown_layer paths i.stack.newest.nodes)).above)
     → ((paths : ℕ → List ℕ) → shown_below paths n.nodes ≡ (rule i.stack.last (shown_layer paths i.stack.newest.nodes)).next)
-    → KeepsRoom old x → KeepsRoom i.stack.newest n → expansion ≡ i.expansion → IsHeld i.stack x region
+    → KeepsRoom old x → KeepsRoom i.stack.newest n → expansion ≡ i.expansion → IsHeld i.stack x n region
     → the_invariant (record i { stack = kept_stack i.stack (with_item i.stack.layers at x) n region; expansion = expansion })
 expanded-space dp rule expands i h u low narrow x n region at expansion old d same e rest above next rooms next_rooms kept held =
     let ordered = h.stack.first in
@@ -328,11 +330,11 @@ expanded-space dp rule expands i h u low narrow x n region at expansion old d sa
     let vars = u.prepared.vars in
     record {
       stack = expanded-stack dp i h low x n region at old d same e rooms next_rooms;
-      rows = expanded-rows dp i h u low narrow x n region at old d same e rooms held;
+      rows = expanded-rows dp i h u low narrow x n region at old d same e rooms next_rooms held;
       first = h.first;
       prefix_fits = h.prefix_fits;
-      expands = kept ∙ (h.expands ∙ sym next_rooms.nodes_room);
-      redirects_fit = h.redirects_fit ∙ sym next_rooms.nodes_room;
+      expands = kept ∙ room-as next_rooms.nodes_room h.expands;
+      redirects_fit = room-as next_rooms.nodes_room h.redirects_fit;
       path = h.path;
       depths = subst (λ (k : ℕ). HaveDepths i.stack.first (shown_down (at_depth i.stack.vars i.stack.first (i.stack.last + 1) (set i.stack.layers.items k x) n) (i.prefix.items ∷ []) i.stack.first (i.stack.last + 1 - i.stack.first))) (sym same)
           (subst (HaveDepths i.stack.first) (sym seen)
@@ -343,13 +345,13 @@ expanded-space dp rule expands i h u low narrow x n region at expansion old d sa
 abbrev ranks_in : LayerView → List ℤ
 ranks_in n = map (λ (node : NodeView). node.rank) n.nodes
 
-below-length : (paths : ℕ → List ℕ) (nodes : List NodeView) → length (shown_below paths nodes) ≡ length nodes
+pub below-length : (paths : ℕ → List ℕ) (nodes : List NodeView) → length (shown_below paths nodes) ≡ length nodes
 below-length paths nodes = map-length (λ (node : NodeView). shown (path_below paths node.parent node.decision) node) nodes
 
 ranks-below : (dp : Dp) (k : ℕ) (ps : List (List ℕ)) (n : LayerView) → Each (IsRanked dp k) n.nodes → ranks_in n ≡ map (λ (node : DdNode). dp.rank k node.row) (shown_below (path_in ps) n.nodes)
 ranks-below dp k ps n h = ranks-of dp k (path_in (paths_below ps n.nodes)) 0 n.nodes h ∙ ap (map (λ (node : DdNode). dp.rank k node.row)) (as-below ps n.nodes)
 
-pub expanded-seen : (rule : ℕ → List DdNode → TwoLayers) (i : Inside) → the_invariant i → i.stack.last < i.stack.vars → (x n : LayerView) (region : RegionView) (at expansion : ℕ)
+pub expanded-seen : (rule : ℕ → List DdNode → TwoLayers) (i : Inside) → the_invariant i → i.stack.last < i.stack.vars → (x n : LayerView) (region : RegionView) (at : ℕ) (expansion : Room)
     → at ≡ place_of i.stack.vars i.stack.first i.stack.last
     → map without_arcs x.nodes ≡ map without_arcs i.stack.newest.nodes
     → ((paths : ℕ → List ℕ) → shown_layer paths x.nodes ≡ (rule i.stack.last (shown_layer paths i.stack.newest.nodes)).above)

@@ -6,7 +6,9 @@ pub mod Expansions
 pub mod Kept
 pub mod Pruning
 pub mod Stacks
+pub mod Places
 pub mod Held
+pub mod Dropping
 pub mod Going
 pub mod Changing
 pub mod Starting

@@ -3,6 +3,7 @@ use Rattle.std.proofs.Common.{◌≡◌, ℕ, ◌+◌, ◌*◌, ◌^◌, ◌<◌
 use Rattle.dp_model.specs.Decisions.{below}
 use Rattle.dp_model.specs.Dp.{Dp}
 use Rattle.layer_candidates.specs.Beaming.{HasLayers}
+use Rattle.layer_candidates.specs.Layering.{HasMemory}
 use Rattle.layer_candidates.specs.declared.beam.Beam.{Beam}
 use Rattle.layer_build.proofs.Stacks.{choice-at, length-below, map-append, map-length}
 
@@ -34,11 +35,8 @@ other-layers dp other words vars width choices b h w v c w' v' c' =
         };
       };
       positive = h.positive;
-      words = h.words ∙ (sym w ∙ w');
-      candidates = h.candidates;
-      rows = h.rows;
+      candidates = subst (λ (n : ℕ). HasMemory n h.room b.candidates) (sym w ∙ w') h.candidates;
       members = h.members;
-      held = h.held;
       steps = subst (λ (n : ℕ). h.widest + n * width ≤ vec_capacity b.steps) count h.steps;
       small = subst (λ (n : ℕ). h.widest + n * width < 2 ^ 32) count h.small;
     }

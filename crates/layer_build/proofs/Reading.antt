@@ -1,7 +1,7 @@
 -- What the readers of a workspace read.
-use Rattle.std.proofs.Common.{◌≡◌, ℕ, zero, suc, ◌+◌, ◌-◌, ◌≤◌, List, [], ◌∷◌, length, slice_get, Option, Some, None, IsSome, option_map, option_and_then, unwrap_or, true, false, refl, sym, ap, ◌∙◌, arith}
+use Rattle.std.proofs.Common.{◌≡◌, ℕ, zero, suc, ◌+◌, ◌-◌, ◌≤◌, List, [], ◌∷◌, length, slice_get, Option, Some, None, IsSome, option_map, option_and_then, unwrap_or, true, false, refl, sym, ap, ◌∙◌, subst, arith}
 use Rattle.dp_laws.specs.Diagrams.Nodes.{DdNode, node_at}
-use Rattle.layer_nodes.specs.Nodes.{NodeView, shown, shown_from, shown_layer}
+use Rattle.layer_nodes.specs.Nodes.{NodeView, LayerView, shown, shown_from, shown_layer}
 use Rattle.layer_build.specs.contracts.workspace.Workspace.{the_view, the_invariant}
 use Rattle.layer_build.specs.declared.workspace.Workspace.TheInside.{Inside}
 use Rattle.layer_build.specs.Layers.{SpaceView, diagram_of, layer_at}
@@ -45,6 +45,9 @@ map-map f g (Some x) = refl
 pub read-seen : {X : Type 0} (i : Inside) → the_invariant i → (depth node : ℕ) → i.stack.first ≤ depth → depth ≤ i.stack.last → (f : DdNode → X) (x : X)
     → option_map (λ (n : NodeView). f (shown (path_of i depth node) n)) (slice_get (nodes_in i.stack depth) node) ≡ Some x → option_map f (node_at (diagram_of (the_view i)) depth node) ≡ Some x
 read-seen i h depth node low high f x e = ap (option_map f) (node-seen i h depth node low high) ∙ (map-map f (shown (path_of i depth node)) (slice_get (nodes_in i.stack depth) node) ∙ e)
+
+pub read-at : {X : Type 0} (f : NodeView → X) {l m : LayerView} {x : X} (node : ℕ) → l ≡ m → option_map f (slice_get l.nodes node) ≡ Some x → option_map f (slice_get m.nodes node) ≡ Some x
+read-at f {l} {m} {x} node same e = subst (λ (k : LayerView). option_map f (slice_get k.nodes node) ≡ Some x) same e
 
 then-map : {X Y Z : Type 0} (f : Y → Option Z) (g : X → Y) (o : Option X) → option_and_then f (option_map g o) ≡ option_and_then (λ x. f (g x)) o
 then-map f g None = refl

@@ -1,16 +1,19 @@
 -- A workspace that was made has its rooms.
-use Rattle.std.proofs.Common.{◌≡◌, ℕ, ◌+◌, ◌-◌, ◌*◌, ◌^◌, ◌<◌, ◌≤◌, List, [], ◌∷◌, ◌++◌, map, length, slice_index_or, None, refl, sym, ap, ap₂, ◌∙◌, subst, arith, length-append, mul-le-mul_right, ◌⊎◌, inl, inr}
+use Rattle.std.proofs.Common.{◌≡◌, ℕ, ◌+◌, ◌-◌, ◌*◌, ◌<◌, ◌≤◌, List, [], ◌∷◌, ◌++◌, map, length, slice_index_or, None, refl, sym, ap, ap₂, ◌∙◌, subst, arith, length-append, mul-le-mul_right, ◌⊎◌, inl, inr}
 use Rattle.std.proofs.lemmas.List.{get_or_append_left, get_or-append-add, length-replicate}
 use Rattle.dp_model.specs.Decisions.{below}
 use Rattle.dp_model.specs.Dp.{Dp}
 use Rattle.dp_model.specs.Laws.{IsLawful}
 use Rattle.dp_laws.specs.Width.{cost_below}
-use Rattle.layer_nodes.specs.Nodes.{LayerView}
+use Rattle.layer_candidates.specs.HeldRows.{AreLive}
+use Rattle.layer_nodes.specs.Holding.{AreHeld, places_of}
+use Rattle.layer_nodes.specs.Nodes.{NodeView, LayerView}
 use Rattle.row_region.specs.Region.{RegionView}
 use Rattle.layer_build.specs.Layers.{IsWidth}
-use Rattle.layer_build.specs.Stacked.{empty_layer, no_layer, room_of, second_room, beam_rows, HaveRooms, HasRows, HasStack}
+use Rattle.layer_build.specs.Stacked.{empty_layer, no_layer, room_of, second_room, nodes_in, places_down, places_from, rows_below, HaveRooms, HasRows, HasStack}
 use Rattle.layer_build.specs.Preparing.{IsReady}
 use Rattle.layer_build.specs.declared.stack.Stack.{Stack}
+use Rattle.layer_build.proofs.Held.{newest-nodes}
 use Rattle.layer_build.proofs.Stacks.{choice-at, map-append, below-at}
 use Rattle.layer_build.proofs.Memory.{count-below}
 
@@ -32,8 +35,8 @@ any-of P at n a b c i within = go (grind arith)
     go (inr (inl same)) = subst (λ (k : ℕ). P (at k)) (sym same) b
     go (inr (inr same)) = subst (λ (k : ℕ). P (at k)) (sym same) c
 
-pub ready-stack : (dp : Dp) → IsLawful dp → (width room words : ℕ) (choices : List ℕ) (s : Stack) → IsWidth dp width → room ≤ 2 ^ 25 → IsReady dp width room s → words ≡ dp.words → choices ≡ map dp.choices (below dp.vars) → HasStack words width choices s
-ready-stack dp laws width room words choices s w few r words-are e =
+pub ready-stack : (dp : Dp) → IsLawful dp → (width room words : ℕ) (choices : List ℕ) (s : Stack) → IsReady dp width room s → words ≡ dp.words → choices ≡ map dp.choices (below dp.vars) → HasStack words width choices s
+ready-stack dp laws width room words choices s r words-are e =
     let f = λ (k : ℕ). empty_layer dp.words width (width * dp.choices k) in
     let second = empty_layer dp.words r.nodes r.arcs in
     let top = empty_layer dp.words 0 0 in
@@ -43,23 +46,18 @@ ready-stack dp laws width room words choices s w few r words-are e =
     let low : (k : ℕ) → k < dp.vars → slice_index_or (front ++ second ∷ top ∷ []) k no_layer ≡ f k = λ k less. get_or_append_left front (second ∷ top ∷ []) no_layer k (omega arith) ∙ below-at f dp.vars k no_layer less in
     let at-second : slice_index_or (front ++ second ∷ top ∷ []) dp.vars no_layer ≡ second = ap (λ (k : ℕ). slice_index_or (front ++ second ∷ top ∷ []) k no_layer) (let g : dp.vars ≡ length front + 0 = omega arith in g) ∙ get_or-append-add front (second ∷ top ∷ []) 0 no_layer in
     let at-top : slice_index_or (front ++ second ∷ top ∷ []) (dp.vars + 1) no_layer ≡ top = ap (λ (k : ℕ). slice_index_or (front ++ second ∷ top ∷ []) k no_layer) (let g : dp.vars + 1 ≡ length front + 1 = omega arith in g) ∙ get_or-append-add front (second ∷ top ∷ []) 1 no_layer in
-    let most = w.fits.most in
-    let narrow = r.few in
     let vars = laws.sizes.vars in
     let is-vars = r.vars in
     let is-first = r.first in
     let is-last = r.last in
-    let newest-room = ap (λ (l : LayerView). l.nodes_room) r.newest in
     let any : (P : LayerView → Type 0) → ((k : ℕ) → k < dp.vars → P (f k)) → P second → P top → (i : ℕ) → i < dp.vars + 2 → P (slice_index_or (front ++ second ∷ top ∷ []) i no_layer) = λ P a b c i within.
     any-of P (λ (k : ℕ). slice_index_or (front ++ second ∷ top ∷ []) k no_layer) dp.vars (λ k less. subst P (sym (low k less)) (a k less)) (subst P (sym at-second) b) (subst P (sym at-top) c) i within in
-    let plain : HaveRooms dp.vars dp.words width room choices (front ++ second ∷ top ∷ []) = record {
+    let plain : HaveRooms dp.vars dp.words width choices (front ++ second ∷ top ∷ []) = record {
       count = length-append front (second ∷ top ∷ []) ∙ omega arith;
       words_are = any (λ (l : LayerView). l.words ≡ dp.words) (λ k less. refl) refl refl;
       nodes = λ k less. ap (λ (l : LayerView). l.nodes_room) (low k less);
       arcs = λ k less. ap (λ (l : LayerView). l.arcs_room) (low k less) ∙ ap (λ (n : ℕ). width * n) (sym (choice-at dp choices dp.vars k e refl less));
       second_nodes = λ k less. subst (λ (l : LayerView). slice_index_or choices k 0 ≤ l.nodes_room) (sym at-second) (subst (λ (n : ℕ). n ≤ r.nodes) (sym (choice-at dp choices dp.vars k e refl less)) (r.choices k less));
-      few = any (λ (l : LayerView). l.nodes_room ≤ 2 ^ 25) (λ k less. omega arith) (omega arith) (omega arith);
-      newest_few = few;
       second_arcs = λ k less. subst (λ (l : LayerView). slice_index_or choices k 0 * slice_index_or choices (k + 1) 0 ≤ l.arcs_room) (sym at-second)
           (subst (λ (n : ℕ). n * slice_index_or choices (k + 1) 0 ≤ r.arcs) (sym (choice-at dp choices dp.vars k e refl (omega arith))) (subst (λ (n : ℕ). dp.choices k * n ≤ r.arcs) (sym (choice-at dp choices dp.vars (k + 1) e refl less)) (r.pairs k less)));
     } in
@@ -67,9 +65,8 @@ ready-stack dp laws width room words choices s w few r words-are e =
       small = omega arith;
       first = omega arith;
       last = omega arith;
-      rooms = subst (λ (v : ℕ). HaveRooms v words width s.newest.nodes_room choices (map room_of s.layers.items)) (sym r.vars)
-          (subst (λ (n : ℕ). HaveRooms dp.vars n width s.newest.nodes_room choices (map room_of s.layers.items)) (sym words-are)
-          (subst (λ (n : ℕ). HaveRooms dp.vars dp.words width n choices (map room_of s.layers.items)) (sym newest-room) (subst (HaveRooms dp.vars dp.words width room choices) (sym all) plain)));
+      rooms = subst (λ (v : ℕ). HaveRooms v words width choices (map room_of s.layers.items)) (sym r.vars)
+          (subst (λ (n : ℕ). HaveRooms dp.vars n width choices (map room_of s.layers.items)) (sym words-are) (subst (HaveRooms dp.vars dp.words width choices) (sym all) plain));
       newest_words = ap (λ (l : LayerView). l.words) r.newest ∙ sym words-are;
       top = ap (λ (v : ℕ). (slice_index_or s.layers.items (v + 1) no_layer).nodes) r.vars ∙ (ap (λ (l : List LayerView). (slice_index_or l (dp.vars + 1) no_layer).nodes) r.layers ∙ ap (λ (l : LayerView). l.nodes) at-top);
     }
@@ -87,16 +84,30 @@ second-ready dp width room s r =
 pub ready-rows : (dp : Dp) (width room words : ℕ) (s : Stack) → IsReady dp width room s → words ≡ dp.words → HasRows words width 0 s
 ready-rows dp width room words s r words-are =
     let second = second-ready dp width room s r in
+    let first = r.first in
     let last = r.last in
     let none : s.vars - s.last ≡ s.vars = omega arith in
     let below : (s.vars - s.last) * width ≡ dp.vars * width = ap (λ (n : ℕ). n * width) (none ∙ r.vars) in
     let all : s.vars * width ≡ dp.vars * width = ap (λ (n : ℕ). n * width) r.vars in
     let free = ap (λ (v : RegionView). v.spare) r.region in
-    let size = ap (λ (v : RegionView). length v.rows) r.region ∙ length-replicate (dp.vars * width + r.nodes + beam_rows width) None in
+    let size = ap (λ (v : RegionView). length v.rows) r.region ∙ length-replicate (dp.vars * width + r.nodes + rows_below width room) None in
+    let is-room = ap (λ (l : LayerView). l.nodes_room) r.newest in
+    let count = ap (λ (l : List ℕ). length l) places in
     record {
       words_are = ap (λ (v : RegionView). v.words) r.region ∙ sym words-are;
-      held_rows = λ k from above low. absurd (omega arith);
+      begun = omega arith;
+      low = omega arith;
+      held_rows = λ k from low. (let same : k ≡ s.last = omega arith in subst (λ (d : ℕ). AreHeld s.region (nodes_in s d)) (sym same) (subst (AreHeld s.region) (sym (newest-nodes s ∙ empty)) tt));
+      live = subst (AreLive s.region) (sym places) (record { live = tt; apart = tt });
+      count = omega arith;
+      few = subst (λ (l : List NodeView). length l ≤ s.newest.nodes_room) (sym empty) (omega arith);
       spare = omega arith;
       second_spare = λ near. omega arith;
       enough = omega arith;
     }
+  where
+    empty : s.newest.nodes ≡ []
+    empty = ap (λ (l : LayerView). l.nodes) r.newest
+
+    places : places_from 0 s ≡ []
+    places = let last : s.last - 0 ≡ 0 = (let none = r.last in omega arith) in ap₂ (λ (n : ℕ) (l : List NodeView). places_down (nodes_in s) 0 n ++ places_of l) last empty

@@ -5,8 +5,9 @@ use Rattle.dp_model.specs.Laws.{IsLawful}
 use Rattle.dp_laws.specs.Width.{cost_below}
 use Rattle.layer_candidates.specs.declared.beam.Beam.{Beam}
 use Rattle.layer_candidates.specs.Beaming.{HasLayers, HasMade}
+use Rattle.layer_candidates.specs.Layering.{HasMemory}
 use Rattle.layer_build.specs.Layers.{IsWidth, AreEnough}
-use Rattle.layer_build.specs.Stacked.{beam_rows}
+use Rattle.layer_build.specs.Stacked.{beam_width}
 
 last-of : (k n : ℕ) → k < suc n → (k ≡ n) ⊎ (k < n)
 last-of k n h = grind arith
@@ -82,7 +83,7 @@ product-few a b ha hb =
 -- A beam that was made.
 
 pub has-layers : (dp : Dp) → IsLawful dp → (w words room widest steps vars : ℕ) (b : Beam) → IsWidth dp w → AreEnough dp w dp.vars room → HasMade words room widest steps b
-    → words ≡ dp.words → vars ≡ dp.vars → widest ≡ beam_rows w → steps ≡ widest + vars * w → HasLayers dp w b
+    → words ≡ dp.words → vars ≡ dp.vars → widest ≡ beam_width w → steps ≡ widest + vars * w → HasLayers dp w b
 has-layers dp laws w words room widest steps vars b h e m words_is vars_is widest_is steps_is =
     let many = vars-few dp laws w h in
     let most = h.fits.most in
@@ -102,11 +103,8 @@ has-layers dp laws w words room widest steps vars b h e m words_is vars_is wides
         };
       };
       positive = h.positive;
-      words = m.words_are ∙ words_is;
-      candidates = m.candidates;
-      rows = m.rows;
+      candidates = subst (λ (n : ℕ). HasMemory n room b.candidates) words_is m.candidates;
       members = m.members;
-      held = m.held;
       steps = subst (λ (n : ℕ). n ≤ vec_capacity b.steps) (steps_is ∙ ap (λ (n : ℕ). widest + n * w) vars_is) m.steps_hold;
       small = omega arith;
     }

@@ -89,17 +89,9 @@ some-path : (paths : ℕ → List ℕ) (parent : Option ℕ) (d : ℕ) → IsSom
 some-path paths None d h = absurd (let clash : false ≡ true = h in cc)
 some-path paths (Some p) d h = let e = length-append (paths p) (d ∷ []) in omega arith
 
-some-parent : (paths : ℕ → List ℕ) (parent : Option ℕ) (d : ℕ) → 1 ≤ length (path_below paths parent d) → IsSome parent
-some-parent paths None d h = absurd (omega arith)
-some-parent paths (Some p) d h = refl
-
 pub have-paths : (paths : ℕ → List ℕ) (nodes : List NodeView) → Each (λ (n : NodeView). IsSome n.parent) nodes → Each (λ (n : DdNode). 1 ≤ length n.path) (shown_below paths nodes)
 have-paths paths [] h = tt
 have-paths paths (n ∷ nodes) h = (some-path paths n.parent n.decision h.0, have-paths paths nodes h.1)
-
-pub have-parents : (paths : ℕ → List ℕ) (nodes : List NodeView) → Each (λ (n : DdNode). 1 ≤ length n.path) (shown_below paths nodes) → Each (λ (n : NodeView). IsSome n.parent) nodes
-have-parents paths [] h = tt
-have-parents paths (n ∷ nodes) h = (some-parent paths n.parent n.decision h.0, have-parents paths nodes h.1)
 
 -- what each of the old nodes is, each of those that stay is
 one-of : {X : Type 0} (P : X → Type 0) (x : X) (old : List X) → OneOf (λ (other : X). other ≡ x) old → Each P old → P x

@@ -103,15 +103,15 @@ pub map-length : {X Y : Type 0} (f : X → Y) (xs : List X) → length (map f xs
 map-length f [] = refl
 map-length f (x ∷ xs) = ap suc (map-length f xs)
 
-pub count-of : (vars words width room : ℕ) (choices : List ℕ) (layers : List LayerView) → HaveRooms vars words width room choices (map room_of layers) → length layers ≡ vars + 2
-count-of vars words width room choices layers h = sym (map-length room_of layers) ∙ h.count
+pub count-of : (vars words width : ℕ) (choices : List ℕ) (layers : List LayerView) → HaveRooms vars words width choices (map room_of layers) → length layers ≡ vars + 2
+count-of vars words width choices layers h = sym (map-length room_of layers) ∙ h.count
 
 pub room-at : (layers : List LayerView) (i : ℕ) → slice_index_or (map room_of layers) i no_layer ≡ room_of (slice_index_or layers i no_layer)
 room-at layers i = get_or-map room_of layers i no_layer
 
-pub words-at : (vars words width room : ℕ) (choices : List ℕ) (layers : List LayerView) → HaveRooms vars words width room choices (map room_of layers) → (i : ℕ) → i < vars + 2
+pub words-at : (vars words width : ℕ) (choices : List ℕ) (layers : List LayerView) → HaveRooms vars words width choices (map room_of layers) → (i : ℕ) → i < vars + 2
     → (slice_index_or layers i no_layer).words ≡ words
-words-at vars words width room choices layers h i low = ap (λ (l : LayerView). l.words) (sym (room-at layers i)) ∙ h.words_are i low
+words-at vars words width choices layers h i low = ap (λ (l : LayerView). l.words) (sym (room-at layers i)) ∙ h.words_are i low
 
 pub length-below : (n : ℕ) → length (below n) ≡ n
 length-below zero = refl
@@ -142,7 +142,7 @@ pub record FitsAbove (n choices room : ℕ) (layer : LayerView) : Type 0 where
   pub arcs : n * choices ≤ layer.arcs_room
   pub candidates : n * choices ≤ room
 
-pub fits-above : (dp : Dp) (vars words width room : ℕ) (choices : List ℕ) (layers : List LayerView) (first last n : ℕ) → HaveRooms vars words width room choices (map room_of layers)
+pub fits-above : (dp : Dp) (vars words width room : ℕ) (choices : List ℕ) (layers : List LayerView) (first last n : ℕ) → HaveRooms vars words width choices (map room_of layers)
     → choices ≡ map dp.choices (below dp.vars) → vars ≡ dp.vars → AreEnough dp width dp.vars room → 1 ≤ width → first ≤ last → last < vars
     → (last ≡ first → n ≤ 1) → (last ≡ first + 1 → n ≤ dp.choices first) → (first + 2 ≤ last → n ≤ width)
     → FitsAbove n (dp.choices last) room (slice_index_or layers (place_of vars first last) no_layer)

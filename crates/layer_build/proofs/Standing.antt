@@ -1,11 +1,10 @@
 -- What the readers of a workspace find in its layers.
-use Rattle.std.proofs.Common.{◌≡◌, ◌≢◌, ℕ, zero, suc, ◌+◌, ◌-◌, ◌^◌, ◌<◌, ◌≤◌, nat_lt, ℤ, Bool, true, false, cond, List, [], ◌∷◌, ◌++◌, map, set, take, drop, length, get_or, slice_index_or, slice_get, position, Option, Some, None, IsSome, IsTrue, option_map, option_and_then, ◌⊎◌, inl, inr, refl, sym, ap, ap₂, ◌∙◌, subst, arith}
+use Rattle.std.proofs.Common.{◌≡◌, ◌≢◌, ℕ, zero, suc, ◌+◌, ◌-◌, ◌<◌, ◌≤◌, nat_lt, ℤ, Bool, true, false, cond, List, [], ◌∷◌, ◌++◌, map, set, take, drop, length, get_or, slice_index_or, slice_get, position, Option, Some, None, IsSome, IsTrue, option_map, option_and_then, ◌⊎◌, inl, inr, refl, sym, ap, ap₂, ◌∙◌, subst, arith}
 use Rattle.std.proofs.lemmas.Bool.Decides.{nat_tests}
 use Rattle.std.proofs.lemmas.List.{get_or-set_other}
 use Rattle.std.proofs.lemmas.List.Sums.{fails_before_first}
 use Rattle.std.proofs.lemmas.List.Quantifiers.{position-Some}
 use Rattle.std.proofs.lemmas.Option.{slice_get-get_or, slice_get_past}
-use Rattle.std.proofs.Math.ListN.{get_or-map}
 use Rattle.std.proofs.Math.Seq.{take-append_seam}
 use Rattle.std.proofs.lemmas.List.{length-append, length-drop}
 use Rattle.std.specs.List.{position_or_len}
@@ -20,33 +19,31 @@ use Rattle.layer_build.specs.contracts.workspace.Workspace.{the_view, the_invari
 use Rattle.layer_build.specs.declared.workspace.Workspace.TheInside.{Inside}
 use Rattle.layer_build.specs.Layers.{SpaceView, diagram_of, last_depth, last_layer, suffix_in}
 use Rattle.layer_build.specs.UnderWay.{IsUnderWay}
-use Rattle.layer_build.specs.Stacked.{no_layer, place_of, room_of, nodes_in, path_in, shown_down, shown_stack, HasDepth, HoldFew, HasRows, HaveDepth, HaveDepths, HaveRooms}
+use Rattle.layer_build.specs.Stacked.{no_layer, place_of, nodes_in, path_in, shown_down, shown_stack, HasDepth, HasAllDepths, HasRows, HaveDepth, HaveDepths, HaveRooms}
 use Rattle.layer_build.proofs.Going.{deep, last_paths, last-seen, lent}
-use Rattle.layer_nodes.specs.Holding.{AreHeld}
-use Rattle.layer_build.proofs.Held.{rows-like}
+use Rattle.layer_nodes.specs.Holding.{places_of}
+use Rattle.layer_build.proofs.Held.{HaveSameRows, same-rows, rows-still, room-as}
 use Rattle.layer_nodes.proofs.Holding.{held-set}
 use Rattle.layer_build.proofs.Shown.{length-down, length-shown}
 use Rattle.layer_build.proofs.Stacks.{at_depth, newest-at, above-at, kept-at, put-at, place-low, places-apart, count-of, rooms-set, is-or}
 use Rattle.layer_build.proofs.Suffixed.{like-in, depths-like, like-under-way, set-down, set-ranks}
 use Rattle.layer_build.proofs.Walked.{no_node, NoneExact, path_of, layer-seen, place-held}
 
--- its layers are few and have few nodes
-pub held-few : (i : Inside) → the_invariant i → HoldFew i.stack
-held-few i h =
+-- it has a layer for each depth
+pub has-all-depths : (i : Inside) → the_invariant i → HasAllDepths i.stack
+has-all-depths i h =
     let items = i.stack.layers.items in
-    let count = count-of _ _ _ _ _ items h.stack.rooms in
+    let count = count-of _ _ _ _ items h.stack.rooms in
     record {
       small = h.stack.small;
       last = h.stack.last;
       count = omega arith;
-      few = λ k low. subst (λ (l : LayerView). l.nodes_room ≤ 2 ^ 25) (get_or-map room_of items k no_layer) (h.stack.rooms.few k (omega arith));
-      newest_few = h.stack.rooms.newest_few;
     }
 
 -- and there is one for each depth down to the last one
 pub has-depth : (i : Inside) → the_invariant i → (depth : ℕ) → depth ≤ i.stack.last → HasDepth i.stack depth
 has-depth i h depth low =
-    let few = held-few i h in
+    let few = has-all-depths i h in
     let small = h.stack.small in
     let ordered = h.stack.first in
     let deep = h.stack.last in
@@ -248,7 +245,7 @@ set-above i h depth node s at other x nodes =
     let low = lower in
     let deep = h.stack.last in
     let place = place-low vars first depth (omega arith) in
-    let count = count-of _ _ _ _ _ items h.stack.rooms in
+    let count = count-of _ _ _ _ items h.stack.rooms in
     set-down (nodes_in i.stack) new depth last node s (λ j below apart. same j apart (down-to j last below)) (put-at vars first last items x i.stack.newest depth low (omega arith) ∙ nodes)
     (i.prefix.items ∷ []) first (last - first) (depth - first) (omega arith) (omega arith) (omega arith)
     ∙ ap (λ (b : ℕ). suffix_in (depth - b) node s (the_view i).layers) h.first
@@ -278,6 +275,14 @@ set-above i h depth node s at other x nodes =
         kept-at vars first last last (place_of vars first depth) items x i.stack.newest i.stack.newest j less less (places-apart vars first depth j (omega arith) (omega arith) (λ e. apart (sym e)))
     same j apart (inr e) = newest-at vars first last (set items (place_of vars first depth) x) i.stack.newest j e ∙ sym (newest-at vars first last items i.stack.newest j e)
 
+places-set : (nodes : List NodeView) (i : ℕ) (s : Option ℤ) → places_of (suffix_set nodes i s) ≡ places_of nodes
+places-set [] i s = refl
+places-set (node ∷ nodes) zero s = refl
+places-set (node ∷ nodes) (suc i) s = ap (λ (l : List ℕ). node.place ∷ l) (places-set nodes i s)
+
+rows-set : (nodes : List NodeView) (i : ℕ) (s : Option ℤ) → HaveSameRows nodes (suffix_set nodes i s)
+rows-set nodes i s = record { places = places-set nodes i s; held = λ region held. held-set region nodes i s held }
+
 -- the workspace with another last layer, and with another one above it
 abbrev pub with_newest : Inside → LayerView → Inside
 with_newest i n = record i { stack = record { vars = i.stack.vars; first = i.stack.first; last = i.stack.last; layers = i.stack.layers; newest = n; region = i.stack.region } }
@@ -292,22 +297,32 @@ newest-space i h depth node s at last n nodes rooms = record {
     small = h.stack.small;
     first = h.stack.first;
     last = h.stack.last;
-    rooms = subst (λ (r : ℕ). HaveRooms i.stack.vars i.words i.width r i.choices.items (map room_of i.stack.layers.items)) (sym rooms.nodes_room) h.stack.rooms;
+    rooms = h.stack.rooms;
     newest_words = rooms.words ∙ h.stack.newest_words;
     top = h.stack.top;
   };
-  rows = rows-like i.words i.width i.held i.stack (with_newest i n).stack (record { vars = refl; first = refl; last = refl; region = refl; rooms = refl })
-      (λ k from less held. subst (AreHeld i.stack.region)
-      (above-at i.stack.vars i.stack.first i.stack.last i.stack.layers.items i.stack.newest k (λ f. absurd (omega arith)) ∙ sym (above-at i.stack.vars i.stack.first i.stack.last i.stack.layers.items n k (λ f. absurd (omega arith)))) held) h.rows;
+  rows = rows-still i.words i.width i.held i.stack (with_newest i n).stack h.stack.first
+      (record { vars = refl; first = refl; last = refl; region = refl; rooms = refl; newest_room = rooms.nodes_room; rows = λ k from deep. kept k (is-or k i.stack.last) }) h.rows;
   first = h.first;
   prefix_fits = h.prefix_fits;
-  expands = h.expands ∙ sym rooms.nodes_room;
-  redirects_fit = h.redirects_fit ∙ sym rooms.nodes_room;
+  expands = room-as rooms.nodes_room h.expands;
+  redirects_fit = room-as rooms.nodes_room h.redirects_fit;
   path = h.path;
   depths = subst (HaveDepths i.stack.first) (sym (set-newest i h depth node s at last n nodes))
       (depths-like i.stack.first (the_view i).layers (suffix_in (depth - length i.prefix.items) node s (the_view i).layers) (like-in (depth - length i.prefix.items) node s (the_view i).layers) h.depths);
   has_layers = h.has_layers;
 }
+  where
+    at-new : ℕ → List NodeView
+    at-new = at_depth i.stack.vars i.stack.first i.stack.last i.stack.layers.items n
+
+    kept : (k : ℕ) → (k ≡ i.stack.last) ⊎ (k ≢ i.stack.last) → HaveSameRows (nodes_in i.stack k) (at-new k)
+    kept k (inl same) =
+        subst (HaveSameRows (nodes_in i.stack k)) (sym (newest-at i.stack.vars i.stack.first i.stack.last i.stack.layers.items n k same ∙ nodes))
+        (subst (λ (l : List NodeView). HaveSameRows l (suffix_set i.stack.newest.nodes node s)) (sym (newest-at i.stack.vars i.stack.first i.stack.last i.stack.layers.items i.stack.newest k same)) (rows-set i.stack.newest.nodes node s))
+    kept k (inr other) =
+        same-rows (nodes_in i.stack k) (at-new k)
+        (above-at i.stack.vars i.stack.first i.stack.last i.stack.layers.items n k other ∙ sym (above-at i.stack.vars i.stack.first i.stack.last i.stack.layers.items i.stack.newest k other))
 
 pub newest-seen : (i : Inside) → the_invariant i → (v : SpaceView) → the_view i ≡ v → (depth node : ℕ) (s : Option ℤ) → StandsAt i depth node → depth ≡ i.stack.last → (n : LayerView) → n.nodes ≡ suffix_set i.stack.newest.nodes node s
     → KeepsRoom i.stack.newest n → the_view (with_newest i n) ≡ record v { layers = suffix_in (depth - length v.prefix) node s v.layers }
@@ -330,7 +345,7 @@ place-within i h depth node at =
     let low = at.low in
     let deep = h.stack.last in
     let place = place-low i.stack.vars i.stack.first depth (omega arith) in
-    let count = count-of _ _ _ _ _ i.stack.layers.items h.stack.rooms in
+    let count = count-of _ _ _ _ i.stack.layers.items h.stack.rooms in
     omega arith
 
 pub lent-nodes : (i : Inside) → the_invariant i → (depth node : ℕ) → StandsAt i depth node → depth ≢ i.stack.last → (at : ℕ) (old d : LayerView) → at ≡ place_of i.stack.vars i.stack.first depth → old ≡ get_or i.stack.layers.items at d
@@ -349,8 +364,8 @@ set-layers i h depth node s stands at old d x e =
 layer-rows : (i : Inside) → the_invariant i → (depth node : ℕ) (s : Option ℤ) → StandsAt i depth node → (at : ℕ) (old d x : LayerView) → HasSet i depth node s at old d x
     → HasRows i.words i.width i.held (with_layer i at x).stack
 layer-rows i h depth node s stands at old d x e =
-    rows-like i.words i.width i.held i.stack (with_layer i at x).stack (record { vars = refl; first = refl; last = refl; region = refl; rooms = rooms-set items at x old d e.lent e.rooms })
-    (λ k from less held. kept k from less held (is-or k depth)) h.rows
+    rows-still i.words i.width i.held i.stack (with_layer i at x).stack h.stack.first
+    (record { vars = refl; first = refl; last = refl; region = refl; rooms = rooms-set items at x old d e.lent e.rooms; newest_room = refl; rows = λ k from deep. kept k from deep (is-or k depth) }) h.rows
   where
     vars : ℕ
     vars = i.stack.vars
@@ -367,18 +382,25 @@ layer-rows i h depth node s stands at old d x e =
     new : ℕ → List NodeView
     new = at_depth i.stack.vars i.stack.first i.stack.last (set i.stack.layers.items at x) i.stack.newest
 
-    kept : (k : ℕ) → i.stack.first ≤ k → k < i.stack.last → AreHeld i.stack.region (nodes_in i.stack k) → (k ≡ depth) ⊎ (k ≢ depth) → AreHeld i.stack.region (new k)
-    kept k from less held (inl same) =
+    kept : (k : ℕ) → i.stack.first ≤ k → k ≤ i.stack.last → (k ≡ depth) ⊎ (k ≢ depth) → HaveSameRows (nodes_in i.stack k) (new k)
+    kept k from deep (inl same) =
+        let low = stands.low in
+        let less = above-last depth last low e.other in
         let place : at ≡ place_of vars first k = e.place ∙ ap (place_of vars first) (sym same) in
         let within : place_of vars first k < length items = subst (λ (p : ℕ). place_of vars first p < length items) (sym same) (place-within i h depth node stands) in
-        let here : new k ≡ x.nodes = ap (λ (p : ℕ). at_depth vars first last (set items p x) i.stack.newest k) place ∙ put-at vars first last items x i.stack.newest k less within in
+        let here : new k ≡ x.nodes = ap (λ (p : ℕ). at_depth vars first last (set items p x) i.stack.newest k) place ∙ put-at vars first last items x i.stack.newest k (omega arith) within in
         let was : nodes_in i.stack k ≡ old.nodes = ap (nodes_in i.stack) same ∙ sym (lent-nodes i h depth node stands e.other at old d e.place e.lent) in
-        subst (AreHeld i.stack.region) (sym (here ∙ e.nodes)) (held-set i.stack.region old.nodes node s (subst (AreHeld i.stack.region) was held))
-    kept k from less held (inr apart) =
-        let deep = h.stack.last in
-        let low = stands.low in
-        let lower = above-last depth last low e.other in
-        subst (AreHeld i.stack.region) (sym (kept-at vars first last last at items x i.stack.newest i.stack.newest k less less (λ f. places-apart vars first depth k (omega arith) (omega arith) (λ g. apart (sym g)) (sym e.place ∙ f)))) held
+        subst (HaveSameRows (nodes_in i.stack k)) (sym (here ∙ e.nodes)) (subst (λ (l : List NodeView). HaveSameRows l (suffix_set old.nodes node s)) (sym was) (rows-set old.nodes node s))
+    kept k from deep (inr apart) = other (is-or k last)
+      where
+        other : (k ≡ i.stack.last) ⊎ (k ≢ i.stack.last) → HaveSameRows (nodes_in i.stack k) (new k)
+        other (inl end) = same-rows _ _ (newest-at vars first last (set items at x) i.stack.newest k end ∙ sym (newest-at vars first last items i.stack.newest k end))
+        other (inr above) =
+            let most = h.stack.last in
+            let low = stands.low in
+            let less = above-last k last deep above in
+            let lower = above-last depth last low e.other in
+            same-rows _ _ (kept-at vars first last last at items x i.stack.newest i.stack.newest k less less (λ f. places-apart vars first depth k (omega arith) (omega arith) (λ g. apart (sym g)) (sym e.place ∙ f)))
 
 pub layer-space : (i : Inside) → the_invariant i → (depth node : ℕ) (s : Option ℤ) → StandsAt i depth node → (at : ℕ) (old d x : LayerView) → HasSet i depth node s at old d x → the_invariant (with_layer i at x)
 layer-space i h depth node s stands at old d x e =
@@ -391,7 +413,7 @@ layer-space i h depth node s stands at old d x e =
         small = h.stack.small;
         first = h.stack.first;
         last = h.stack.last;
-        rooms = subst (HaveRooms i.stack.vars i.words i.width i.stack.newest.nodes_room i.choices.items) (sym (rooms-set i.stack.layers.items at x old d e.lent e.rooms)) h.stack.rooms;
+        rooms = subst (HaveRooms i.stack.vars i.words i.width i.choices.items) (sym (rooms-set i.stack.layers.items at x old d e.lent e.rooms)) h.stack.rooms;
         newest_words = h.stack.newest_words;
         top = ap (λ (l : LayerView). l.nodes) (get_or-set_other i.stack.layers.items at (i.stack.vars + 1) x no_layer (λ f. absurd (omega arith))) ∙ h.stack.top;
       };

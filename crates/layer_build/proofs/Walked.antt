@@ -1,21 +1,23 @@
 -- Paths of nodes, walked back through the layers, and what a loop over layers or nodes has seen.
-use Rattle.std.proofs.Common.{◌≡◌, ℕ, zero, suc, ◌+◌, ◌-◌, ◌*◌, ◌^◌, ◌<◌, ◌≤◌, nat_eq, nat_lt, pos, Bool, true, false, cond, List, [], ◌∷◌, ◌++◌, set, drop, length, get_or, slice_index_or, slice_get, position, sum_by, Option, Some, None, option_map, ◌⊎◌, inl, inr, refl, sym, ap, ap₂, ◌∙◌, arith, append_assoc}
+use Rattle.std.proofs.Common.{◌≡◌, ℕ, zero, suc, ◌+◌, ◌-◌, ◌<◌, ◌≤◌, nat_lt, pos, Bool, true, false, cond, List, [], ◌∷◌, ◌++◌, set, drop, length, get_or, slice_index_or, slice_get, position, sum_by, Option, Some, None, option_map, ◌⊎◌, inl, inr, refl, sym, ap, ap₂, ◌∙◌, arith, append_assoc}
 use Rattle.std.proofs.lemmas.Bool.Decides.{nat_tests}
-use Rattle.std.proofs.lemmas.List.{length-set, length-map, length_push, drop_all, drop_more, drop-set, get_or-map, get_or_past}
+use Rattle.std.proofs.lemmas.List.{length-append, length-set, length-map, length_push, drop-set, get_or-map, get_or_past}
 use Rattle.std.proofs.lemmas.List.Sums.{position_or_len_is, sum_by-cons}
 use Rattle.std.proofs.lemmas.Option.{slice_get-get_or}
 use Rattle.dp_laws.specs.Diagrams.Nodes.{DdNode, path_below}
+use Rattle.layer_nodes.specs.Holding.{places_of}
 use Rattle.layer_nodes.specs.Nodes.{NodeView, shown_layer}
 use Rattle.layer_build.specs.declared.stack.Stack.{Stack}
-use Rattle.layer_build.specs.Stacked.{no_layer, place_of, layer_in, nodes_in, path_in, paths_below, paths_at, shown_down, shown_stack, HoldFew}
-use Rattle.layer_build.proofs.Shown.{length-down, length-shown, paths-last}
+use Rattle.layer_build.specs.Stacked.{place_of, nodes_in, path_in, paths_below, paths_at, places_down, places_above, places_from, shown_down, shown_stack, HasAllDepths}
+use Rattle.layer_build.proofs.Held.{length-places, newest-nodes}
+use Rattle.layer_build.proofs.Shown.{length-shown, paths-last}
 use Rattle.layer_build.proofs.Stacks.{place-low}
 
 abbrev pub no_node : NodeView
 no_node = record { row = []; place = 0; value = pos 0; rank = pos 0; exact = false; parent = None; decision = 0; arcs = []; suffix = None }
 
 -- a depth down to the last one has its place
-pub place-held : (s : Stack) (depth : ℕ) → HoldFew s → depth ≤ s.last → place_of s.vars s.first depth < length s.layers.items
+pub place-held : (s : Stack) (depth : ℕ) → HasAllDepths s → depth ≤ s.last → place_of s.vars s.first depth < length s.layers.items
 place-held s depth h low = let deep = h.last in let place = place-low s.vars s.first depth (omega arith) in let count = h.count in omega arith
 
 -- what is read of the node at a place
@@ -172,39 +174,37 @@ layer-seen s prefix depth above low =
 abbrev pub count_all : List (List DdNode) → ℕ
 count_all layers = sum_by (λ (layer : List DdNode). length layer) layers
 
--- those from depth a on, down to this depth, are counted, and are few
-pub record AreCounted (s : Stack) (a depth rows : ℕ) : Type 0 where
-  pub all : (prefix : List ℕ) → rows + count_all (drop (depth - s.first) (shown_stack prefix s)) ≡ count_all (drop (a - s.first) (shown_stack prefix s))
-  pub few : rows ≤ depth * 2 ^ 25
+count-more : (layer : List DdNode) (layers : List (List DdNode)) → count_all (layer ∷ layers) ≡ length layer + count_all layers
+count-more layer layers = sum_by-cons (λ (l : List DdNode). length l) layer layers
 
-pub counted-more : (s : Stack) (a depth rows n : ℕ) → AreCounted s a depth rows → s.first ≤ depth → depth ≤ s.last → n ≡ length (nodes_in s depth) → n ≤ 2 ^ 25 → AreCounted s a (depth + 1) (rows + n)
-counted-more s a depth rows n h above low count small = record {
-  all = λ prefix. (
-      let layers = shown_stack prefix s in
-      let long = length-down (nodes_in s) (prefix ∷ []) s.first (s.last - s.first) in
-      let split = drop_more layers (depth - s.first) [] (omega arith) in
-      let next : depth - s.first + 1 ≡ depth + 1 - s.first = omega arith in
-      let here : length (slice_index_or layers (depth - s.first) []) ≡ n = ap (λ (l : List DdNode). length l) (layer-seen s prefix depth above low) ∙ (length-shown (path_of (nodes_in s) prefix s.first depth) 0 (nodes_in s depth) ∙ sym count) in
-      let sum : count_all (drop (depth - s.first) layers) ≡ n + count_all (drop (depth + 1 - s.first) layers) =
-      ap count_all split ∙ (sum_by-cons (λ (layer : List DdNode). length layer) (slice_index_or layers (depth - s.first) []) (drop (depth - s.first + 1) layers)
-      ∙ ap₂ (λ (m i : ℕ). m + count_all (drop i layers)) here next) in
-      let so = h.all prefix in
-      omega arith);
-  few = let f = h.few in omega arith;
-}
+-- they are as many as their rows have places
+shown-counted : (nodes : ℕ → List NodeView) (ps : List (List ℕ)) (k m : ℕ) → count_all (shown_down nodes ps k m) ≡ length (places_down nodes k m) + length (nodes (k + m))
+shown-counted nodes ps k zero =
+    let same : k ≡ k + 0 = omega arith in
+    count-more (shown_layer (path_in ps) (nodes k)) [] ∙ (ap (λ (n : ℕ). n + 0) (length-shown (path_in ps) 0 (nodes k)) ∙ (omega arith ∙ ap (λ (d : ℕ). 0 + length (nodes d)) same))
+shown-counted nodes ps k (suc m) =
+    let here = length-shown (path_in ps) 0 (nodes k) in
+    let places = length-places (nodes k) in
+    let both = length-append (places_of (nodes k)) (places_down nodes (k + 1) m) in
+    let rest = shown-counted nodes (paths_below ps (nodes (k + 1))) (k + 1) m in
+    let end : length (nodes (k + 1 + m)) ≡ length (nodes (k + suc m)) = ap (λ (d : ℕ). length (nodes d)) (let same : k + 1 + m ≡ k + suc m = omega arith in same) in
+    count-more (shown_layer (path_in ps) (nodes k)) (shown_down nodes (paths_below ps (nodes (k + 1))) (k + 1) m) ∙ omega arith
 
-pub counted-end : (s : Stack) (a depth rows : ℕ) → AreCounted s a depth rows → s.first ≤ s.last → s.last < depth → (prefix : List ℕ) → rows ≡ count_all (drop (a - s.first) (shown_stack prefix s))
-counted-end s a depth rows h ordered past prefix =
-    let layers = shown_stack prefix s in
-    let long = length-down (nodes_in s) (prefix ∷ []) s.first (s.last - s.first) in
-    let none : count_all (drop (depth - s.first) layers) ≡ 0 = ap count_all (drop_all (depth - s.first) layers (omega arith)) in
-    let so = h.all prefix in
-    omega arith
+rest-counted : (nodes : ℕ → List NodeView) (ps : List (List ℕ)) (k m j : ℕ) → j ≤ m → count_all (drop j (shown_down nodes ps k m)) ≡ length (places_down nodes (k + j) (m - j)) + length (nodes (k + m))
+rest-counted nodes ps k m zero low = shown-counted nodes ps k m ∙ ap₂ (λ (d n : ℕ). length (places_down nodes d n) + length (nodes (k + m))) (let same : k ≡ k + 0 = omega arith in same) (let all : m ≡ m - 0 = omega arith in all)
+rest-counted nodes ps k zero (suc j) low = absurd (omega arith)
+rest-counted nodes ps k (suc m) (suc j) low =
+    let from : k + 1 + j ≡ k + suc j = omega arith in
+    let left : m - j ≡ suc m - suc j = omega arith in
+    let end : length (nodes (k + 1 + m)) ≡ length (nodes (k + suc m)) = ap (λ (d : ℕ). length (nodes d)) (let same : k + 1 + m ≡ k + suc m = omega arith in same) in
+    rest-counted nodes (paths_below ps (nodes (k + 1))) (k + 1) m j (omega arith) ∙ ap₂ (λ (a b : ℕ). a + b) (ap₂ (λ (d n : ℕ). length (places_down nodes d n)) from left) end
 
--- each layer has few nodes
-pub room-few : (s : Stack) (depth : ℕ) → HoldFew s → depth ≤ s.last → (layer_in s depth).nodes_room ≤ 2 ^ 25
-room-few s depth h low = go (nat_eq depth s.last)
-  where
-    go : (b : Bool) → (cond b s.newest (slice_index_or s.layers.items (place_of s.vars s.first depth) no_layer)).nodes_room ≤ 2 ^ 25
-    go true = h.newest_few
-    go false = let deep = h.last in h.few (place_of s.vars s.first depth) (place-low s.vars s.first depth (omega arith))
+pub held-counted : (s : Stack) (prefix : List ℕ) (held : ℕ) → s.first ≤ held → held ≤ s.last → count_all (drop (held - s.first) (shown_stack prefix s)) ≡ length (places_from held s)
+held-counted s prefix held begun low =
+    let from : s.first + (held - s.first) ≡ held = omega arith in
+    let left : s.last - s.first - (held - s.first) ≡ s.last - held = omega arith in
+    let end : s.first + (s.last - s.first) ≡ s.last = omega arith in
+    let places = length-places s.newest.nodes in
+    let both = length-append (places_above held s) (places_of s.newest.nodes) in
+    rest-counted (nodes_in s) (prefix ∷ []) s.first (s.last - s.first) (held - s.first) (omega arith)
+    ∙ (ap₂ (λ (a b : ℕ). a + b) (ap₂ (λ (d n : ℕ). length (places_down (nodes_in s) d n)) from left) (ap (λ (d : ℕ). length (nodes_in s d)) end ∙ ap (λ (l : List NodeView). length l) (newest-nodes s)) ∙ omega arith)

@@ -1,13 +1,15 @@
 -- How the layers of a diagram lie in memory, and how they are seen.
-use Rattle.std.specs.Prelude.{◌≡◌, ℕ, zero, suc, ◌+◌, ◌-◌, ◌*◌, ◌^◌, ◌<◌, ◌≤◌, nat_eq, max, cond, List, [], ◌∷◌, length, map, IsTrue, slice_index_or}
+use Rattle.std.specs.Prelude.{◌≡◌, ℕ, zero, suc, ◌+◌, ◌-◌, ◌*◌, ◌<◌, ◌≤◌, nat_eq, max, cond, List, [], ◌∷◌, ◌++◌, length, map, IsTrue, slice_index_or}
 use Rattle.dp_model.specs.Decisions.{below}
 use Rattle.dp_model.specs.Dp.{Dp}
 use Rattle.dp_model.specs.Lists.{Each}
 use Rattle.dp_laws.specs.Diagrams.Nodes.{DdNode, path_below}
 use Rattle.layer_candidates.specs.Beaming.{HasLayers}
+use Rattle.layer_candidates.specs.HeldRows.{AreLive}
 use Rattle.layer_candidates.specs.declared.beam.Beam.{Beam}
 use Rattle.layer_nodes.specs.Nodes.{NodeView, LayerView, shown_layer}
-use Rattle.layer_nodes.specs.Holding.{AreHeld}
+use Rattle.layer_nodes.specs.Holding.{AreHeld, places_of}
+use Rattle.layer_nodes.specs.Stored.{Room}
 use Rattle.layer_build.specs.declared.stack.Stack.{Stack}
 
 -- no layer
@@ -60,13 +62,11 @@ abbrev pub paths_at : (ℕ → List NodeView) → List (List ℕ) → ℕ → �
 paths_at nodes paths k zero = paths
 paths_at nodes paths k (suc j) = paths_at nodes (paths_below paths (nodes (k + 1))) (k + 1) j
 
--- there is a layer for each depth, none of which has many nodes
-pub record HoldFew (s : Stack) : Type 0 where
+-- there is a layer for each depth down to the last one
+pub record HasAllDepths (s : Stack) : Type 0 where
   pub small : s.vars ≤ 1024
   pub last : s.last ≤ s.vars
   pub count : s.vars < length s.layers.items
-  pub few : (i : ℕ) → i ≤ s.vars → (slice_index_or s.layers.items i no_layer).nodes_room ≤ 2 ^ 25
-  pub newest_few : s.newest.nodes_room ≤ 2 ^ 25
 
 -- exact nodes at depth k have paths of so many decisions
 abbrev pub HaveDepth : ℕ → List DdNode → Type 0
@@ -83,14 +83,12 @@ room_of layer = record layer { nodes = [] }
 
 -- the layers have room: for each depth as many nodes as the width, and their arcs; just below the first layer, which is never
 -- reduced, as many as there are choices
-pub record HaveRooms (vars words width room : ℕ) (choices : List ℕ) (layers : List LayerView) : Type 0 where
+pub record HaveRooms (vars words width : ℕ) (choices : List ℕ) (layers : List LayerView) : Type 0 where
   pub count : length layers ≡ vars + 2
   pub words_are : (i : ℕ) → i < vars + 2 → (slice_index_or layers i no_layer).words ≡ words
   pub nodes : (k : ℕ) → k < vars → (slice_index_or layers k no_layer).nodes_room ≡ width
   pub arcs : (k : ℕ) → k < vars → (slice_index_or layers k no_layer).arcs_room ≡ width * slice_index_or choices k 0
   pub second_nodes : (k : ℕ) → k < vars → slice_index_or choices k 0 ≤ (slice_index_or layers vars no_layer).nodes_room
-  pub few : (i : ℕ) → i < vars + 2 → (slice_index_or layers i no_layer).nodes_room ≤ 2 ^ 25
-  pub newest_few : room ≤ 2 ^ 25
   pub second_arcs : (k : ℕ) → k + 1 < vars → slice_index_or choices k 0 * slice_index_or choices (k + 1) 0 ≤ (slice_index_or layers vars no_layer).arcs_room
 
 -- a stack that is prepared for such sizes
@@ -98,7 +96,7 @@ pub record HasStack (words width : ℕ) (choices : List ℕ) (s : Stack) : Type 
   pub small : s.vars ≤ 1024
   pub first : s.first ≤ s.last
   pub last : s.last ≤ s.vars
-  pub rooms : HaveRooms s.vars words width s.newest.nodes_room choices (map room_of s.layers.items)
+  pub rooms : HaveRooms s.vars words width choices (map room_of s.layers.items)
   pub newest_words : s.newest.words ≡ words
   pub top : (slice_index_or s.layers.items (s.vars + 1) no_layer).nodes ≡ []
 
@@ -106,28 +104,51 @@ pub record HasStack (words width : ℕ) (choices : List ℕ) (s : Stack) : Type 
 abbrev pub second_room : ℕ → List LayerView → ℕ
 second_room vars layers = (slice_index_or layers vars no_layer).nodes_room
 
--- how many rows the members of a beam take: no layer has more choices than 1024
-abbrev pub beam_rows : ℕ → ℕ
-beam_rows width = max width 1024
+-- the places of the rows of the layers at n depths from depth k on
+abbrev pub places_down : (ℕ → List NodeView) → ℕ → ℕ → List ℕ
+places_down nodes k zero = []
+places_down nodes k (suc n) = places_of (nodes k) ++ places_down nodes (k + 1) n
 
--- the region holds the rows of the layers from the depth `held` on that stand above the last one, and has rows to spare for
--- those that are still to be kept: at each depth as many as the width, and just below the first layer as many as there is room for;
--- and for the members of a beam besides
+-- the places of the rows of the layers that stand above the last one, from this depth on
+abbrev pub places_above : ℕ → Stack → List ℕ
+places_above depth s = places_down (nodes_in s) depth (s.last - depth)
+
+-- the places of the rows of the layers from this depth on
+abbrev pub places_from : ℕ → Stack → List ℕ
+places_from depth s = places_above depth s ++ places_of s.newest.nodes
+
+-- how many members a layer of a beam has at most: no layer has more choices than 1024
+abbrev pub beam_width : ℕ → ℕ
+beam_width width = max width 1024
+
+-- how many rows the last layer and a beam take, where a layer has so many candidates: each of the two those of the candidates
+-- and one ahead, and a beam those of its members besides
+abbrev pub rows_below : ℕ → ℕ → ℕ
+rows_below width room = room + 1 + (room + beam_width width + 1)
+
+-- the region has the rows of the layers from the depth `held` on, and no others; and it has rows to spare for the layers that are
+-- still to be kept, at each depth as many as the width, and just below the first layer as many as there is room for, and for the
+-- last layer and a beam besides
 pub record HasRows (words width held : ℕ) (s : Stack) : Type 0 where
   pub words_are : s.region.words ≡ words
-  pub held_rows : (k : ℕ) → held ≤ k → s.first ≤ k → k < s.last → AreHeld s.region (nodes_in s k)
-  pub spare : (s.vars - s.last) * width + beam_rows width ≤ s.region.spare
-  pub second_spare : s.last ≤ s.first + 1 → (s.vars - s.last) * width + second_room s.vars s.layers.items + beam_rows width ≤ s.region.spare
-  pub enough : s.vars * width + second_room s.vars s.layers.items + beam_rows width ≤ length s.region.rows
+  pub begun : s.first ≤ held
+  pub low : held ≤ s.last
+  pub held_rows : (k : ℕ) → held ≤ k → k ≤ s.last → AreHeld s.region (nodes_in s k)
+  pub live : AreLive s.region (places_from held s)
+  pub count : s.region.spare + length (places_from held s) ≡ length s.region.rows
+  pub few : length s.newest.nodes ≤ s.newest.nodes_room
+  pub spare : (s.vars - s.last) * width + rows_below width s.newest.nodes_room ≤ s.region.spare + length s.newest.nodes
+  pub second_spare : s.last ≤ s.first + 1 → (s.vars - s.last) * width + second_room s.vars s.layers.items + rows_below width s.newest.nodes_room ≤ s.region.spare + length s.newest.nodes
+  pub enough : s.vars * width + second_room s.vars s.layers.items + rows_below width s.newest.nodes_room ≤ length s.region.rows
 
 -- a workspace has room for all that it was prepared for, and its exact nodes have paths of their depth
-pub record HasSpace (words width held : ℕ) (choices : List ℕ) (prefix : List ℕ) (prefix_room : ℕ) (s : Stack) (expansion redirects : ℕ) (buffer : List ℕ) (beam : Beam) : Type 0 where
+pub record HasSpace (words width held : ℕ) (choices : List ℕ) (prefix : List ℕ) (prefix_room : ℕ) (s : Stack) (expansion redirects : Room) (buffer : List ℕ) (beam : Beam) : Type 0 where
   pub stack : HasStack words width choices s
   pub rows : HasRows words width held s
   pub first : s.first ≡ length prefix
   pub prefix_fits : s.vars ≤ prefix_room
-  pub expands : expansion ≡ s.newest.nodes_room
-  pub redirects_fit : redirects ≡ s.newest.nodes_room
+  pub expands : expansion ≡ record { most = s.newest.nodes_room; words = words }
+  pub redirects_fit : redirects ≡ record { most = s.newest.nodes_room; words = words }
   pub path : length buffer ≡ s.vars
   pub depths : HaveDepths s.first (shown_stack prefix s)
   pub has_layers : (dp : Dp) → words ≡ dp.words → s.vars ≡ dp.vars → choices ≡ map dp.choices (below dp.vars) → HasLayers dp width beam

@@ -4,13 +4,13 @@ ghost use Rattle.std.specs.Prelude.{◌≡◌, ◌≢◌, ◌+◌, ◌<◌, ◌�
 ghost use Rattle.dp_model.specs.Lists.{Each};
 ghost use Rattle.layer_nodes.specs.Ending.{MayAdd, MayLead, ended_layer};
 ghost use Rattle.layer_build.specs.Ended.{HasSuffixesAt};
-ghost use Rattle.layer_build.specs.Stacked.{no_layer, nodes_in, HoldFew};
+ghost use Rattle.layer_build.specs.Stacked.{no_layer, nodes_in, HasAllDepths};
 
 use crate::stack::{Stack, place_of};
-use layer_nodes::{KeptLayer, set_last_suffixes, set_suffixes, set_suffixes_above};
+use layer_nodes::{Layer, set_last_suffixes, set_suffixes};
 
 /// Sets the suffixes of the layer at a place, which is above the one at another place.
-fn end_at(layers: &mut [KeptLayer], at: usize, below: usize)
+fn end_at(layers: &mut [Layer], at: usize, below: usize)
     requires at { at < length layers.old }
     requires below { below < length layers.old }
     requires apart { at ≢ below }
@@ -30,7 +30,7 @@ fn end_at(layers: &mut [KeptLayer], at: usize, below: usize)
 /// Sets the suffixes of the layer at the depth.
 pub(crate) fn end_layer(stack: &mut Stack, depth: usize)
     requires last { depth ≤ stack.old.last }
-    requires stored { HoldFew stack.old }
+    requires stored { HasAllDepths stack.old }
     requires first { stack.old.first ≤ 1024 }
     requires arcs { depth < stack.old.last → Each (λ node. Each MayAdd node.arcs) (nodes_in stack.old depth) }
     requires leads { depth < stack.old.last → Each (λ node. Each (λ arc. MayLead (map (λ other. other.suffix) (nodes_in stack.old (depth + 1))) arc.target) node.arcs) (nodes_in stack.old depth) }
@@ -42,7 +42,7 @@ pub(crate) fn end_layer(stack: &mut Stack, depth: usize)
     }
     let at = place_of(stack.vars, stack.first, depth);
     if depth + 1 == stack.last {
-        set_suffixes_above(&mut stack.layers[at], &stack.newest);
+        set_suffixes(&mut stack.layers[at], &stack.newest);
         return;
     }
     let below = place_of(stack.vars, stack.first, depth + 1);

@@ -7,13 +7,13 @@
 //! which `strike` leaves what it leaves after `expand_layer`. `set_suffixes` sets the suffixes of a layer whose diagram is
 //! whole. `beam` is the shorter way to a restricted diagram, over `layer_candidates`.
 //!
-//! The last layer has its rows itself. Those of the layers above it stand in one `row_region`: `expand_layer` puts them there,
-//! `begin` and `drop_above` give all of them back; `beam` takes rows for its members and gives them back. Only `prepare` takes
-//! memory, and the region gets its size there. `greatest_width` is the greatest width whose layers stay within the cost formula.
+//! The rows of all layers stand in one `row_region`: `expand_layer` takes those of the new last layer, and the steps that take
+//! nodes out of it give theirs back. `drop_above` gives back those of the layers above the last one, and `begin` all of them;
+//! `beam` gives back what it takes. Only `prepare` takes memory, and the region gets its size there. `greatest_width` is the
+//! greatest width whose layers stay within the cost formula.
 #![tactic(auto)]
 
 mod ending;
-mod lookup;
 mod preparing;
 mod readers;
 mod stack;

@@ -4,11 +4,11 @@ ghost use Rattle.std.specs.Prelude.{◌≡◌, ◌+◌, ◌*◌, ◌<◌, ◌≤
 ghost use Rattle.dp_model.specs.Decisions.{below};
 ghost use Rattle.layer_build.specs.Layers.{IsWidth, AreEnough};
 ghost use Rattle.layer_build.specs.Preparing.{IsMost, IsReady};
-ghost use Rattle.layer_build.specs.Stacked.{empty_layer, beam_rows};
+ghost use Rattle.layer_build.specs.Stacked.{empty_layer, beam_width};
 
 use crate::stack::Stack;
 use dp_model::{DpModel, OutOfMemory};
-use layer_nodes::{KeptLayer, Layer};
+use layer_nodes::Layer;
 use row_region::Region;
 use std::alloc::Global;
 
@@ -69,7 +69,7 @@ fn layers_for<M: DpModel>(
     model: &M,
     width: usize,
     region: &Region,
-) -> Result<Vec<KeptLayer>, OutOfMemory>
+) -> Result<Vec<Layer>, OutOfMemory>
     requires { IsWidth (M.meaning (M.numbers model.now)) width }
     ensures layers { IfOk result (λ layers. layers.items ≡ map (λ k. empty_layer (M.meaning (M.numbers model.now)).words width (width * (M.meaning (M.numbers model.now)).choices k)) (below (M.meaning (M.numbers model.now)).vars)) }
     ensures room { IfOk result (λ layers. (M.meaning (M.numbers model.now)).vars + 2 ≤ vec_capacity layers) }
@@ -79,41 +79,43 @@ fn layers_for<M: DpModel>(
     let mut layers = Vec::with_capacity(alloc, vars + 2)?;
     'layers: for k in 0..vars {
         let choices = model.choices(k) as usize;
-        let layer = KeptLayer::prepare(alloc, words, width, width * choices, region)?;
+        let layer = Layer::prepare(alloc, words, width, width * choices, region)?;
         layers.push_reserved(layer);
     }
     Ok(layers)
 }
 
-/// The layers before a compilation, with room for so many candidates. The region has rows for all layers but the last one, and
-/// for so many members of a beam besides.
+/// The layers before a compilation, with room for so many candidates. The region has rows for all layers, and for a beam with so
+/// many members a layer besides; the last layer and the beam each hold one row ahead.
 pub(crate) fn prepare_stack<M: DpModel>(
     alloc: Global,
     model: &M,
     width: usize,
     room: usize,
-    members: usize,
+    widest: usize,
 ) -> Result<Stack, OutOfMemory>
     requires width { IsWidth (M.meaning (M.numbers model.now)) width }
     requires few { room ≤ 2 ^ 25 }
-    requires members { members ≡ beam_rows width }
+    requires widest { widest ≡ beam_width width }
     ensures { IfOk result (λ stack. IsReady (M.meaning (M.numbers model.now)) width room stack) }
 {
     let vars = model.vars();
     let words = model.words();
     let most = most_choices(model);
-    let region = Region::new(alloc, words, vars * width + most + members)?;
+    let below = room + 1 + (room + widest + 1);
+    let region = Region::new(alloc, words, vars * width + most + below)?;
     let mut layers = layers_for(alloc, model, width, &region)?;
-    let second = KeptLayer::prepare(alloc, words, most, room_for(model, 1), &region)?;
-    let top = KeptLayer::prepare(alloc, words, 0, 0, &region)?;
+    let second = Layer::prepare(alloc, words, most, room_for(model, 1), &region)?;
+    let top = Layer::prepare(alloc, words, 0, 0, &region)?;
     layers.push_reserved(second);
     layers.push_reserved(top);
+    let newest = Layer::prepare(alloc, words, room, 0, &region)?;
     Ok(Stack {
         vars,
         first: 0,
         last: 0,
         layers,
-        newest: Layer::prepare(alloc, words, room, 0)?,
+        newest,
         region,
     })
 }

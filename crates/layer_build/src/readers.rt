@@ -13,9 +13,8 @@ ghost use Rattle.layer_build.specs.Finding.{IsFound, IsFoundAs, StaysButPath, St
 ghost use Rattle.layer_build.specs.UnderWay.{IsUnderWay};
 
 use crate::ending::end_layer;
-use crate::lookup::{arc_at, arcs_at, decision_at, exact_at, len_at, row_at, suffix_at, value_at};
-use crate::stack::place_of;
-use crate::walking::{exact_place, live_rows, parent_or_first, write_front, write_path};
+use crate::stack::{layer_at, place_of};
+use crate::walking::{exact_place, parent_or_first, write_front, write_path};
 use crate::workspace::Workspace;
 use dp_laws::DdArc;
 use dp_model::Found;
@@ -55,7 +54,7 @@ impl Workspace {
         requires last { depth ≤ last_depth self.now }
         ensures { result ≡ length (layer_at self.now depth) }
     {
-        len_at(&self.stack, depth)
+        layer_at(&self.stack, depth).len()
     }
 
     /// The state of a node, where the rows of its layer are held.
@@ -65,7 +64,7 @@ impl Workspace {
         requires place { IsSome (node_at (diagram_of self.now) depth node) }
         ensures { option_map (λ n. n.row) (node_at (diagram_of self.now) depth node) ≡ Some result.now }
     {
-        row_at(&self.stack, depth, node)
+        layer_at(&self.stack, depth).row(&self.stack.region, node)
     }
 
     /// The greatest length of a path to a node.
@@ -74,7 +73,7 @@ impl Workspace {
         requires place { IsSome (node_at (diagram_of self.now) depth node) }
         ensures { option_map (λ n. n.value) (node_at (diagram_of self.now) depth node) ≡ Some result }
     {
-        value_at(&self.stack, depth, node)
+        layer_at(&self.stack, depth).value(node)
     }
 
     /// Whether a node stands for one state exactly.
@@ -83,7 +82,7 @@ impl Workspace {
         requires place { IsSome (node_at (diagram_of self.now) depth node) }
         ensures { option_map (λ n. n.exact) (node_at (diagram_of self.now) depth node) ≡ Some result }
     {
-        exact_at(&self.stack, depth, node)
+        layer_at(&self.stack, depth).exact(node)
     }
 
     /// The suffix of a node, or none where it is not set yet.
@@ -92,7 +91,7 @@ impl Workspace {
         requires place { IsSome (node_at (diagram_of self.now) depth node) }
         ensures { option_map (λ n. n.suffix) (node_at (diagram_of self.now) depth node) ≡ Some result }
     {
-        suffix_at(&self.stack, depth, node)
+        layer_at(&self.stack, depth).suffix(node)
     }
 
     /// Sets the suffix of a node.
@@ -130,7 +129,7 @@ impl Workspace {
         requires place { IsSome (node_at (diagram_of self.now) depth node) }
         ensures { option_map (λ n. length n.arcs) (node_at (diagram_of self.now) depth node) ≡ Some result }
     {
-        arcs_at(&self.stack, depth, node)
+        layer_at(&self.stack, depth).arcs(node)
     }
 
     /// An arc of a node, by the place among its arcs, which stand by decision.
@@ -139,7 +138,7 @@ impl Workspace {
         requires place { IsSome (option_and_then (λ n. slice_get n.arcs i) (node_at (diagram_of self.now) depth node)) }
         ensures { option_and_then (λ n. slice_get n.arcs i) (node_at (diagram_of self.now) depth node) ≡ Some result }
     {
-        arc_at(&self.stack, depth, node, i)
+        layer_at(&self.stack, depth).arc(node, i)
     }
 
     /// Writes the kept decisions of an exact node, from the root.
@@ -158,7 +157,7 @@ impl Workspace {
         requires exact { option_map (λ n. n.exact) (node_at (diagram_of self.now) depth node) ≡ Some true }
         ensures { option_map (λ n. n.path) (node_at (diagram_of self.now) depth node) ≡ option_map (λ n. take (depth - 1) n.path ++ result ∷ []) (node_at (diagram_of self.now) depth node) }
     {
-        decision_at(&self.stack, depth, node)
+        layer_at(&self.stack, depth).decision(node)
     }
 
     /// The place of the node in the layer above that the kept decisions of an exact node lead through, where that is below the
@@ -175,7 +174,7 @@ impl Workspace {
     pub fn live_rows(&self) -> usize
         ensures { result ≡ live_in self.now }
     {
-        live_rows(&self.stack, self.held)
+        self.stack.region.rows() - self.stack.region.spare()
     }
 
     /// The first exact node of the last layer with its kept decisions from the root; none exactly where it has no exact node.

@@ -1,28 +1,28 @@
 //! The layers of a diagram in memory.
 
-ghost use Rattle.std.specs.Prelude.{◌≡◌, ◌+◌, ◌-◌, ◌*◌, ◌<◌, ◌≤◌, ℕ, List, IsSome, length, map};
+ghost use Rattle.std.specs.Prelude.{◌≡◌, ◌+◌, ◌-◌, ◌*◌, ◌<◌, ◌≤◌, ℕ, List, [], IsSome, length, map};
 ghost use Rattle.dp_model.specs.Lists.{Each};
 ghost use Rattle.dp_laws.specs.Rules.Compiling.{expand};
-ghost use Rattle.layer_candidates.specs.HeldRows.{HoldsMore};
+ghost use Rattle.layer_candidates.specs.HeldRows.{AreLive, HasExchanged};
 ghost use Rattle.layer_nodes.specs.Nodes.{shown_layer, shown_below, without_arcs};
 ghost use Rattle.layer_nodes.specs.Sifting.{expand_sifted};
 ghost use Rattle.layer_nodes.specs.Steps.{IsParent, IsRanked, KeepsRoom};
-ghost use Rattle.layer_nodes.specs.Holding.{AreHeld};
-ghost use Rattle.layer_build.specs.Stacked.{place_of, place_above};
+ghost use Rattle.layer_nodes.specs.Holding.{AreHeld, places_of};
+ghost use Rattle.layer_build.specs.Stacked.{layer_in, place_of, place_above, places_above, HasDepth, HasAllDepths};
 
 use dp_model::DpModel;
-use layer_nodes::{Expansion, KeptLayer, Layer, expand, expand_sifted};
+use layer_nodes::{Expansion, Layer, expand, expand_sifted};
 use row_region::Region;
 
 /// A layer for each depth, then the one just below the first, and an empty one, which stands above the first; and the last
-/// layer of all, which is wide before it is reduced. `first` and `last` are the depths of the first and the last one. The last
-/// layer has its rows itself; those of the layers above it stand in the region.
+/// layer of all, which is wide before it is reduced. `first` and `last` are the depths of the first and the last one. The rows of
+/// all layers stand in the region.
 #[derive(Debug, Drop)]
 pub(crate) struct Stack {
     pub(crate) vars: usize,
     pub(crate) first: usize,
     pub(crate) last: usize,
-    pub(crate) layers: Vec<KeptLayer>,
+    pub(crate) layers: Vec<Layer>,
     pub(crate) newest: Layer,
     pub(crate) region: Region,
 }
@@ -49,12 +49,38 @@ pub(crate) fn place_above(vars: usize, first: usize, last: usize) -> usize
     }
 }
 
-/// The last layer, at depth `k`, is kept at its place above, with its rows in the region, and expanded into the next one.
+/// The layer at the depth.
+pub(crate) fn layer_at(stack: &Stack, depth: usize) -> &Layer
+    requires { HasDepth stack.now depth }
+    ensures { result.now ≡ layer_in stack.now depth }
+{
+    if depth == stack.last {
+        &stack.newest
+    } else {
+        &stack.layers[place_of(stack.vars, stack.first, depth)]
+    }
+}
+
+/// The rows of the layers from the depth on that stand above the last one are given back.
+pub(crate) fn drop_above(stack: &mut Stack, from: usize)
+    requires stored { HasAllDepths stack.old }
+    requires first { stack.old.first ≤ from }
+    requires live { AreLive stack.old.region (places_above from stack.old) }
+    ensures same { stack.new ≡ record stack.old { region = stack.new.region } }
+    ensures exchanged { HasExchanged stack.old.region (places_above from stack.old) stack.new.region [] }
+{
+    'layers: for depth in from..stack.last {
+        let at = place_of(stack.vars, stack.first, depth);
+        stack.layers[at].drop_rows(&mut stack.region);
+    }
+}
+
+/// The last layer, at depth `k`, is kept at its place above and expanded into the next one.
 pub(crate) fn expand_newest<M: DpModel>(
     model: &M,
     k: usize,
     region: &mut Region,
-    above: &mut KeptLayer,
+    above: &mut Layer,
     newest: &mut Layer,
     expansion: &mut Expansion,
 )
@@ -64,19 +90,22 @@ pub(crate) fn expand_newest<M: DpModel>(
     requires region_words { region.old.words ≡ (M.meaning (M.numbers model.now)).words }
     requires nodes { Each (IsParent (M.meaning (M.numbers model.now)) k) newest.old.nodes }
     requires copy_room { length newest.old.nodes ≤ above.old.nodes_room }
-    requires spare { length newest.old.nodes ≤ region.old.spare }
+    requires held { AreHeld region.old newest.old.nodes }
+    requires spare { length newest.old.nodes * (M.meaning (M.numbers model.now)).choices k + 1 ≤ region.old.spare }
     requires arcs_room { length newest.old.nodes * (M.meaning (M.numbers model.now)).choices k ≤ above.old.arcs_room }
     requires nodes_room { length newest.old.nodes * (M.meaning (M.numbers model.now)).choices k ≤ newest.old.nodes_room }
-    requires room { length newest.old.nodes * (M.meaning (M.numbers model.now)).choices k ≤ expansion.old }
+    requires row_words { expansion.old.words ≡ (M.meaning (M.numbers model.now)).words }
+    requires room { length newest.old.nodes * (M.meaning (M.numbers model.now)).choices k ≤ expansion.old.most }
     ensures above { (paths : ℕ → List ℕ) → shown_layer paths above.new.nodes ≡ (expand (M.meaning (M.numbers model.now)) k (shown_layer paths newest.old.nodes)).above }
     ensures next { (paths : ℕ → List ℕ) → shown_below paths newest.new.nodes ≡ (expand (M.meaning (M.numbers model.now)) k (shown_layer paths newest.old.nodes)).next }
     ensures ranked { Each (IsRanked (M.meaning (M.numbers model.now)) (k + 1)) newest.new.nodes }
     ensures unmerged { Each (λ n. IsSome n.parent) newest.new.nodes }
     ensures few { length newest.new.nodes ≤ length newest.old.nodes * (M.meaning (M.numbers model.now)).choices k }
     ensures rest { map without_arcs above.new.nodes ≡ map without_arcs newest.old.nodes }
-    ensures held { AreHeld region.new above.new.nodes }
-    ensures others { HoldsMore region.old region.new }
-    ensures spare { region.new.spare + length newest.old.nodes ≡ region.old.spare }
+    ensures places { places_of above.new.nodes ≡ places_of newest.old.nodes }
+    ensures above_held { AreHeld region.new above.new.nodes }
+    ensures held { AreHeld region.new newest.new.nodes }
+    ensures exchanged { HasExchanged region.old [] region.new (places_of newest.new.nodes) }
     ensures above_rooms { KeepsRoom above.old above.new }
     ensures next_rooms { KeepsRoom newest.old newest.new }
     ensures expansion { expansion.new ≡ expansion.old }
@@ -91,7 +120,7 @@ pub(crate) fn expand_newest_sifted<M: DpModel>(
     k: usize,
     threshold: Option<i64>,
     region: &mut Region,
-    above: &mut KeptLayer,
+    above: &mut Layer,
     newest: &mut Layer,
     expansion: &mut Expansion,
 )
@@ -101,19 +130,22 @@ pub(crate) fn expand_newest_sifted<M: DpModel>(
     requires region_words { region.old.words ≡ (M.meaning (M.numbers model.now)).words }
     requires nodes { Each (IsParent (M.meaning (M.numbers model.now)) k) newest.old.nodes }
     requires copy_room { length newest.old.nodes ≤ above.old.nodes_room }
-    requires spare { length newest.old.nodes ≤ region.old.spare }
+    requires held { AreHeld region.old newest.old.nodes }
+    requires spare { length newest.old.nodes * (M.meaning (M.numbers model.now)).choices k + 1 ≤ region.old.spare }
     requires arcs_room { length newest.old.nodes * (M.meaning (M.numbers model.now)).choices k ≤ above.old.arcs_room }
     requires nodes_room { length newest.old.nodes * (M.meaning (M.numbers model.now)).choices k ≤ newest.old.nodes_room }
-    requires room { length newest.old.nodes * (M.meaning (M.numbers model.now)).choices k ≤ expansion.old }
+    requires row_words { expansion.old.words ≡ (M.meaning (M.numbers model.now)).words }
+    requires room { length newest.old.nodes * (M.meaning (M.numbers model.now)).choices k ≤ expansion.old.most }
     ensures above { (paths : ℕ → List ℕ) → shown_layer paths above.new.nodes ≡ (expand_sifted (M.meaning (M.numbers model.now)) k threshold (shown_layer paths newest.old.nodes)).above }
     ensures next { (paths : ℕ → List ℕ) → shown_below paths newest.new.nodes ≡ (expand_sifted (M.meaning (M.numbers model.now)) k threshold (shown_layer paths newest.old.nodes)).next }
     ensures ranked { Each (IsRanked (M.meaning (M.numbers model.now)) (k + 1)) newest.new.nodes }
     ensures unmerged { Each (λ n. IsSome n.parent) newest.new.nodes }
     ensures few { length newest.new.nodes ≤ length newest.old.nodes * (M.meaning (M.numbers model.now)).choices k }
     ensures rest { map without_arcs above.new.nodes ≡ map without_arcs newest.old.nodes }
-    ensures held { AreHeld region.new above.new.nodes }
-    ensures others { HoldsMore region.old region.new }
-    ensures spare { region.new.spare + length newest.old.nodes ≡ region.old.spare }
+    ensures places { places_of above.new.nodes ≡ places_of newest.old.nodes }
+    ensures above_held { AreHeld region.new above.new.nodes }
+    ensures held { AreHeld region.new newest.new.nodes }
+    ensures exchanged { HasExchanged region.old [] region.new (places_of newest.new.nodes) }
     ensures above_rooms { KeepsRoom above.old above.new }
     ensures next_rooms { KeepsRoom newest.old newest.new }
     ensures expansion { expansion.new ≡ expansion.old }

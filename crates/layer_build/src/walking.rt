@@ -1,19 +1,17 @@
-//! Paths of nodes, the first exact one of a layer, and how many rows are held.
+//! Paths of nodes, and the first exact one of a layer.
 
-ghost use Rattle.std.specs.Prelude.{◌≡◌, ◌+◌, ◌-◌, ◌<◌, ◌≤◌, ℕ, List, [], ◌∷◌, ◌++◌, length, drop, option_map, position, slice_get, sum_by, Some};
-ghost use Rattle.dp_laws.specs.Diagrams.Nodes.{DdNode};
+ghost use Rattle.std.specs.Prelude.{◌≡◌, ◌+◌, ◌-◌, ◌<◌, ◌≤◌, ℕ, [], ◌∷◌, ◌++◌, length, drop, option_map, position, slice_get, Some};
 ghost use Rattle.layer_nodes.specs.Nodes.{NodeView};
-ghost use Rattle.layer_build.specs.Stacked.{nodes_in, path_in, paths_at, shown_stack, HasDepth, HoldFew};
+ghost use Rattle.layer_build.specs.Stacked.{nodes_in, path_in, paths_at, HasDepth, HasAllDepths};
 
-use crate::lookup::{decision_at, len_at, parent_at};
-use crate::stack::Stack;
+use crate::stack::{Stack, layer_at};
 use layer_nodes::Layer;
 
 /// Writes the path of a node: the decisions from its ancestors down, behind the prefix.
 pub(crate) fn write_path(stack: &Stack, prefix: &[u32], depth: usize, node: usize, out: &mut [u32])
     requires deep { stack.now.first ≤ depth }
     requires low { depth ≤ stack.now.last }
-    requires stored { HoldFew stack.now }
+    requires stored { HasAllDepths stack.now }
     requires prefix { length prefix.now ≡ stack.now.first }
     requires place { node < length (nodes_in stack.now depth) }
     requires whole { length (path_in (paths_at (nodes_in stack.now) (prefix.now ∷ []) stack.now.first (depth - stack.now.first)) node) ≡ depth }
@@ -23,7 +21,7 @@ pub(crate) fn write_path(stack: &Stack, prefix: &[u32], depth: usize, node: usiz
     let mut k = depth;
     let mut at = node;
     'steps: while k > stack.first {
-        let decision = decision_at(stack, k, at);
+        let decision = layer_at(stack, k).decision(at);
         at = parent_or_first(stack, k, at);
         k -= 1;
         out[k] = decision;
@@ -35,7 +33,7 @@ pub(crate) fn write_path(stack: &Stack, prefix: &[u32], depth: usize, node: usiz
 pub(crate) fn write_front(stack: &Stack, prefix: &[u32], depth: usize, node: usize, out: &mut [u32])
     requires deep { stack.now.first ≤ depth }
     requires low { depth ≤ stack.now.last }
-    requires stored { HoldFew stack.now }
+    requires stored { HasAllDepths stack.now }
     requires prefix { length prefix.now ≡ stack.now.first }
     requires place { node < length (nodes_in stack.now depth) }
     requires whole { length (path_in (paths_at (nodes_in stack.now) (prefix.now ∷ []) stack.now.first (depth - stack.now.first)) node) ≡ depth }
@@ -61,7 +59,7 @@ pub(crate) fn parent_or_first(stack: &Stack, depth: usize, node: usize) -> usize
     requires place { node < length (nodes_in stack.now depth) }
     ensures { (i : ℕ) → option_map (λ (n : NodeView). n.parent) (slice_get (nodes_in stack.now depth) node) ≡ Some (Some i) → result ≡ i }
 {
-    place_or_first(parent_at(stack, depth, node))
+    place_or_first(layer_at(stack, depth).parent(node))
 }
 
 /// The place of the first exact node.
@@ -74,17 +72,4 @@ pub(crate) fn exact_place(layer: &Layer) -> Option<usize>
         }
     }
     None
-}
-
-/// How many nodes the layers have from the depth on.
-pub(crate) fn live_rows(stack: &Stack, held: usize) -> usize
-    requires order { stack.now.first ≤ stack.now.last }
-    requires stored { HoldFew stack.now }
-    ensures { (prefix : List ℕ) → result ≡ sum_by (λ (layer : List DdNode). length layer) (drop (held - stack.now.first) (shown_stack prefix stack.now)) }
-{
-    let mut rows = 0;
-    'layers: for depth in stack.first.max(held)..stack.last + 1 {
-        rows += len_at(stack, depth);
-    }
-    rows
 }

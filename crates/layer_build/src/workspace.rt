@@ -15,7 +15,7 @@ ghost use Rattle.layer_build.specs.Space.{IsSpacePrepared};
 ghost use Rattle.layer_build.specs.UnderWay.{IsUnderWay};
 
 use crate::preparing::{choices_of, prepare_stack, room_for};
-use crate::stack::{Stack, expand_newest, expand_newest_sifted, place_above, place_of};
+use crate::stack::{Stack, drop_above, expand_newest, expand_newest_sifted, place_above, place_of};
 use crate::width::greatest_width;
 use dp_model::{DpModel, OutOfMemory, Sub};
 use layer_candidates::{Beam, Beamed};
@@ -110,8 +110,8 @@ impl Workspace {
             stack: prepare_stack(alloc, model, width, room, widest)?,
             first_reduced: None,
             held: 0,
-            expansion: Expansion::prepare(alloc, room)?,
-            redirects: Redirects::prepare(alloc, room)?,
+            expansion: Expansion::prepare(alloc, room, words)?,
+            redirects: Redirects::prepare(alloc, room, words)?,
             beam,
             path: vec![in alloc; 0u32; vars]?,
         })
@@ -139,7 +139,9 @@ impl Workspace {
         stack.first = first;
         stack.last = first;
         stack.region.clear();
-        stack.newest.start(sub.row.as_slice(), sub.value, rank);
+        stack
+            .newest
+            .start(&mut stack.region, sub.row.as_slice(), sub.value, rank);
         self.first_reduced = None;
         self.held = first;
     }
@@ -208,6 +210,7 @@ impl Workspace {
             model,
             self.stack.last,
             threshold,
+            &mut self.stack.region,
             &mut self.stack.layers[at],
             &mut self.stack.newest,
             &mut self.redirects,
@@ -228,6 +231,7 @@ impl Workspace {
         drop_dominated(
             model,
             self.stack.last,
+            &mut self.stack.region,
             &mut self.stack.layers[at],
             &mut self.stack.newest,
             &mut self.redirects,
@@ -264,6 +268,7 @@ impl Workspace {
         let at = place_above(self.stack.vars, self.stack.first, self.stack.last);
         keep_first(
             self.width,
+            &mut self.stack.region,
             &mut self.stack.layers[at],
             &mut self.stack.newest,
         );
@@ -287,6 +292,7 @@ impl Workspace {
             model,
             self.stack.last,
             self.width,
+            &mut self.stack.region,
             &mut self.stack.layers[at],
             &mut self.stack.newest,
             &mut self.redirects,
@@ -299,8 +305,8 @@ impl Workspace {
         ensures seen { self.new ≡ record self.old { held = last_depth self.old } }
         ensures under_way { (dp : Dp) → IsUnderWay dp self.old → IsUnderWay dp self.new }
     {
+        drop_above(&mut self.stack, self.held);
         self.held = self.stack.last;
-        self.stack.region.clear();
     }
 
     /// The beam below a prefix with its own state and value: its value, or none where there is none, and whether the width took

@@ -1,9 +1,9 @@
 -- A beam is made, layer by layer.
-use Rattle.std.proofs.Common.{◌≡◌, ℕ, suc, ◌+◌, ◌-◌, ◌*◌, ◌^◌, ◌<◌, ◌≤◌, nat_lt, nat_le, nat_eq, ℤ, Bool, true, false, not, cond, ◌&&◌, ◌||◌, List, [], ◌∷◌, ◌++◌, length, take, filter, find, is_some, Option, Some, None, vec_len, vec_capacity, mul-le-mul_right, refl, sym, ap, ap₂, subst, ◌∙◌, ◌⊎◌, inl, inr, arith}
+use Rattle.std.proofs.Common.{◌≡◌, ℕ, suc, ◌+◌, ◌-◌, ◌*◌, ◌^◌, ◌<◌, ◌≤◌, nat_lt, nat_le, nat_eq, ℤ, Bool, true, false, not, cond, ◌&&◌, ◌||◌, List, [], ◌∷◌, ◌++◌, length, take, filter, find, is_some, Option, Some, None, vec_capacity, mul-le-mul_right, refl, sym, ap, ap₂, subst, ◌∙◌, ◌⊎◌, inl, inr, arith}
 use Rattle.std.proofs.lemmas.Int.{ints}
 use Rattle.std.proofs.lemmas.Bool.Decides.{nat_tests}
 use Rattle.std.proofs.Math.Nat.{suc-mul}
-use Rattle.std.proofs.lemmas.List.{take_all}
+use Rattle.std.proofs.lemmas.List.{take_all, length-map}
 use Rattle.dp_model.specs.Decisions.{below}
 use Rattle.dp_model.specs.Dp.{Dp}
 use Rattle.dp_model.specs.Gaps.{is_struck_by}
@@ -21,9 +21,9 @@ use Rattle.dp_laws.proofs.Restricted.InOrder.{few-expanded}
 use Rattle.layer_candidates.specs.declared.beam.Beam.{Beam}
 use Rattle.layer_candidates.specs.declared.candidates.Candidates.{Candidates}
 use Rattle.layer_candidates.specs.declared.member.Member.{Member}
-use Rattle.layer_candidates.specs.Beaming.{AreEnoughMembers, kept_at, took, IsBuilt, most_at, is_between, IsNext}
-use Rattle.layer_candidates.specs.HeldRows.{held_as}
+use Rattle.layer_candidates.specs.Beaming.{AreEnough, AreEnoughMembers, HasBeamRows, kept_at, took, IsBuilt, most_at, is_between, IsNext}
 use Rattle.layer_candidates.specs.Layering.{HasMemory}
+use Rattle.layer_candidates.specs.Members.{members_as}
 use Rattle.layer_candidates.specs.Steps.{path_at}
 use Rattle.layer_candidates.specs.Ways.{IsNear}
 use Rattle.row_region.specs.Region.{RegionView}
@@ -38,7 +38,7 @@ near-value dp laws p h =
     record { low = omega (arith, ints); high = omega (arith, ints) }
 
 near-of : (dp : Dp) → IsLawful dp → (p : List ℕ) (k : ℕ) (paths : ℕ → List ℕ) (region : RegionView) (members : List Member)
-    → Each (IsMember dp p k) (held_as paths region members) → Each (λ (m : Member). IsNear m.value) members
+    → Each (IsMember dp p k) (members_as paths region members) → Each (λ (m : Member). IsNear m.value) members
 near-of dp laws p k paths region [] h = tt
 near-of dp laws p k paths region (m ∷ members) h = (subst IsNear (sym h.0.value) (near-value dp laws (paths m.step) h.0.prefix), near-of dp laws p k paths region members h.1)
 
@@ -151,18 +151,16 @@ module _ (dp : Dp) (laws : IsLawful dp) (p : List ℕ) (w : ℕ) (t : Option ℤ
 -- what the next layer needs
 pub record MayDescend (dp : Dp) (k most : ℕ) (b : Beam) (region : RegionView) : Type 0 where
   pub near : Each (λ (m : Member). IsNear m.value) b.members.items
-  pub memory : HasMemory (length b.members.items * dp.choices k) b.candidates
-  pub rows_room : length b.members.items * dp.choices k * b.words ≤ vec_len b.rows
+  pub memory : HasMemory dp.words (length b.members.items * dp.choices k) b.candidates
+  pub spare : length b.members.items * dp.choices k + 1 ≤ region.spare
   pub members_room : most ≤ vec_capacity b.members
-  pub held_room : most ≤ vec_capacity b.held
-  pub region_room : most ≤ region.spare + length b.held.items
   pub steps_room : length b.steps.items + most ≤ vec_capacity b.steps
   pub small : length b.steps.items + most < 2 ^ 32
 
-memory-less : (m n : ℕ) (c : Candidates) → HasMemory n c → m ≤ n → HasMemory m c
-memory-less m n c h less =
+memory-less : (words m n : ℕ) (c : Candidates) → HasMemory words n c → m ≤ n → HasMemory words m c
+memory-less words m n c h less =
     let one = h.ways in let two = h.folds in let three = h.next in let four = h.keys in let five = h.kept in let six = h.small in
-    record { ways = omega arith; folds = omega arith; next = omega arith; heads = h.heads; keys = omega arith; kept = omega arith; leaders = h.leaders; small = omega arith }
+    record { parent = h.parent; ways = omega arith; folds = omega arith; next = omega arith; heads = h.heads; keys = omega arith; kept = omega arith; leaders = h.leaders; small = omega arith }
 
 zero-or : (m : ℕ) → (m ≡ 0) ⊎ ((m ≡ 1) ⊎ (1 < m))
 zero-or m = grind arith
@@ -174,29 +172,39 @@ module _ (dp : Dp) (laws : IsLawful dp) (p : List ℕ) (w : ℕ) (t : Option ℤ
   deep : k ≡ length p + past
   deep = let d = h.deep in omega arith
 
-  here : held_as (path_at p b.steps.items) region b.members.items ≡ layer_below dp (reached dp p) w t past
+  here : members_as (path_at p b.steps.items) region b.members.items ≡ layer_below dp (reached dp p) w t past
   here = let inside : nat_lt k dp.vars ≡ true = grind (arith, nat_tests) in h.list ∙ ap (λ c. cond c (layer_below dp (reached dp p) w t past) (take 1 (layer_below dp (reached dp p) w t past))) inside
 
-  count-few : length b.members.items * dp.choices k ≤ h.has_room.room
-  count-few = go (zero-or past)
-    where
-      go : (past ≡ 0) ⊎ ((past ≡ 1) ⊎ (1 < past)) → length b.members.items * dp.choices k ≤ h.has_room.room
-      go (inl z) =
-          let d = deep in
-          let one = h.one (omega arith) in
-          let first = h.has_room.enough.first k low in
-          subst (λ n. n * dp.choices k ≤ h.has_room.room) (sym one) (omega arith)
-      go (inr (inl z)) =
-          let d = deep in
-          let next : k ≡ length p + 1 = omega arith in
-          let few = mul-le-mul_right (dp.choices k) (h.second next) in
-          let second = subst (λ n. dp.choices (length p) * dp.choices n ≤ h.has_room.room) (sym next) (h.has_room.enough.second (length p) (omega arith)) in
-          omega arith
-      go (inr (inr z)) =
-          let d = deep in
-          let few = mul-le-mul_right (dp.choices k) (h.later (omega arith)) in
-          let later = h.has_room.enough.later k low in
-          omega arith
+  -- there are no more candidates, and no more members, than what is enough
+  module _ (room widest : ℕ) (enough : AreEnough dp w room widest) where
+    count-few : length b.members.items * dp.choices k ≤ room
+    count-few = go (zero-or past)
+      where
+        go : (past ≡ 0) ⊎ ((past ≡ 1) ⊎ (1 < past)) → length b.members.items * dp.choices k ≤ room
+        go (inl z) =
+            let d = deep in
+            let one = h.one (omega arith) in
+            let first = enough.first k low in
+            subst (λ n. n * dp.choices k ≤ room) (sym one) (omega arith)
+        go (inr (inl z)) =
+            let d = deep in
+            let next : k ≡ length p + 1 = omega arith in
+            let few = mul-le-mul_right (dp.choices k) (h.second next) in
+            let second = subst (λ n. dp.choices (length p) * dp.choices n ≤ room) (sym next) (enough.second (length p) (omega arith)) in
+            omega arith
+        go (inr (inr z)) =
+            let d = deep in
+            let few = mul-le-mul_right (dp.choices k) (h.later (omega arith)) in
+            let later = enough.later k low in
+            omega arith
+
+    members-few : length b.members.items ≤ widest
+    members-few = go (zero-or past)
+      where
+        go : (past ≡ 0) ⊎ ((past ≡ 1) ⊎ (1 < past)) → length b.members.items ≤ widest
+        go (inl z) = let d = deep in let one = h.one (omega arith) in let c = enough.members.one in omega arith
+        go (inr (inl z)) = let d = deep in let few = h.second (omega arith) in let c = enough.members.choices (length p) (omega arith) in omega arith
+        go (inr (inr z)) = let d = deep in let few = h.later (omega arith) in let c = enough.members.width in omega arith
 
   abbrev most : ℕ
   most = most_at dp (length p + past) (length p) w
@@ -232,21 +240,21 @@ module _ (dp : Dp) (laws : IsLawful dp) (p : List ℕ) (w : ℕ) (t : Option ℤ
 
   pub may-descend : MayDescend dp k most b region
   may-descend =
-      let few = count-few in
-      let wide = most-wide h.has_room.widest h.has_room.enough.members in
-      let fit = steps-fit in
       let room = h.has_room in
-      let rows = room.rows in
-      let cells = mul-le-mul_right b.words few in
-      let hold = room.steps in let limit = room.small in let members = room.members in let held = room.held in
+      let rows = h.region_room in
+      let few = count-few room.room room.widest room.enough in
+      let free = rows.fits in
+      let candidates = count-few rows.room rows.widest rows.enough in
+      let still = members-few rows.room rows.widest rows.enough in
+      let wide = most-wide room.widest room.enough.members in
+      let fit = steps-fit in
+      let hold = room.steps in let limit = room.small in let members = room.members in
       record {
         near = near-of dp laws p k (path_at p b.steps.items) region b.members.items
             (subst (Each (IsMember dp p k)) (sym here) (subst (λ n. Each (IsMember dp p n) (layer_below dp (reached dp p) w t past)) (sym deep) (layers-prefixes dp p w t past is_prefix (let d = deep in omega arith))));
-        memory = memory-less (length b.members.items * dp.choices k) room.room b.candidates room.candidates few;
-        rows_room = omega arith;
+        memory = memory-less dp.words (length b.members.items * dp.choices k) room.room b.candidates room.candidates few;
+        spare = omega arith;
         members_room = omega arith;
-        held_room = omega arith;
-        region_room = most-wide (region.spare + length b.held.items) h.region_room;
         steps_room = omega arith;
         small = omega arith;
       }
@@ -255,18 +263,22 @@ module _ (dp : Dp) (laws : IsLawful dp) (p : List ℕ) (w : ℕ) (t : Option ℤ
   built-next new below more n =
       let d = deep in
       let next : (k + 1) - length p ≡ suc past = omega arith in
-      let whole : whole_layer dp k t (held_as (path_at p b.steps.items) region b.members.items) ≡ whole_layer dp (length p + past) t (layer_below dp (reached dp p) w t past) =
+      let whole : whole_layer dp k t (members_as (path_at p b.steps.items) region b.members.items) ≡ whole_layer dp (length p + past) t (layer_below dp (reached dp p) w t past) =
       ap₂ (λ j l. whole_layer dp j t l) deep here in
-      let listed : held_as (path_at p new.steps.items) below new.members.items ≡ kept_at dp (k + 1) (layer_below dp (reached dp p) w t (suc past)) =
+      let listed : members_as (path_at p new.steps.items) below new.members.items ≡ kept_at dp (k + 1) (layer_below dp (reached dp p) w t (suc past)) =
       n.list p ∙ (ap (take most) whole ∙ (choice.kept ∙ ap (λ j. kept_at dp (j + 1) (layer_below dp (reached dp p) w t (suc past))) (sym deep))) in
       let flag : (more && is_between k (length p) dp.vars) ≡ is_too_wide dp (reached dp p) w t (suc past) =
       ap (λ j. more && is_between j (length p) dp.vars) deep ∙ choice.flag more (n.more_stay p ∙ ap (λ l. nat_lt most (length l)) whole) in
       let few = n.few in
       let sum = n.steps in
+      let old_rows = length-map b.members.items (λ (m : Member). m.row) in
+      let new_rows = length-map new.members.items (λ (m : Member). m.row) in
+      let free = n.exchanged.spare in
+      let spare : below.spare + length new.members.items ≡ region.spare + length b.members.items = omega arith in
       record {
         has_room = n.has_room w h.has_room;
-        region_words = n.exchanged.words ∙ (h.region_words ∙ sym n.words);
-        region_room = subst (AreEnoughMembers dp w) (sym n.exchanged.spare) h.region_room;
+        region_words = n.exchanged.words ∙ h.region_words;
+        region_room = subst (HasBeamRows dp w) (sym spare) h.region_room;
         live = n.exchanged.live;
         deep = omega arith;
         list = listed ∙ ap (λ j. kept_at dp (k + 1) (layer_below dp (reached dp p) w t j)) (sym next);

@@ -9,11 +9,14 @@ use Rattle.layer_candidates.specs.declared.key.Key.{Key}
 use Rattle.layer_candidates.specs.declared.member.Member.{Member}
 use Rattle.layer_candidates.specs.declared.step.Step.{Step}
 use Rattle.layer_candidates.specs.declared.way.Way.{Way}
-use Rattle.layer_candidates.specs.Members.{members_as}
+use Rattle.layer_candidates.specs.Members.{member_rows, members_as}
 use Rattle.layer_candidates.specs.Pruning.{all_keyed}
-use Rattle.layer_candidates.specs.Rows.{row_at}
+use Rattle.layer_candidates.specs.HeldRows.{AreSame, held_row}
+use Rattle.layer_candidates.specs.KeyOrder.{key_rows}
 use Rattle.layer_candidates.specs.Steps.{paths_after, path_at, step_of, entered, IsReachedWithin}
 use Rattle.layer_candidates.specs.Ways.{way_at}
+use Rattle.layer_candidates.proofs.HeldRows.{held-same}
+use Rattle.row_region.specs.Region.{RegionView, IsLive}
 
 -- Paths.
 
@@ -50,16 +53,16 @@ module _ (prefix : List ℕ) where
       ap (λ (l : List (List ℕ)). get_or l (length steps + 1) []) (paths-both (prefix ∷ []) steps (s ∷ []))
       ∙ (ap (λ n. get_or (old ++ p ∷ []) n []) size ∙ get_or-append_seam old p [] [])
 
-  module _ (rows : List ℤ) (words : ℕ) (ways : List Way) where
+  module _ (region : RegionView) (ways : List Way) where
     keyed-stays : (steps more : List Step) (keys : List Key) → Each (λ key. (way_at ways key.place).parent ≤ length steps) keys
-        → all_keyed (path_at prefix (steps ++ more)) rows words ways keys ≡ all_keyed (path_at prefix steps) rows words ways keys
+        → all_keyed (path_at prefix (steps ++ more)) region ways keys ≡ all_keyed (path_at prefix steps) region ways keys
     keyed-stays steps more [] h = refl
     keyed-stays steps more (key ∷ keys) h =
-        ap₂ (λ (r : Reached) rs. r ∷ rs) (ap (λ (p : List ℕ). record { decisions = p ++ (way_at ways key.place).decision ∷ []; row = row_at rows words key.place; value = key.value }) (path-stays steps more (way_at ways key.place).parent h.0)) (keyed-stays steps more keys h.1)
+        ap₂ (λ (r : Reached) rs. r ∷ rs) (ap (λ (p : List ℕ). record { decisions = p ++ (way_at ways key.place).decision ∷ []; row = held_row region key.row; value = key.value }) (path-stays steps more (way_at ways key.place).parent h.0)) (keyed-stays steps more keys h.1)
 
     -- the members that are entered stand for the prefixes of their keys' ways
     pub descended : (steps : List Step) (keys : List Key) → Each (λ key. (way_at ways key.place).parent ≤ length steps) keys
-        → members_as (path_at prefix (steps ++ map (step_of ways) keys)) rows words (entered (length steps) keys) ≡ all_keyed (path_at prefix steps) rows words ways keys
+        → members_as (path_at prefix (steps ++ map (step_of ways) keys)) region (entered (length steps) keys) ≡ all_keyed (path_at prefix steps) region ways keys
     descended steps [] h = refl
     descended steps (key ∷ keys) h =
         let s = step_of ways key in
@@ -70,24 +73,24 @@ module _ (prefix : List ℕ) where
         ap (λ l. path_at prefix l (length steps + 1)) (sym split) ∙ (path-stays more (map (step_of ways) keys) (length steps + 1) (omega arith) ∙ path-new steps s) in
         let later : Each (λ (key : Key). (way_at ways key.place).parent ≤ length more) keys =
         Each-then (λ (key : Key). (way_at ways key.place).parent ≤ length steps) (λ (key : Key). (way_at ways key.place).parent ≤ length more) keys (λ key low. omega arith) h.1 in
-        let rest : members_as (path_at prefix (steps ++ s ∷ map (step_of ways) keys)) rows words (entered (length steps + 1) keys) ≡ all_keyed (path_at prefix steps) rows words ways keys =
-        ap₂ (λ l n. members_as (path_at prefix l) rows words (entered n keys)) (sym split) (sym count) ∙ (descended more keys later ∙ keyed-stays steps (s ∷ []) keys h.1) in
-        ap₂ (λ (r : Reached) rs. r ∷ rs) (ap (λ (p : List ℕ). record { decisions = p; row = row_at rows words key.place; value = key.value }) first) rest
+        let rest : members_as (path_at prefix (steps ++ s ∷ map (step_of ways) keys)) region (entered (length steps + 1) keys) ≡ all_keyed (path_at prefix steps) region ways keys =
+        ap₂ (λ l n. members_as (path_at prefix l) region (entered n keys)) (sym split) (sym count) ∙ (descended more keys later ∙ keyed-stays steps (s ∷ []) keys h.1) in
+        ap₂ (λ (r : Reached) rs. r ∷ rs) (ap (λ (p : List ℕ). record { decisions = p; row = held_row region key.row; value = key.value }) first) rest
 
   -- the members of the layer above stand for the same prefixes
-  pub members-stay : (rows : List ℤ) (words : ℕ) (steps more : List Step) (members : List Member) → Each (IsReachedWithin (length steps)) members
-      → members_as (path_at prefix (steps ++ more)) rows words members ≡ members_as (path_at prefix steps) rows words members
-  members-stay rows words steps more [] h = refl
-  members-stay rows words steps more (m ∷ members) h =
-      ap₂ (λ (r : Reached) rs. r ∷ rs) (ap (λ (p : List ℕ). record { decisions = p; row = row_at rows words m.row; value = m.value }) (path-stays steps more m.step h.0)) (members-stay rows words steps more members h.1)
+  pub members-stay : (region : RegionView) (steps more : List Step) (members : List Member) → Each (IsReachedWithin (length steps)) members
+      → members_as (path_at prefix (steps ++ more)) region members ≡ members_as (path_at prefix steps) region members
+  members-stay region steps more [] h = refl
+  members-stay region steps more (m ∷ members) h =
+      ap₂ (λ (r : Reached) rs. r ∷ rs) (ap (λ (p : List ℕ). record { decisions = p; row = held_row region m.row; value = m.value }) (path-stays steps more m.step h.0)) (members-stay region steps more members h.1)
 
 -- Members, key by key.
 
-pub entered-push : (n : ℕ) (keys : List Key) (key : Key) → entered n (keys ++ key ∷ []) ≡ entered n keys ++ record { value = key.value; rank = key.rank; row = key.place; step = n + length keys + 1 } ∷ []
-entered-push n [] key = ap (λ (s : ℕ). record { value = key.value; rank = key.rank; row = key.place; step = s } ∷ []) (omega arith)
+pub entered-push : (n : ℕ) (keys : List Key) (key : Key) → entered n (keys ++ key ∷ []) ≡ entered n keys ++ record { value = key.value; rank = key.rank; row = key.row; step = n + length keys + 1 } ∷ []
+entered-push n [] key = ap (λ (s : ℕ). record { value = key.value; rank = key.rank; row = key.row; step = s } ∷ []) (omega arith)
 entered-push n (k ∷ keys) key =
-    ap (λ (l : List Member). record { value = k.value; rank = k.rank; row = k.place; step = n + 1 } ∷ l)
-    (entered-push (n + 1) keys key ∙ ap (λ (s : ℕ). entered (n + 1) keys ++ record { value = key.value; rank = key.rank; row = key.place; step = s } ∷ []) (omega arith))
+    ap (λ (l : List Member). record { value = k.value; rank = k.rank; row = k.row; step = n + 1 } ∷ l)
+    (entered-push (n + 1) keys key ∙ ap (λ (s : ℕ). entered (n + 1) keys ++ record { value = key.value; rank = key.rank; row = key.row; step = s } ∷ []) (omega arith))
 
 pub length-entered : (n : ℕ) (keys : List Key) → length (entered n keys) ≡ length keys
 length-entered n [] = refl
@@ -96,3 +99,15 @@ length-entered n (k ∷ keys) = let e = length-entered (n + 1) keys in omega ari
 pub entered-within : (n m : ℕ) (keys : List Key) → n + length keys ≤ m → Each (IsReachedWithin m) (entered n keys)
 entered-within n m [] h = tt
 entered-within n m (k ∷ keys) h = (omega arith, entered-within (n + 1) m keys (omega arith))
+
+pub entered-rows : (n : ℕ) (keys : List Key) → member_rows (entered n keys) ≡ key_rows keys
+entered-rows n [] = refl
+entered-rows n (key ∷ keys) = ap (λ (l : List ℕ). key.row ∷ l) (entered-rows (n + 1) keys)
+
+-- where the rows of the keys stay
+pub entered-same : (paths : ℕ → List ℕ) (old new : RegionView) (n : ℕ) (keys : List Key) → AreSame old new (key_rows keys) → Each (λ key. IsLive old key.row) keys
+    → members_as paths new (entered n keys) ≡ members_as paths old (entered n keys)
+entered-same paths old new n [] same live = refl
+entered-same paths old new n (key ∷ keys) same live =
+    ap₂ (λ (r : Reached) rs. r ∷ rs) (ap (λ (row : List ℤ). record { decisions = paths (n + 1); row = row; value = key.value }) (held-same old new key.row live.0 same.0))
+    (entered-same paths old new (n + 1) keys same.1 live.1)

@@ -1,7 +1,9 @@
 -- A layer is extended, decision by decision and member by member.
-use Rattle.std.proofs.Common.{◌≡◌, ℕ, zero, suc, ◌+◌, ◌*◌, ◌<◌, ◌≤◌, ℤ, ◌+ℤ◌, true, false, cond, List, [], ◌∷◌, ◌++◌, length, map, drop, get_or, replicate, mul-le-mul_right, refl, sym, ap, subst, ◌∙◌, arith, add-one, IsTrue, length-append, inl, inr}
+use Rattle.std.proofs.Common.{◌≡◌, ℕ, zero, suc, ◌+◌, ◌<◌, ◌≤◌, ◌≢◌, ℤ, pos, ◌+ℤ◌, nat_eq, true, false, cond, List, [], ◌∷◌, ◌++◌, length, map, set, drop, get_or, None, replicate, ◌⊎◌, refl, sym, ap, subst, ◌∙◌, arith, add-one, IsTrue, length-append, inl, inr}
+use Rattle.std.proofs.lemmas.Bool.Decides.{nat_tests}
 use Rattle.std.proofs.lemmas.Int.{ints}
-use Rattle.std.proofs.lemmas.List.{append-nil, map-append, length-replicate, get_or-replicate, length-map, drop_all, drop_more, drop-map}
+use Rattle.std.proofs.lemmas.List.{append-nil, map-append, length-replicate, get_or-replicate, length-map, drop_all, drop_more, drop-map, get_or_append_left}
+use Rattle.std.proofs.lemmas.List.Sorted.{IsPermutation-cons, IsPermutation-sym, IsPermutation-to_front}
 use Rattle.std.proofs.lemmas.List.Elements.{filter-append}
 use Rattle.dp_model.specs.Decisions.{below}
 use Rattle.dp_model.specs.Dp.{Dp, IsAllowed}
@@ -9,73 +11,111 @@ use Rattle.dp_model.specs.Gaps.{IsStateOf}
 use Rattle.dp_model.specs.Laws.{IsLawful}
 use Rattle.dp_model.specs.Lists.{Each}
 use Rattle.dp_model.specs.Numbers.{IsSmall}
+use Rattle.dp_model.proofs.Members.{Each-append}
 use Rattle.dp_laws.specs.Restricted.Extensions.{extended, extensions, joined, all_joined, candidates}
 use Rattle.dp_laws.proofs.Diagrams.Places.{length-below}
 use Rattle.layer_candidates.specs.declared.way.Way.{Way}
 use Rattle.layer_candidates.specs.declared.member.Member.{Member}
-use Rattle.layer_candidates.specs.Rows.{row_at, with_row, HasZeros}
-use Rattle.layer_candidates.specs.Ways.{way_at, reached_by, reached_at, all_reached, IsNear, IsNearly, IsWay, AllHaveZeros, AreWays, AreJoined}
-use Rattle.layer_candidates.specs.Members.{member_as, members_as, IsMemberOf}
-use Rattle.layer_candidates.specs.Extending.{HasWayRoom, AreSame, parent_as, all_allowed, HasExtended, AreExtended}
-use Rattle.layer_candidates.proofs.Blocks.{before-with, here-with, table-with}
-use Rattle.layer_candidates.proofs.Joined.{last_or, table_same, all_joined_both}
+use Rattle.layer_candidates.specs.HeldRows.{held_row, AreLive, AreSame, HasExchanged, HasWritten}
+use Rattle.layer_candidates.specs.Rows.{HasZeros}
+use Rattle.layer_candidates.specs.Ways.{rows_of, way_row, reached_by, all_reached, IsNear, IsNearly, IsWay, AllHaveZeros, AreWays, AreJoined}
+use Rattle.layer_candidates.specs.Members.{member_rows, member_as, members_as, IsMemberOf}
+use Rattle.layer_candidates.specs.Extending.{HasWayRoom, parent_as, all_allowed, HasExtended, AreExtended}
+use Rattle.layer_candidates.proofs.HeldRows.{each-here, each-left, each-right, held-same, same-self, same-then, ways-same, exchange-self, exchange-then, exchange-moved, put-same, exchange-put, given-same, exchange-give, written-here, written-beside, exchange-written}
+use Rattle.layer_candidates.proofs.Joined.{last_or, all_joined_both, row-kept, joined-same, reached-same}
+use Rattle.row_region.specs.Region.{RegionView, IsLive, HasPut}
 
--- A row is written behind the ways.
+-- A state is written at the spot.
 
-module _ (rows row : List ℤ) (words : ℕ) (ways : List Way) (room : length ways * words + words ≤ length rows) (long : length row ≡ words) where
-  abbrev after : List ℤ
-  after = with_row rows (length ways * words) row
-
-  pub joined-with : (dp : Dp) (k live : ℕ) (folds heads next : List ℕ) → AreJoined dp k rows words live ways folds heads next → AreJoined dp k after words live ways folds heads next
-  joined-with dp k live folds heads next j =
-      let same = before-with rows row words (length ways) room long in
-      record {
-        table = table-with rows row words (length ways) room long live folds heads next j.table;
-        apart = λ a b less within e. j.apart a b less within (sym (same a (omega arith)) ∙ (e ∙ same b within));
-        good = λ i less. subst (λ r. IsWay dp k r (way_at ways i)) (sym (same i less)) (j.good i less);
-      }
-
-  pub reached-with : (paths : ℕ → List ℕ) → all_reached paths after words ways ≡ all_reached paths rows words ways
-  reached-with paths =
-      table_same (reached_at paths rows words ways) (reached_at paths after words ways) (length ways)
-      (λ i less. ap (λ r. reached_by paths r (way_at ways i)) (before-with rows row words (length ways) room long i less))
-
--- the state of a decision was written there
-pub record Written (dp : Dp) (k : ℕ) (s : List ℤ) (d : ℕ) (rows rows2 : List ℤ) (ways : List Way) : Type 0 where
+pub record Written (dp : Dp) (k : ℕ) (s : List ℤ) (d : ℕ) (old new : RegionView) (spot : ℕ) (ways : List Way) : Type 0 where
   pub here : IsStateOf dp k s
-  pub row : row_at rows2 (length s) (length ways) ≡ dp.step k s d
-  pub state : IsStateOf dp (k + 1) (row_at rows2 (length s) (length ways))
-  pub joined : (live : ℕ) (folds heads next : List ℕ) → AreJoined dp (k + 1) rows (length s) live ways folds heads next → AreJoined dp (k + 1) rows2 (length s) live ways folds heads next
-  pub reached : (paths : ℕ → List ℕ) → all_reached paths rows2 (length s) ways ≡ all_reached paths rows (length s) ways
-  pub before : (i : ℕ) → i < length ways → row_at rows2 (length s) i ≡ row_at rows (length s) i
+  pub state : IsStateOf dp (k + 1) (dp.step k s d)
+  pub row : held_row new spot ≡ dp.step k s d
+  pub rows : (i : ℕ) → i < length ways → way_row new ways i ≡ way_row old ways i
+  pub exchanged : HasExchanged old (spot ∷ rows_of ways) new (spot ∷ rows_of ways)
 
-pub written : (dp : Dp) → IsLawful dp → (k : ℕ) (s : List ℤ) (d count : ℕ) (rows rows2 : List ℤ) (ways : List Way) → count ≡ length ways → IsTrue (dp.is_state k s) → IsAllowed dp k s d → length s ≡ dp.words
-    → (length ways + 1) * length s ≤ length rows → rows2 ≡ with_row rows (count * length s) (dp.step k s d) → Written dp k s d rows rows2 ways
-written dp laws k s d count rows rows2 ways size test allowed cells hold are =
+pub written : (dp : Dp) → IsLawful dp → (k : ℕ) (s : List ℤ) (d : ℕ) (old new : RegionView) (spot : ℕ) (ways : List Way) → IsTrue (dp.is_state k s) → IsAllowed dp k s d → AreLive old (spot ∷ rows_of ways)
+    → HasWritten old spot (dp.step k s d) new → Written dp k s d old new spot ways
+written dp laws k s d old new spot ways test allowed live h =
     let low = allowed.layer in
     let here : IsStateOf dp k s = record { layer = omega arith; test = test } in
-    let out = dp.step k s d in
-    let next : IsStateOf dp (k + 1) out = record { layer = omega arith; test = laws.states.step k s d here allowed } in
-    let long : length out ≡ length s = laws.sizes.cells (k + 1) out next ∙ sym cells in
-    let room : length ways * length s + length s ≤ length rows = omega arith in
-    let is : rows2 ≡ with_row rows (length ways * length s) out = are ∙ ap (λ n. with_row rows (n * length s) out) size in
-    let row = ap (λ r. row_at r (length s) (length ways)) is ∙ here-with rows out (length s) (length ways) room long in
     record {
       here = here;
-      row = row;
-      state = subst (IsStateOf dp (k + 1)) (sym row) next;
-      joined = λ live folds heads next j. subst (λ r. AreJoined dp (k + 1) r (length s) live ways folds heads next) (sym is) (joined-with rows out (length s) ways room long dp (k + 1) live folds heads next j);
-      reached = λ paths. ap (λ r. all_reached paths r (length s) ways) is ∙ reached-with rows out (length s) ways room long paths;
-      before = λ i less. ap (λ r. row_at r (length s) i) is ∙ before-with rows out (length s) (length ways) room long i less;
+      state = record { layer = omega arith; test = laws.states.step k s d here allowed };
+      row = written-here old new spot (dp.step k s d) h live.live.0;
+      rows = ways-same old new ways (written-beside old new spot (dp.step k s d) h (rows_of ways) live) live.live.1;
+      exchanged = exchange-written old new spot (dp.step k s d) h (rows_of ways) live;
     }
 
--- the rows of the ways, and one more, begin with zeros
-pub rows-zeros : (dp : Dp) (k live : ℕ) (rows : List ℤ) (words : ℕ) (ways : List Way) → AllHaveZeros dp k live → AreWays dp k rows words ways → IsStateOf dp k (row_at rows words (length ways))
-    → (i : ℕ) → i ≤ length ways → HasZeros live (row_at rows words i)
-rows-zeros dp k live rows words ways zeros good new i less = elim (last_or i (length ways) (omega arith)) as (λ _. HasZeros live (row_at rows words i)) [
-  | inl e ↦ subst (λ (j : ℕ). HasZeros live (row_at rows words j)) (sym e) (zeros (row_at rows words (length ways)) new)
-  | inr before ↦ zeros (row_at rows words i) (good i before).state
-]
+-- the rows of the ways begin with zeros
+pub rows-zeros : (dp : Dp) (k live : ℕ) (row : ℕ → List ℤ) (ways : List Way) → AllHaveZeros dp k live → AreWays dp k row ways → (i : ℕ) → i < length ways → HasZeros live (row i)
+rows-zeros dp k live row ways zeros good i less = zeros (row i) (good i less).state
+
+-- Where the row at the spot is kept, another one is the spot.
+
+pub record IsSpotted (old new : RegionView) (spot spot2 : ℕ) (ways ways2 : List Way) : Type 0 where
+  pub exchanged : HasExchanged old (spot ∷ rows_of ways) new (spot2 ∷ rows_of ways2)
+  pub rows : (i : ℕ) → i < length ways2 → way_row new ways2 i ≡ way_row old ways2 i
+  pub before : (i : ℕ) → i < length ways → way_row new ways2 i ≡ way_row old ways i
+
+module _ (old new : RegionView) (spot spot2 : ℕ) (ways ways2 : List Way) (place : ℕ) (live : AreLive old (spot ∷ rows_of ways))
+    (grown : ((place < length ways) × (length ways2 ≡ length ways)) ⊎ ((place ≡ length ways) × (length ways2 ≡ length ways + 1)))
+    (is_new : place ≡ length ways → rows_of ways2 ≡ rows_of ways ++ spot ∷ []) (is_old : place < length ways → rows_of ways2 ≡ rows_of ways)
+    (when_new : place ≡ length ways → (row : List ℤ) × (length row ≡ old.words) × HasPut old spot2 row new) (when_old : place < length ways → (new ≡ old) × (spot2 ≡ spot)) where
+  spot-exchanged : HasExchanged old (spot ∷ rows_of ways) new (spot2 ∷ rows_of ways2)
+  spot-exchanged = elim grown as (λ _. HasExchanged old (spot ∷ rows_of ways) new (spot2 ∷ rows_of ways2)) [
+    | inl h ↦
+        let same = when_old h.0 in
+        subst (λ (r : RegionView). HasExchanged old (spot ∷ rows_of ways) r (spot2 ∷ rows_of ways2)) (sym same.0)
+        (subst (λ (p : ℕ). HasExchanged old (spot ∷ rows_of ways) old (p ∷ rows_of ways2)) (sym same.1)
+        (subst (λ (l : List ℕ). HasExchanged old (spot ∷ rows_of ways) old (spot ∷ l)) (sym (is_old h.0)) (exchange-self old (spot ∷ rows_of ways) live)))
+    | inr h ↦
+        let put = when_new h.0 in
+        subst (λ (l : List ℕ). HasExchanged old (spot ∷ rows_of ways) new (spot2 ∷ l)) (sym (is_new h.0))
+        (exchange-moved old new (spot ∷ rows_of ways) (spot2 ∷ (spot ∷ rows_of ways)) (spot2 ∷ (rows_of ways ++ spot ∷ []))
+        (IsPermutation-cons spot2 (spot ∷ rows_of ways) (rows_of ways ++ spot ∷ []) (IsPermutation-sym (rows_of ways ++ spot ∷ []) (spot ∷ rows_of ways) (IsPermutation-to_front (rows_of ways) spot)))
+        (exchange-put old new spot2 put.0 put.2 put.1 (spot ∷ rows_of ways) live))
+  ]
+
+  live2 : Each (IsLive old) (rows_of ways2)
+  live2 = elim grown as (λ _. Each (IsLive old) (rows_of ways2)) [
+    | inl h ↦ subst (Each (IsLive old)) (sym (is_old h.0)) live.live.1
+    | inr h ↦ subst (Each (IsLive old)) (sym (is_new h.0)) (Each-append (IsLive old) (rows_of ways) (spot ∷ []) live.live.1 (live.live.0, tt))
+  ]
+
+  spot-same : AreSame old new (rows_of ways2)
+  spot-same = elim grown as (λ _. AreSame old new (rows_of ways2)) [
+    | inl h ↦ subst (λ (r : RegionView). AreSame old r (rows_of ways2)) (sym (when_old h.0).0) (same-self old (rows_of ways2))
+    | inr h ↦ (let put = when_new h.0 in put-same old new spot2 put.0 put.2 put.1 (rows_of ways2) live2)
+  ]
+
+  spot-rows : (i : ℕ) → i < length ways2 → way_row new ways2 i ≡ way_row old ways2 i
+  spot-rows = ways-same old new ways2 spot-same live2
+
+  first-row : (i : ℕ) → i < length ways → get_or (rows_of ways2) i 0 ≡ get_or (rows_of ways) i 0
+  first-row i less = elim grown as (λ _. get_or (rows_of ways2) i 0 ≡ get_or (rows_of ways) i 0) [
+    | inl h ↦ ap (λ (l : List ℕ). get_or l i 0) (is_old h.0)
+    | inr h ↦
+        (let long = length-map ways (λ (w : Way). w.row) in
+        ap (λ (l : List ℕ). get_or l i 0) (is_new h.0) ∙ get_or_append_left (rows_of ways) (spot ∷ []) 0 i (omega arith))
+  ]
+
+  spot-before : (i : ℕ) → i < length ways → way_row new ways2 i ≡ way_row old ways i
+  spot-before i less =
+      let longer : length ways ≤ length ways2 = elim grown as (λ _. length ways ≤ length ways2) [ inl h ↦ (let e = h.1 in omega arith) | inr h ↦ (let e = h.1 in omega arith) ] in
+      spot-rows i (omega arith) ∙ row-kept old ways ways2 i less (omega arith) (first-row i less)
+
+  spot-is : IsSpotted old new spot spot2 ways ways2
+  spot-is = record { exchanged = spot-exchanged; rows = spot-rows; before = spot-before }
+
+pub spotted : (old new : RegionView) (spot spot2 row : ℕ) (ways ways2 : List Way) (place count : ℕ) → AreLive old (spot ∷ rows_of ways) → row ≡ spot → count ≡ length ways
+    → ((place < length ways) × (length ways2 ≡ length ways)) ⊎ ((place ≡ length ways) × (length ways2 ≡ length ways + 1))
+    → (place ≡ length ways → rows_of ways2 ≡ rows_of ways ++ row ∷ []) → (place < length ways → rows_of ways2 ≡ rows_of ways)
+    → (nat_eq place count ≡ true → (row : List ℤ) × (length row ≡ old.words) × HasPut old spot2 row new) → (nat_eq place count ≡ false → (new ≡ old) × (spot2 ≡ spot))
+    → IsSpotted old new spot spot2 ways ways2
+spotted old new spot spot2 row ways ways2 place count live row_is size grown is_new is_old kept left =
+    spot-is old new spot spot2 ways ways2 place live grown (λ e. is_new e ∙ ap (λ (p : ℕ). rows_of ways ++ p ∷ []) row_is) is_old
+    (λ e. kept (grind (arith, nat_tests))) (λ less. left (grind (arith, nat_tests)))
 
 -- A way by an allowed decision.
 
@@ -96,51 +136,42 @@ way-reaches dp k paths row s d step way value a b c e = cc
 
 -- Decisions.
 
-pub room-less : (words m n : ℕ) (rows rows2 : List ℤ) (cap cap2 : ℕ) (folds folds2 next next2 : List ℕ) → HasWayRoom words n rows cap folds next → m ≤ n
-    → length rows2 ≡ length rows → cap2 ≡ cap → length folds2 ≡ length folds → length next2 ≡ length next → HasWayRoom words m rows2 cap2 folds2 next2
-room-less words m n rows rows2 cap cap2 folds folds2 next next2 h few a b c d =
-    let less = mul-le-mul_right words few in
-    let one = h.rows_hold in let two = h.ways_hold in let three = h.folds_hold in let four = h.next_hold in let five = h.small in
-    record { rows_hold = omega arith; ways_hold = omega arith; folds_hold = omega arith; next_hold = omega arith; small = omega arith }
+pub room-less : (m n cap cap2 : ℕ) (folds folds2 next next2 : List ℕ) → HasWayRoom n cap folds next → m ≤ n → cap2 ≡ cap → length folds2 ≡ length folds → length next2 ≡ length next → HasWayRoom m cap2 folds2 next2
+room-less m n cap cap2 folds folds2 next next2 h few a b c =
+    let two = h.ways_hold in let three = h.folds_hold in let four = h.next_hold in let five = h.small in
+    record { ways_hold = omega arith; folds_hold = omega arith; next_hold = omega arith; small = omega arith }
 
-module _ (dp : Dp) (k step : ℕ) (s : List ℤ) (value : ℤ) (words live : ℕ) where
+module _ (dp : Dp) (k step : ℕ) (s : List ℤ) (value : ℤ) (live : ℕ) where
   -- no decision
-  pub extended-none : (rows : List ℤ) (ways : List Way) (folds heads next : List ℕ) → AreJoined dp (k + 1) rows words live ways folds heads next
-      → HasExtended dp k step s value [] words live rows ways rows ways folds heads next
-  extended-none rows ways folds heads next j = record { joined = j; list = λ paths. refl; few = omega arith; size = refl }
+  pub extended-none : (row : ℕ → List ℤ) (ways : List Way) (folds heads next : List ℕ) → AreJoined dp (k + 1) row live ways folds heads next
+      → HasExtended dp k step s value [] live row ways row ways folds heads next
+  extended-none row ways folds heads next j = record { joined = j; list = λ paths. refl; few = omega arith }
 
   -- one that is allowed
-  pub extended-one : (d : ℕ) (rows rows2 : List ℤ) (ways ways2 : List Way) (folds heads next : List ℕ) → dp.allowed k s d ≡ true → AreJoined dp (k + 1) rows2 words live ways2 folds heads next
-      → ((paths : ℕ → List ℕ) → all_reached paths rows2 words ways2 ≡ joined (all_reached paths rows words ways) (extended dp k (parent_as paths step s value) d))
-      → length ways2 ≤ length ways + 1 → length rows2 ≡ length rows
-      → HasExtended dp k step s value (d ∷ []) words live rows ways rows2 ways2 folds heads next
-  extended-one d rows rows2 ways ways2 folds heads next test j list few size = record {
+  pub extended-one : (d : ℕ) (row row2 : ℕ → List ℤ) (ways ways2 : List Way) (folds heads next : List ℕ) → dp.allowed k s d ≡ true → AreJoined dp (k + 1) row2 live ways2 folds heads next
+      → ((paths : ℕ → List ℕ) → all_reached paths row2 ways2 ≡ joined (all_reached paths row ways) (extended dp k (parent_as paths step s value) d))
+      → length ways2 ≤ length ways + 1
+      → HasExtended dp k step s value (d ∷ []) live row ways row2 ways2 folds heads next
+  extended-one d row row2 ways ways2 folds heads next test j list few = record {
     joined = j;
-    list = λ paths. list paths ∙ sym (ap (λ b. all_joined (all_reached paths rows words ways) (map (extended dp k (parent_as paths step s value)) (cond b (d ∷ []) []))) test);
+    list = λ paths. list paths ∙ sym (ap (λ b. all_joined (all_reached paths row ways) (map (extended dp k (parent_as paths step s value)) (cond b (d ∷ []) []))) test);
     few = few;
-    size = size;
   }
 
   -- one that is not
-  pub extended-same : (d : ℕ) (rows rows2 : List ℤ) (ways ways2 : List Way) (folds heads next folds2 heads2 next2 : List ℕ) → dp.allowed k s d ≡ false → AreJoined dp (k + 1) rows words live ways folds heads next
-      → AreSame rows ways folds heads next rows2 ways2 folds2 heads2 next2 → HasExtended dp k step s value (d ∷ []) words live rows ways rows2 ways2 folds2 heads2 next2
-  extended-same d rows rows2 ways ways2 folds heads next folds2 heads2 next2 test j same =
-      subst (λ x. HasExtended dp k step s value (d ∷ []) words live rows ways x ways2 folds2 heads2 next2) (sym same.rows_are)
-      (subst (λ x. HasExtended dp k step s value (d ∷ []) words live rows ways rows x folds2 heads2 next2) (sym same.ways_are)
-      (subst (λ x. HasExtended dp k step s value (d ∷ []) words live rows ways rows ways x heads2 next2) (sym same.folds_are)
-      (subst (λ x. HasExtended dp k step s value (d ∷ []) words live rows ways rows ways folds x next2) (sym same.heads_are)
-      (subst (λ x. HasExtended dp k step s value (d ∷ []) words live rows ways rows ways folds heads x) (sym same.next_are) (record {
-        joined = j;
-        list = λ paths. sym (ap (λ b. all_joined (all_reached paths rows words ways) (map (extended dp k (parent_as paths step s value)) (cond b (d ∷ []) []))) test);
-        few = omega arith;
-        size = refl;
-      })))))
+  pub extended-same : (d : ℕ) (row : ℕ → List ℤ) (ways : List Way) (folds heads next : List ℕ) → dp.allowed k s d ≡ false → AreJoined dp (k + 1) row live ways folds heads next
+      → HasExtended dp k step s value (d ∷ []) live row ways row ways folds heads next
+  extended-same d row ways folds heads next test j = record {
+    joined = j;
+    list = λ paths. sym (ap (λ b. all_joined (all_reached paths row ways) (map (extended dp k (parent_as paths step s value)) (cond b (d ∷ []) []))) test);
+    few = omega arith;
+  }
 
   -- some, and then others
-  extended-both : (ds es : List ℕ) (old_rows rows rows2 : List ℤ) (old_ways ways ways2 : List Way) (folds heads next folds2 heads2 next2 : List ℕ)
-      → HasExtended dp k step s value ds words live old_rows old_ways rows ways folds heads next → HasExtended dp k step s value es words live rows ways rows2 ways2 folds2 heads2 next2
-      → HasExtended dp k step s value (ds ++ es) words live old_rows old_ways rows2 ways2 folds2 heads2 next2
-  extended-both ds es old_rows rows rows2 old_ways ways ways2 folds heads next folds2 heads2 next2 g h =
+  extended-both : (ds es : List ℕ) (old_row row row2 : ℕ → List ℤ) (old_ways ways ways2 : List Way) (folds heads next folds2 heads2 next2 : List ℕ)
+      → HasExtended dp k step s value ds live old_row old_ways row ways folds heads next → HasExtended dp k step s value es live row ways row2 ways2 folds2 heads2 next2
+      → HasExtended dp k step s value (ds ++ es) live old_row old_ways row2 ways2 folds2 heads2 next2
+  extended-both ds es old_row row row2 old_ways ways ways2 folds heads next folds2 heads2 next2 g h =
       let sum = length-append ds es in
       let one = g.few in
       let two = h.few in
@@ -148,21 +179,20 @@ module _ (dp : Dp) (k step : ℕ) (s : List ℤ) (value : ℤ) (words live : ℕ
         joined = h.joined;
         list = λ paths. (
             let f = extended dp k (parent_as paths step s value) in
-            let rs = all_reached paths old_rows words old_ways in
+            let rs = all_reached paths old_row old_ways in
             h.list paths ∙ (ap (λ l. all_joined l (map f (all_allowed dp k s es))) (g.list paths)
             ∙ (sym (all_joined_both rs (map f (all_allowed dp k s ds)) (map f (all_allowed dp k s es)))
             ∙ ap (all_joined rs) (sym (ap (map f) (filter-append (dp.allowed k s) ds es) ∙ map-append f (all_allowed dp k s ds) (all_allowed dp k s es))))));
         few = omega arith;
-        size = h.size ∙ g.size;
       }
 
   -- those below n, and then n
-  pub extended-next : (n : ℕ) (old_rows rows rows2 : List ℤ) (old_ways ways ways2 : List Way) (folds heads next folds2 heads2 next2 : List ℕ)
-      → HasExtended dp k step s value (below n) words live old_rows old_ways rows ways folds heads next → HasExtended dp k step s value (n ∷ []) words live rows ways rows2 ways2 folds2 heads2 next2
-      → HasExtended dp k step s value (below (n + 1)) words live old_rows old_ways rows2 ways2 folds2 heads2 next2
-  extended-next n old_rows rows rows2 old_ways ways ways2 folds heads next folds2 heads2 next2 g h =
-      subst (λ l. HasExtended dp k step s value l words live old_rows old_ways rows2 ways2 folds2 heads2 next2) (sym (ap below (add-one n)))
-      (extended-both (below n) (n ∷ []) old_rows rows rows2 old_ways ways ways2 folds heads next folds2 heads2 next2 g h)
+  pub extended-next : (n : ℕ) (old_row row row2 : ℕ → List ℤ) (old_ways ways ways2 : List Way) (folds heads next folds2 heads2 next2 : List ℕ)
+      → HasExtended dp k step s value (below n) live old_row old_ways row ways folds heads next → HasExtended dp k step s value (n ∷ []) live row ways row2 ways2 folds2 heads2 next2
+      → HasExtended dp k step s value (below (n + 1)) live old_row old_ways row2 ways2 folds2 heads2 next2
+  extended-next n old_row row row2 old_ways ways ways2 folds heads next folds2 heads2 next2 g h =
+      subst (λ l. HasExtended dp k step s value l live old_row old_ways row2 ways2 folds2 heads2 next2) (sym (ap below (add-one n)))
+      (extended-both (below n) (n ∷ []) old_row row row2 old_ways ways ways2 folds heads next folds2 heads2 next2 g h)
 
 -- Decisions that are stepped over.
 
@@ -181,25 +211,58 @@ allowed-skipped dp k s from (suc to) on skipped =
           ∙ (append-nil (all_allowed dp k s (below to)) ∙ allowed-skipped dp k s from to (omega arith) (λ d a b. skipped d a (omega arith))))
     ]
 
-pub extended-skipped : (dp : Dp) (k step : ℕ) (s : List ℤ) (value : ℤ) (words live from to : ℕ) (old_rows rows : List ℤ) (old_ways ways : List Way) (folds heads next : List ℕ) → from ≤ to → AreSkipped dp k s from to
-    → HasExtended dp k step s value (below from) words live old_rows old_ways rows ways folds heads next → HasExtended dp k step s value (below to) words live old_rows old_ways rows ways folds heads next
-extended-skipped dp k step s value words live from to old_rows rows old_ways ways folds heads next on skipped h =
+pub extended-skipped : (dp : Dp) (k step : ℕ) (s : List ℤ) (value : ℤ) (live from to : ℕ) (old_row row : ℕ → List ℤ) (old_ways ways : List Way) (folds heads next : List ℕ) → from ≤ to → AreSkipped dp k s from to
+    → HasExtended dp k step s value (below from) live old_row old_ways row ways folds heads next → HasExtended dp k step s value (below to) live old_row old_ways row ways folds heads next
+extended-skipped dp k step s value live from to old_row row old_ways ways folds heads next on skipped h =
     let few = h.few in let one = length-below from in let two = length-below to in
     record {
       joined = h.joined;
-      list = λ paths. h.list paths ∙ ap (λ ds. all_joined (all_reached paths old_rows words old_ways) (map (extended dp k (parent_as paths step s value)) ds)) (sym (allowed-skipped dp k s from to on skipped));
+      list = λ paths. h.list paths ∙ ap (λ ds. all_joined (all_reached paths old_row old_ways) (map (extended dp k (parent_as paths step s value)) ds)) (sym (allowed-skipped dp k s from to on skipped));
       few = omega arith;
-      size = h.size;
     }
 
 -- Members.
 
-pub members-start : (dp : Dp) (k : ℕ) (above : List ℤ) (words live : ℕ) (members : List Member) (rows : List ℤ) (folds next : List ℕ) (size : ℕ) → 0 < size
-    → AreExtended dp k 0 above words live members rows [] folds (replicate size 0) next
-members-start dp k above words live members rows folds next size some = record {
+abbrev pub no_member : Member
+no_member = record { value = pos 0; rank = pos 0; row = 0; step = 0 }
+
+-- a member's row was copied and given back, and those of the later ones stay
+pub record HasMoved (old region new : RegionView) (all : List ℕ) (m : Member) (rest : List Member) (spot : ℕ) (ways : List Way) (s : List ℤ) : Type 0 where
+  pub row : s ≡ held_row old m.row
+  pub exchanged : HasExchanged old all new (member_rows rest ++ spot ∷ rows_of ways)
+  pub same : AreSame old new (member_rows rest)
+  pub rows : (i : ℕ) → i < length ways → way_row new ways i ≡ way_row region ways i
+
+pub moved : (old region new : RegionView) (all : List ℕ) (m : Member) (rest : List Member) (spot : ℕ) (ways : List Way) (s : List ℤ) → IsLive old m.row
+    → HasExchanged old all region (m.row ∷ (member_rows rest ++ spot ∷ rows_of ways)) → AreSame old region (m.row ∷ member_rows rest) → s ≡ held_row region m.row
+    → new ≡ record region { rows = set region.rows m.row None; spare = region.spare + 1 } → HasMoved old region new all m rest spot ways s
+moved old region new all m rest spot ways s live x same is given =
+    let R = member_rows rest in
+    let B = spot ∷ rows_of ways in
+    let none = x.live.apart.0 in
+    let each = x.live.live.1 in
+    let differ = λ (q : ℕ). m.row ≢ q in
+    record {
+      row = is ∙ held-same old region m.row live same.0;
+      exchanged = exchange-then old region new all (m.row ∷ (R ++ B)) (R ++ B) x (exchange-give region new m.row given (R ++ B) x.live);
+      same = same-then old region new R same.1 (given-same region new m.row given R (each-left differ R B none) (each-left (IsLive region) R B each));
+      rows = ways-same region new ways (given-same region new m.row given (rows_of ways) (each-right differ R B none).1 (each-right (IsLive region) R B each).1) (each-right (IsLive region) R B each).1;
+    }
+
+pub moved-at : (dp : Dp) (k : ℕ) (old region new : RegionView) (members : List Member) (i spot : ℕ) (ways : List Way) (s : List ℤ) → Each (IsMemberOf dp k old) members → i < length members
+    → HasExchanged old (member_rows members) region (member_rows (drop i members) ++ spot ∷ rows_of ways) → AreSame old region (member_rows (drop i members)) → s ≡ held_row region (get_or members i no_member).row
+    → new ≡ record region { rows = set region.rows (get_or members i no_member).row None; spare = region.spare + 1 }
+    → HasMoved old region new (member_rows members) (get_or members i no_member) (drop (i + 1) members) spot ways s
+moved-at dp k old region new members i spot ways s all less x same is given =
+    let next = ap member_rows (drop_more members i no_member less) in
+    moved old region new (member_rows members) (get_or members i no_member) (drop (i + 1) members) spot ways s (each-here (IsMemberOf dp k old) members i no_member all less).held.live
+    (subst (λ ps. HasExchanged old (member_rows members) region (ps ++ spot ∷ rows_of ways)) next x) (subst (AreSame old region) next same) is given
+
+pub members-start : (dp : Dp) (k : ℕ) (above : RegionView) (live : ℕ) (members : List Member) (row : ℕ → List ℤ) (folds next : List ℕ) (size : ℕ) → 0 < size
+    → AreExtended dp k 0 above live members row [] folds (replicate size 0) next
+members-start dp k above live members row folds next size some = record {
   joined = record {
     table = record {
-      room = omega arith;
       folds_size = omega arith;
       next_size = omega arith;
       some = (let e : length (replicate {A = ℕ} size 0) ≡ size = length-replicate size 0 in omega arith);
@@ -214,41 +277,56 @@ members-start dp k above words live members rows folds next size some = record {
   few = omega arith;
 }
 
-pub member-each : (dp : Dp) (k : ℕ) (above : List ℤ) (words : ℕ) (members : List Member) (i : ℕ) (d : Member) → Each (IsMemberOf dp k above words) members → i < length members → IsMemberOf dp k above words (get_or members i d)
-member-each dp k above words [] i d h less = absurd (omega arith)
-member-each dp k above words (m ∷ members) zero d h less = h.0
-member-each dp k above words (m ∷ members) (suc i) d h less = member-each dp k above words members i d h.1 (omega arith)
+-- where the rows of the ways stay
+pub extended-same-rows : (dp : Dp) (k i : ℕ) (above : RegionView) (live : ℕ) (members : List Member) (row row2 : ℕ → List ℤ) (ways : List Way) (folds heads next : List ℕ) → ((j : ℕ) → j < length ways → row2 j ≡ row j)
+    → AreExtended dp k i above live members row ways folds heads next → AreExtended dp k i above live members row2 ways folds heads next
+extended-same-rows dp k i above live members row row2 ways folds heads next same h = record {
+  joined = joined-same row row2 ways same dp (k + 1) live folds heads next h.joined;
+  list = λ paths. ap (λ l. all_joined l (candidates dp k (drop i (members_as paths above members)))) (reached-same row row2 ways same paths) ∙ h.list paths;
+  few = h.few;
+}
 
-drop-members : (paths : ℕ → List ℕ) (above : List ℤ) (words : ℕ) (members : List Member) (i : ℕ) (d : Member) → i < length members
-    → drop i (members_as paths above words members) ≡ member_as paths above words (get_or members i d) ∷ drop (i + 1) (members_as paths above words members)
-drop-members paths above words members i d less =
-    let f = member_as paths above words in
+-- at the end the spot is given back
+pub spot-given : (old region new : RegionView) (members : List Member) (i spot : ℕ) (ways : List Way) → i ≡ length members
+    → HasExchanged old (member_rows members) region (member_rows (drop i members) ++ spot ∷ rows_of ways) → new ≡ record region { rows = set region.rows spot None; spare = region.spare + 1 }
+    → HasExchanged old (member_rows members) new (rows_of ways) × ((j : ℕ) → j < length ways → way_row new ways j ≡ way_row region ways j)
+spot-given old region new members i spot ways end x given =
+    let none : drop i members ≡ [] = drop_all i members (omega arith) in
+    let y = subst (λ l. HasExchanged old (member_rows members) region (member_rows l ++ spot ∷ rows_of ways)) none x in (
+      exchange-then old region new (member_rows members) (spot ∷ rows_of ways) (rows_of ways) y (exchange-give region new spot given (rows_of ways) y.live),
+      ways-same region new ways (given-same region new spot given (rows_of ways) y.live.apart.0 y.live.live.1) y.live.live.1,
+    )
+
+drop-members : (paths : ℕ → List ℕ) (above : RegionView) (members : List Member) (i : ℕ) (d : Member) → i < length members
+    → drop i (members_as paths above members) ≡ member_as paths above (get_or members i d) ∷ drop (i + 1) (members_as paths above members)
+drop-members paths above members i d less =
+    let f = member_as paths above in
     drop-map f i members ∙ (ap (map f) (drop_more members i d less) ∙ ap (λ l. f (get_or members i d) ∷ l) (sym (drop-map f (i + 1) members)))
 
-pub members-more : (dp : Dp) (k i : ℕ) (above : List ℤ) (words live : ℕ) (members : List Member) (d : Member) (s : List ℤ) (rows rows2 : List ℤ) (ways ways2 : List Way) (folds heads next folds2 heads2 next2 : List ℕ)
-    → AreExtended dp k i above words live members rows ways folds heads next → i < length members → s ≡ row_at above words (get_or members i d).row
-    → HasExtended dp k (get_or members i d).step s (get_or members i d).value (below (dp.choices k)) words live rows ways rows2 ways2 folds2 heads2 next2
-    → AreExtended dp k (i + 1) above words live members rows2 ways2 folds2 heads2 next2
-members-more dp k i above words live members d s rows rows2 ways ways2 folds heads next folds2 heads2 next2 h less row e =
+pub members-more : (dp : Dp) (k i : ℕ) (above : RegionView) (live : ℕ) (members : List Member) (d : Member) (s : List ℤ) (row row2 : ℕ → List ℤ) (ways ways2 : List Way) (folds heads next folds2 heads2 next2 : List ℕ)
+    → AreExtended dp k i above live members row ways folds heads next → i < length members → s ≡ held_row above (get_or members i d).row
+    → HasExtended dp k (get_or members i d).step s (get_or members i d).value (below (dp.choices k)) live row ways row2 ways2 folds2 heads2 next2
+    → AreExtended dp k (i + 1) above live members row2 ways2 folds2 heads2 next2
+members-more dp k i above live members d s row row2 ways ways2 folds heads next folds2 heads2 next2 h less is e =
     let m = get_or members i d in
     let low = h.few in let more = e.few in let all = length-below (dp.choices k) in
     record {
       joined = e.joined;
       list = λ paths. (
-          let L = members_as paths above words members in
+          let L = members_as paths above members in
           let p = parent_as paths m.step s m.value in
-          let same : p ≡ member_as paths above words m = ap (λ r. parent_as paths m.step r m.value) row in
+          let same : p ≡ member_as paths above m = ap (λ r. parent_as paths m.step r m.value) is in
           ap (λ l. all_joined l (candidates dp k (drop (i + 1) L))) (e.list paths)
-          ∙ (sym (all_joined_both (all_reached paths rows words ways) (extensions dp k p) (candidates dp k (drop (i + 1) L)))
-          ∙ (ap (λ x. all_joined (all_reached paths rows words ways) (extensions dp k x ++ candidates dp k (drop (i + 1) L))) same
-          ∙ (ap (λ l. all_joined (all_reached paths rows words ways) (candidates dp k l)) (sym (drop-members paths above words members i d less)) ∙ h.list paths))));
+          ∙ (sym (all_joined_both (all_reached paths row ways) (extensions dp k p) (candidates dp k (drop (i + 1) L)))
+          ∙ (ap (λ x. all_joined (all_reached paths row ways) (extensions dp k x ++ candidates dp k (drop (i + 1) L))) same
+          ∙ (ap (λ l. all_joined (all_reached paths row ways) (candidates dp k l)) (sym (drop-members paths above members i d less)) ∙ h.list paths))));
       few = omega arith;
     }
 
-pub members-all : (dp : Dp) (k i : ℕ) (above : List ℤ) (words live : ℕ) (members : List Member) (rows : List ℤ) (ways : List Way) (folds heads next : List ℕ)
-    → AreExtended dp k i above words live members rows ways folds heads next → i ≡ length members
-    → (paths : ℕ → List ℕ) → all_reached paths rows words ways ≡ all_joined [] (candidates dp k (members_as paths above words members))
-members-all dp k i above words live members rows ways folds heads next h whole paths =
-    let L = members_as paths above words members in
-    let none : drop i L ≡ [] = drop_all i L (let e = length-map members (member_as paths above words) in omega arith) in
-    ap (λ l. all_joined (all_reached paths rows words ways) (candidates dp k l)) (sym none) ∙ h.list paths
+pub members-all : (dp : Dp) (k i : ℕ) (above : RegionView) (live : ℕ) (members : List Member) (row : ℕ → List ℤ) (ways : List Way) (folds heads next : List ℕ)
+    → AreExtended dp k i above live members row ways folds heads next → i ≡ length members
+    → (paths : ℕ → List ℕ) → all_reached paths row ways ≡ all_joined [] (candidates dp k (members_as paths above members))
+members-all dp k i above live members row ways folds heads next h whole paths =
+    let L = members_as paths above members in
+    let none : drop i L ≡ [] = drop_all i L (let e = length-map members (member_as paths above) in omega arith) in
+    ap (λ l. all_joined (all_reached paths row ways) (candidates dp k l)) (sym none) ∙ h.list paths

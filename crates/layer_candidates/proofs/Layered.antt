@@ -1,10 +1,12 @@
 -- A layer made from the one above it.
-use Rattle.std.proofs.Common.{◌≡◌, ℕ, zero, suc, ◌+◌, ◌*◌, ◌<◌, ◌≤◌, nat_le, ℤ, Bool, true, false, cond, List, [], ◌∷◌, ◌++◌, length, map, take, filter, Option, IsPermutation, IsSortedBy, append_assoc, ◌⊎◌, inl, inr, refl, sym, ap, ap₂, subst, ◌∙◌, arith}
+use Rattle.std.proofs.Common.{◌≡◌, ℕ, zero, suc, ◌+◌, ◌<◌, ◌≤◌, nat_le, nat_lt, ℤ, Bool, true, false, cond, List, [], ◌∷◌, ◌++◌, length, map, take, filter, Option, IsPermutation, IsSortedBy, append_assoc, ◌⊎◌, inl, inr, refl, sym, ap, ap₂, subst, ◌∙◌, arith}
 use Rattle.std.proofs.lemmas.Bool.Decides.{nat_tests}
 use Rattle.std.proofs.lemmas.List.{append-nil, length_push, get_or_append_left}
 use Rattle.std.proofs.Math.Seq.{get_or-append_seam}
+use Rattle.std.proofs.lemmas.List.Sorted.{IsPermutation-map}
 use Rattle.dp_model.specs.Decisions.{below}
 use Rattle.dp_model.specs.Dp.{Dp}
+use Rattle.dp_model.specs.Gaps.{IsStateOf}
 use Rattle.dp_model.specs.Lists.{Each}
 use Rattle.dp_model.specs.Reached.{Reached}
 use Rattle.dp_model.proofs.Members.{Has, Has-append-left, Has-append-right, each-has, Each-append, Each-then}
@@ -17,17 +19,19 @@ use Rattle.layer_candidates.specs.declared.key.Key.{Key}
 use Rattle.layer_candidates.specs.declared.member.Member.{Member}
 use Rattle.layer_candidates.specs.declared.step.Step.{Step}
 use Rattle.layer_candidates.specs.declared.way.Way.{Way}
-use Rattle.layer_candidates.specs.KeyOrder.{goes_before, all_of, IsKeyOf}
-use Rattle.layer_candidates.specs.Layering.{IsEntered}
-use Rattle.layer_candidates.specs.Members.{member_as, members_as}
+use Rattle.layer_candidates.specs.KeyOrder.{goes_before, key_rows, all_of, IsKeyOf}
+use Rattle.layer_candidates.specs.HeldRows.{AreLive, HasExchanged, AreSame, HasLeft, held_row}
+use Rattle.layer_candidates.specs.Members.{member_rows, member_as, members_as, IsHeldAt}
 use Rattle.layer_candidates.specs.Pruning.{keyed, all_keyed, unstruck_keys, IsKeyIn, HasPruned}
-use Rattle.layer_candidates.specs.Rows.{row_at}
+use Rattle.layer_candidates.specs.Rows.{HasZeros}
 use Rattle.layer_candidates.specs.Steps.{path_at, step_of, step_at, entered, AreBackward, IsReachedWithin}
-use Rattle.layer_candidates.specs.Ways.{table, way_at, reached_at, all_reached, IsNearly, AreWays, AreDistinct}
-use Rattle.layer_candidates.proofs.Blocks.{row_before}
-use Rattle.layer_candidates.proofs.Descended.{descended}
+use Rattle.layer_candidates.specs.Ways.{table, way_at, rows_of, way_row, reached_at, all_reached, IsNearly, AreWays, AreDistinct}
+use Rattle.layer_candidates.proofs.Descended.{descended, entered-rows, entered-same}
+use Rattle.layer_candidates.proofs.HeldRows.{held-same, way-each, exchange-then, left-moved}
 use Rattle.layer_candidates.proofs.Joined.{last_or}
-use Rattle.layer_candidates.proofs.Sorted.{unstruck-are, unstruck-in-order}
+use Rattle.layer_candidates.proofs.Pruned.{keys-same}
+use Rattle.layer_candidates.proofs.Sorted.{key-row, key-places-of, sorted-same, unstruck-of, unstruck-rows, unstruck-are, unstruck-in-order}
+use Rattle.row_region.specs.Region.{RegionView, IsLive}
 
 -- Each way's parent is a member of the layer above.
 
@@ -55,95 +59,151 @@ told-back n i d h = go (nat_le i n) refl
     go true e = grind (arith, nat_tests)
     go false e = absurd (let one : length (telling n i ++ d ∷ []) ≡ 1 = ap (λ b. length (cond b (0 ∷ []) [] ++ d ∷ [])) e in omega arith)
 
-module _ (dp : Dp) (k n : ℕ) (above : List ℤ) (words : ℕ) where
-  told-by : (m : Member) → m.step ≤ n → (ds : List ℕ) → Each IsTold (map (extended dp k (member_as (telling n) above words m)) ds)
+module _ (dp : Dp) (k n : ℕ) (above : RegionView) where
+  told-by : (m : Member) → m.step ≤ n → (ds : List ℕ) → Each IsTold (map (extended dp k (member_as (telling n) above m)) ds)
   told-by m low [] = tt
   told-by m low (d ∷ ds) = (told n m.step d low, told-by m low ds)
 
-  told-all : (members : List Member) → Each (IsReachedWithin n) members → Each IsTold (candidates dp k (members_as (telling n) above words members))
+  told-all : (members : List Member) → Each (IsReachedWithin n) members → Each IsTold (candidates dp k (members_as (telling n) above members))
   told-all [] h = tt
   told-all (m ∷ members) h =
-      Each-append IsTold (extensions dp k (member_as (telling n) above words m)) (candidates dp k (members_as (telling n) above words members))
-      (told-by m h.0 (filter (dp.allowed k (row_at above words m.row)) (below (dp.choices k)))) (told-all members h.1)
+      Each-append IsTold (extensions dp k (member_as (telling n) above m)) (candidates dp k (members_as (telling n) above members))
+      (told-by m h.0 (filter (dp.allowed k (held_row above m.row)) (below (dp.choices k)))) (told-all members h.1)
 
-  pub parents-within : (members : List Member) (rows : List ℤ) (ways : List Way) → Each (IsReachedWithin n) members
-      → ((paths : ℕ → List ℕ) → all_reached paths rows words ways ≡ all_joined [] (candidates dp k (members_as paths above words members)))
+  pub parents-within : (members : List Member) (row : ℕ → List ℤ) (ways : List Way) → Each (IsReachedWithin n) members
+      → ((paths : ℕ → List ℕ) → all_reached paths row ways ≡ all_joined [] (candidates dp k (members_as paths above members)))
       → (i : ℕ) → i < length ways → (way_at ways i).parent ≤ n
-  parents-within members rows ways h list i less =
-      let all : Each IsTold (all_reached (telling n) rows words ways) =
-      subst (Each IsTold) (sym (list (telling n))) (each-all_joined IsTold [] (candidates dp k (members_as (telling n) above words members)) tt (told-all members h)) in
+  parents-within members row ways h list i less =
+      let all : Each IsTold (all_reached (telling n) row ways) =
+      subst (Each IsTold) (sym (list (telling n))) (each-all_joined IsTold [] (candidates dp k (members_as (telling n) above members)) tt (told-all members h)) in
       told-back n (way_at ways i).parent (way_at ways i).decision
-      (each-has IsTold (all_reached (telling n) rows words ways) (reached_at (telling n) rows words ways i) all (has-table (reached_at (telling n) rows words ways) (length ways) i less))
+      (each-has IsTold (all_reached (telling n) row ways) (reached_at (telling n) row ways i) all (has-table (reached_at (telling n) row ways) (length ways) i less))
 
 -- Keys.
 
-module _ (dp : Dp) (k : ℕ) (rows : List ℤ) (words : ℕ) (ways : List Way) where
-  pub key-in : length ways * words ≤ length rows → AreWays dp k rows words ways → (keys : List Key) → Each (IsKeyOf ways) keys → Each (IsKeyIn dp k rows words) keys
-  key-in room good keys all = Each-then (IsKeyOf ways) (IsKeyIn dp k rows words) keys (λ key h. (
+module _ (dp : Dp) (k : ℕ) (region : RegionView) (ways : List Way) where
+  pub key-in : AreWays dp k (way_row region ways) ways → Each (IsLive region) (rows_of ways) → (keys : List Key) → Each (IsKeyOf ways) keys → Each (IsKeyIn dp k region) keys
+  key-in good live keys all = Each-then (IsKeyOf ways) (IsKeyIn dp k region) keys (λ key h. (
       let way = good key.place h.within in
-      let low = row_before (length ways) key.place words h.within in
+      let row = key-row region ways key h in
       record {
-        within = omega arith;
-        state = way.state;
-        rank = ap (λ (x : Key). x.rank) h.is ∙ way.rank;
+        live = subst (IsLive region) (sym (ap (λ (x : Key). x.row) h.is)) (way-each (IsLive region) ways key.place live h.within);
+        state = subst (IsStateOf dp k) row way.state;
+        rank = ap (λ (x : Key). x.rank) h.is ∙ (way.rank ∙ ap (dp.rank k) row);
         value = subst IsNearly (ap (λ (x : Key). x.value) (sym h.is)) way.value;
       })) all
 
-  keyed-of : (paths : ℕ → List ℕ) (keys : List Key) → Each (IsKeyOf ways) keys → all_keyed paths rows words ways keys ≡ all_of paths rows words ways keys
-  keyed-of paths [] h = refl
-  keyed-of paths (key ∷ keys) h =
-      ap₂ (λ (r : Reached) rs. r ∷ rs) (ap (λ v. record (keyed paths rows words ways key) { value = v }) (ap (λ (x : Key). x.value) h.0.is)) (keyed-of paths keys h.1)
+-- keys whose rows stay stand for the prefixes of their ways
+keyed-of : (paths : ℕ → List ℕ) (old new : RegionView) (ways : List Way) (keys : List Key) → Each (IsKeyOf ways) keys → Each (λ key. held_row new key.row ≡ held_row old key.row) keys
+    → all_keyed paths new ways keys ≡ all_of paths (way_row old ways) ways keys
+keyed-of paths old new ways [] h same = refl
+keyed-of paths old new ways (key ∷ keys) h same =
+    ap₂ (λ (r : Reached) rs. r ∷ rs) (ap₂ (λ v r. record (keyed paths new ways key) { value = v; row = r }) (ap (λ (x : Key). x.value) h.0.is) (same.0 ∙ sym (key-row old ways key h.0))) (keyed-of paths old new ways keys h.1 same.1)
 
-  pub entered-each : (n : ℕ) (keys : List Key) → Each (IsKeyIn dp k rows words) keys → Each (IsEntered dp k rows words) (entered n keys)
-  entered-each n [] h = tt
-  entered-each n (key ∷ keys) h = (record { within = h.0.within; state = h.0.state; rank = h.0.rank }, entered-each (n + 1) keys h.1)
+pub held-each : (dp : Dp) (k n : ℕ) (region : RegionView) (keys : List Key) → Each (IsKeyIn dp k region) keys → Each (IsHeldAt dp k region) (entered n keys)
+held-each dp k n region [] h = tt
+held-each dp k n region (key ∷ keys) h = (record { live = h.0.live; state = h.0.state; rank = h.0.rank }, held-each dp k (n + 1) region keys h.1)
+
+each-row : (P : ℕ → Type 0) (keys : List Key) → Each P (key_rows keys) → Each (λ key. P key.row) keys
+each-row P [] h = tt
+each-row P (key ∷ keys) h = (h.0, each-row P keys h.1)
+
+pub rows-same : (old new : RegionView) (keys : List Key) → AreSame old new (key_rows keys) → Each (λ key. IsLive old key.row) keys → Each (λ key. held_row new key.row ≡ held_row old key.row) keys
+rows-same old new [] same live = tt
+rows-same old new (key ∷ keys) same live = (held-same old new key.row live.0 same.0, rows-same old new keys same.1 live.1)
+
+zeros-same : (old new : RegionView) (live : ℕ) (keys : List Key) → Each (λ key. held_row new key.row ≡ held_row old key.row) keys → Each (λ key. HasZeros live (held_row old key.row)) keys → Each (λ key. HasZeros live (held_row new key.row)) keys
+zeros-same old new live [] same zeros = tt
+zeros-same old new live (key ∷ keys) same zeros = (subst (HasZeros live) (sym same.0) zeros.0, zeros-same old new live keys same.1 zeros.1)
 
 -- The whole layer.
 
-module _ (dp : Dp) (k : ℕ) (t : Option ℤ) (most : ℕ) (above : List ℤ) (words : ℕ) (members : List Member) (rows : List ℤ) (ways : List Way) (keys kept : List Key) (steps : List Step) (more : Bool)
-    (distinct : AreDistinct dp (k + 1) rows words ways)
-    (list : (paths : ℕ → List ℕ) → all_reached paths rows words ways ≡ all_joined [] (candidates dp k (members_as paths above words members)))
-    (moved : IsPermutation (unstruck_keys dp (k + 1) t rows words ways) keys) (sorted : IsSortedBy (goes_before rows words) keys)
-    (done : HasPruned dp (k + 1) most rows words keys kept more)
-    (reached : Each (IsReachedWithin (length steps)) members) where
+-- the ways were made, their keys were struck and put in order
+pub record IsMade (dp : Dp) (k : ℕ) (t : Option ℤ) (above r1 r2 : RegionView) (members : List Member) (ways : List Way) (keys : List Key) (steps : List Step) : Type 0 where
+  pub distinct : AreDistinct dp (k + 1) (way_row r1 ways) ways
+  pub list : (paths : ℕ → List ℕ) → all_reached paths (way_row r1 ways) ways ≡ all_joined [] (candidates dp k (members_as paths above members))
+  pub exchanged : HasExchanged above (member_rows members) r1 (rows_of ways)
+  pub struck : HasLeft r1 (rows_of ways) r2 (key_rows (unstruck_keys dp (k + 1) t r1 ways))
+  pub moved : IsPermutation (unstruck_keys dp (k + 1) t r1 ways) keys
+  pub sorted : IsSortedBy (goes_before (held_row r2)) keys
+  pub reached : Each (IsReachedWithin (length steps)) members
+
+-- the keys that are not struck can be put in order
+pub unstruck-live : (r1 r2 : RegionView) (places : List ℕ) (keys : List Key) → HasLeft r1 places r2 (key_rows keys) → Each (λ key. IsLive r2 key.row) keys
+unstruck-live r1 r2 places keys struck = each-row (IsLive r2) keys struck.exchanged.live.live
+
+pub unstruck-zeros : (dp : Dp) (k : ℕ) (t : Option ℤ) (r1 r2 : RegionView) (ways : List Way) (live : ℕ) → Each (IsLive r1) (rows_of ways) → HasLeft r1 (rows_of ways) r2 (key_rows (unstruck_keys dp k t r1 ways))
+    → ((i : ℕ) → i < length ways → HasZeros live (way_row r1 ways i)) → Each (λ key. HasZeros live (held_row r2 key.row)) (unstruck_keys dp k t r1 ways)
+unstruck-zeros dp k t r1 r2 ways live held struck zeros =
+    let keys = unstruck_keys dp k t r1 ways in
+    zeros-same r1 r2 live keys (rows-same r1 r2 keys struck.same (key-places-of (IsLive r1) ways keys (unstruck-of dp k t r1 ways) held)) (unstruck-rows dp k t r1 ways (HasZeros live) zeros)
+
+module _ (dp : Dp) (k : ℕ) (t : Option ℤ) (above r1 r2 : RegionView) (members : List Member) (ways : List Way) (keys : List Key) (steps : List Step) (h : IsMade dp k t above r1 r2 members ways keys steps) where
+  pub layer-keys : Each (IsKeyOf ways) keys
+  layer-keys = unstruck-are dp (k + 1) t r1 ways keys h.moved
+
+  ordered : HasLeft r1 (rows_of ways) r2 (key_rows keys)
+  ordered =
+      let unstruck = unstruck_keys dp (k + 1) t r1 ways in
+      left-moved r1 r2 (rows_of ways) (key_rows unstruck) (key_rows keys) (IsPermutation-map (λ (key : Key). key.row) unstruck keys h.moved) h.struck
+
+  pub layer-live : AreLive r2 (key_rows keys)
+  layer-live = ordered.exchanged.live
+
+  keys-still : Each (λ key. held_row r2 key.row ≡ held_row r1 key.row) keys
+  keys-still = rows-same r1 r2 keys ordered.same (key-places-of (IsLive r1) ways keys layer-keys h.exchanged.live.live)
+
+  pub layer-in : Each (IsKeyIn dp (k + 1) r2) keys
+  layer-in = keys-same dp (k + 1) r1 r2 keys ordered.same (key-in dp (k + 1) r1 ways h.distinct.good h.exchanged.live.live keys layer-keys)
+
   abbrev paths_of : List ℕ → ℕ → List ℕ
   paths_of prefix = path_at prefix steps
 
-  pub layer-keys : Each (IsKeyOf ways) keys
-  layer-keys = unstruck-are dp (k + 1) t rows words ways keys moved
-
-  pub whole : (prefix : List ℕ) → undominated dp (k + 1) [] (all_keyed (paths_of prefix) rows words ways keys) ≡ whole_layer dp k t (members_as (paths_of prefix) above words members)
+  pub whole : (prefix : List ℕ) → undominated dp (k + 1) [] (all_keyed (paths_of prefix) r2 ways keys) ≡ whole_layer dp k t (members_as (paths_of prefix) above members)
   whole prefix =
-      ap (undominated dp (k + 1) []) (keyed-of dp (k + 1) rows words ways (paths_of prefix) keys layer-keys
-      ∙ (unstruck-in-order dp (k + 1) t rows words ways keys moved distinct.apart distinct.good sorted (paths_of prefix)
-      ∙ ap (λ rs. unstruck dp (k + 1) t (in_order dp (k + 1) rs)) (list (paths_of prefix))))
+      let sorted = sorted-same (held_row r2) (held_row r1) keys (Each-then (λ (key : Key). held_row r2 key.row ≡ held_row r1 key.row) (λ (key : Key). held_row r1 key.row ≡ held_row r2 key.row) keys (λ key e. sym e) keys-still) h.sorted in
+      ap (undominated dp (k + 1) []) (keyed-of (paths_of prefix) r1 r2 ways keys layer-keys keys-still
+      ∙ (unstruck-in-order dp (k + 1) t r1 ways keys h.moved h.distinct.apart h.distinct.good sorted (paths_of prefix)
+      ∙ ap (λ rs. unstruck dp (k + 1) t (in_order dp (k + 1) rs)) (h.list (paths_of prefix))))
 
-  pub kept-places : Each (λ key. key.place < length ways) kept
-  kept-places = done.places (length ways) (Each-then (IsKeyOf ways) (λ key. key.place < length ways) keys (λ key h. h.within) layer-keys)
+  module _ (most : ℕ) (r3 : RegionView) (kept : List Key) (more : Bool) (done : HasPruned dp (k + 1) most r2 keys kept more) (left : HasLeft r2 (key_rows keys) r3 (key_rows kept)) where
+    pub kept-places : Each (λ key. key.place < length ways) kept
+    kept-places = done.places (length ways) (Each-then (IsKeyOf ways) (λ key. key.place < length ways) keys (λ key h. h.within) layer-keys)
 
-  pub next-list : (prefix : List ℕ) → members_as (path_at prefix (steps ++ map (step_of ways) kept)) rows words (entered (length steps) kept)
-      ≡ take most (whole_layer dp k t (members_as (paths_of prefix) above words members))
-  next-list prefix =
-      let parents = Each-then (λ (key : Key). key.place < length ways) (λ (key : Key). (way_at ways key.place).parent ≤ length steps) kept
-      (λ key low. parents-within dp k (length steps) above words members rows ways reached list key.place low) kept-places in
-      descended prefix rows words ways steps kept parents ∙ (done.list (paths_of prefix) ways ∙ ap (take most) (whole prefix))
+    parents-low : Each (λ key. (way_at ways key.place).parent ≤ length steps) kept
+    parents-low = Each-then (λ (key : Key). key.place < length ways) (λ (key : Key). (way_at ways key.place).parent ≤ length steps) kept
+        (λ key low. parents-within dp k (length steps) above members (way_row r1 ways) ways h.reached h.list key.place low) kept-places
 
-  parents-low : Each (λ key. (way_at ways key.place).parent ≤ length steps) kept
-  parents-low = Each-then (λ (key : Key). key.place < length ways) (λ (key : Key). (way_at ways key.place).parent ≤ length steps) kept
-      (λ key low. parents-within dp k (length steps) above words members rows ways reached list key.place low) kept-places
+    pub next-list : (prefix : List ℕ) → members_as (path_at prefix (steps ++ map (step_of ways) kept)) r3 (entered (length steps) kept)
+        ≡ take most (whole_layer dp k t (members_as (paths_of prefix) above members))
+    next-list prefix =
+        let live = Each-then (IsKeyIn dp (k + 1) r2) (λ (key : Key). IsLive r2 key.row) kept (λ key h. h.live) done.within in
+        entered-same (path_at prefix (steps ++ map (step_of ways) kept)) r2 r3 (length steps) kept left.same live
+        ∙ (descended prefix r2 ways steps kept parents-low ∙ (done.list (paths_of prefix) ways ∙ ap (take most) (whole prefix)))
 
-  pub next-backward : AreBackward steps → AreBackward (steps ++ map (step_of ways) kept)
-  next-backward back = behind steps kept parents-low back
-    where
-      behind : (before : List Step) (keys : List Key) → Each (λ key. (way_at ways key.place).parent ≤ length before) keys → AreBackward before → AreBackward (before ++ map (step_of ways) keys)
-      behind before [] low back = subst AreBackward (sym (append-nil before)) back
-      behind before (key ∷ keys) low back =
-          let s = step_of ways key in
-          let longer : length (before ++ s ∷ []) ≡ length before + 1 = length_push before s in
-          subst AreBackward (append_assoc before (s ∷ []) (map (step_of ways) keys))
-          (behind (before ++ s ∷ []) keys (Each-then (λ (key : Key). (way_at ways key.place).parent ≤ length before) (λ (key : Key). (way_at ways key.place).parent ≤ length (before ++ s ∷ [])) keys (λ key le. omega arith) low.1)
-          (λ j less. one before s low.0 back j (last_or j (length before) (omega arith))))
-        where
-          one : (before : List Step) (s : Step) → s.before ≤ length before → AreBackward before → (j : ℕ) → (j ≡ length before) ⊎ (j < length before) → (step_at (before ++ s ∷ []) j).before ≤ j
-          one before s le back j (inl e) = subst (λ (i : ℕ). (step_at (before ++ s ∷ []) i).before ≤ i) (sym e) (subst (λ (x : Step). x.before ≤ length before) (sym (get_or-append_seam before s [] _)) le)
-          one before s le back j (inr less) = subst (λ (x : Step). x.before ≤ j) (sym (get_or_append_left before (s ∷ []) _ j less)) (back j less)
+    pub next-more : (prefix : List ℕ) → more ≡ nat_lt most (length (whole_layer dp k t (members_as (paths_of prefix) above members)))
+    next-more prefix = done.more_stay (paths_of prefix) ways ∙ ap (λ l. nat_lt most (length l)) (whole prefix)
+
+    pub next-held : Each (IsHeldAt dp (k + 1) r3) (entered (length steps) kept)
+    next-held = held-each dp (k + 1) (length steps) r3 kept (keys-same dp (k + 1) r2 r3 kept left.same done.within)
+
+    pub next-exchanged : HasExchanged above (member_rows members) r3 (member_rows (entered (length steps) kept))
+    next-exchanged =
+        subst (HasExchanged above (member_rows members) r3) (sym (entered-rows (length steps) kept))
+        (exchange-then above r2 r3 (member_rows members) (key_rows keys) (key_rows kept) (exchange-then above r1 r2 (member_rows members) (rows_of ways) (key_rows keys) h.exchanged ordered.exchanged) left.exchanged)
+
+    pub next-backward : AreBackward steps → AreBackward (steps ++ map (step_of ways) kept)
+    next-backward back = behind steps kept parents-low back
+      where
+        behind : (before : List Step) (keys : List Key) → Each (λ key. (way_at ways key.place).parent ≤ length before) keys → AreBackward before → AreBackward (before ++ map (step_of ways) keys)
+        behind before [] low back = subst AreBackward (sym (append-nil before)) back
+        behind before (key ∷ keys) low back =
+            let s = step_of ways key in
+            let longer : length (before ++ s ∷ []) ≡ length before + 1 = length_push before s in
+            subst AreBackward (append_assoc before (s ∷ []) (map (step_of ways) keys))
+            (behind (before ++ s ∷ []) keys (Each-then (λ (key : Key). (way_at ways key.place).parent ≤ length before) (λ (key : Key). (way_at ways key.place).parent ≤ length (before ++ s ∷ [])) keys (λ key le. omega arith) low.1)
+            (λ j less. one before s low.0 back j (last_or j (length before) (omega arith))))
+          where
+            one : (before : List Step) (s : Step) → s.before ≤ length before → AreBackward before → (j : ℕ) → (j ≡ length before) ⊎ (j < length before) → (step_at (before ++ s ∷ []) j).before ≤ j
+            one before s le back j (inl e) = subst (λ (i : ℕ). (step_at (before ++ s ∷ []) i).before ≤ i) (sym e) (subst (λ (x : Step). x.before ≤ length before) (sym (get_or-append_seam before s [] _)) le)
+            one before s le back j (inr less) = subst (λ (x : Step). x.before ≤ j) (sym (get_or_append_left before (s ∷ []) _ j less)) (back j less)

@@ -1,12 +1,11 @@
+pub mod HeldRows
 pub mod Tops
-pub mod Blocks
 pub mod Joined
 pub mod Extended
 pub mod Sorted
 pub mod Pruned
 pub mod Descended
 pub mod Layered
-pub mod HeldRows
 pub mod Built
 pub mod Walked
 pub mod Started

@@ -1,5 +1,5 @@
 -- A beam at its start and at its end.
-use Rattle.std.proofs.Common.{◌≡◌, ℕ, ◌+◌, ◌-◌, ◌*◌, ◌<◌, ◌≤◌, nat_lt, ℤ, Bool, true, false, cond, List, [], ◌∷◌, length, take, find, is_some, Option, Some, None, option_map, slice_get, vec_len, vec_capacity, refl, sym, ap, ap₂, subst, ◌∙◌, add-one, arith}
+use Rattle.std.proofs.Common.{◌≡◌, ℕ, ◌+◌, ◌-◌, ◌*◌, ◌<◌, ◌≤◌, nat_lt, ℤ, Bool, true, false, cond, List, [], ◌∷◌, length, take, find, is_some, Option, Some, None, option_map, slice_get, vec_capacity, refl, sym, ap, ap₂, subst, ◌∙◌, add-one, arith}
 use Rattle.std.proofs.lemmas.Bool.Decides.{nat_tests}
 use Rattle.dp_model.specs.Decisions.{below}
 use Rattle.dp_model.specs.Dp.{Dp}
@@ -16,10 +16,12 @@ use Rattle.dp_laws.proofs.Lists.{each-take}
 use Rattle.dp_laws.proofs.Prefixes.{layers-prefixes}
 use Rattle.layer_candidates.specs.declared.beam.Beam.{Beam}
 use Rattle.layer_candidates.specs.declared.member.Member.{Member}
-use Rattle.layer_candidates.specs.Beaming.{AreEnoughMembers, HasLayers, kept_at, took, IsBuilt}
-use Rattle.layer_candidates.specs.HeldRows.{AreLive, held_row, held_as, IsHeldAt}
+use Rattle.layer_candidates.specs.Beaming.{HasBeamRows, HasLayers, kept_at, took, IsBuilt}
+use Rattle.layer_candidates.specs.HeldRows.{AreLive, held_row}
 use Rattle.layer_candidates.specs.Layering.{HasMemory}
+use Rattle.layer_candidates.specs.Members.{member_rows, members_as, IsHeldAt, IsMemberOf}
 use Rattle.layer_candidates.specs.Steps.{path_at, AreBackward, IsReachedWithin}
+use Rattle.layer_candidates.specs.Ways.{IsNear}
 use Rattle.layer_candidates.proofs.HeldRows.{held-is}
 use Rattle.row_region.specs.Region.{RegionView}
 
@@ -27,62 +29,62 @@ pub prefix-state : (dp : Dp) → IsLawful dp → (p : List ℕ) → IsPrefix dp 
 prefix-state dp laws p h = state_of-state dp laws.states p h
 
 -- the row of a prefix has as many cells as each row
-pub prefix-cells : (dp : Dp) → IsLawful dp → (p : List ℕ) (row : List ℤ) (words cells : ℕ) → IsPrefix dp p → row ≡ state_of dp p → words ≡ dp.words → cells ≡ words → length row ≡ cells
-prefix-cells dp laws p row words cells h row_is words_are cells_are = ap length row_is ∙ (laws.sizes.cells (length p) (state_of dp p) (prefix-state dp laws p h) ∙ (sym words_are ∙ sym cells_are))
+pub prefix-cells : (dp : Dp) → IsLawful dp → (p : List ℕ) (row : List ℤ) (cells : ℕ) → IsPrefix dp p → row ≡ state_of dp p → cells ≡ dp.words → length row ≡ cells
+prefix-cells dp laws p row cells h row_is cells_are = ap length row_is ∙ (laws.sizes.cells (length p) (state_of dp p) (prefix-state dp laws p h) ∙ sym cells_are)
 
 abbrev start_member : ℤ → ℤ → ℕ → Member
 start_member value rank place = record { value = value; rank = rank; row = place; step = 0 }
 
 -- the memory is what it was
-pub layers-same : (dp : Dp) (w : ℕ) (old new : Beam) → HasLayers dp w old → new.words ≡ old.words → vec_len new.rows ≡ vec_len old.rows → ((count : ℕ) → HasMemory count old.candidates → HasMemory count new.candidates)
-    → vec_capacity new.members ≡ vec_capacity old.members → vec_capacity new.held ≡ vec_capacity old.held → vec_capacity new.steps ≡ vec_capacity old.steps → HasLayers dp w new
-layers-same dp w old new h words rows candidates members held steps = record {
+pub layers-same : (dp : Dp) (w : ℕ) (old new : Beam) → HasLayers dp w old → ((words count : ℕ) → HasMemory words count old.candidates → HasMemory words count new.candidates)
+    → vec_capacity new.members ≡ vec_capacity old.members → vec_capacity new.steps ≡ vec_capacity old.steps → HasLayers dp w new
+layers-same dp w old new h candidates members steps = record {
   room = h.room;
   widest = h.widest;
   enough = h.enough;
   positive = h.positive;
-  words = words ∙ h.words;
-  candidates = candidates h.room h.candidates;
-  rows = subst (λ (n : ℕ). h.room * n ≤ vec_len new.rows) (sym words) (subst (λ (m : ℕ). h.room * old.words ≤ m) (sym rows) h.rows);
+  candidates = candidates dp.words h.room h.candidates;
   members = subst (λ (m : ℕ). h.widest ≤ m) (sym members) h.members;
-  held = subst (λ (m : ℕ). h.widest ≤ m) (sym held) h.held;
   steps = subst (λ (m : ℕ). h.widest + dp.vars * w ≤ m) (sym steps) h.steps;
   small = h.small;
 }
 
+pub members-of : (dp : Dp) (k : ℕ) (region : RegionView) (members : List Member) → Each (IsHeldAt dp k region) members → Each (λ (m : Member). IsNear m.value) members → Each (IsMemberOf dp k region) members
+members-of dp k region [] held near = tt
+members-of dp k region (m ∷ members) held near = (record { held = held.0; value = near.0 }, members-of dp k region members held.1 near.1)
+
 -- a beam holds the prefix alone, whose row is at the place
 pub record IsAlone (dp : Dp) (p : List ℕ) (b : Beam) (region : RegionView) (place : ℕ) (row : List ℤ) (value rank : ℤ) : Type 0 where
-  pub region_words : region.words ≡ b.words
+  pub region_words : region.words ≡ dp.words
   pub found : slice_get region.rows place ≡ Some (Some row)
   pub row_is : row ≡ state_of dp p
   pub value_is : value ≡ value_of dp p
   pub rank_is : rank ≡ dp.rank (length p) row
   pub members : b.members.items ≡ start_member value rank place ∷ []
-  pub held : b.held.items ≡ place ∷ []
   pub steps : b.steps.items ≡ []
 
-pub built-start : (dp : Dp) → IsLawful dp → (p : List ℕ) (w : ℕ) (t : Option ℤ) (b : Beam) (region : RegionView) (place : ℕ) (row : List ℤ) (value rank : ℤ) → IsPrefix dp p → length p < dp.vars → HasLayers dp w b → AreEnoughMembers dp w (region.spare + 1)
+pub built-start : (dp : Dp) → IsLawful dp → (p : List ℕ) (w : ℕ) (t : Option ℤ) (b : Beam) (region : RegionView) (place : ℕ) (row : List ℤ) (value rank : ℤ) → IsPrefix dp p → length p < dp.vars → HasLayers dp w b → HasBeamRows dp w (region.spare + 1)
     → IsAlone dp p b region place row value rank → IsBuilt dp p w t (length p) b region false
 built-start dp laws p w t b region place row value rank is_prefix shorter room enough a =
     let zero_is : length p - length p ≡ 0 = omega arith in
     let inside : nat_lt (length p) dp.vars ≡ true = grind (arith, nat_tests) in
     let here : held_row region place ≡ row = held-is region place row a.found in
-    let first : held_as (path_at p b.steps.items) region (start_member value rank place ∷ []) ≡ reached dp p ∷ [] =
-    ap (λ l. held_as (path_at p l) region (start_member value rank place ∷ [])) a.steps
+    let first : members_as (path_at p b.steps.items) region (start_member value rank place ∷ []) ≡ reached dp p ∷ [] =
+    ap (λ l. members_as (path_at p l) region (start_member value rank place ∷ [])) a.steps
     ∙ ap₂ (λ (r : List ℤ) (v : ℤ). record { decisions = p; row = r; value = v } ∷ []) (here ∙ a.row_is) a.value_is in
     let count : length b.members.items ≡ 1 = ap length a.members in
     let none : length b.steps.items ≡ 0 = ap length a.steps in
     record {
       has_room = room;
       region_words = a.region_words;
-      region_room = subst (λ (l : List ℕ). AreEnoughMembers dp w (region.spare + length l)) (sym a.held) enough;
-      live = subst (AreLive region) (sym a.held) (record { live = ((row, a.found), tt); apart = (tt, tt) });
+      region_room = subst (λ (n : ℕ). HasBeamRows dp w (region.spare + n)) (sym count) enough;
+      live = subst (AreLive region) (sym (ap member_rows a.members)) (record { live = ((row, a.found), tt); apart = (tt, tt) });
       deep = omega arith;
-      list = ap (held_as (path_at p b.steps.items) region) a.members ∙ (first
+      list = ap (members_as (path_at p b.steps.items) region) a.members ∙ (first
           ∙ sym (ap (λ j. kept_at dp (length p) (layer_below dp (reached dp p) w t j)) zero_is ∙ ap (λ b. cond b (reached dp p ∷ []) (take 1 (reached dp p ∷ []))) inside));
       held = subst (Each (IsHeldAt dp (length p) region)) (sym a.members) (
         record {
-          found = a.found ∙ ap (λ (r : List ℤ). Some (Some r)) (sym here);
+          live = (row, a.found);
           state = subst (IsStateOf dp (length p)) (sym (here ∙ a.row_is)) (prefix-state dp laws p is_prefix);
           rank = a.rank_is ∙ ap (dp.rank (length p)) (sym here);
         },
@@ -109,12 +111,12 @@ map-some None f = refl
 map-some (Some n) f = refl
 
 module _ (dp : Dp) (p : List ℕ) (w : ℕ) (t : Option ℤ) (b : Beam) (region : RegionView) (reduced : Bool) (h : IsBuilt dp p w t dp.vars b region reduced) (is_prefix : IsPrefix dp p) where
-  last : held_as (path_at p b.steps.items) region b.members.items ≡ take 1 (layer_below dp (reached dp p) w t (dp.vars - length p))
+  last : members_as (path_at p b.steps.items) region b.members.items ≡ take 1 (layer_below dp (reached dp p) w t (dp.vars - length p))
   last =
       let past : nat_lt dp.vars dp.vars ≡ false = grind (arith, nat_tests) in
       h.list ∙ ap (λ c. cond c (layer_below dp (reached dp p) w t (dp.vars - length p)) (take 1 (layer_below dp (reached dp p) w t (dp.vars - length p)))) past
 
-  pub beam-is : first_of_all (held_as (path_at p b.steps.items) region b.members.items) ≡ beam dp p w t
+  pub beam-is : first_of_all (members_as (path_at p b.steps.items) region b.members.items) ≡ beam dp p w t
   beam-is = ap first_of_all last ∙ first-take (layer_below dp (reached dp p) w t (dp.vars - length p))
 
   pub wide-is : reduced ≡ is_some (wide dp p w t)
@@ -122,7 +124,7 @@ module _ (dp : Dp) (p : List ℕ) (w : ℕ) (t : Option ℤ) (b : Beam) (region 
       h.reduced_is ∙ (ap (λ n. is_some (find (is_too_wide dp (reached dp p) w t) (below n))) (sym (add-one (dp.vars - length p)))
       ∙ sym (map-some (find (is_too_wide dp (reached dp p) w t) (below (dp.vars - length p + 1))) (λ m. length p + m)))
 
-  whole-paths : (members : List Member) → Each (IsMember dp p dp.vars) (held_as (path_at p b.steps.items) region members)
+  whole-paths : (members : List Member) → Each (IsMember dp p dp.vars) (members_as (path_at p b.steps.items) region members)
       → (size : ℕ) → size ≡ dp.vars → Each (λ m. size ≡ length (path_at p b.steps.items m.step)) members
   whole-paths [] all size is = tt
   whole-paths (m ∷ members) all size is = (is ∙ sym all.0.deep, whole-paths members all.1 size is)

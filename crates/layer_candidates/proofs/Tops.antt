@@ -1,6 +1,5 @@
 -- The last place that passes, and the table.
-use Rattle.std.proofs.Common.{◌≡◌, ◌≢◌, ℕ, zero, suc, ◌+◌, ◌-◌, ◌*◌, ◌<◌, ◌≤◌, nat_eq, ℤ, Bool, true, false, List, length, get_or, set, refl, sym, ap, subst, ◌∙◌, ◌⊎◌, inl, inr, arith}
-use Rattle.std.proofs.Math.Nat.{suc-mul}
+use Rattle.std.proofs.Common.{◌≡◌, ◌≢◌, ℕ, zero, suc, ◌-◌, ◌<◌, ◌≤◌, nat_eq, ℤ, Bool, true, false, List, length, get_or, set, refl, sym, ap, subst, ◌∙◌, ◌⊎◌, inl, inr, arith}
 use Rattle.std.proofs.lemmas.Bool.Decides.{nat_tests}
 use Rattle.std.proofs.lemmas.List.{get_or-set_same, get_or-set_other, length-set}
 use Rattle.layer_candidates.specs.Rows.{live_at}
@@ -54,9 +53,9 @@ true_slot a b h = grind (arith, nat_tests)
 false_slot : (a b : ℕ) → a ≢ b → nat_eq a b ≡ false
 false_slot a b h = grind (arith, nat_tests)
 
-pub search_starts : (rows : List ℤ) (words live count fold : ℕ) (folds heads next : List ℕ) → IsTable rows words live count folds heads next → slot_of fold (length heads) < length heads
-    → IsSearched rows words live count fold folds (length heads) (get_or heads (slot_of fold (length heads)) 0)
-search_starts rows words live count fold folds heads next t less =
+pub search_starts : (row : ℕ → List ℤ) (live count : ℕ) (new : List ℤ) (fold : ℕ) (folds heads next : List ℕ) → IsTable row live count folds heads next → slot_of fold (length heads) < length heads
+    → IsSearched row live count new fold folds (length heads) (get_or heads (slot_of fold (length heads)) 0)
+search_starts row live count new fold folds heads next t less =
     let slot = slot_of fold (length heads) in
     let p = has_slot folds (length heads) slot in
     rw (t.heads_are slot less) (record {
@@ -66,9 +65,9 @@ search_starts rows words live count fold folds heads next t less =
     })
 
 -- the next one of the chain
-pub next_is : (rows : List ℤ) (words live count fold : ℕ) (folds heads next : List ℕ) (i : ℕ) → IsTable rows words live count folds heads next → IsSearched rows words live count fold folds (length heads) i → 0 < i
+pub next_is : (row : ℕ → List ℤ) (live count : ℕ) (new : List ℤ) (fold : ℕ) (folds heads next : List ℕ) (i : ℕ) → IsTable row live count folds heads next → IsSearched row live count new fold folds (length heads) i → 0 < i
     → get_or next (i - 1) 0 ≡ top (has_slot folds (length heads) (slot_of fold (length heads))) (i - 1)
-next_is rows words live count fold folds heads next i t s positive =
+next_is row live count new fold folds heads next i t s positive =
     let w = s.within in
     let slot = slot_true (slot_of (get_or folds (i - 1) 0) (length heads)) (slot_of fold (length heads)) (s.here positive) in
     t.next_are (i - 1) (omega arith) ∙ ap (λ (j : ℕ). top (has_slot folds (length heads) j) (i - 1)) slot
@@ -79,37 +78,36 @@ either a b = grind arith
 three : (k i : ℕ) → 0 < i → (k < i - 1) ⊎ ((k ≡ i - 1) ⊎ (i ≤ k))
 three k i h = grind arith
 
-pub search_steps : (rows : List ℤ) (words live count fold : ℕ) (folds heads next : List ℕ) (i : ℕ) → IsTable rows words live count folds heads next → IsSearched rows words live count fold folds (length heads) i → 0 < i → live_at rows words live (i - 1) ≢ live_at rows words live count
-    → IsSearched rows words live count fold folds (length heads) (get_or next (i - 1) 0)
-search_steps rows words live count fold folds heads next i t s positive other =
+pub search_steps : (row : ℕ → List ℤ) (live count : ℕ) (new : List ℤ) (fold : ℕ) (folds heads next : List ℕ) (i : ℕ) → IsTable row live count folds heads next → IsSearched row live count new fold folds (length heads) i → 0 < i → live_at row live (i - 1) ≢ new
+    → IsSearched row live count new fold folds (length heads) (get_or next (i - 1) 0)
+search_steps row live count new fold folds heads next i t s positive other =
     let p = has_slot folds (length heads) (slot_of fold (length heads)) in
     let w = s.within in
     let few = top_within p (i - 1) in
-    rw (next_is rows words live count fold folds heads next i t s positive) (record {
+    rw (next_is row live count new fold folds heads next i t s positive) (record {
       within = omega arith;
       here = top_here p (i - 1);
       past = λ k a b passes. go k a b passes (three k i positive);
     })
   where
-    go : (k : ℕ) → top (has_slot folds (length heads) (slot_of fold (length heads))) (i - 1) ≤ k → k < count → has_slot folds (length heads) (slot_of fold (length heads)) k ≡ true → (k < i - 1) ⊎ ((k ≡ i - 1) ⊎ (i ≤ k)) → live_at rows words live k ≢ live_at rows words live count
+    go : (k : ℕ) → top (has_slot folds (length heads) (slot_of fold (length heads))) (i - 1) ≤ k → k < count → has_slot folds (length heads) (slot_of fold (length heads)) k ≡ true → (k < i - 1) ⊎ ((k ≡ i - 1) ⊎ (i ≤ k)) → live_at row live k ≢ new
     go k a b passes (inl less) = absurd (true_false (has_slot folds (length heads) (slot_of fold (length heads)) k) passes (top_past (has_slot folds (length heads) (slot_of fold (length heads))) (i - 1) k a less))
-    go k a b passes (inr (inl same)) = subst (λ (j : ℕ). live_at rows words live j ≢ live_at rows words live count) (sym same) other
+    go k a b passes (inr (inl same)) = subst (λ (j : ℕ). live_at row live j ≢ new) (sym same) other
     go k a b passes (inr (inr above)) = s.past k above b passes
 
-pub search_smaller : (rows : List ℤ) (words live count fold : ℕ) (folds heads next : List ℕ) (i : ℕ) → IsTable rows words live count folds heads next → IsSearched rows words live count fold folds (length heads) i → 0 < i → get_or next (i - 1) 0 < i
-search_smaller rows words live count fold folds heads next i t s positive =
-    let e = next_is rows words live count fold folds heads next i t s positive in
+pub search_smaller : (row : ℕ → List ℤ) (live count : ℕ) (new : List ℤ) (fold : ℕ) (folds heads next : List ℕ) (i : ℕ) → IsTable row live count folds heads next → IsSearched row live count new fold folds (length heads) i → 0 < i → get_or next (i - 1) 0 < i
+search_smaller row live count new fold folds heads next i t s positive =
+    let e = next_is row live count new fold folds heads next i t s positive in
     let few = top_within (has_slot folds (length heads) (slot_of fold (length heads))) (i - 1) in
     omega arith
 
-pub inserted : (rows : List ℤ) (words live count fold : ℕ) (folds heads next : List ℕ) → IsTable rows words live count folds heads next → count * words + words ≤ length rows → count < length folds → count < length next → slot_of fold (length heads) < length heads → fold ≡ fold_of 0 (live_at rows words live count)
-    → IsTable rows words live (suc count) (set folds count fold) (set heads (slot_of fold (length heads)) (suc count)) (set next count (get_or heads (slot_of fold (length heads)) 0))
-inserted rows words live count fold folds heads next t room in_folds in_next less is =
+pub inserted : (row : ℕ → List ℤ) (live count fold : ℕ) (folds heads next : List ℕ) → IsTable row live count folds heads next → count < length folds → count < length next → slot_of fold (length heads) < length heads → fold ≡ fold_of 0 (live_at row live count)
+    → IsTable row live (suc count) (set folds count fold) (set heads (slot_of fold (length heads)) (suc count)) (set next count (get_or heads (slot_of fold (length heads)) 0))
+inserted row live count fold folds heads next t in_folds in_next less is =
     let size = length heads in
     let at = slot_of fold size in
     let same : length (set heads at (suc count)) ≡ size = length-set heads at (suc count) in
     record {
-      room = let e = suc-mul count words in omega arith;
       folds_size = let e = length-set folds count fold in omega arith;
       next_size = let e = length-set next count (get_or heads at 0) in omega arith;
       some = let e = t.some in omega arith;
@@ -118,7 +116,7 @@ inserted rows words live count fold folds heads next t room in_folds in_next les
       next_are = λ k h. subst (λ (j : ℕ). get_or (set next count (get_or heads at 0)) k 0 ≡ top (has_slot (set folds count fold) j (slot_of (get_or (set folds count fold) k 0) j)) k) (sym same) (nexted k (last_or k count h));
     }
   where
-    folded : (k : ℕ) → (k ≡ count) ⊎ (k < count) → get_or (set folds count fold) k 0 ≡ fold_of 0 (live_at rows words live k)
+    folded : (k : ℕ) → (k ≡ count) ⊎ (k < count) → get_or (set folds count fold) k 0 ≡ fold_of 0 (live_at row live k)
     folded k (inl e) = rw e (get_or-set_same folds count fold 0 in_folds ∙ is)
     folded k (inr l) = get_or-set_other folds count k fold 0 (λ e. omega arith) ∙ t.folds_are k l
 

@@ -1,13 +1,14 @@
 -- A beam in memory, layer by layer.
-use Rattle.std.specs.Prelude.{◌≡◌, ℕ, suc, ◌+◌, ◌-◌, ◌*◌, ◌^◌, ◌<◌, ◌≤◌, nat_lt, nat_eq, ℤ, Bool, ◌&&◌, cond, List, length, take, find, is_some, Option, Some, None, vec_len, vec_capacity}
+use Rattle.std.specs.Prelude.{◌≡◌, ℕ, suc, ◌+◌, ◌-◌, ◌*◌, ◌^◌, ◌<◌, ◌≤◌, nat_lt, nat_eq, ℤ, Bool, ◌&&◌, cond, List, length, take, find, is_some, Option, Some, None, vec_capacity}
 use Rattle.dp_model.specs.Dp.{Dp}
 use Rattle.dp_model.specs.Decisions.{below}
 use Rattle.dp_model.specs.Lists.{Each}
 use Rattle.dp_model.specs.Reached.{Reached, reached}
 use Rattle.dp_laws.specs.Restricted.Beam.{whole_layer, layer_below, is_too_wide}
 use Rattle.layer_candidates.specs.declared.beam.Beam.{Beam}
-use Rattle.layer_candidates.specs.HeldRows.{AreLive, HasExchanged, held_as, IsHeldAt}
+use Rattle.layer_candidates.specs.HeldRows.{AreLive, HasExchanged}
 use Rattle.layer_candidates.specs.Layering.{HasMemory}
+use Rattle.layer_candidates.specs.Members.{member_rows, members_as, IsHeldAt}
 use Rattle.layer_candidates.specs.Steps.{path_at, AreBackward, IsReachedWithin}
 use Rattle.row_region.specs.Region.{RegionView}
 
@@ -30,13 +31,17 @@ pub record HasLayers (dp : Dp) (w : ℕ) (b : Beam) : Type 0 where
   pub widest : ℕ
   pub enough : AreEnough dp w room widest
   pub positive : 1 ≤ w
-  pub words : b.words ≡ dp.words
-  pub candidates : HasMemory room b.candidates
-  pub rows : room * b.words ≤ vec_len b.rows
+  pub candidates : HasMemory dp.words room b.candidates
   pub members : widest ≤ vec_capacity b.members
-  pub held : widest ≤ vec_capacity b.held
   pub steps : widest + dp.vars * w ≤ vec_capacity b.steps
   pub small : widest + dp.vars * w < 2 ^ 32
+
+-- so many free rows are enough for a beam: for the members of a layer, for all candidates of the next one, and for one more
+pub record HasBeamRows (dp : Dp) (w spare : ℕ) : Type 0 where
+  pub room : ℕ
+  pub widest : ℕ
+  pub enough : AreEnough dp w room widest
+  pub fits : room + widest + 1 ≤ spare
 
 -- the members of the last layer of all are the first one alone
 abbrev pub kept_at : Dp → ℕ → List Reached → List Reached
@@ -49,11 +54,11 @@ took dp p w t m = is_some (find (is_too_wide dp (reached dp p) w t) (below (suc 
 -- the members, whose rows the region has, are those of the layer at depth k below the prefix p, for the width w and the threshold t
 pub record IsBuilt (dp : Dp) (p : List ℕ) (w : ℕ) (t : Option ℤ) (k : ℕ) (b : Beam) (region : RegionView) (reduced : Bool) : Type 0 where
   pub has_room : HasLayers dp w b
-  pub region_words : region.words ≡ b.words
-  pub region_room : AreEnoughMembers dp w (region.spare + length b.held.items)
-  pub live : AreLive region b.held.items
+  pub region_words : region.words ≡ dp.words
+  pub region_room : HasBeamRows dp w (region.spare + length b.members.items)
+  pub live : AreLive region (member_rows b.members.items)
   pub deep : length p ≤ k
-  pub list : held_as (path_at p b.steps.items) region b.members.items ≡ kept_at dp k (layer_below dp (reached dp p) w t (k - length p))
+  pub list : members_as (path_at p b.steps.items) region b.members.items ≡ kept_at dp k (layer_below dp (reached dp p) w t (k - length p))
   pub held : Each (IsHeldAt dp k region) b.members.items
   pub reached_by : Each (IsReachedWithin (length b.steps.items)) b.members.items
   pub backward : AreBackward b.steps.items
@@ -74,12 +79,11 @@ is_between k first vars = nat_lt first k && nat_lt (k + 1) vars
 
 -- the layer below was made: as many of its first members as `most`, whose rows the region has in place of those of the layer above
 pub record IsNext (dp : Dp) (k : ℕ) (t : Option ℤ) (most : ℕ) (old : Beam) (above : RegionView) (new : Beam) (region : RegionView) (more : Bool) : Type 0 where
-  pub list : (p : List ℕ) → held_as (path_at p new.steps.items) region new.members.items
-      ≡ take most (whole_layer dp k t (held_as (path_at p old.steps.items) above old.members.items))
-  pub more_stay : (p : List ℕ) → more ≡ nat_lt most (length (whole_layer dp k t (held_as (path_at p old.steps.items) above old.members.items)))
+  pub list : (p : List ℕ) → members_as (path_at p new.steps.items) region new.members.items
+      ≡ take most (whole_layer dp k t (members_as (path_at p old.steps.items) above old.members.items))
+  pub more_stay : (p : List ℕ) → more ≡ nat_lt most (length (whole_layer dp k t (members_as (path_at p old.steps.items) above old.members.items)))
   pub held : Each (IsHeldAt dp (k + 1) region) new.members.items
-  pub exchanged : HasExchanged above old.held.items region new.held.items
-  pub words : new.words ≡ old.words
+  pub exchanged : HasExchanged above (member_rows old.members.items) region (member_rows new.members.items)
   pub reached_by : Each (IsReachedWithin (length new.steps.items)) new.members.items
   pub few : length new.members.items ≤ most
   pub steps : length new.steps.items ≡ length old.steps.items + length new.members.items
@@ -95,9 +99,6 @@ IsFirst (Some r) (Some v) out = (v ≡ r.value) × (out ≡ r.decisions)
 
 -- a beam has memory for so many candidates, members and steps, with rows of so many cells
 pub record HasMade (words room widest steps : ℕ) (b : Beam) : Type 0 where
-  pub words_are : b.words ≡ words
-  pub candidates : HasMemory room b.candidates
-  pub rows : room * b.words ≤ vec_len b.rows
+  pub candidates : HasMemory words room b.candidates
   pub members : widest ≤ vec_capacity b.members
-  pub held : widest ≤ vec_capacity b.held
   pub steps_hold : steps ≤ vec_capacity b.steps

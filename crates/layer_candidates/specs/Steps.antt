@@ -22,7 +22,7 @@ step_of ways key = record { before = (way_at ways key.place).parent; decision = 
 -- the keys as members, by the steps after the n-th
 abbrev pub entered : ℕ → List Key → List Member
 entered n [] = []
-entered n (key ∷ keys) = record { value = key.value; rank = key.rank; row = key.place; step = n + 1 } ∷ entered (n + 1) keys
+entered n (key ∷ keys) = record { value = key.value; rank = key.rank; row = key.row; step = n + 1 } ∷ entered (n + 1) keys
 
 -- no member is reached by a step after the n-th
 abbrev pub IsReachedWithin : ℕ → Member → Type 0

@@ -1,6 +1,6 @@
 -- A table whose chains run through the places of the rows. Rows are compared from the first live cell on.
-use Rattle.std.specs.Prelude.{◌≡◌, ◌≢◌, ◌⊎◌, ℕ, zero, suc, ◌+◌, ◌-◌, ◌*◌, ◌<◌, ◌≤◌, nat_eq, ℤ, Bool, true, cond, List, length, slice_index_or, bit_and}
-use Rattle.layer_candidates.specs.Rows.{row_at, live_at}
+use Rattle.std.specs.Prelude.{◌≡◌, ◌≢◌, ◌⊎◌, ℕ, zero, suc, ◌+◌, ◌-◌, ◌<◌, ◌≤◌, nat_eq, ℤ, Bool, true, cond, List, length, slice_index_or, bit_and}
+use Rattle.layer_candidates.specs.Rows.{live_at}
 use Rattle.dp_model.specs.Folds.{fold_of}
 
 -- the slot of a fold among so many
@@ -17,28 +17,27 @@ abbrev pub has_slot : List ℕ → ℕ → ℕ → ℕ → Bool
 has_slot folds size slot k = nat_eq (slot_of (slice_index_or folds k 0) size) slot
 
 -- the head of a slot names the last of the rows that have it, and each row names the last one before it with its slot
-pub record IsTable (rows : List ℤ) (words live count : ℕ) (folds heads next : List ℕ) : Type 0 where
-  pub room : count * words ≤ length rows
+pub record IsTable (row : ℕ → List ℤ) (live count : ℕ) (folds heads next : List ℕ) : Type 0 where
   pub folds_size : count ≤ length folds
   pub next_size : count ≤ length next
   pub some : 0 < length heads
-  pub folds_are : (k : ℕ) → k < count → slice_index_or folds k 0 ≡ fold_of 0 (live_at rows words live k)
+  pub folds_are : (k : ℕ) → k < count → slice_index_or folds k 0 ≡ fold_of 0 (live_at row live k)
   pub heads_are : (slot : ℕ) → slot < length heads → slice_index_or heads slot 0 ≡ top (has_slot folds (length heads) slot) count
   pub next_are : (k : ℕ) → k < count → slice_index_or next k 0 ≡ top (has_slot folds (length heads) (slot_of (slice_index_or folds k 0) (length heads))) k
 
--- the place has the live cells of the row that stands at `count`, or is `count` where no row before has them
-pub record IsRowFound (rows : List ℤ) (words live count place : ℕ) : Type 0 where
+-- the row of the place has these live cells, or the place is `count` where no row has them
+pub record IsRowFound (row : ℕ → List ℤ) (live count : ℕ) (new : List ℤ) (place : ℕ) : Type 0 where
   pub within : place ≤ count
-  pub same : place < count → live_at rows words live place ≡ live_at rows words live count
-  pub none : place ≡ count → (k : ℕ) → k < count → live_at rows words live k ≢ live_at rows words live count
+  pub same : place < count → live_at row live place ≡ new
+  pub none : place ≡ count → (k : ℕ) → k < count → live_at row live k ≢ new
 
 -- of so many rows the new one was found at the place, or put in behind them
-pub record IsPlaced (rows : List ℤ) (words old new : ℕ) (row : List ℤ) (place : ℕ) : Type 0 where
-  pub same : row_at rows words place ≡ row
+pub record IsPlaced (row : ℕ → List ℤ) (old new : ℕ) (state : List ℤ) (place : ℕ) : Type 0 where
+  pub same : row place ≡ state
   pub grown : ((place < old) × (new ≡ old)) ⊎ ((place ≡ old) × (new ≡ old + 1))
 
--- the place before i has the slot of the fold, and no row from i on with that slot is the one at `count`
-pub record IsSearched (rows : List ℤ) (words live count fold : ℕ) (folds : List ℕ) (size i : ℕ) : Type 0 where
+-- the place before i has the slot of the fold, and no row from i on with that slot has these live cells
+pub record IsSearched (row : ℕ → List ℤ) (live count : ℕ) (new : List ℤ) (fold : ℕ) (folds : List ℕ) (size i : ℕ) : Type 0 where
   pub within : i ≤ count
   pub here : 0 < i → has_slot folds size (slot_of fold size) (i - 1) ≡ true
-  pub past : (k : ℕ) → i ≤ k → k < count → has_slot folds size (slot_of fold size) k ≡ true → live_at rows words live k ≢ live_at rows words live count
+  pub past : (k : ℕ) → i ≤ k → k < count → has_slot folds size (slot_of fold size) k ≡ true → live_at row live k ≢ new

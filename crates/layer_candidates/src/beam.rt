@@ -1,16 +1,17 @@
-ghost use Rattle.std.specs.Prelude.{◌≡◌, ◌&&◌, ◌||◌, ◌+◌, ◌*◌, ◌^◌, ◌<◌, ◌≤◌, ℕ, ℤ, Option, [], length, false, is_some, IfOk, vec_len, vec_capacity};
+ghost use Rattle.std.specs.Prelude.{◌≡◌, ◌&&◌, ◌||◌, ◌+◌, ◌*◌, ◌^◌, ◌<◌, ◌≤◌, ℕ, ℤ, Option, [], length, false, is_some, IfOk, vec_capacity};
 ghost use Rattle.dp_model.specs.Lists.{Each};
 ghost use Rattle.dp_model.specs.Prefixes.{IsPrefix, state_of, value_of};
-ghost use Rattle.layer_candidates.specs.Beaming.{AreEnoughMembers, HasLayers, HasMade, IsBuilt, IsNext, IsFirst, most_at, is_between};
+ghost use Rattle.layer_candidates.specs.Beaming.{HasBeamRows, HasLayers, HasMade, IsBuilt, IsNext, IsFirst, most_at, is_between};
 ghost use Rattle.dp_laws.specs.Restricted.Beams.{beam, wide, first_of_all};
-ghost use Rattle.layer_candidates.specs.HeldRows.{IsSameRegion, AreLive, HasExchanged, held_as, IsHeldAt};
+ghost use Rattle.layer_candidates.specs.HeldRows.{IsSameRegion, AreLive, HasExchanged};
 ghost use Rattle.layer_candidates.specs.Layering.{HasMemory};
+ghost use Rattle.layer_candidates.specs.Members.{member_rows, members_as, IsHeldAt};
 ghost use Rattle.layer_candidates.specs.Steps.{path_at, AreBackward, IsReachedWithin};
 ghost use Rattle.layer_candidates.specs.Ways.{IsNear};
 ghost use Rattle.row_region.specs.Region.{RegionView};
 
 use crate::candidates::Candidates;
-use crate::holding::{exchange, give_all, put_row};
+use crate::holding::{give_members, put_row};
 use crate::member::Member;
 use crate::step::Step;
 use crate::walking::write_path;
@@ -22,13 +23,8 @@ use std::alloc::Global;
 /// region that the caller owns.
 #[derive(Debug, Drop)]
 pub struct Beam {
-    words: usize,
-    // the rows of the candidates
-    rows: Vec<i64>,
     candidates: Candidates,
     members: Vec<Member>,
-    // the places of the members' rows in the region
-    held: Vec<u32>,
     steps: Vec<Step>,
 }
 
@@ -95,37 +91,24 @@ impl Beam {
         requires held { Each (IsHeldAt (M.meaning (M.numbers model.now)) k region.old) self.old.members.items }
         requires near { Each (λ m. IsNear m.value) self.old.members.items }
         requires reached { Each (IsReachedWithin (length self.old.steps.items)) self.old.members.items }
-        requires words { self.old.words ≡ (M.meaning (M.numbers model.now)).words }
-        requires region_words { region.old.words ≡ self.old.words }
-        requires live { AreLive region.old self.old.held.items }
-        requires memory { HasMemory (length self.old.members.items * (M.meaning (M.numbers model.now)).choices k) self.old.candidates }
-        requires rows_room { length self.old.members.items * (M.meaning (M.numbers model.now)).choices k * self.old.words ≤ vec_len self.old.rows }
+        requires words { region.old.words ≡ (M.meaning (M.numbers model.now)).words }
+        requires live { AreLive region.old (member_rows self.old.members.items) }
+        requires memory { HasMemory (M.meaning (M.numbers model.now)).words (length self.old.members.items * (M.meaning (M.numbers model.now)).choices k) self.old.candidates }
+        requires spare { length self.old.members.items * (M.meaning (M.numbers model.now)).choices k + 1 ≤ region.old.spare }
         requires members_room { most ≤ vec_capacity self.old.members }
-        requires held_room { most ≤ vec_capacity self.old.held }
-        requires region_room { most ≤ region.old.spare + length self.old.held.items }
         requires steps_room { length self.old.steps.items + most ≤ vec_capacity self.old.steps }
         requires small { length self.old.steps.items + most < 2 ^ 32 }
         ensures { IsNext (M.meaning (M.numbers model.now)) k threshold most self.old region.old self.new region.new result }
     {
-        let more = self.candidates.next_layer(
+        self.candidates.next_layer(
             model,
             k,
             threshold,
             most,
-            region.cells(),
-            self.words,
-            self.rows.as_mut_slice(),
+            region,
             &mut self.members,
             &mut self.steps,
-        );
-        exchange(
-            region,
-            self.rows.as_slice(),
-            self.words,
-            self.members.as_mut_slice(),
-            &mut self.held,
-        );
-        more
+        )
     }
 
     /// Makes all layers below the prefix, whose own one stands there. Answers whether the width took something from one.
@@ -142,7 +125,7 @@ impl Beam {
         requires shorter { length prefix.now < (M.meaning (M.numbers model.now)).vars }
         requires start { IsBuilt (M.meaning (M.numbers model.now)) prefix.now width threshold (length prefix.now) self.old region.old false }
         ensures built { IsBuilt (M.meaning (M.numbers model.now)) prefix.now width threshold (M.meaning (M.numbers model.now)).vars self.new region.new result }
-        ensures exchanged { HasExchanged region.old self.old.held.items region.new self.new.held.items }
+        ensures exchanged { HasExchanged region.old (member_rows self.old.members.items) region.new (member_rows self.new.members.items) }
     {
         let first = prefix.len();
         let vars = model.vars();
@@ -168,19 +151,15 @@ impl Beam {
         requires shorter { length prefix.now < (M.meaning (M.numbers model.now)).vars }
         requires row { row.now ≡ state_of (M.meaning (M.numbers model.now)) prefix.now }
         requires value { value ≡ value_of (M.meaning (M.numbers model.now)) prefix.now }
-        requires words { self.old.words ≡ (M.meaning (M.numbers model.now)).words }
-        requires region_words { region.old.words ≡ self.old.words }
+        requires region_words { region.old.words ≡ (M.meaning (M.numbers model.now)).words }
         requires region_room { 1 ≤ region.old.spare }
         requires members_room { 1 ≤ vec_capacity self.old.members }
-        requires held_room { 1 ≤ vec_capacity self.old.held }
-        ensures built { (w : ℕ) (t : Option ℤ) → HasLayers (M.meaning (M.numbers model.now)) w self.old → AreEnoughMembers (M.meaning (M.numbers model.now)) w region.old.spare → IsBuilt (M.meaning (M.numbers model.now)) prefix.now w t (length prefix.now) self.new region.new false }
-        ensures exchanged { HasExchanged region.old [] region.new self.new.held.items }
+        ensures built { (w : ℕ) (t : Option ℤ) → HasLayers (M.meaning (M.numbers model.now)) w self.old → HasBeamRows (M.meaning (M.numbers model.now)) w region.old.spare → IsBuilt (M.meaning (M.numbers model.now)) prefix.now w t (length prefix.now) self.new region.new false }
+        ensures exchanged { HasExchanged region.old [] region.new (member_rows self.new.members.items) }
     {
         let rank = model.rank(prefix.len(), row);
         let place = put_row(region, row);
         self.steps.clear();
-        self.held.clear();
-        self.held.push_reserved(place);
         self.members.clear();
         self.members.push_reserved(first_member(value, rank, place));
     }
@@ -190,7 +169,7 @@ impl Beam {
         requires backward { AreBackward self.now.steps.items }
         requires reached { Each (IsReachedWithin (length self.now.steps.items)) self.now.members.items }
         requires size { Each (λ m. length out.old ≡ length (path_at prefix.now self.now.steps.items m.step)) self.now.members.items }
-        ensures { (region : RegionView) → IsFirst (first_of_all (held_as (path_at prefix.now self.now.steps.items) region self.now.members.items)) result out.new }
+        ensures { (region : RegionView) → IsFirst (first_of_all (members_as (path_at prefix.now self.now.steps.items) region self.now.members.items)) result out.new }
     {
         if self.members.is_empty() {
             return None;
@@ -201,8 +180,8 @@ impl Beam {
     }
 
     /// The beam below a prefix with its state and value: its value, with its decisions in `out`, or none where there is none;
-    /// and whether the width took something from a layer. The region has a free row for each member of a layer, and is as before
-    /// afterwards. It takes no memory.
+    /// and whether the width took something from a layer. The region has free rows for the members of
+    /// a layer and the candidates of the next one, and is as before afterwards. It takes no memory.
     pub fn beam<M: DpModel>(
         &mut self,
         region: &mut Region,
@@ -221,7 +200,7 @@ impl Beam {
         requires layers { HasLayers (M.meaning (M.numbers model.now)) width self.old }
         requires cells { length out.old ≡ (M.meaning (M.numbers model.now)).vars }
         requires region_words { region.old.words ≡ (M.meaning (M.numbers model.now)).words }
-        requires region_room { AreEnoughMembers (M.meaning (M.numbers model.now)) width region.old.spare }
+        requires region_room { HasBeamRows (M.meaning (M.numbers model.now)) width region.old.spare }
         ensures beam { IsFirst (beam (M.meaning (M.numbers model.now)) prefix.now width threshold) result.value out.new }
         ensures reduced { result.reduced ≡ is_some (wide (M.meaning (M.numbers model.now)) prefix.now width threshold) }
         ensures layers { HasLayers (M.meaning (M.numbers model.now)) width self.new }
@@ -230,7 +209,7 @@ impl Beam {
         self.begin(region, model, prefix, row, value);
         let reduced = self.compile(region, model, prefix, width, threshold);
         let value = self.first(prefix, out);
-        give_all(region, self.held.as_slice());
+        give_members(region, self.members.as_slice());
         Beamed { value, reduced }
     }
 
@@ -243,15 +222,11 @@ impl Beam {
         steps: usize,
     ) -> Result<Beam, OutOfMemory>
         requires small { room + 1 < 2 ^ 32 }
-        requires few_words { words ≤ 1024 }
         ensures { IfOk result (λ b. HasMade words room widest steps b) }
     {
         Ok(Beam {
-            words,
-            rows: vec![in alloc; 0i64; room * words]?,
-            candidates: Candidates::prepare(alloc, room)?,
+            candidates: Candidates::prepare(alloc, words, room)?,
             members: Vec::with_capacity(alloc, widest)?,
-            held: Vec::with_capacity(alloc, widest)?,
             steps: Vec::with_capacity(alloc, steps)?,
         })
     }

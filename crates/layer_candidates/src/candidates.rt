@@ -1,8 +1,9 @@
 ghost use Rattle.std.specs.Prelude.{◌≡◌, ℕ, ◌+◌, ◌*◌, ◌<◌, ◌≤◌, ◌^◌, nat_lt, List, IfOk, length, take, vec_capacity};
 ghost use Rattle.dp_model.specs.Lists.{Each};
 ghost use Rattle.dp_laws.specs.Restricted.Beam.{whole_layer};
-ghost use Rattle.layer_candidates.specs.Layering.{HasMemory, IsEntered};
-ghost use Rattle.layer_candidates.specs.Members.{members_as, IsMemberOf};
+ghost use Rattle.layer_candidates.specs.HeldRows.{AreLive, HasExchanged};
+ghost use Rattle.layer_candidates.specs.Layering.{HasMemory};
+ghost use Rattle.layer_candidates.specs.Members.{member_rows, members_as, IsHeldAt, IsMemberOf};
 ghost use Rattle.layer_candidates.specs.Steps.{path_at, AreBackward, IsReachedWithin};
 
 use crate::descending::descend;
@@ -15,11 +16,14 @@ use crate::step::Step;
 use crate::striking::list_unstruck;
 use crate::way::Way;
 use dp_model::{DpModel, OutOfMemory};
+use row_region::Region;
 use std::alloc::Global;
 
 /// The memory in which a layer is made. All of it is made once and used again.
 #[derive(Debug, Drop)]
 pub struct Candidates {
+    // the cells of the parent that is extended
+    parent: Vec<i64>,
     ways: Vec<Way>,
     folds: Vec<u64>,
     heads: Vec<u32>,
@@ -30,13 +34,14 @@ pub struct Candidates {
 }
 
 impl Candidates {
-    /// Memory for so many candidates.
-    pub fn prepare(alloc: Global, room: usize) -> Result<Candidates, OutOfMemory>
+    /// Memory for so many candidates, with rows of so many cells.
+    pub fn prepare(alloc: Global, words: usize, room: usize) -> Result<Candidates, OutOfMemory>
         requires { room + 1 < 2 ^ 32 }
-        ensures { IfOk result (λ c. HasMemory room c) }
+        ensures { IfOk result (λ c. HasMemory words room c) }
     {
         let slots = (2 * room + 1).next_power_of_two();
         Ok(Candidates {
+            parent: vec![in alloc; 0i64; words]?,
             ways: Vec::with_capacity(alloc, room)?,
             folds: vec![in alloc; 0u64; room]?,
             heads: vec![in alloc; 0u32; slots]?,
@@ -47,38 +52,37 @@ impl Candidates {
         })
     }
 
-    /// Makes the layer below the one at depth `k`, as many of its first members as `most`: the members are exchanged, whose
-    /// rows stood in `above` and stand in `rows` now, and each new one has a step of its own. Answers whether there are more.
-    /// It takes no memory.
+    /// Makes the layer below the one at depth `k`, as many of its first members as `most`: the members are exchanged, and so are
+    /// their rows in the region; each new one has a step of its own. Answers whether there are more. It takes no memory.
     pub fn next_layer<M: DpModel>(
         &mut self,
         model: &M,
         k: usize,
         threshold: Option<i64>,
         most: usize,
-        above: &[i64],
-        words: usize,
-        rows: &mut [i64],
+        region: &mut Region,
         members: &mut Vec<Member>,
         steps: &mut Vec<Step>,
     ) -> bool
         requires layer { k < (M.meaning (M.numbers model.now)).vars }
-        requires words { words ≡ (M.meaning (M.numbers model.now)).words }
-        requires members { Each (IsMemberOf (M.meaning (M.numbers model.now)) k above.now words) members.old.items }
+        requires words { region.old.words ≡ (M.meaning (M.numbers model.now)).words }
+        requires members { Each (IsMemberOf (M.meaning (M.numbers model.now)) k region.old) members.old.items }
+        requires live { AreLive region.old (member_rows members.old.items) }
         requires reached { Each (IsReachedWithin (length steps.old.items)) members.old.items }
-        requires memory { HasMemory (length members.old.items * (M.meaning (M.numbers model.now)).choices k) self.old }
-        requires rows_room { length members.old.items * (M.meaning (M.numbers model.now)).choices k * words ≤ length rows.old }
+        requires memory { HasMemory (M.meaning (M.numbers model.now)).words (length members.old.items * (M.meaning (M.numbers model.now)).choices k) self.old }
+        requires spare { length members.old.items * (M.meaning (M.numbers model.now)).choices k + 1 ≤ region.old.spare }
         requires members_room { most ≤ vec_capacity members.old }
         requires steps_room { length steps.old.items + most ≤ vec_capacity steps.old }
         requires small { length steps.old.items + most < 2 ^ 32 }
-        ensures list { (prefix : List ℕ) → members_as (path_at prefix steps.new.items) rows.new words members.new.items ≡ take most (whole_layer (M.meaning (M.numbers model.now)) k threshold (members_as (path_at prefix steps.old.items) above.now words members.old.items)) }
-        ensures more { (prefix : List ℕ) → result ≡ nat_lt most (length (whole_layer (M.meaning (M.numbers model.now)) k threshold (members_as (path_at prefix steps.old.items) above.now words members.old.items))) }
-        ensures entered { Each (IsEntered (M.meaning (M.numbers model.now)) (k + 1) rows.new words) members.new.items }
+        ensures list { (prefix : List ℕ) → members_as (path_at prefix steps.new.items) region.new members.new.items ≡ take most (whole_layer (M.meaning (M.numbers model.now)) k threshold (members_as (path_at prefix steps.old.items) region.old members.old.items)) }
+        ensures more { (prefix : List ℕ) → result ≡ nat_lt most (length (whole_layer (M.meaning (M.numbers model.now)) k threshold (members_as (path_at prefix steps.old.items) region.old members.old.items))) }
+        ensures held { Each (IsHeldAt (M.meaning (M.numbers model.now)) (k + 1) region.new) members.new.items }
+        ensures exchanged { HasExchanged region.old (member_rows members.old.items) region.new (member_rows members.new.items) }
         ensures reached { Each (IsReachedWithin (length steps.new.items)) members.new.items }
         ensures few { length members.new.items ≤ most }
         ensures steps { length steps.new.items ≡ length steps.old.items + length members.new.items }
         ensures backward { AreBackward steps.old.items → AreBackward steps.new.items }
-        ensures memory { (count : ℕ) → HasMemory count self.old → HasMemory count self.new }
+        ensures memory { (words count : ℕ) → HasMemory words count self.old → HasMemory words count self.new }
         ensures members_capacity { vec_capacity members.new ≡ vec_capacity members.old }
         ensures steps_capacity { vec_capacity steps.new ≡ vec_capacity steps.old }
     {
@@ -86,9 +90,8 @@ impl Candidates {
             model,
             k,
             members.as_slice(),
-            above,
-            words,
-            rows,
+            region,
+            self.parent.as_mut_slice(),
             &mut self.ways,
             self.folds.as_mut_slice(),
             self.heads.as_mut_slice(),
@@ -98,18 +101,16 @@ impl Candidates {
             model,
             k + 1,
             threshold,
-            rows,
-            words,
+            region,
             self.ways.as_slice(),
             &mut self.keys,
         );
-        sort(rows, words, model.first_live(k + 1), &mut self.keys);
+        sort(region, model.first_live(k + 1), &mut self.keys);
         let more = prune(
             model,
             k + 1,
             most,
-            rows,
-            words,
+            region,
             self.keys.as_slice(),
             &mut self.leaders,
             &mut self.kept,

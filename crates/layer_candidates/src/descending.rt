@@ -21,12 +21,12 @@ fn step_by(way: Way) -> Step
 
 /// The key as a member, which the step reaches.
 fn member_by(key: Key, step: u32) -> Member
-    ensures { result ≡ record { value = key.value; rank = key.rank; row = key.place; step = step } }
+    ensures { result ≡ record { value = key.value; rank = key.rank; row = key.row; step = step } }
 {
     Member {
         value: key.value,
         rank: key.rank,
-        row: key.place,
+        row: key.row,
         step,
     }
 }

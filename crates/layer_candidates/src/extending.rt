@@ -5,20 +5,22 @@ ghost use Rattle.dp_model.specs.Decisions.{below};
 ghost use Rattle.dp_model.specs.Lists.{Each};
 ghost use Rattle.dp_model.specs.Numbers.{IsSmall};
 ghost use Rattle.dp_laws.specs.Restricted.Extensions.{candidates, all_joined};
-ghost use Rattle.layer_candidates.specs.Rows.{row_at, with_row};
+ghost use Rattle.layer_candidates.specs.HeldRows.{AreLive, HasExchanged, HasWritten};
 ghost use Rattle.layer_candidates.specs.Table.{IsPlaced};
-ghost use Rattle.layer_candidates.specs.Ways.{all_reached, IsNear, AllHaveZeros, AreJoined, AreDistinct};
-ghost use Rattle.layer_candidates.specs.Members.{members_as, IsMemberOf};
-ghost use Rattle.layer_candidates.specs.Extending.{HasWayRoom, AreSame, HasExtended};
+ghost use Rattle.layer_candidates.specs.Ways.{rows_of, way_row, all_reached, IsNear, AllHaveZeros, AreJoined, AreDistinct};
+ghost use Rattle.layer_candidates.specs.Members.{member_rows, members_as, IsMemberOf};
+ghost use Rattle.layer_candidates.specs.Extending.{HasWayRoom, HasExtended};
+ghost use Rattle.row_region.specs.Region.{IsLive};
 
+use crate::holding::{move_out, next_spot, take_row};
 use crate::joining::take_in;
 use crate::member::Member;
-use crate::rows::row;
 use crate::table::{reset, slots_for};
 use crate::way::Way;
 use dp_model::{DpModel, Extended};
+use row_region::{Region, RowId};
 
-/// Writes the state that a decision makes, from the place of its first cell on; `None` exactly where it is not allowed.
+/// Writes the state that a decision makes into a row; `None` exactly where it is not allowed.
 #[inline(always)]
 fn write_state<M: DpModel>(
     model: &M,
@@ -26,37 +28,38 @@ fn write_state<M: DpModel>(
     s: &[i64],
     rank: i64,
     decision: u32,
-    rows: &mut [i64],
-    at: usize,
+    region: &mut Region,
+    spot: RowId,
 ) -> Option<Extended>
     requires layer { k < (M.meaning (M.numbers model.now)).vars }
-    requires cells { length s.now ≡ (M.meaning (M.numbers model.now)).words }
     requires state { IsTrue ((M.meaning (M.numbers model.now)).is_state k s.now) }
     requires rank { rank ≡ (M.meaning (M.numbers model.now)).rank k s.now }
     requires choice { decision < (M.meaning (M.numbers model.now)).choices k }
-    requires room { at + length s.now ≤ length rows.old }
+    requires live { IsLive region.old spot.place }
+    requires words { region.old.words ≡ (M.meaning (M.numbers model.now)).words }
     ensures allowed { is_some result ≡ (M.meaning (M.numbers model.now)).allowed k s.now decision }
-    ensures refused { IsNone result → rows.new ≡ rows.old }
-    ensures rows { IsSome result → rows.new ≡ with_row rows.old at ((M.meaning (M.numbers model.now)).step k s.now decision) }
+    ensures refused { IsNone result → region.new ≡ region.old }
+    ensures written { IsSome result → HasWritten region.old spot.place ((M.meaning (M.numbers model.now)).step k s.now decision) region.new }
     ensures extended { IfSome result (λ e. (e.gain ≡ (M.meaning (M.numbers model.now)).gain k s.now decision)
         × (e.rank ≡ (M.meaning (M.numbers model.now)).rank (k + 1) ((M.meaning (M.numbers model.now)).step k s.now decision))) }
 {
-    let words = s.len();
-    model.extend(k, s, rank, decision, 0, &mut rows[at..at + words])
+    model.extend(k, s, rank, decision, 0, region.row_mut(spot))
 }
 
-/// The way from a parent by a decision.
-fn way_of(parent: Member, gained: Extended, decision: u32) -> Way
+/// The way from a parent by a decision, with the row of its state.
+fn way_of(parent: Member, gained: Extended, decision: u32, row: u32) -> Way
     requires near { IsNear parent.value }
     requires small { IsSmall gained.gain }
     ensures value { result.value ≡ (parent.value +ℤ gained.gain) }
     ensures rank { result.rank ≡ gained.rank }
+    ensures row { result.row ≡ row }
     ensures parent { result.parent ≡ parent.step }
     ensures decision { result.decision ≡ decision }
 {
     Way {
         value: parent.value + gained.gain,
         rank: gained.rank,
+        row,
         parent: parent.step,
         decision,
     }
@@ -65,15 +68,16 @@ fn way_of(parent: Member, gained: Extended, decision: u32) -> Way
 /// Where a way was taken in, and what its decision gains.
 #[derive(Clone, Copy, Debug)]
 pub struct Taken {
-    /// The place of the way to its state, and that of the state's row.
+    /// The place of the way to its state.
     pub place: usize,
     /// The gain.
     pub gain: i64,
 }
 
 /// Takes in the way from a parent in the layer at depth `k`, with the state `s`, by a decision: of each state the first way of
-/// greatest value is kept. The state's row is written behind those of the other ways. Answers `None` exactly where the decision
-/// is not allowed, and then all stays as it was. The first `live` cells are zero in each state of the next layer.
+/// greatest value is kept. The state is written into the row at the spot: where it is new, its way keeps that row, and another
+/// free row is the spot from then on. Answers `None` exactly where the decision is not allowed. The first `live` cells are zero
+/// in each state of the next layer.
 #[inline(always)]
 pub fn extend_by<M: DpModel>(
     model: &M,
@@ -82,7 +86,8 @@ pub fn extend_by<M: DpModel>(
     s: &[i64],
     decision: u32,
     live: usize,
-    rows: &mut [i64],
+    region: &mut Region,
+    spot: &mut RowId,
     ways: &mut Vec<Way>,
     folds: &mut [u64],
     heads: &mut [u32],
@@ -90,27 +95,29 @@ pub fn extend_by<M: DpModel>(
 ) -> Option<Taken>
     requires layer { k < (M.meaning (M.numbers model.now)).vars }
     requires state { IsTrue ((M.meaning (M.numbers model.now)).is_state k s.now) }
-    requires cells { length s.now ≡ (M.meaning (M.numbers model.now)).words }
     requires value { IsNear parent.value }
     requires rank { parent.rank ≡ (M.meaning (M.numbers model.now)).rank k s.now }
     requires choice { decision < (M.meaning (M.numbers model.now)).choices k }
-    requires live { live ≤ length s.now }
+    requires live { live ≤ (M.meaning (M.numbers model.now)).words }
     requires zeros { AllHaveZeros (M.meaning (M.numbers model.now)) (k + 1) live }
-    requires joined { AreJoined (M.meaning (M.numbers model.now)) (k + 1) rows.old (length s.now) live ways.old.items folds.old heads.old next.old }
-    requires room { HasWayRoom (length s.now) (length ways.old.items + 1) rows.old (vec_capacity ways.old) folds.old next.old }
+    requires words { region.old.words ≡ (M.meaning (M.numbers model.now)).words }
+    requires spare { 0 < region.old.spare }
+    requires held { AreLive region.old (spot.old.place ∷ rows_of ways.old.items) }
+    requires joined { AreJoined (M.meaning (M.numbers model.now)) (k + 1) (way_row region.old ways.old.items) live ways.old.items folds.old heads.old next.old }
+    requires room { HasWayRoom (length ways.old.items + 1) (vec_capacity ways.old) folds.old next.old }
     ensures allowed { is_some result ≡ (M.meaning (M.numbers model.now)).allowed k s.now decision }
-    ensures refused { IsNone result → AreSame rows.old ways.old.items folds.old heads.old next.old rows.new ways.new.items folds.new heads.new next.new }
-    ensures extended { HasExtended (M.meaning (M.numbers model.now)) k parent.step s.now parent.value (decision ∷ []) (length s.now) live rows.old ways.old.items rows.new ways.new.items folds.new heads.new next.new }
-    ensures place { IfSome result (λ t. IsPlaced rows.new (length s.now) (length ways.old.items) (length ways.new.items) ((M.meaning (M.numbers model.now)).step k s.now decision) t.place) }
-    ensures before { (i : ℕ) → i < length ways.old.items → row_at rows.new (length s.now) i ≡ row_at rows.old (length s.now) i }
+    ensures extended { HasExtended (M.meaning (M.numbers model.now)) k parent.step s.now parent.value (decision ∷ []) live (way_row region.old ways.old.items) ways.old.items (way_row region.new ways.new.items) ways.new.items folds.new heads.new next.new }
+    ensures exchanged { HasExchanged region.old (spot.old.place ∷ rows_of ways.old.items) region.new (spot.new.place ∷ rows_of ways.new.items) }
+    ensures before { (i : ℕ) → i < length ways.old.items → way_row region.new ways.new.items i ≡ way_row region.old ways.old.items i }
+    ensures place { IfSome result (λ t. IsPlaced (way_row region.new ways.new.items) (length ways.old.items) (length ways.new.items) ((M.meaning (M.numbers model.now)).step k s.now decision) t.place) }
     ensures gain { IfSome result (λ t. t.gain ≡ (M.meaning (M.numbers model.now)).gain k s.now decision) }
     ensures capacity { vec_capacity ways.new ≡ vec_capacity ways.old }
 {
-    let words = s.len();
+    let gained = write_state(model, k, s, parent.rank, decision, region, *spot)?;
+    let way = way_of(parent, gained, decision, spot.place);
     let count = ways.len();
-    let gained = write_state(model, k, s, parent.rank, decision, rows, count * words)?;
-    let way = way_of(parent, gained, decision);
-    let place = take_in(rows, words, live, way, ways, folds, heads, next);
+    let place = take_in(region, live, way, ways, folds, heads, next);
+    next_spot(region, spot, place == count);
     Some(Taken {
         place,
         gain: gained.gain,
@@ -124,7 +131,8 @@ fn extend_member<M: DpModel>(
     parent: Member,
     s: &[i64],
     live: usize,
-    rows: &mut [i64],
+    region: &mut Region,
+    spot: &mut RowId,
     ways: &mut Vec<Way>,
     folds: &mut [u64],
     heads: &mut [u32],
@@ -132,47 +140,53 @@ fn extend_member<M: DpModel>(
 )
     requires layer { k < (M.meaning (M.numbers model.now)).vars }
     requires state { IsTrue ((M.meaning (M.numbers model.now)).is_state k s.now) }
-    requires cells { length s.now ≡ (M.meaning (M.numbers model.now)).words }
     requires value { IsNear parent.value }
     requires rank { parent.rank ≡ (M.meaning (M.numbers model.now)).rank k s.now }
-    requires live { live ≤ length s.now }
+    requires live { live ≤ (M.meaning (M.numbers model.now)).words }
     requires zeros { AllHaveZeros (M.meaning (M.numbers model.now)) (k + 1) live }
-    requires joined { AreJoined (M.meaning (M.numbers model.now)) (k + 1) rows.old (length s.now) live ways.old.items folds.old heads.old next.old }
-    requires room { HasWayRoom (length s.now) (length ways.old.items + (M.meaning (M.numbers model.now)).choices k) rows.old (vec_capacity ways.old) folds.old next.old }
-    ensures extended { HasExtended (M.meaning (M.numbers model.now)) k parent.step s.now parent.value (below ((M.meaning (M.numbers model.now)).choices k)) (length s.now) live rows.old ways.old.items rows.new ways.new.items folds.new heads.new next.new }
+    requires words { region.old.words ≡ (M.meaning (M.numbers model.now)).words }
+    requires spare { (M.meaning (M.numbers model.now)).choices k ≤ region.old.spare }
+    requires held { AreLive region.old (spot.old.place ∷ rows_of ways.old.items) }
+    requires joined { AreJoined (M.meaning (M.numbers model.now)) (k + 1) (way_row region.old ways.old.items) live ways.old.items folds.old heads.old next.old }
+    requires room { HasWayRoom (length ways.old.items + (M.meaning (M.numbers model.now)).choices k) (vec_capacity ways.old) folds.old next.old }
+    ensures extended { HasExtended (M.meaning (M.numbers model.now)) k parent.step s.now parent.value (below ((M.meaning (M.numbers model.now)).choices k)) live (way_row region.old ways.old.items) ways.old.items (way_row region.new ways.new.items) ways.new.items folds.new heads.new next.new }
+    ensures exchanged { HasExchanged region.old (spot.old.place ∷ rows_of ways.old.items) region.new (spot.new.place ∷ rows_of ways.new.items) }
     ensures capacity { vec_capacity ways.new ≡ vec_capacity ways.old }
 {
     let choices = model.choices(k);
     let mut decision = model.next_choice(k, s, 0);
     'decisions: while decision < choices {
         extend_by(
-            model, k, parent, s, decision, live, rows, ways, folds, heads, next,
+            model, k, parent, s, decision, live, region, spot, ways, folds, heads, next,
         );
         decision = model.next_choice(k, s, decision + 1);
     }
 }
 
-/// Extends the members of the layer at depth `k`, whose rows stand in `above`, by each allowed decision: of each state the first
-/// way of greatest value is kept, whatever the paths to the members are. The rows of the states are written to `rows`.
+/// Extends the members of the layer at depth `k` by each allowed decision: of each state the first way of greatest value is
+/// kept, whatever the paths to the members are. The members' rows are given back; each is copied to `cells` before.
 pub fn extend_layer<M: DpModel>(
     model: &M,
     k: usize,
     members: &[Member],
-    above: &[i64],
-    words: usize,
-    rows: &mut [i64],
+    region: &mut Region,
+    cells: &mut [i64],
     ways: &mut Vec<Way>,
     folds: &mut [u64],
     heads: &mut [u32],
     next: &mut [u32],
 )
     requires layer { k < (M.meaning (M.numbers model.now)).vars }
-    requires words { words ≡ (M.meaning (M.numbers model.now)).words }
-    requires members { Each (IsMemberOf (M.meaning (M.numbers model.now)) k above.now words) members.now }
+    requires words { region.old.words ≡ (M.meaning (M.numbers model.now)).words }
+    requires cells { length cells.old ≡ (M.meaning (M.numbers model.now)).words }
+    requires members { Each (IsMemberOf (M.meaning (M.numbers model.now)) k region.old) members.now }
+    requires live { AreLive region.old (member_rows members.now) }
+    requires spare { length members.now * (M.meaning (M.numbers model.now)).choices k + 1 ≤ region.old.spare }
     requires slots { 0 < length heads.old }
-    requires room { HasWayRoom words (length members.now * (M.meaning (M.numbers model.now)).choices k) rows.old (vec_capacity ways.old) folds.old next.old }
-    ensures distinct { AreDistinct (M.meaning (M.numbers model.now)) (k + 1) rows.new words ways.new.items }
-    ensures list { (paths : ℕ → List ℕ) → all_reached paths rows.new words ways.new.items ≡ all_joined [] (candidates (M.meaning (M.numbers model.now)) k (members_as paths above.now words members.now)) }
+    requires room { HasWayRoom (length members.now * (M.meaning (M.numbers model.now)).choices k) (vec_capacity ways.old) folds.old next.old }
+    ensures distinct { AreDistinct (M.meaning (M.numbers model.now)) (k + 1) (way_row region.new ways.new.items) ways.new.items }
+    ensures list { (paths : ℕ → List ℕ) → all_reached paths (way_row region.new ways.new.items) ways.new.items ≡ all_joined [] (candidates (M.meaning (M.numbers model.now)) k (members_as paths region.old members.now)) }
+    ensures exchanged { HasExchanged region.old (member_rows members.now) region.new (rows_of ways.new.items) }
     ensures few { length ways.new.items ≤ length members.now * (M.meaning (M.numbers model.now)).choices k }
     ensures capacity { vec_capacity ways.new ≡ vec_capacity ways.old }
 {
@@ -181,9 +195,13 @@ pub fn extend_layer<M: DpModel>(
     let heads = &mut heads[..slots];
     reset(heads);
     ways.clear();
+    let mut spot = take_row(region);
     'members: for i in 0..members.len() {
         let parent = members[i];
-        let s = row(above, words, parent.row as usize);
-        extend_member(model, k, parent, s, live, rows, ways, folds, heads, next);
+        move_out(region, parent.row, cells);
+        extend_member(
+            model, k, parent, cells, live, region, &mut spot, ways, folds, heads, next,
+        );
     }
+    region.give(spot);
 }

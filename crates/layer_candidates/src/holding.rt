@@ -1,12 +1,14 @@
-//! The rows of the members, which stand in a region.
+//! Rows of a region are taken and given back.
 
-ghost use Rattle.std.specs.Prelude.{◌≡◌, ◌+◌, ◌*◌, ◌<◌, ◌≤◌, [], length, vec_capacity};
-ghost use Rattle.dp_model.specs.Lists.{Each};
-ghost use Rattle.layer_candidates.specs.HeldRows.{AreLive, HasExchanged, ArePut};
-ghost use Rattle.row_region.specs.Region.{HasPut};
+ghost use Rattle.std.specs.Prelude.{◌≡◌, ℕ, ◌+◌, ◌<◌, ℤ, [], List, Bool, true, false, length, map, Some, None, slice_set};
+ghost use Rattle.layer_candidates.specs.HeldRows.{held_row, AreLive, HasExchanged};
+ghost use Rattle.layer_candidates.specs.KeyOrder.{key_rows};
+ghost use Rattle.layer_candidates.specs.Members.{member_rows};
+ghost use Rattle.row_region.specs.Region.{IsLive, HasPut};
 
+use crate::key::Key;
 use crate::member::Member;
-use crate::rows::row;
+use crate::rows::row_of;
 use row_region::{Region, RowId};
 
 /// Puts a row into the region. Answers its place.
@@ -15,64 +17,61 @@ pub fn put_row(region: &mut Region, row: &[i64]) -> u32
     requires cells { length row.now ≡ region.old.words }
     ensures { HasPut region.old result row.now region.new }
 {
-    let Some(id) = region.put(row) else {
-        unreachable!();
-    };
+    let id = region.take_free();
+    region.row_mut(id).copy_from_slice(row);
     id.place
 }
 
-/// Gives the rows at the places back.
-pub fn give_all(region: &mut Region, places: &[u32])
-    requires { AreLive region.old places.now }
-    ensures { HasExchanged region.old places.now region.new [] }
+/// Takes a row of the region with whatever stands in it.
+#[inline(always)]
+pub fn take_row(region: &mut Region) -> RowId
+    requires spare { 0 < region.old.spare }
+    ensures { (row : List ℤ) × (length row ≡ region.old.words) × HasPut region.old result.place row region.new }
 {
-    'places: for i in 0..places.len() {
-        region.give(RowId { place: places[i] });
+    region.take_free()
+}
+
+/// Where the row at the spot is kept, another free row is the spot from then on.
+#[inline(always)]
+pub fn next_spot(region: &mut Region, spot: &mut RowId, kept: bool)
+    requires spare { 0 < region.old.spare }
+    ensures kept { kept ≡ true → (row : List ℤ) × (length row ≡ region.old.words) × HasPut region.old spot.new.place row region.new }
+    ensures left { kept ≡ false → (region.new ≡ region.old) × (spot.new.place ≡ spot.old.place) }
+{
+    if kept {
+        *spot = take_row(region);
     }
 }
 
-/// Puts the rows of the members, which stand in a block, into the region. Their places come behind those that are held.
-fn put_all(
-    region: &mut Region,
-    rows: &[i64],
-    words: usize,
-    members: &mut [Member],
-    held: &mut Vec<u32>,
-)
-    requires inside { Each (λ m. m.row * words + words ≤ length rows.now) members.old }
-    requires words { region.old.words ≡ words }
-    requires spare { length members.old ≤ region.old.spare }
-    requires room { length held.old.items + length members.old ≤ vec_capacity held.old }
-    requires live { AreLive region.old held.old.items }
-    ensures put { ArePut rows.now words region.new members.old members.new }
-    ensures exchanged { HasExchanged region.old held.old.items region.new held.new.items }
-    ensures capacity { vec_capacity held.new ≡ vec_capacity held.old }
+/// Copies a live row, and gives it back.
+pub fn move_out(region: &mut Region, place: u32, cells: &mut [i64])
+    requires live { IsLive region.old place }
+    requires cells { length cells.old ≡ region.old.words }
+    ensures cells { cells.new ≡ held_row region.old place }
+    ensures given { region.new ≡ record region.old { rows = slice_set region.old.rows place None; spare = region.old.spare + 1 } }
+{
+    cells.copy_from_slice(row_of(region, place));
+    region.give(RowId { place });
+}
+
+/// Gives the rows of the keys back.
+pub fn give_keys(region: &mut Region, keys: &[Key])
+    requires { AreLive region.old (key_rows keys.now) }
+    ensures { HasExchanged region.old (key_rows keys.now) region.new [] }
+{
+    'keys: for i in 0..keys.len() {
+        region.give(RowId { place: keys[i].row });
+    }
+}
+
+/// Gives the rows of the members back.
+pub fn give_members(region: &mut Region, members: &[Member])
+    requires { AreLive region.old (member_rows members.now) }
+    ensures { HasExchanged region.old (member_rows members.now) region.new [] }
 {
     'members: for i in 0..members.len() {
-        let place = put_row(region, row(rows, words, members[i].row as usize));
-        held.push_reserved(place);
-        members[i].row = place;
+        region.give(RowId {
+            place: members[i].row,
+        });
     }
-}
-
-/// Gives the rows back that are held, and puts those of the members, which stand in a block, into the region in their place.
-pub fn exchange(
-    region: &mut Region,
-    rows: &[i64],
-    words: usize,
-    members: &mut [Member],
-    held: &mut Vec<u32>,
-)
-    requires inside { Each (λ m. m.row * words + words ≤ length rows.now) members.old }
-    requires words { region.old.words ≡ words }
-    requires spare { length members.old ≤ region.old.spare + length held.old.items }
-    requires room { length members.old ≤ vec_capacity held.old }
-    requires live { AreLive region.old held.old.items }
-    ensures put { ArePut rows.now words region.new members.old members.new }
-    ensures region { HasExchanged region.old held.old.items region.new held.new.items }
-    ensures capacity { vec_capacity held.new ≡ vec_capacity held.old }
-{
-    give_all(region, held.as_slice());
-    held.clear();
-    put_all(region, rows, words, members, held);
 }

@@ -5,6 +5,8 @@ pub struct Key {
     pub value: i64,
     /// The rank of its state.
     pub rank: i64,
-    /// Its place, and that of its state's row.
+    /// Its place.
     pub place: u32,
+    /// The place of its state's row.
+    pub row: u32,
 }

@@ -5,9 +5,8 @@
 //! those that are dominated go, and the first ones stay.
 //!
 //! It stands on `dp_model`, `dp_laws` and `row_region`, and each layer is proved to be the one that is defined in `dp_laws` on
-//! plain lists of prefixes. States stand as rows of one length: those of the candidates in a block of cells that each layer uses
-//! again, and those of the few members in a region that the caller owns. A beam gives back all rows that it took. No call but
-//! `prepare` takes memory.
+//! plain lists of prefixes. States stand as rows of a region that the caller owns: a row that no way, key or member has any more
+//! is given back in the call that lets it go, and a beam gives back all rows that it took. No call but `prepare` takes memory.
 #![tactic(auto)]
 
 mod beam;
@@ -30,11 +29,12 @@ mod way;
 pub use beam::{Beam, Beamed};
 pub use candidates::Candidates;
 pub use extending::{Taken, extend_by};
+pub use holding::{move_out, put_row, take_row};
 pub use key::Key;
 pub use member::Member;
 pub use ordering::{put_in_order, sort};
 pub use pruning::MOST_LEADERS;
-pub use rows::row;
+pub use rows::row_of;
 pub use step::Step;
 pub use striking::{is_struck_by, list_unstruck};
 pub use table::{reset, slots_for};

@@ -3,13 +3,16 @@
 ghost use Rattle.std.specs.Prelude.{◌≡◌, ◌≤◌, ◌-ℤ◌, length, vec_capacity};
 ghost use Rattle.dp_model.specs.Gaps.{covers_at};
 ghost use Rattle.dp_model.specs.Lists.{Each};
-ghost use Rattle.layer_candidates.specs.Rows.{row_at};
+ghost use Rattle.layer_candidates.specs.HeldRows.{held_row, AreLive, HasLeft};
+ghost use Rattle.layer_candidates.specs.KeyOrder.{key_rows};
 ghost use Rattle.layer_candidates.specs.Ways.{IsNearly};
 ghost use Rattle.layer_candidates.specs.Pruning.{IsKeyIn, led_by, with_leader, HasPruned};
 
+use crate::holding::give_keys;
 use crate::key::Key;
-use crate::rows::row;
+use crate::rows::row_of;
 use dp_model::DpModel;
+use row_region::{Region, RowId};
 
 /// No layer has more leaders.
 pub const MOST_LEADERS: usize = 16;
@@ -24,41 +27,27 @@ fn room(leader: Key, key: Key) -> i64
 }
 
 /// Whether the leader dominates the key: its state has a gap to the key's, within the values' difference.
-fn dominates<M: DpModel>(
-    model: &M,
-    k: usize,
-    rows: &[i64],
-    words: usize,
-    leader: Key,
-    key: Key,
-) -> bool
-    requires leader { IsKeyIn (M.meaning (M.numbers model.now)) k rows.now words leader }
-    requires key { IsKeyIn (M.meaning (M.numbers model.now)) k rows.now words key }
-    ensures { result ≡ covers_at ((M.meaning (M.numbers model.now)).gap k (row_at rows.now words leader.place) (row_at rows.now words key.place)) leader.value key.value }
+fn dominates<M: DpModel>(model: &M, k: usize, region: &Region, leader: Key, key: Key) -> bool
+    requires leader { IsKeyIn (M.meaning (M.numbers model.now)) k region.now leader }
+    requires key { IsKeyIn (M.meaning (M.numbers model.now)) k region.now key }
+    ensures { result ≡ covers_at ((M.meaning (M.numbers model.now)).gap k (held_row region.now leader.row) (held_row region.now key.row)) leader.value key.value }
 {
     let most = room(leader, key);
-    let a = row(rows, words, leader.place as usize);
-    let s = row(rows, words, key.place as usize);
+    let a = row_of(region, leader.row);
+    let s = row_of(region, key.row);
     model
         .covers_within(k, a, leader.rank, s, key.rank, most)
         .is_some()
 }
 
 /// Whether one of the leaders dominates the key.
-fn is_led<M: DpModel>(
-    model: &M,
-    k: usize,
-    rows: &[i64],
-    words: usize,
-    leaders: &[Key],
-    key: Key,
-) -> bool
-    requires leaders { Each (IsKeyIn (M.meaning (M.numbers model.now)) k rows.now words) leaders.now }
-    requires key { IsKeyIn (M.meaning (M.numbers model.now)) k rows.now words key }
-    ensures { result ≡ led_by (M.meaning (M.numbers model.now)) k rows.now words leaders.now key }
+fn is_led<M: DpModel>(model: &M, k: usize, region: &Region, leaders: &[Key], key: Key) -> bool
+    requires leaders { Each (IsKeyIn (M.meaning (M.numbers model.now)) k region.now) leaders.now }
+    requires key { IsKeyIn (M.meaning (M.numbers model.now)) k region.now key }
+    ensures { result ≡ led_by (M.meaning (M.numbers model.now)) k region.now leaders.now key }
 {
     'leaders: for i in 0..leaders.len() {
-        if dominates(model, k, rows, words, leaders[i], key) {
+        if dominates(model, k, region, leaders[i], key) {
             return true;
         }
     }
@@ -76,22 +65,23 @@ fn lead(leaders: &mut Vec<Key>, key: Key)
     }
 }
 
-/// Takes the keys out that one of the first 16 that stay dominates. The first ones that stay are kept, as many as `most`.
-/// Answers whether more would stay.
+/// Takes the keys out that one of the first 16 that stay dominates. The first ones that stay are kept, as many as `most`, and the
+/// rows of all others are given back. Answers whether more would stay.
 pub fn prune<M: DpModel>(
     model: &M,
     k: usize,
     most: usize,
-    rows: &[i64],
-    words: usize,
+    region: &mut Region,
     keys: &[Key],
     leaders: &mut Vec<Key>,
     kept: &mut Vec<Key>,
 ) -> bool
-    requires keys { Each (IsKeyIn (M.meaning (M.numbers model.now)) k rows.now words) keys.now }
+    requires keys { Each (IsKeyIn (M.meaning (M.numbers model.now)) k region.old) keys.now }
+    requires held { AreLive region.old (key_rows keys.now) }
     requires leaders_room { MOST_LEADERS ≤ vec_capacity leaders.old }
     requires kept_room { length keys.now ≤ vec_capacity kept.old }
-    ensures pruned { HasPruned (M.meaning (M.numbers model.now)) k most rows.now words keys.now kept.new.items result }
+    ensures pruned { HasPruned (M.meaning (M.numbers model.now)) k most region.old keys.now kept.new.items result }
+    ensures left { HasLeft region.old (key_rows keys.now) region.new (key_rows kept.new.items) }
     ensures leaders_capacity { vec_capacity leaders.new ≡ vec_capacity leaders.old }
     ensures kept_capacity { vec_capacity kept.new ≡ vec_capacity kept.old }
 {
@@ -99,8 +89,11 @@ pub fn prune<M: DpModel>(
     kept.clear();
     'keys: for i in 0..keys.len() {
         let key = keys[i];
-        if !is_led(model, k, rows, words, leaders.as_slice(), key) {
+        if is_led(model, k, region, leaders.as_slice(), key) {
+            region.give(RowId { place: key.row });
+        } else {
             if kept.len() == most {
+                give_keys(region, &keys[i..]);
                 return true;
             }
             lead(leaders, key);

@@ -1,11 +1,16 @@
 //! The table of the rows that are kept. Rows are compared from the first live cell on.
 
-ghost use Rattle.std.specs.Prelude.{◌≡◌, ◌≢◌, ℕ, ◌+◌, ◌*◌, ◌^◌, ◌<◌, ◌≤◌, ℤ, List, ◌↔◌, length, replicate, slice_index_or, IsTrue};
+ghost use Rattle.std.specs.Prelude.{◌≡◌, ℕ, ◌+◌, ◌^◌, ◌<◌, ◌≤◌, ℤ, List, ◌↔◌, length, replicate, slice_index_or, IsTrue};
+ghost use Rattle.dp_model.specs.Lists.{Each};
 ghost use Rattle.layer_candidates.specs.Rows.{live_at};
 ghost use Rattle.dp_model.specs.Folds.{fold_of};
 ghost use Rattle.layer_candidates.specs.Table.{slot_of, IsTable, IsRowFound};
+ghost use Rattle.layer_candidates.specs.Ways.{rows_of, way_row};
+ghost use Rattle.row_region.specs.Region.{IsLive};
 
-use crate::rows::{live_cells, same_row};
+use crate::rows::{live_cells_of, same_row};
+use crate::way::Way;
+use row_region::Region;
 
 /// The slot of a fold among so many.
 fn slot(fold: u64, size: usize) -> usize
@@ -33,53 +38,54 @@ pub fn reset(heads: &mut [u32])
     heads.fill(0);
 }
 
-/// Whether the row at the place has these live cells.
+/// Whether the row of the way at the place has these live cells.
+#[inline(always)]
 fn is_at(
-    rows: &[i64],
-    words: usize,
+    region: &Region,
     live: usize,
+    ways: &[Way],
     place: usize,
     new: &[i64],
     fold: u64,
     folds: &[u64],
 ) -> bool
     requires within { place < length folds.now }
-    requires room { place * words + words ≤ length rows.now }
-    requires live { live ≤ words }
-    requires folds { slice_index_or folds.now place 0 ≡ fold_of 0 (live_at rows.now words live place) }
+    requires way { place < length ways.now }
+    requires held { Each (IsLive region.now) (rows_of ways.now) }
+    requires live { live ≤ region.now.words }
+    requires folds { slice_index_or folds.now place 0 ≡ fold_of 0 (live_at (way_row region.now ways.now) live place) }
     requires fold { fold ≡ fold_of 0 new.now }
-    ensures { IsTrue result ↔ (live_at rows.now words live place ≡ new.now) }
+    ensures { IsTrue result ↔ (live_at (way_row region.now ways.now) live place ≡ new.now) }
 {
-    folds[place] == fold && same_row(live_cells(rows, words, live, place), new)
+    folds[place] == fold && same_row(live_cells_of(region, live, ways[place].row), new)
 }
 
-/// The place below `count` at which the row has the live cells of the one at `count`, or `count`.
+/// The place of the way whose row has these live cells, or the number of ways.
 pub fn find(
-    rows: &[i64],
-    words: usize,
+    region: &Region,
     live: usize,
-    count: usize,
+    ways: &[Way],
+    new: &[i64],
     fold: u64,
     folds: &[u64],
     heads: &[u32],
     next: &[u32],
 ) -> usize
-    requires table { IsTable rows.now words live count folds.now heads.now next.now }
-    requires room { count * words + words ≤ length rows.now }
-    requires live { live ≤ words }
-    requires fold { fold ≡ fold_of 0 (live_at rows.now words live count) }
-    ensures { IsRowFound rows.now words live count result }
+    requires table { IsTable (way_row region.now ways.now) live (length ways.now) folds.now heads.now next.now }
+    requires held { Each (IsLive region.now) (rows_of ways.now) }
+    requires live { live ≤ region.now.words }
+    requires fold { fold ≡ fold_of 0 new.now }
+    ensures { IsRowFound (way_row region.now ways.now) live (length ways.now) new.now result }
 {
-    let new = live_cells(rows, words, live, count);
     let mut i = heads[slot(fold, heads.len())] as usize;
     'chain: while i > 0 {
         let k = i - 1;
-        if is_at(rows, words, live, k, new, fold, folds) {
+        if is_at(region, live, ways, k, new, fold, folds) {
             return k;
         }
         i = next[k] as usize;
     }
-    count
+    ways.len()
 }
 
 /// Puts the row at `count` in, with its fold.
@@ -88,7 +94,7 @@ pub fn insert(count: usize, fold: u64, folds: &mut [u64], heads: &mut [u32], nex
     requires folds { count < length folds.old }
     requires next { count < length next.old }
     requires heads { 0 < length heads.old }
-    ensures table { (rows : List ℤ) (words live : ℕ) → IsTable rows words live count folds.old heads.old next.old → count * words + words ≤ length rows → fold ≡ fold_of 0 (live_at rows words live count) → IsTable rows words live (count + 1) folds.new heads.new next.new }
+    ensures table { (row : ℕ → List ℤ) (live : ℕ) → IsTable row live count folds.old heads.old next.old → fold ≡ fold_of 0 (live_at row live count) → IsTable row live (count + 1) folds.new heads.new next.new }
     ensures heads_len { length heads.new ≡ length heads.old }
 {
     let at = slot(fold, heads.len());

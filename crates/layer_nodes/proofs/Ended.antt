@@ -6,11 +6,10 @@ use Rattle.dp_model.specs.Lists.{Each}
 use Rattle.dp_model.specs.Numbers.{add_some, greatest}
 use Rattle.dp_laws.specs.declared.arc.DdArc.{DdArc}
 use Rattle.layer_nodes.specs.declared.node.Node.{Node}
-use Rattle.layer_nodes.specs.Holding.{HasArcsIn, HasKeptLayer}
 use Rattle.layer_nodes.specs.Nodes.{NodeView, LayerView}
 use Rattle.layer_nodes.specs.Ending.{suffix_of, lengths, MayAdd, MayFollow, MayLead, MayEnd, ended, ended_layer, at_end, suffixes_in, arcs_in, ended_in, at_end_in}
 use Rattle.layer_nodes.specs.Merging.{greater}
-use Rattle.layer_nodes.specs.Stored.{node_view_by, node_view, IsStored}
+use Rattle.layer_nodes.specs.Stored.{node_view_by, HasArcsIn, HasLayer}
 use Rattle.layer_nodes.proofs.Merged.{greatest-option}
 use Rattle.layer_nodes.proofs.Stored.{each-get}
 
@@ -115,23 +114,23 @@ ended-views : (row : ℕ → List ℤ) (arcs : List DdArc) (suffixes : List (Opt
 ended-views row arcs suffixes [] = refl
 ended-views row arcs suffixes (node ∷ nodes) = ap (λ l. ended suffixes (node_view_by row arcs node) ∷ l) (ended-views row arcs suffixes nodes)
 
-pub last-views : (words : ℕ) (rows : List ℤ) (arcs : List DdArc) (nodes : List Node) → map (node_view words rows arcs) (map at_end_in nodes) ≡ map at_end (map (node_view words rows arcs) nodes)
-last-views words rows arcs [] = refl
-last-views words rows arcs (node ∷ nodes) = ap (λ l. at_end (node_view words rows arcs node) ∷ l) (last-views words rows arcs nodes)
+pub last-views : (row : ℕ → List ℤ) (arcs : List DdArc) (nodes : List Node) → map (node_view_by row arcs) (map at_end_in nodes) ≡ map at_end (map (node_view_by row arcs) nodes)
+last-views row arcs [] = refl
+last-views row arcs (node ∷ nodes) = ap (λ l. at_end (node_view_by row arcs node) ∷ l) (last-views row arcs nodes)
 
 -- a node lies where it lay
 ended-lie : (arcs : List DdArc) (suffixes : List (Option ℤ)) (nodes : List Node) → Each (HasArcsIn arcs) nodes → Each (HasArcsIn arcs) (map (ended_in arcs suffixes) nodes)
 ended-lie arcs suffixes [] h = tt
 ended-lie arcs suffixes (node ∷ nodes) h = (h.0, ended-lie arcs suffixes nodes h.1)
 
-pub last-stored : (room : ℕ) (arcs : List DdArc) (nodes : List Node) → Each (IsStored room arcs) nodes → Each (IsStored room arcs) (map at_end_in nodes)
-last-stored room arcs [] h = tt
-last-stored room arcs (node ∷ nodes) h = (record { row = h.0.row; fresh = h.0.fresh; arcs_lie = h.0.arcs_lie }, last-stored room arcs nodes h.1)
+pub last-lie : (arcs : List DdArc) (nodes : List Node) → Each (HasArcsIn arcs) nodes → Each (HasArcsIn arcs) (map at_end_in nodes)
+last-lie arcs [] h = tt
+last-lie arcs (node ∷ nodes) h = (h.0, last-lie arcs nodes h.1)
 
 -- ---- a layer, above one whose nodes are seen with these suffixes
 
 module _ (words room nodes_room arcs_room : ℕ) (row : ℕ → List ℤ) (arcs : List DdArc) (nodes : List Node) (layer : LayerView) (seen : record { words = words; nodes = map (node_view_by row arcs) nodes; nodes_room = room; arcs_room = arcs_room } ≡ layer)
-    (kept : HasKeptLayer room nodes nodes_room arcs) (suffixes : List (Option ℤ)) (arcs2 : List DdArc) (below nodes2 : List Node) (arcs_are : arcs2 ≡ arcs) (nodes_are : nodes2 ≡ nodes) (below_are : suffixes_in below ≡ suffixes) where
+    (kept : HasLayer room nodes nodes_room arcs) (suffixes : List (Option ℤ)) (arcs2 : List DdArc) (below nodes2 : List Node) (arcs_are : arcs2 ≡ arcs) (nodes_are : nodes2 ≡ nodes) (below_are : suffixes_in below ≡ suffixes) where
   pub layer-ends : Each (λ (node : NodeView). Each MayAdd node.arcs) layer.nodes → Each (λ (node : NodeView). Each (λ (arc : DdArc). MayLead suffixes arc.target) node.arcs) layer.nodes → Each (MayEnd arcs2 (suffixes_in below)) nodes2
   layer-ends add lead =
       let views = sym (ap (λ (l : LayerView). l.nodes) seen) in
@@ -142,7 +141,7 @@ module _ (words room nodes_room arcs_room : ℕ) (row : ℕ → List ℤ) (arcs 
   -- the nodes became these, and the layer is that of the rules
   pub record IsEnded (new : List Node) : Type 0 where
     pub size : length new ≡ length nodes
-    pub stays : HasKeptLayer room new nodes_room arcs
+    pub stays : HasLayer room new nodes_room arcs
     pub ended : record { words = words; nodes = map (node_view_by row arcs) new; nodes_room = room; arcs_room = arcs_room } ≡ ended_layer suffixes layer
 
   pub layer-ended : (new : List Node) → new ≡ map (ended_in arcs2 (suffixes_in below)) nodes2 → IsEnded new
@@ -152,7 +151,7 @@ module _ (words room nodes_room arcs_room : ℕ) (row : ℕ → List ℤ) (arcs 
       let with_nodes : List NodeView → LayerView = λ ns. record { words = words; nodes = ns; nodes_room = room; arcs_room = arcs_room } in
       record {
         size = ap length mapped ∙ long;
-        stays = subst (λ l. HasKeptLayer room l nodes_room arcs) (sym mapped) (record {
+        stays = subst (λ l. HasLayer room l nodes_room arcs) (sym mapped) (record {
           small = kept.small;
           fits = (let fit = kept.fits in omega arith);
           nodes_hold = kept.nodes_hold;

@@ -11,10 +11,9 @@ use Rattle.dp_model.proofs.Members.{Each-append}
 use Rattle.dp_laws.specs.Diagrams.Nodes.{DdNode}
 use Rattle.dp_laws.specs.Rules.Pruning.{Leader, redirect_within, first_redirect, at_leader, is_struck, leaders_past}
 use Rattle.dp_laws.specs.Rules.Reducing.{redirect_by}
-use Rattle.layer_candidates.specs.Rows.{row_at}
 use Rattle.layer_nodes.specs.declared.node.Node.{Node}
 use Rattle.layer_nodes.specs.declared.redirecting.LeaderAt.{LeaderAt}
-use Rattle.layer_nodes.specs.Leading.{IsNodeIn, IsLeaderIn, leader_of, leaders_of, led_at, bare}
+use Rattle.layer_nodes.specs.Leading.{IsNodeBy, IsLeaderBy, leader_of, leaders_of, led_at, bare}
 
 -- a gap is a small number
 pub gap-small : (dp : Dp) → IsLawful dp → (k : ℕ) (a s : List ℤ) (o : Option ℤ) → IsStateOf dp k a → IsStateOf dp k s → o ≡ dp.gap k a s → IfSome o (λ g. IsSmall g)
@@ -67,35 +66,35 @@ at-leader-same dp k (l ∷ leaders) a b row value =
 pub struck-same : (dp : Dp) (k : ℕ) (t : Option ℤ) (a b : DdNode) → a.row ≡ b.row → a.value ≡ b.value → is_struck dp k t a ≡ is_struck dp k t b
 struck-same dp k t a b row value = ap₂ (λ r v. is_struck_by v (dp.rough k r) t) row value
 
-module _ (dp : Dp) (k : ℕ) (rows : List ℤ) (words : ℕ) where
-  pub leader-more : (leaders : List LeaderAt) (node : Node) (i : ℕ) (d : LeaderAt) → i < length leaders → at_leader dp k (leaders_of rows words (drop i leaders)) (bare rows words node)
-      ≡ first_redirect (redirect_within (get_or leaders i d).place (dp.gap k (row_at rows words (get_or leaders i d).row) (row_at rows words node.row)) (get_or leaders i d).value node.value)
-      (at_leader dp k (leaders_of rows words (drop (i + 1) leaders)) (bare rows words node))
-  leader-more leaders node i d less = ap (λ l. at_leader dp k (leaders_of rows words l) (bare rows words node)) (drop_more leaders i d less)
+module _ (dp : Dp) (k : ℕ) (row : ℕ → List ℤ) where
+  pub leader-more : (leaders : List LeaderAt) (node : Node) (i : ℕ) (d : LeaderAt) → i < length leaders → at_leader dp k (leaders_of row (drop i leaders)) (bare row node)
+      ≡ first_redirect (redirect_within (get_or leaders i d).place (dp.gap k (row (get_or leaders i d).row) (row node.row)) (get_or leaders i d).value node.value)
+      (at_leader dp k (leaders_of row (drop (i + 1) leaders)) (bare row node))
+  leader-more leaders node i d less = ap (λ l. at_leader dp k (leaders_of row l) (bare row node)) (drop_more leaders i d less)
 
-  pub leader-end : (leaders : List LeaderAt) (node : Node) (i : ℕ) → length leaders ≤ i → at_leader dp k (leaders_of rows words (drop i leaders)) (bare rows words node) ≡ None
-  leader-end leaders node i less = ap (λ l. at_leader dp k (leaders_of rows words l) (bare rows words node)) (drop_all i leaders less)
+  pub leader-end : (leaders : List LeaderAt) (node : Node) (i : ℕ) → length leaders ≤ i → at_leader dp k (leaders_of row (drop i leaders)) (bare row node) ≡ None
+  leader-end leaders node i less = ap (λ l. at_leader dp k (leaders_of row l) (bare row node)) (drop_all i leaders less)
 
   -- a node that stays leads as it is shown
-  pub leaders-led : (leaders : List LeaderAt) (place : ℕ) (node : Node) (shown : DdNode) → shown.row ≡ row_at rows words node.row → shown.value ≡ node.value → shown.exact ≡ node.exact
-      → leaders_of rows words (led_at leaders place node) ≡ leaders_past (leaders_of rows words leaders) place shown
-  leaders-led leaders place node shown row value exact =
+  pub leaders-led : (leaders : List LeaderAt) (place : ℕ) (node : Node) (shown : DdNode) → shown.row ≡ row node.row → shown.value ≡ node.value → shown.exact ≡ node.exact
+      → leaders_of row (led_at leaders place node) ≡ leaders_past (leaders_of row leaders) place shown
+  leaders-led leaders place node shown row_is value exact =
       let l : LeaderAt = record { place = place; row = node.row; value = node.value; rank = node.rank } in
-      let of = leaders_of rows words in
+      let of = leaders_of row in
       let few : (node.exact && not (nat_le 16 (length leaders))) ≡ (shown.exact && not (nat_le 16 (length (of leaders)))) =
-      ap₂ (λ b n. b && not (nat_le 16 n)) (sym exact) (sym (length-map leaders (leader_of rows words))) in
-      let same : leader_of rows words l ≡ record { place = place; row = shown.row; value = shown.value } = ap₂ (λ r v. record { place = place; row = r; value = v }) (sym row) (sym value) in
+      ap₂ (λ b n. b && not (nat_le 16 n)) (sym exact) (sym (length-map leaders (leader_of row))) in
+      let same : leader_of row l ≡ record { place = place; row = shown.row; value = shown.value } = ap₂ (λ r v. record { place = place; row = r; value = v }) (sym row_is) (sym value) in
       let one : (b : Bool) → of (cond b (leaders ++ l ∷ []) leaders) ≡ cond b (of leaders ++ record { place = place; row = shown.row; value = shown.value } ∷ []) (of leaders) = λ b.
       elim b as (λ b. of (cond b (leaders ++ l ∷ []) leaders) ≡ cond b (of leaders ++ record { place = place; row = shown.row; value = shown.value } ∷ []) (of leaders)) [
-        | true ↦ map-append (leader_of rows words) leaders (l ∷ []) ∙ ap (λ x. of leaders ++ x ∷ []) same
+        | true ↦ map-append (leader_of row) leaders (l ∷ []) ∙ ap (λ x. of leaders ++ x ∷ []) same
         | false ↦ refl
       ] in
       one (node.exact && not (nat_le 16 (length leaders))) ∙ ap (λ b. cond b (of leaders ++ record { place = place; row = shown.row; value = shown.value } ∷ []) (of leaders)) few
 
-  pub each-led : (leaders : List LeaderAt) (place : ℕ) (node : Node) → Each (IsLeaderIn dp k rows words) leaders → IsNodeIn dp k rows words node → Each (IsLeaderIn dp k rows words) (led_at leaders place node)
+  pub each-led : (leaders : List LeaderAt) (place : ℕ) (node : Node) → Each (IsLeaderBy dp k row) leaders → IsNodeBy dp k row node → Each (IsLeaderBy dp k row) (led_at leaders place node)
   each-led leaders place node all one =
       let l : LeaderAt = record { place = place; row = node.row; value = node.value; rank = node.rank } in
-      elim (node.exact && not (nat_le 16 (length leaders))) as (λ b. Each (IsLeaderIn dp k rows words) (cond b (leaders ++ l ∷ []) leaders)) [
-        | true ↦ Each-append (IsLeaderIn dp k rows words) leaders (l ∷ []) all (one, tt)
+      elim (node.exact && not (nat_le 16 (length leaders))) as (λ b. Each (IsLeaderBy dp k row) (cond b (leaders ++ l ∷ []) leaders)) [
+        | true ↦ Each-append (IsLeaderBy dp k row) leaders (l ∷ []) all (one, tt)
         | false ↦ all
       ]

@@ -2,9 +2,11 @@ pub mod Tried
 pub mod Numbered
 pub mod Spans
 pub mod Expanded
+pub mod KeyRows
 pub mod Redirected
 pub mod Stored
-pub mod Cells
+pub mod Exchanges
+pub mod Given
 pub mod Shown
 pub mod Leaders
 pub mod Pruned

@@ -1,9 +1,8 @@
 -- Ways that are numbered by their keys.
-use Rattle.std.proofs.Common.{◌≡◌, ◌≢◌, ℕ, ◌+◌, ◌<◌, List, ◌++◌, length, map, take, drop, set, slice_get, Some, ◌⊎◌, inl, inr, sym, ap, ◌∙◌, arith}
-use Rattle.std.proofs.lemmas.List.{get_or-set_same, get_or-set_other, length-set}
-use Rattle.std.proofs.lemmas.Option.{slice_get-get_or, slice_get_within, get_or_from_slice_get}
+use Rattle.std.proofs.Common.{◌≡◌, ◌≢◌, ℕ, ◌+◌, ◌<◌, List, ◌++◌, length, map, take, drop, set, ◌⊎◌, inl, inr, add-one, sym, ap, ◌∙◌, arith}
+use Rattle.std.proofs.lemmas.List.{get_or-set_same, get_or-set_other}
 use Rattle.layer_candidates.specs.declared.key.Key.{Key}
-use Rattle.layer_nodes.specs.Expanding.{key_in, IsNumbered}
+use Rattle.layer_nodes.specs.Expanding.{key_in, one_less, number_at, IsNumbered}
 
 -- a list is changed place by place
 pub record IsMapped {X : Type 0} (f : X → X) (old now : List X) (i : ℕ) : Type 0 where
@@ -16,25 +15,23 @@ same-or a b = grind arith
 
 -- one key more
 pub numbered-more : (keys : List Key) (places : List ℕ) (i : ℕ) → (key_in keys i).place < length places → ((j : ℕ) → j < i → IsNumbered i keys places (key_in keys j).place)
-    → (j : ℕ) → j < i + 1 → IsNumbered (i + 1) keys (set places (key_in keys i).place i) (key_in keys j).place
+    → (j : ℕ) → j < i + 1 → IsNumbered (i + 1) keys (set places (key_in keys i).place (i + 1)) (key_in keys j).place
 numbered-more keys places i room done j less = go (same-or (key_in keys j).place (key_in keys i).place)
   where
-    go : ((key_in keys j).place ≡ (key_in keys i).place) ⊎ ((key_in keys j).place ≢ (key_in keys i).place) → IsNumbered (i + 1) keys (set places (key_in keys i).place i) (key_in keys j).place
+    go : ((key_in keys j).place ≡ (key_in keys i).place) ⊎ ((key_in keys j).place ≢ (key_in keys i).place) → IsNumbered (i + 1) keys (set places (key_in keys i).place (i + 1)) (key_in keys j).place
     go (inl e) = record {
       number = i;
-      is = ap (slice_get (set places (key_in keys i).place i)) e ∙ (slice_get-get_or (set places (key_in keys i).place i) (key_in keys i).place 0 (let size = length-set places (key_in keys i).place i in omega arith) ∙ ap Some (get_or-set_same places (key_in keys i).place i 0 room));
+      is = ap (number_at (set places (key_in keys i).place (i + 1))) e ∙ ap one_less (get_or-set_same places (key_in keys i).place (i + 1) 0 room ∙ add-one i);
       within = omega arith;
       same = sym e;
     }
     go (inr n) =
         let low : j < i = last (same-or j i) in
         let was = done j low in
-        let inside = slice_get_within places (key_in keys j).place was.number was.is in
         let old = was.within in
         record {
           number = was.number;
-          is = slice_get-get_or (set places (key_in keys i).place i) (key_in keys j).place 0 (let size = length-set places (key_in keys i).place i in omega arith)
-              ∙ ap Some (get_or-set_other places (key_in keys i).place (key_in keys j).place i 0 n ∙ get_or_from_slice_get places (key_in keys j).place was.number 0 was.is);
+          is = ap one_less (get_or-set_other places (key_in keys i).place (key_in keys j).place (i + 1) 0 n) ∙ was.is;
           within = omega arith;
           same = was.same;
         }

@@ -1,17 +1,20 @@
 -- Layers with their paths, whose arcs get new targets.
-use Rattle.std.proofs.Common.{IsSome, ◌<◌, ◌≡◌, ℕ, ◌+◌, ℤ, List, [], ◌∷◌, map, take, drop, Option, refl, ap, ap₂}
+use Rattle.std.proofs.Common.{◌≡◌, ℕ, ◌+◌, ℤ, List, [], ◌∷◌, map, take, drop, Option, refl, ap, ap₂}
 use Rattle.dp_model.specs.Dp.{Dp}
 use Rattle.dp_model.specs.Lists.{Each}
 use Rattle.dp_laws.specs.declared.arc.DdArc.{DdArc}
 use Rattle.dp_laws.specs.Diagrams.Nodes.{DdNode, path_below}
 use Rattle.dp_laws.specs.Rules.Redirects.{Redirect, redirected, with_redirected}
+use Rattle.row_region.specs.Region.{RegionView}
 use Rattle.layer_nodes.specs.declared.node.Node.{Node}
+use Rattle.layer_nodes.specs.Holding.{AreHeld, places_of}
 use Rattle.layer_nodes.specs.Leading.{IsNodeIn}
 use Rattle.layer_nodes.specs.Nodes.{NodeView, shown, shown_from, shown_below, without_arcs}
 use Rattle.layer_nodes.specs.Redirecting.{AreRedirected}
 use Rattle.layer_nodes.specs.Steps.{IsNodeOf, MayBeLengthened}
-use Rattle.layer_nodes.specs.Stored.{node_view_by, node_view, IsStored, HasRow}
+use Rattle.layer_nodes.specs.Stored.{node_view_by, rows_in}
 use Rattle.layer_nodes.specs.Striking.{Shows}
+use Rattle.layer_nodes.proofs.Given.{in-by}
 use Rattle.layer_nodes.proofs.Redirected.{redirected-take, redirected-drop, redirected-far}
 
 -- ---- the layer above
@@ -42,31 +45,21 @@ map-map f g [] = refl
 map-map f g (x ∷ xs) = ap (λ l. f (g x) ∷ l) (map-map f g xs)
 
 -- the places of the rows of nodes
-pub places-seen : (row : ℕ → List ℤ) (arcs : List DdArc) (nodes : List Node) → map (λ (n : NodeView). n.place) (map (node_view_by row arcs) nodes) ≡ map (λ (node : Node). node.row) nodes
+pub places-seen : (row : ℕ → List ℤ) (arcs : List DdArc) (nodes : List Node) → places_of (map (node_view_by row arcs) nodes) ≡ rows_in nodes
 places-seen row arcs nodes = map-map (λ (n : NodeView). n.place) (node_view_by row arcs) nodes
 
 -- a node of the layer below, as it is shown
-abbrev pub seen : (ℕ → List ℕ) → ℕ → List ℤ → List DdArc → Node → DdNode
-seen paths words rows arcs node = shown (path_below paths node.parent node.decision) (node_view words rows arcs node)
+abbrev pub seen : (ℕ → List ℕ) → (ℕ → List ℤ) → List DdArc → Node → DdNode
+seen paths row arcs node = shown (path_below paths node.parent node.decision) (node_view_by row arcs node)
 
-pub seen-shows : (paths : ℕ → List ℕ) (words : ℕ) (rows : List ℤ) (arcs : List DdArc) → Shows rows words (seen paths words rows arcs)
-seen-shows paths words rows arcs = record { rows_are = λ node. refl; values_are = λ node. refl; exact_are = λ node. refl }
+pub seen-shows : (paths : ℕ → List ℕ) (row : ℕ → List ℤ) (arcs : List DdArc) → Shows row (seen paths row arcs)
+seen-shows paths row arcs = record { rows_are = λ node. refl; values_are = λ node. refl; exact_are = λ node. refl }
 
-pub below-seen : (paths : ℕ → List ℕ) (words : ℕ) (rows : List ℤ) (arcs : List DdArc) (nodes : List Node) → shown_below paths (map (node_view words rows arcs) nodes) ≡ map (seen paths words rows arcs) nodes
-below-seen paths words rows arcs nodes = map-map (λ (node : NodeView). shown (path_below paths node.parent node.decision) node) (node_view words rows arcs) nodes
+pub below-seen : (paths : ℕ → List ℕ) (row : ℕ → List ℤ) (arcs : List DdArc) (nodes : List Node) → shown_below paths (map (node_view_by row arcs) nodes) ≡ map (seen paths row arcs) nodes
+below-seen paths row arcs nodes = map-map (λ (node : NodeView). shown (path_below paths node.parent node.decision) node) (node_view_by row arcs) nodes
 
-pub each-view : (P : NodeView → Type 0) (words : ℕ) (rows : List ℤ) (arcs : List DdArc) (nodes : List Node) → Each P (map (node_view words rows arcs) nodes) → Each (λ node. P (node_view words rows arcs node)) nodes
-each-view P words rows arcs [] h = tt
-each-view P words rows arcs (node ∷ nodes) h = (h.0, each-view P words rows arcs nodes h.1)
-
-pub nodes-in : (dp : Dp) (k words : ℕ) (rows : List ℤ) (arcs : List DdArc) (nodes : List Node) → Each (IsNodeOf dp k) (map (node_view words rows arcs) nodes) → Each (HasRow words rows) nodes
-    → Each (IsNodeIn dp k rows words) nodes
-nodes-in dp k words rows arcs [] h r = tt
-nodes-in dp k words rows arcs (node ∷ nodes) h r =
-    (record { within = r.0; state = h.0.state; ranked = h.0.rank; near = h.0.value }, nodes-in dp k words rows arcs nodes h.1 r.1)
-
--- nodes with a parent do not stand in the row behind the room
-pub fresh-rows : (room words : ℕ) (rows : List ℤ) (arcs : List DdArc) (nodes : List Node) → Each (λ (n : NodeView). IsSome n.parent) (map (node_view words rows arcs) nodes) → Each (IsStored room arcs) nodes
-    → Each (λ node. node.row < room) nodes
-fresh-rows room words rows arcs [] some stored = tt
-fresh-rows room words rows arcs (node ∷ nodes) some stored = (stored.0.fresh some.0, fresh-rows room words rows arcs nodes some.1 stored.1)
+pub nodes-in : (dp : Dp) (k : ℕ) (region : RegionView) (row : ℕ → List ℤ) (arcs : List DdArc) (nodes : List Node) → Each (IsNodeOf dp k) (map (node_view_by row arcs) nodes) → AreHeld region (map (node_view_by row arcs) nodes)
+    → Each (IsNodeIn dp k region) nodes
+nodes-in dp k region row arcs [] h held = tt
+nodes-in dp k region row arcs (node ∷ nodes) h held =
+    (in-by dp k region row node.row node.value node.rank held.0 (record { state = h.0.state; ranked = h.0.rank; near = h.0.value }), nodes-in dp k region row arcs nodes h.1 held.1)

@@ -1,5 +1,5 @@
 -- A layer that was expanded in memory without its struck nodes is that of the rules, whatever the paths are.
-use Rattle.std.proofs.Common.{◌≡◌, ◌≢◌, ℕ, zero, suc, ◌+◌, ◌*◌, ◌<◌, ◌≤◌, nat_eq, ℤ, pos, ◌+ℤ◌, Bool, true, false, not, cond, List, [], ◌∷◌, length, map, slice_get, Option, Some, None, IsSome, option_and_then, inl, inr, refl, sym, ◌∙◌, ap, ap₂, subst, arith}
+use Rattle.std.proofs.Common.{◌≡◌, ◌≢◌, ℕ, zero, suc, ◌+◌, ◌*◌, ◌<◌, ◌≤◌, ℤ, pos, ◌+ℤ◌, Bool, true, false, not, cond, List, [], ◌∷◌, length, map, slice_get, Option, Some, None, IsSome, option_and_then, inl, inr, refl, sym, ◌∙◌, ap, ap₂, subst, arith}
 use Rattle.std.proofs.lemmas.Int.{ints}
 use Rattle.std.proofs.lemmas.List.{length-map}
 use Rattle.std.proofs.lemmas.Option.{slice_get-map, slice_get-get_or}
@@ -8,7 +8,6 @@ use Rattle.dp_model.specs.Gaps.{is_struck_by}
 use Rattle.dp_model.specs.Lists.{Each}
 use Rattle.dp_model.specs.Reached.{Reached}
 use Rattle.dp_model.proofs.Members.{Has, each-has, each-of-all, Has-map, Has-filter, Has-filter-from}
-use Rattle.dp_model.proofs.RowLemmas.{nat_eq-is, nat_eq-self}
 use Rattle.dp_laws.specs.declared.arc.DdArc.{DdArc}
 use Rattle.dp_laws.specs.Diagrams.Nodes.{DdNode, prefix_at}
 use Rattle.dp_laws.specs.Diagrams.Seen.{decisions_at}
@@ -19,7 +18,7 @@ use Rattle.dp_laws.specs.Restricted.ReductionOrder.{in_order}
 use Rattle.dp_laws.specs.Rules.Expanding.{node_for, new_layer, arc_of, with_arcs}
 use Rattle.dp_laws.specs.Rules.Pruning.{is_struck}
 use Rattle.dp_laws.specs.Rules.Redirects.{Redirect, redirected_by, redirected, with_redirected}
-use Rattle.dp_laws.proofs.Diagrams.Places.{same-Some, Has-at}
+use Rattle.dp_laws.proofs.Diagrams.Places.{same-Some}
 use Rattle.dp_laws.proofs.Lists.{two-filter}
 use Rattle.dp_laws.proofs.Restricted.Joining.{one-in_order}
 use Rattle.dp_laws.proofs.Restricted.Permutations.{each-at, each-permutation, Has-permutation}
@@ -29,20 +28,22 @@ use Rattle.layer_candidates.specs.declared.way.Way.{Way}
 use Rattle.layer_candidates.specs.KeyOrder.{key_at, keys_of, all_of, IsKeyOf}
 use Rattle.layer_candidates.specs.Members.{members_as}
 use Rattle.layer_candidates.specs.Pruning.{struck, unstruck_keys}
-use Rattle.layer_candidates.specs.Rows.{row_at}
-use Rattle.layer_candidates.specs.Ways.{reached_at, all_reached, AreDistinct}
+use Rattle.layer_candidates.specs.HeldRows.{held_row, AreSame, HasLeft}
+use Rattle.layer_candidates.specs.Ways.{rows_of, way_row, reached_at, all_reached, AreDistinct}
 use Rattle.layer_candidates.proofs.Layered.{has-table}
 use Rattle.layer_candidates.proofs.Sorted.{unstruck-are, unstruck-in-order, unstruck-length}
 use Rattle.layer_nodes.specs.declared.node.Node.{Node}
-use Rattle.layer_nodes.specs.Holding.{HasArcsIn}
 use Rattle.layer_nodes.specs.Nodes.{NodeView, shown_layer, shown_below, without_arcs}
-use Rattle.layer_nodes.specs.Stored.{node_view, IsStored}
+use Rattle.row_region.specs.Region.{RegionView, IsLive}
+use Rattle.layer_nodes.specs.Stored.{node_view_by, rows_in, HasArcsIn}
 use Rattle.layer_nodes.specs.Steps.{IsRanked}
-use Rattle.layer_nodes.specs.Expanding.{trial, trials_of, all_spanned, arc_to, LeadsToRow, AreTried, key_in, IsNumbered, node_of, members_from, IsExpanded}
-use Rattle.layer_nodes.specs.Sifting.{sifted_nodes, sift_redirects, expand_sifted, number_in, led_in, AreSifted}
+use Rattle.layer_nodes.specs.Expanding.{trial, trials_of, all_spanned, arc_to, LeadsToRow, AreTried, key_in, number_at, IsNumbered, led, node_of, members_from, IsExpanded}
+use Rattle.layer_nodes.specs.Sifting.{sifted_nodes, sift_redirects, expand_sifted, AreSifted}
+use Rattle.layer_nodes.proofs.KeyRows.{rows-of-nodes, found-by}
 use Rattle.layer_nodes.proofs.Spans.{length-spanned}
+use Rattle.layer_nodes.proofs.Shown.{map-map}
 use Rattle.layer_nodes.proofs.Tried.{length-arcs}
-use Rattle.layer_nodes.proofs.Expanded.{map-map, members-shown, place-of, row-found, get_or-any, above-from, keys-shown, rows-of, rest-stays, places-stay, arcs-within, keys-ranked, keys-unmerged, keys-stored}
+use Rattle.layer_nodes.proofs.Expanded.{members-shown, place-of, row-found, get_or-any, above-from, keys-shown, rows-of, rest-stays, places-stay, arcs-within, IsFoundBy, keys-ranked, keys-unmerged, keys-bare}
 
 -- What is left of nodes.
 
@@ -101,27 +102,6 @@ nodes-left dp k t above (r ∷ rs) = pushed (is_struck_by r.value (dp.rough (k +
     pushed true = refl
     pushed false = refl
 
--- no number where no key is that of the way
-number-none : (keys : List Key) (places : List ℕ) (p : ℕ) → Each (λ (key : Key). key.place ≢ p) keys → number_in keys places p ≡ None
-number-none keys places p h =
-    elim (slice_get places p) as (λ o. option_and_then (λ n. option_and_then (λ (key : Key). cond (nat_eq key.place p) (Some n) None) (slice_get keys n)) o ≡ None) [
-      | None ↦ refl
-      | Some n ↦ elim (slice_get keys n) as (λ o. slice_get keys n ≡ o → option_and_then (λ (key : Key). cond (nat_eq key.place p) (Some n) None) o ≡ None) [
-        | None ↦ λ e. refl
-        | Some key ↦ λ e. (
-            let other : key.place ≢ p = each-has (λ (x : Key). x.place ≢ p) keys key h (Has-at keys n key e) in
-            elim (nat_eq key.place p) as (λ b. nat_eq key.place p ≡ b → cond b (Some n) None ≡ None) [ true ↦ λ s. absurd (other (nat_eq-is key.place p s)) | false ↦ λ s. refl ] refl)
-      ] refl
-    ]
-
--- and the number of a way that has one
-number-some : (keys : List Key) (places : List ℕ) (p : ℕ) (h : IsNumbered (length keys) keys places p) → number_in keys places p ≡ Some h.number
-number-some keys places p h =
-    let key = key_in keys h.number in
-    ap (λ o. option_and_then (λ n. option_and_then (λ (key : Key). cond (nat_eq key.place p) (Some n) None) (slice_get keys n)) o) h.is
-    ∙ (ap (λ o. option_and_then (λ (key : Key). cond (nat_eq key.place p) (Some h.number) None) o) (slice_get-get_or keys h.number (key_in [] 0) h.within)
-    ∙ ap (λ b. cond b (Some h.number) None) (ap (λ q. nat_eq q p) h.same ∙ nat_eq-self p))
-
 abbrev arc_with : DdArc → Option ℕ → DdArc
 arc_with arc target = record arc { target = target }
 
@@ -129,62 +109,65 @@ two-changes : (dp : Dp) (k : ℕ) (next : List DdNode) (redirects : List (Option
     → map (λ (node : DdNode). record node { arcs = map (λ d. redirected redirects (arc_of dp k next node.row d)) (decisions_at dp k node.row) }) layer ≡ with_redirected redirects (with_arcs dp k next layer)
 two-changes dp k next redirects [] = refl
 two-changes dp k next redirects (node ∷ layer) =
-    ap₂ (λ as_ l. record node { arcs = as_ } ∷ l) (sym (map-map (arc_of dp k next node.row) (redirected redirects) (decisions_at dp k node.row))) (two-changes dp k next redirects layer)
+    ap₂ (λ as_ l. record node { arcs = as_ } ∷ l) (sym (map-map (redirected redirects) (arc_of dp k next node.row) (decisions_at dp k node.row))) (two-changes dp k next redirects layer)
 
 -- The whole.
 
-module _ (dp : Dp) (k : ℕ) (t : Option ℤ) (low : k < dp.vars) (cells : List ℤ) (words : ℕ) (old : List DdArc) (nodes : List Node) (rows : List ℤ) (ways : List Way)
+module _ (dp : Dp) (k : ℕ) (t : Option ℤ) (low : k < dp.vars) (region : RegionView) (old : List DdArc) (nodes : List Node) (mid : RegionView) (ways : List Way)
     (marks : List Bool) (arcs led_arcs : List DdArc) (nodes2 below : List Node)
-    (distinct : AreDistinct dp (k + 1) rows words ways)
-    (list : (paths : ℕ → List ℕ) → all_reached paths rows words ways ≡ all_joined [] (candidates dp k (members_as paths cells words (members_from 0 nodes))))
-    (tried : AreTried dp k rows words (length ways) (trials_of dp k cells words nodes) marks arcs)
-    (spans : nodes2 ≡ all_spanned dp k cells words 0 nodes)
-    (arranged : AreSifted dp (k + 1) t rows words ways marks arcs led_arcs below) where
+    (distinct : AreDistinct dp (k + 1) (way_row mid ways) ways)
+    (list : (paths : ℕ → List ℕ) → all_reached paths (way_row mid ways) ways ≡ all_joined [] (candidates dp k (members_as paths region (members_from 0 nodes))))
+    (tried : AreTried dp k (way_row mid ways) (length ways) (trials_of dp k (held_row region) nodes) marks arcs)
+    (spans : nodes2 ≡ all_spanned dp k (held_row region) 0 nodes)
+    (arranged : AreSifted dp (k + 1) t mid ways marks arcs led_arcs below) (held : ℕ → List ℤ) (found : Each (IsFoundBy held (way_row mid ways)) arranged.keys) where
   abbrev keys : List Key
   keys = arranged.keys
 
+  abbrev row : ℕ → List ℤ
+  row = way_row mid ways
+
   abbrev layer_of : (ℕ → List ℕ) → List DdNode
-  layer_of paths = shown_layer paths (map (node_view words cells old) nodes)
+  layer_of paths = shown_layer paths (map (node_view_by (held_row region) old) nodes)
 
   abbrev next_of : (ℕ → List ℕ) → List DdNode
   next_of paths = new_layer dp k (layer_of paths)
 
   layer-keys : Each (IsKeyOf ways) keys
-  layer-keys = unstruck-are dp (k + 1) t rows words ways keys arranged.all
+  layer-keys = unstruck-are dp (k + 1) t mid ways keys arranged.all
 
-  all-is : (paths : ℕ → List ℕ) → in_order dp (k + 1) (all_reached paths rows words ways) ≡ expanded dp k (map prefix_at (layer_of paths))
-  all-is paths = ap (in_order dp (k + 1)) (list paths ∙ ap (λ l. all_joined [] (candidates dp k l)) (members-shown cells words old paths 0 nodes))
+  all-is : (paths : ℕ → List ℕ) → in_order dp (k + 1) (all_reached paths row ways) ≡ expanded dp k (map prefix_at (layer_of paths))
+  all-is paths = ap (in_order dp (k + 1)) (list paths ∙ ap (λ l. all_joined [] (candidates dp k l)) (members-shown region old paths 0 nodes))
 
-  order-is : (paths : ℕ → List ℕ) → all_of paths rows words ways keys ≡ unstruck dp (k + 1) t (expanded dp k (map prefix_at (layer_of paths)))
-  order-is paths = unstruck-in-order dp (k + 1) t rows words ways keys arranged.all distinct.apart distinct.good arranged.sorted paths ∙ ap (unstruck dp (k + 1) t) (all-is paths)
+  order-is : (paths : ℕ → List ℕ) → all_of paths row ways keys ≡ unstruck dp (k + 1) t (expanded dp k (map prefix_at (layer_of paths)))
+  order-is paths = unstruck-in-order dp (k + 1) t mid ways keys arranged.all distinct.apart distinct.good arranged.sorted paths ∙ ap (unstruck dp (k + 1) t) (all-is paths)
 
-  kept-is : (paths : ℕ → List ℕ) → map (node_for dp k (layer_of paths)) (all_of paths rows words ways keys) ≡ sifted_nodes dp (k + 1) t (next_of paths)
+  kept-is : (paths : ℕ → List ℕ) → map (node_for dp k (layer_of paths)) (all_of paths row ways keys) ≡ sifted_nodes dp (k + 1) t (next_of paths)
   kept-is paths = ap (map (node_for dp k (layer_of paths))) (order-is paths) ∙ nodes-left dp k t (layer_of paths) (expanded dp k (map prefix_at (layer_of paths)))
 
-  pub next-shown : (paths : ℕ → List ℕ) (any : List DdArc) → shown_below paths (map (node_view words rows any) below) ≡ sifted_nodes dp (k + 1) t (next_of paths)
+  pub next-shown : (paths : ℕ → List ℕ) (any : List DdArc) → shown_below paths (map (node_view_by held any) below) ≡ sifted_nodes dp (k + 1) t (next_of paths)
   next-shown paths any =
-      ap (λ l. shown_below paths (map (node_view words rows any) l)) arranged.nodes_are
-      ∙ (keys-shown dp k low cells words old nodes rows ways marks arcs tried paths any keys layer-keys ∙ kept-is paths)
+      ap (λ l. shown_below paths (map (node_view_by held any) l)) arranged.nodes_are
+      ∙ (keys-shown dp k low region old nodes row ways marks arcs tried held paths any keys layer-keys found ∙ kept-is paths)
 
   module _ (paths : ℕ → List ℕ) (p : ℕ) (less : p < length ways) where
     abbrev node : DdNode
-    node = node_for dp k (layer_of paths) (reached_at paths rows words ways p)
+    node = node_for dp k (layer_of paths) (reached_at paths row ways p)
 
     has-node : Has node (next_of paths)
     has-node =
-        let r = reached_at paths rows words ways p in
+        let r = reached_at paths row ways p in
         Has-map (node_for dp k (layer_of paths)) (expanded dp k (map prefix_at (layer_of paths))) r
-        (subst (Has r) (all-is paths) (one-in_order (λ y. y ≡ r) dp (k + 1) (all_reached paths rows words ways) (has-table (reached_at paths rows words ways) (length ways) p less)))
+        (subst (Has r) (all-is paths) (one-in_order (λ y. y ≡ r) dp (k + 1) (all_reached paths row ways) (has-table (reached_at paths row ways) (length ways) p less)))
 
     -- a struck way has no number
     none-struck : is_struck dp (k + 1) t node ≡ true → Each (λ (key : Key). key.place ≢ p) keys
-    none-struck e = each-permutation (unstruck_keys dp (k + 1) t rows words ways) keys arranged.all (λ (key : Key). key.place ≢ p)
-        (each-of-all (λ (key : Key). key.place ≢ p) (unstruck_keys dp (k + 1) t rows words ways) (λ key has same. (
-        let from = Has-filter-from (λ (x : Key). not (struck dp (k + 1) t rows words x)) (keys_of ways) key has in
-        let mine = each-has (IsKeyOf ways) keys key layer-keys (Has-permutation (unstruck_keys dp (k + 1) t rows words ways) keys arranged.all key has) in
+    none-struck e = each-permutation (unstruck_keys dp (k + 1) t mid ways) keys arranged.all (λ (key : Key). key.place ≢ p)
+        (each-of-all (λ (key : Key). key.place ≢ p) (unstruck_keys dp (k + 1) t mid ways) (λ key has same. (
+        let from = Has-filter-from (λ (x : Key). not (struck dp (k + 1) t mid x)) (keys_of ways) key has in
+        let mine = each-has (IsKeyOf ways) keys key layer-keys (Has-permutation (unstruck_keys dp (k + 1) t mid ways) keys arranged.all key has) in
         let is : key ≡ key_at ways p = mine.is ∙ ap (key_at ways) same in
-        let out : struck dp (k + 1) t rows words key ≡ true = ap (struck dp (k + 1) t rows words) is ∙ e in
-        let free : not (struck dp (k + 1) t rows words key) ≡ true = from.1 in
+        let out : struck dp (k + 1) t mid key ≡ true = ap (struck dp (k + 1) t mid) is ∙ e in
+        let free : not (struck dp (k + 1) t mid key) ≡ true = from.1 in
         let no : not true ≡ true = sym (ap not out) ∙ free in
         cc)))
 
@@ -192,20 +175,20 @@ module _ (dp : Dp) (k : ℕ) (t : Option ℤ) (low : k < dp.vars) (cells : List 
     number-of : is_struck dp (k + 1) t node ≡ false → IsNumbered (length keys) keys arranged.places p
     number-of e =
         let key = key_at ways p in
-        let free : not (struck dp (k + 1) t rows words key) ≡ true = ap not e in
+        let free : not (struck dp (k + 1) t mid key) ≡ true = ap not e in
         each-has (λ (x : Key). IsNumbered (length keys) keys arranged.places x.place) keys key
         (each-at (λ (x : Key). IsNumbered (length keys) keys arranged.places x.place) keys
         (λ j d in_keys. subst (λ (x : Key). IsNumbered (length keys) keys arranged.places x.place) (get_or-any keys j _ d in_keys) (arranged.numbered j in_keys)))
-        (Has-permutation (unstruck_keys dp (k + 1) t rows words ways) keys arranged.all key
-        (Has-filter (λ (x : Key). not (struck dp (k + 1) t rows words x)) (keys_of ways) key (has-table (key_at ways) (length ways) p less) free))
+        (Has-permutation (unstruck_keys dp (k + 1) t mid ways) keys arranged.all key
+        (Has-filter (λ (x : Key). not (struck dp (k + 1) t mid x)) (keys_of ways) key (has-table (key_at ways) (length ways) p less) free))
 
-    place-at : (kept : List DdNode) → kept ≡ map (node_for dp k (layer_of paths)) (all_of paths rows words ways keys) → (h : IsNumbered (length keys) keys arranged.places p)
-        → slice_get (map (λ (n : DdNode). n.row) kept) h.number ≡ Some (row_at rows words p)
+    place-at : (kept : List DdNode) → kept ≡ map (node_for dp k (layer_of paths)) (all_of paths row ways keys) → (h : IsNumbered (length keys) keys arranged.places p)
+        → slice_get (map (λ (n : DdNode). n.row) kept) h.number ≡ Some (row p)
     place-at kept is h =
-        ap (λ l. slice_get (map (λ (n : DdNode). n.row) l) h.number) is ∙ (ap (λ l. slice_get l h.number) (rows-of dp k rows words ways (layer_of paths) paths keys)
-        ∙ (slice_get-map (λ (key : Key). row_at rows words key.place) keys h.number
-        ∙ (ap (λ o. option_and_then (λ (key : Key). Some (row_at rows words key.place)) o) (slice_get-get_or keys h.number (key_in [] 0) h.within)
-        ∙ ap (λ q. Some (row_at rows words q)) h.same)))
+        ap (λ l. slice_get (map (λ (n : DdNode). n.row) l) h.number) is ∙ (ap (λ l. slice_get l h.number) (rows-of dp k row ways (layer_of paths) paths keys)
+        ∙ (slice_get-map (λ (key : Key). row key.place) keys h.number
+        ∙ (ap (λ o. option_and_then (λ (key : Key). Some (row key.place)) o) (slice_get-get_or keys h.number (key_in [] 0) h.within)
+        ∙ ap (λ q. Some (row q)) h.same)))
 
     abbrev redirects : List (Option Redirect)
     redirects = sift_redirects dp (k + 1) t 0 (next_of paths)
@@ -214,91 +197,97 @@ module _ (dp : Dp) (k : ℕ) (t : Option ℤ) (low : k < dp.vars) (cells : List 
     goes_at arc j = redirected_by (arc_with arc (Some j)) (option_and_then (λ l. l) (slice_get redirects j))
 
     target-goes : (arc : DdArc) (j : ℕ) → arc.longer ≡ pos 0 → slice_get (next_of paths) j ≡ Some node → (b : Bool) → is_struck dp (k + 1) t node ≡ b
-        → arc_with arc (number_in keys arranged.places p) ≡ goes_at arc j
+        → arc_with arc (number_at arranged.places p) ≡ goes_at arc j
     target-goes arc j short at true e =
         let gone = struck-at dp (k + 1) t 0 (next_of paths) j node at e in
-        ap (arc_with arc) (number-none keys arranged.places p (none-struck e))
+        ap (arc_with arc) (arranged.unnumbered p less (none-struck e))
         ∙ ap (λ o. redirected_by (arc_with arc (Some j)) (option_and_then (λ l. l) o)) (sym gone)
     target-goes arc j short at false e =
         let s = stays-at dp (k + 1) t 0 (next_of paths) j node at e in
         let h = number-of e in
         let kept = sifted_nodes dp (k + 1) t (next_of paths) in
-        let there = row-found kept h.number (row_at rows words p) (place-at kept (sym (kept-is paths)) h) in
+        let there = row-found kept h.number (row p) (place-at kept (sym (kept-is paths)) h) in
         let apart : RowsApart kept = two-filter (λ (a b : DdNode). a.row ≢ b.row) (λ n. not (is_struck dp (k + 1) t n)) (next_of paths) (new-apart dp k (layer_of paths)) in
         let same : h.number ≡ s.place = one-place kept h.number s.place there.0 node apart there.1 s.at there.2 in
         let sum : arc.longer ≡ (arc.longer +ℤ pos 0) = (let z = short in omega (arith, ints)) in
         let first : s.place ≡ 0 + s.place = omega arith in
-        ap (arc_with arc) (number-some keys arranged.places p h ∙ ap Some same)
+        ap (arc_with arc) (h.is ∙ ap Some same)
         ∙ (ap (λ l. record arc { target = Some s.place; longer = l }) sum
         ∙ (ap (λ m. record arc { target = Some m; longer = arc.longer +ℤ pos 0 }) first
         ∙ ap (λ o. redirected_by (arc_with arc (Some j)) (option_and_then (λ l. l) o)) (sym s.goes)))
 
-  arc-goes : (paths : ℕ → List ℕ) (s : List ℤ) (exact : Bool) (d : ℕ) (arc : DdArc) → LeadsToRow dp k rows words (length ways) (trial s exact d) arc
-      → led_in keys arranged.places arc ≡ redirected (sift_redirects dp (k + 1) t 0 (next_of paths)) (arc_of dp k (next_of paths) s d)
+  arc-goes : (paths : ℕ → List ℕ) (s : List ℤ) (exact : Bool) (d : ℕ) (arc : DdArc) → LeadsToRow dp k row (length ways) (trial s exact d) arc
+      → led arranged.places arc ≡ redirected (sift_redirects dp (k + 1) t 0 (next_of paths)) (arc_of dp k (next_of paths) s d)
   arc-goes paths s exact d arc h =
       let to = arc_to dp k (trial s exact d) h.place in
-      let y = node_for dp k (layer_of paths) (reached_at paths rows words ways h.place) in
+      let y = node_for dp k (layer_of paths) (reached_at paths row ways h.place) in
       let j = has-place (next_of paths) y (has-node paths h.place h.within) in
-      let row : slice_get (map (λ (n : DdNode). n.row) (next_of paths)) j.0 ≡ Some (dp.step k s d) =
-      slice_get-map (λ (n : DdNode). n.row) (next_of paths) j.0 ∙ (ap (λ o. option_and_then (λ (n : DdNode). Some n.row) o) j.1 ∙ ap Some h.row) in
-      let found = place-of (next_of paths) j.0 (dp.step k s d) (new-apart dp k (layer_of paths)) row in
-      ap (led_in keys arranged.places) h.is
+      let there : slice_get (map (λ (n : DdNode). n.row) (next_of paths)) j.0 ≡ Some (dp.step k s d) =
+      slice_get-map (λ (n : DdNode). n.row) (next_of paths) j.0 ∙ (ap (λ o. option_and_then (λ (n : DdNode). Some n.row) o) j.1 ∙ ap Some h.made) in
+      let found = place-of (next_of paths) j.0 (dp.step k s d) (new-apart dp k (layer_of paths)) there in
+      ap (led arranged.places) h.is
       ∙ (target-goes paths h.place h.within to j.0 refl j.1 (is_struck dp (k + 1) t y) refl
       ∙ ap (λ o. redirected (sift_redirects dp (k + 1) t 0 (next_of paths)) (arc_with to o)) (sym found))
 
-  pub above-shown : (paths : ℕ → List ℕ) → shown_layer paths (map (node_view words cells led_arcs) nodes2)
+  pub above-shown : (paths : ℕ → List ℕ) → shown_layer paths (map (node_view_by (held_row region) led_arcs) nodes2)
       ≡ with_redirected (sift_redirects dp (k + 1) t 0 (next_of paths)) (with_arcs dp k (next_of paths) (layer_of paths))
   above-shown paths =
       let redirects = sift_redirects dp (k + 1) t 0 (next_of paths) in
-      ap₂ (λ l m. shown_layer paths (map (node_view words cells l) m)) arranged.arcs_are spans
-      ∙ (above-from dp k rows words (length ways) (led_in keys arranged.places) (λ s d. redirected redirects (arc_of dp k (next_of paths) s d)) (arc-goes paths) cells old low paths 0 nodes 0 [] arcs refl tried.arcs_are
+      ap₂ (λ l m. shown_layer paths (map (node_view_by (held_row region) l) m)) arranged.arcs_are spans
+      ∙ (above-from dp k row (length ways) (led arranged.places) (λ s d. redirected redirects (arc_of dp k (next_of paths) s d)) (arc-goes paths) (held_row region) old low paths 0 nodes 0 [] arcs refl tried.arcs_are
       ∙ two-changes dp k (next_of paths) redirects (layer_of paths))
 
   pub length-led : length led_arcs ≡ length arcs
-  length-led = ap length arranged.arcs_are ∙ length-map arcs (led_in keys arranged.places)
+  length-led = ap length arranged.arcs_are ∙ length-map arcs (led arranged.places)
 
   pub above-arcs : Each (HasArcsIn led_arcs) nodes2
   above-arcs =
-      let size = length-arcs dp k rows words (length ways) (trials_of dp k cells words nodes) arcs tried.arcs_are in
+      let size = length-arcs dp k row (length ways) (trials_of dp k (held_row region) nodes) arcs tried.arcs_are in
       let same = length-led in
-      subst (Each (HasArcsIn led_arcs)) (sym spans) (arcs-within dp k cells words 0 led_arcs nodes (omega arith))
+      subst (Each (HasArcsIn led_arcs)) (sym spans) (arcs-within dp k (held_row region) 0 led_arcs nodes (omega arith))
 
-  pub next-ranked : (any : List DdArc) → Each (IsRanked dp (k + 1)) (map (node_view words rows any) below)
-  next-ranked any = subst (λ l. Each (IsRanked dp (k + 1)) (map (node_view words rows any) l)) (sym arranged.nodes_are) (keys-ranked dp k rows words ways marks distinct any keys layer-keys)
+  pub next-ranked : (any : List DdArc) → Each (IsRanked dp (k + 1)) (map (node_view_by held any) below)
+  next-ranked any = subst (λ l. Each (IsRanked dp (k + 1)) (map (node_view_by held any) l)) (sym arranged.nodes_are) (keys-ranked dp k row ways marks held distinct any keys layer-keys found)
 
-  pub next-unmerged : (any : List DdArc) → Each (λ (n : NodeView). IsSome n.parent) (map (node_view words rows any) below)
-  next-unmerged any = subst (λ l. Each (λ (n : NodeView). IsSome n.parent) (map (node_view words rows any) l)) (sym arranged.nodes_are) (keys-unmerged dp k rows words ways marks any keys)
+  pub next-unmerged : (any : List DdArc) → Each (λ (n : NodeView). IsSome n.parent) (map (node_view_by held any) below)
+  next-unmerged any = subst (λ l. Each (λ (n : NodeView). IsSome n.parent) (map (node_view_by held any) l)) (sym arranged.nodes_are) (keys-unmerged dp k row ways marks held any keys)
 
   pub next-few : length below ≤ length ways
-  next-few = (let size = ap length arranged.nodes_are ∙ length-map keys (node_of ways marks) in let few = unstruck-length dp (k + 1) t rows words ways keys arranged.all in omega arith)
+  next-few = (let size = ap length arranged.nodes_are ∙ length-map keys (node_of ways marks) in let few = unstruck-length dp (k + 1) t mid ways keys arranged.all in omega arith)
 
-  pub next-stored : (room : ℕ) (any : List DdArc) → length ways ≤ room → Each (IsStored room any) below
-  next-stored room any few = subst (Each (IsStored room any)) (sym arranged.nodes_are) (keys-stored dp k rows words ways marks room any keys few layer-keys)
+  pub next-bare : (any : List DdArc) → Each (HasArcsIn any) below
+  next-bare any = subst (Each (HasArcsIn any)) (sym arranged.nodes_are) (keys-bare ways marks any keys)
 
--- the extended layer is put in order without what is struck
-pub whole-sifted : (dp : Dp) (k : ℕ) (t : Option ℤ) → k < dp.vars → (cells : List ℤ) (words : ℕ) (nodes : List Node) (rows : List ℤ) (ways : List Way)
-    (marks : List Bool) (arcs led_arcs : List DdArc) (nodes2 below : List Node) → AreDistinct dp (k + 1) rows words ways
-    → ((paths : ℕ → List ℕ) → all_reached paths rows words ways ≡ all_joined [] (candidates dp k (members_as paths cells words (members_from 0 nodes))))
-    → AreTried dp k rows words (length ways) (trials_of dp k cells words nodes) marks arcs → nodes2 ≡ all_spanned dp k cells words 0 nodes → length ways ≤ length nodes * dp.choices k
-    → length arcs ≤ length nodes * dp.choices k → AreSifted dp (k + 1) t rows words ways marks arcs led_arcs below → IsExpanded (expand_sifted dp k t) dp k words cells nodes nodes2 led_arcs rows below
-whole-sifted dp k t low cells words nodes rows ways marks arcs led_arcs nodes2 below distinct list tried spans few few_arcs arranged = record {
-  above_is = λ before paths. above-shown dp k t low cells words before nodes rows ways marks arcs led_arcs nodes2 below distinct list tried spans arranged paths;
-  next_is = λ before any paths. next-shown dp k t low cells words before nodes rows ways marks arcs led_arcs nodes2 below distinct list tried spans arranged paths any;
-  places = ap (map (λ (node : Node). node.row)) spans ∙ places-stay dp k cells words 0 nodes;
-  rest = λ before. ap (λ m. map without_arcs (map (node_view words cells led_arcs) m)) spans ∙ rest-stays dp k cells words before led_arcs 0 nodes;
-  ranked = λ any. next-ranked dp k t low cells words any nodes rows ways marks arcs led_arcs nodes2 below distinct list tried spans arranged any;
-  unmerged = λ any. next-unmerged dp k t low cells words any nodes rows ways marks arcs led_arcs nodes2 below distinct list tried spans arranged any;
-  arcs_lie = above-arcs dp k t low cells words arcs nodes rows ways marks arcs led_arcs nodes2 below distinct list tried spans arranged;
-  below_stored = λ any room fits. next-stored dp k t low cells words any nodes rows ways marks arcs led_arcs nodes2 below distinct list tried spans arranged room any (omega arith);
-  same = ap length spans ∙ length-spanned dp k cells words 0 nodes;
-  few = (let size = next-few dp k t low cells words arcs nodes rows ways marks arcs led_arcs nodes2 below distinct list tried spans arranged in omega arith);
-  few_arcs = (let size = length-led dp k t low cells words arcs nodes rows ways marks arcs led_arcs nodes2 below distinct list tried spans arranged in omega arith);
-}
+-- the extended layer is put in order without what is struck, whose rows are given back
+pub whole-sifted : (dp : Dp) (k : ℕ) (t : Option ℤ) → k < dp.vars → (region : RegionView) (nodes : List Node) (mid new : RegionView) (ways : List Way)
+    (marks : List Bool) (arcs led_arcs : List DdArc) (nodes2 below : List Node) → AreDistinct dp (k + 1) (way_row mid ways) ways
+    → ((paths : ℕ → List ℕ) → all_reached paths (way_row mid ways) ways ≡ all_joined [] (candidates dp k (members_as paths region (members_from 0 nodes))))
+    → AreTried dp k (way_row mid ways) (length ways) (trials_of dp k (held_row region) nodes) marks arcs → nodes2 ≡ all_spanned dp k (held_row region) 0 nodes → length ways ≤ length nodes * dp.choices k
+    → length arcs ≤ length nodes * dp.choices k → AreSifted dp (k + 1) t mid ways marks arcs led_arcs below → HasLeft mid (rows_of ways) new (rows_in below)
+    → IsExpanded (expand_sifted dp k t) dp k (held_row region) nodes nodes2 led_arcs (held_row new) below
+whole-sifted dp k t low region nodes mid new ways marks arcs led_arcs nodes2 below distinct list tried spans few few_arcs arranged left =
+    let held = held_row new in
+    let same = subst (AreSame mid new) (ap rows_in arranged.nodes_are ∙ rows-of-nodes ways marks arranged.keys) left.same in
+    let live = subst (Each (IsLive new)) (ap rows_in arranged.nodes_are ∙ rows-of-nodes ways marks arranged.keys) left.exchanged.live.live in
+    let found = found-by mid new ways arranged.keys (unstruck-are dp (k + 1) t mid ways arranged.keys arranged.all) same live in
+    record {
+      above_is = λ before paths. above-shown dp k t low region before nodes mid ways marks arcs led_arcs nodes2 below distinct list tried spans arranged held found paths;
+      next_is = λ before any paths. next-shown dp k t low region before nodes mid ways marks arcs led_arcs nodes2 below distinct list tried spans arranged held found paths any;
+      places = ap rows_in spans ∙ places-stay dp k (held_row region) 0 nodes;
+      rest = λ before. ap (λ m. map without_arcs (map (node_view_by (held_row region) led_arcs) m)) spans ∙ rest-stays dp k (held_row region) before led_arcs 0 nodes;
+      ranked = λ any. next-ranked dp k t low region any nodes mid ways marks arcs led_arcs nodes2 below distinct list tried spans arranged held found any;
+      unmerged = λ any. next-unmerged dp k t low region any nodes mid ways marks arcs led_arcs nodes2 below distinct list tried spans arranged held found any;
+      arcs_lie = above-arcs dp k t low region arcs nodes mid ways marks arcs led_arcs nodes2 below distinct list tried spans arranged held found;
+      bare = λ any. next-bare dp k t low region any nodes mid ways marks arcs led_arcs nodes2 below distinct list tried spans arranged held found any;
+      same = ap length spans ∙ length-spanned dp k (held_row region) 0 nodes;
+      few = (let size = next-few dp k t low region arcs nodes mid ways marks arcs led_arcs nodes2 below distinct list tried spans arranged held found in omega arith);
+      few_arcs = (let size = length-led dp k t low region arcs nodes mid ways marks arcs led_arcs nodes2 below distinct list tried spans arranged held found in omega arith);
+    }
 
 -- the same by equal parts
-pub sifted-by : (dp : Dp) (k : ℕ) (t : Option ℤ) (words : ℕ) (rows : List ℤ) (ways ways2 : List Way) (marks marks2 : List Bool) (old old2 new : List DdArc) (nodes : List Node)
-    → AreSifted dp k t rows words ways marks old new nodes → ways ≡ ways2 → marks ≡ marks2 → old ≡ old2 → AreSifted dp k t rows words ways2 marks2 old2 new nodes
-sifted-by dp k t words rows ways ways2 marks marks2 old old2 new nodes h c d e =
-    subst (λ x. AreSifted dp k t rows words x marks2 old2 new nodes) c
-    (subst (λ x. AreSifted dp k t rows words ways x old2 new nodes) d
-    (subst (λ x. AreSifted dp k t rows words ways marks x new nodes) e h))
+pub sifted-by : (dp : Dp) (k : ℕ) (t : Option ℤ) (region : RegionView) (ways ways2 : List Way) (marks marks2 : List Bool) (old old2 new : List DdArc) (nodes : List Node)
+    → AreSifted dp k t region ways marks old new nodes → ways ≡ ways2 → marks ≡ marks2 → old ≡ old2 → AreSifted dp k t region ways2 marks2 old2 new nodes
+sifted-by dp k t region ways ways2 marks marks2 old old2 new nodes h c d e =
+    subst (λ x. AreSifted dp k t region x marks2 old2 new nodes) c
+    (subst (λ x. AreSifted dp k t region ways x old2 new nodes) d
+    (subst (λ x. AreSifted dp k t region ways marks x new nodes) e h))

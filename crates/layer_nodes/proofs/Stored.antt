@@ -1,14 +1,12 @@
 -- Nodes of a layer in memory, one after another.
-use Rattle.std.proofs.Common.{◌≡◌, ℕ, zero, suc, ◌+◌, ◌*◌, ◌<◌, ◌≤◌, ℤ, List, [], ◌∷◌, length, map, take, drop, set, get_or, Option, refl, ◌∙◌, inl, inr, ap, ap₂, subst, arith, mul-le-mul_right}
+use Rattle.std.proofs.Common.{◌≡◌, ℕ, zero, suc, ◌<◌, ◌≤◌, ℤ, List, [], ◌∷◌, length, map, take, drop, set, get_or, Option, refl, inl, inr, ap, subst, arith}
 use Rattle.dp_model.specs.Lists.{Each, OneOf}
-use Rattle.dp_model.proofs.Members.{Each-then}
 use Rattle.dp_laws.proofs.Lists.{each-take}
 use Rattle.dp_laws.specs.declared.arc.DdArc.{DdArc}
-use Rattle.layer_candidates.specs.Rows.{row_at}
 use Rattle.layer_nodes.specs.declared.node.Node.{Node}
 use Rattle.layer_nodes.specs.Nodes.{suffix_set}
 use Rattle.layer_nodes.specs.Steps.{AreAmong}
-use Rattle.layer_nodes.specs.Stored.{node_view_by, node_view, IsStored, HasRow}
+use Rattle.layer_nodes.specs.Stored.{node_view_by}
 
 -- ---- members of lists
 
@@ -69,15 +67,3 @@ pub suffix-set : (row : ℕ → List ℤ) (arcs : List DdArc) (xs : List Node) (
 suffix-set row arcs [] i x d s less is = absurd (omega arith)
 suffix-set row arcs (y ∷ xs) zero x d s less is = ap (λ n. node_view_by row arcs n ∷ map (node_view_by row arcs) xs) is
 suffix-set row arcs (y ∷ xs) (suc i) x d s less is = ap (λ l. node_view_by row arcs y ∷ l) (suffix-set row arcs xs i x d s (omega arith) is)
-
--- ---- the first node
-
-pub start-is : (words : ℕ) (rows row : List ℤ) (arcs : List DdArc) (nodes : List Node) (node : Node) → arcs ≡ [] → nodes ≡ node ∷ [] → row_at rows words node.row ≡ row
-    → map (node_view words rows arcs) nodes ≡ record (node_view words rows [] node) { row = row } ∷ []
-start-is words rows row arcs nodes node none one is = ap₂ (λ a l. map (node_view words rows a) l) none one ∙ ap (λ r. record (node_view words rows [] node) { row = r } ∷ []) is
-
-pub row-fits : (room words row n : ℕ) → row ≤ room → (room + 1) * words ≤ n → row * words + words ≤ n
-row-fits room words row n low hold = let more : (row + 1) * words ≤ (room + 1) * words = mul-le-mul_right words (omega arith) in omega arith
-
-pub has-rows : (room words : ℕ) (rows : List ℤ) (arcs : List DdArc) (nodes : List Node) → (room + 1) * words ≤ length rows → Each (IsStored room arcs) nodes → Each (HasRow words rows) nodes
-has-rows room words rows arcs nodes hold h = Each-then (IsStored room arcs) (HasRow words rows) nodes (λ node s. row-fits room words node.row (length rows) s.row hold) h

@@ -1,5 +1,5 @@
 -- A layer is expanded: what its nodes are tried by, and what comes of it.
-use Rattle.std.specs.Prelude.{◌≡◌, ℕ, ◌+◌, ◌*◌, ◌<◌, ◌≤◌, nat_eq, ℤ, pos, Bool, true, false, not, ◌&&◌, ◌||◌, List, [], ◌∷◌, ◌++◌, length, map, set, slice_index_or, slice_get, Some, None, option_and_then, IsSome, IsPermutation, IsSortedBy}
+use Rattle.std.specs.Prelude.{◌≡◌, ℕ, zero, suc, ◌+◌, ◌*◌, ◌<◌, ◌≤◌, nat_eq, ℤ, pos, Bool, true, false, not, ◌&&◌, ◌||◌, List, [], ◌∷◌, ◌++◌, length, map, set, slice_index_or, Option, Some, None, option_and_then, IsSome, IsSomeAnd, IsPermutation, IsSortedBy}
 use Rattle.dp_model.specs.Decisions.{below}
 use Rattle.dp_model.specs.Dp.{Dp}
 use Rattle.dp_model.specs.Lists.{Each}
@@ -12,13 +12,11 @@ use Rattle.layer_candidates.specs.declared.member.Member.{Member}
 use Rattle.layer_candidates.specs.declared.way.Way.{Way}
 use Rattle.layer_candidates.specs.Extending.{all_allowed}
 use Rattle.layer_candidates.specs.KeyOrder.{keys_of, goes_before}
-use Rattle.layer_candidates.specs.Rows.{row_at}
 use Rattle.layer_candidates.specs.Ways.{way_at}
 use Rattle.layer_nodes.specs.declared.node.Node.{Node}
-use Rattle.layer_nodes.specs.Holding.{HasArcsIn}
 use Rattle.layer_nodes.specs.Nodes.{NodeView, shown_layer, shown_below, without_arcs}
 use Rattle.layer_nodes.specs.Steps.{IsRanked}
-use Rattle.layer_nodes.specs.Stored.{node_view, IsStored}
+use Rattle.layer_nodes.specs.Stored.{node_view_by, rows_in, HasArcsIn}
 
 -- a node as a member of a layer, reached by the step of its place
 abbrev pub member_of : Node → ℕ → Member
@@ -51,43 +49,43 @@ made_by dp k t = dp.step k t.state t.decision
 abbrev pub trials_by : Dp → ℕ → List ℤ → Bool → List ℕ → List Trial
 trials_by dp k s exact decisions = map (trial s exact) (all_allowed dp k s decisions)
 
--- those of a node whose row lies in the cells
-abbrev pub trials_at : Dp → ℕ → List ℤ → ℕ → Node → List Trial
-trials_at dp k cells words node = trials_by dp k (row_at cells words node.row) node.exact (below (dp.choices k))
+-- those of a node, where places have these rows
+abbrev pub trials_at : Dp → ℕ → (ℕ → List ℤ) → Node → List Trial
+trials_at dp k held node = trials_by dp k (held node.row) node.exact (below (dp.choices k))
 
 -- those of some nodes
-abbrev pub trials_of : Dp → ℕ → List ℤ → ℕ → List Node → List Trial
-trials_of dp k cells words [] = []
-trials_of dp k cells words (node ∷ nodes) = trials_at dp k cells words node ++ trials_of dp k cells words nodes
+abbrev pub trials_of : Dp → ℕ → (ℕ → List ℤ) → List Node → List Trial
+trials_of dp k held [] = []
+trials_of dp k held (node ∷ nodes) = trials_at dp k held node ++ trials_of dp k held nodes
 
 -- a node's arcs are so many from the place on
 abbrev pub spanned : ℕ → ℕ → Node → Node
 spanned first count node = record node { first_arc = first; arcs = count }
 
 -- the nodes' arcs are those of their trials, one node's behind another's
-abbrev pub all_spanned : Dp → ℕ → List ℤ → ℕ → ℕ → List Node → List Node
-all_spanned dp k cells words first [] = []
-all_spanned dp k cells words first (node ∷ nodes) =
-    spanned first (length (trials_at dp k cells words node)) node
-    ∷ all_spanned dp k cells words (first + length (trials_at dp k cells words node)) nodes
+abbrev pub all_spanned : Dp → ℕ → (ℕ → List ℤ) → ℕ → List Node → List Node
+all_spanned dp k held first [] = []
+all_spanned dp k held first (node ∷ nodes) =
+    spanned first (length (trials_at dp k held node)) node
+    ∷ all_spanned dp k held (first + length (trials_at dp k held node)) nodes
 
 -- the arc of a trial to a place
 abbrev pub arc_to : Dp → ℕ → Trial → ℕ → DdArc
 arc_to dp k t place = record { decision = t.decision; target = Some place; gain = dp.gain k t.state t.decision; longer = pos 0 }
 
--- the arc leads to the place of the row that the trial makes, one of so many
-pub record LeadsToRow (dp : Dp) (k : ℕ) (rows : List ℤ) (words count : ℕ) (t : Trial) (arc : DdArc) : Type 0 where
+-- the arc leads to the place of the way whose row the trial makes, one of so many
+pub record LeadsToRow (dp : Dp) (k : ℕ) (row : ℕ → List ℤ) (count : ℕ) (t : Trial) (arc : DdArc) : Type 0 where
   pub place : ℕ
   pub is : arc ≡ arc_to dp k t place
   pub within : place < count
-  pub row : row_at rows words place ≡ made_by dp k t
+  pub made : row place ≡ made_by dp k t
 
 -- each trial has its arc
-abbrev pub AreArcsOf : Dp → ℕ → List ℤ → ℕ → ℕ → List Trial → List DdArc → Type 0
-AreArcsOf dp k rows words count [] [] = Unit {0}
-AreArcsOf dp k rows words count [] (arc ∷ arcs) = ⊥
-AreArcsOf dp k rows words count (t ∷ ts) [] = ⊥
-AreArcsOf dp k rows words count (t ∷ ts) (arc ∷ arcs) = LeadsToRow dp k rows words count t arc × AreArcsOf dp k rows words count ts arcs
+abbrev pub AreArcsOf : Dp → ℕ → (ℕ → List ℤ) → ℕ → List Trial → List DdArc → Type 0
+AreArcsOf dp k row count [] [] = Unit {0}
+AreArcsOf dp k row count [] (arc ∷ arcs) = ⊥
+AreArcsOf dp k row count (t ∷ ts) [] = ⊥
+AreArcsOf dp k row count (t ∷ ts) (arc ∷ arcs) = LeadsToRow dp k row count t arc × AreArcsOf dp k row count ts arcs
 
 -- whether each trial that makes the row is one of an exact node
 abbrev pub all_exact : Dp → ℕ → List Trial → List ℤ → Bool
@@ -102,25 +100,38 @@ mark_at marks i = slice_index_or marks i true
 abbrev pub marked : List Bool → ℕ → ℕ → Bool → List Bool
 marked marks count place exact = set marks place (exact && (nat_eq place count || mark_at marks place))
 
--- some trials were made: each has its arc, and each of so many rows its mark
-pub record AreTried (dp : Dp) (k : ℕ) (rows : List ℤ) (words count : ℕ) (ts : List Trial) (marks : List Bool) (arcs : List DdArc) : Type 0 where
-  pub arcs_are : AreArcsOf dp k rows words count ts arcs
-  pub marks_are : (i : ℕ) → i < count → mark_at marks i ≡ all_exact dp k ts (row_at rows words i)
+-- some trials were made: each has its arc, and each of so many ways its mark
+pub record AreTried (dp : Dp) (k : ℕ) (row : ℕ → List ℤ) (count : ℕ) (ts : List Trial) (marks : List Bool) (arcs : List DdArc) : Type 0 where
+  pub arcs_are : AreArcsOf dp k row count ts arcs
+  pub marks_are : (i : ℕ) → i < count → mark_at marks i ≡ all_exact dp k ts (row i)
 
 -- the key at the place
 abbrev pub key_in : List Key → ℕ → Key
-key_in keys i = slice_index_or keys i (record { value = pos 0; rank = pos 0; place = 0 })
+key_in keys i = slice_index_or keys i (record { value = pos 0; rank = pos 0; place = 0; row = 0 })
+
+-- the number that is kept as one more, or none
+abbrev pub one_less : ℕ → Option ℕ
+one_less zero = None
+one_less (suc n) = Some n
+
+-- the number of the way at the place p, or none; zero stands where there is none
+abbrev pub number_at : List ℕ → ℕ → Option ℕ
+number_at places p = one_less (slice_index_or places p 0)
 
 -- the way at the place p has a number, which is the place of its key among the first n
 pub record IsNumbered (n : ℕ) (keys : List Key) (places : List ℕ) (p : ℕ) : Type 0 where
   pub number : ℕ
-  pub is : slice_get places p ≡ Some number
+  pub is : number_at places p ≡ Some number
   pub within : number < n
   pub same : (key_in keys number).place ≡ p
 
+-- the arc has a target, which is one of the first n places
+abbrev pub LeadsWithin : ℕ → DdArc → Type 0
+LeadsWithin n arc = IsSomeAnd arc.target (λ t. t < n)
+
 -- the arc with the number of its target
 abbrev pub led : List ℕ → DdArc → DdArc
-led places arc = record arc { target = option_and_then (λ t. slice_get places t) arc.target }
+led places arc = record arc { target = option_and_then (number_at places) arc.target }
 
 -- the node of a key's way, with its mark
 abbrev pub node_of : List Way → List Bool → Key → Node
@@ -129,36 +140,36 @@ node_of ways marks key = record {
   rank = key.rank;
   suffix = None;
   parent = Some (way_at ways key.place).parent;
-  row = key.place;
+  row = key.row;
   decision = (way_at ways key.place).decision;
   first_arc = 0;
   arcs = 0;
   exact = mark_at marks key.place;
 }
 
--- the ways in the reduction order became the nodes, and the arcs lead to their places
-pub record AreArranged (rows : List ℤ) (words : ℕ) (ways : List Way) (marks : List Bool) (old new : List DdArc) (nodes : List Node) : Type 0 where
+-- the ways in the reduction order became the nodes, and the arcs lead to their places; places have these rows
+pub record AreArranged (held : ℕ → List ℤ) (ways : List Way) (marks : List Bool) (old new : List DdArc) (nodes : List Node) : Type 0 where
   pub keys : List Key
   pub places : List ℕ
   pub all : IsPermutation (keys_of ways) keys
-  pub sorted : IsSortedBy (goes_before rows words) keys
+  pub sorted : IsSortedBy (goes_before held) keys
   pub numbered : (j : ℕ) → j < length keys → IsNumbered (length keys) keys places (key_in keys j).place
   pub arcs_are : new ≡ map (led places) old
   pub nodes_are : nodes ≡ map (node_of ways marks) keys
 
 -- the nodes of the layer at depth k are extended by the rule, and those below are the next layer, whatever the paths are, and
--- whatever arcs there were before; the rows of the nodes below lie in `rows`
-pub record IsExpanded (rule : List DdNode → TwoLayers) (dp : Dp) (k words : ℕ) (cells : List ℤ) (old new : List Node) (arcs : List DdArc) (rows : List ℤ) (below : List Node) : Type 0 where
-  pub above_is : (before : List DdArc) (paths : ℕ → List ℕ) → shown_layer paths (map (node_view words cells arcs) new)
-      ≡ (rule (shown_layer paths (map (node_view words cells before) old))).above
-  pub next_is : (before any : List DdArc) (paths : ℕ → List ℕ) → shown_below paths (map (node_view words rows any) below)
-      ≡ (rule (shown_layer paths (map (node_view words cells before) old))).next
-  pub rest : (before : List DdArc) → map without_arcs (map (node_view words cells arcs) new) ≡ map without_arcs (map (node_view words cells before) old)
-  pub places : map (λ (node : Node). node.row) new ≡ map (λ (node : Node). node.row) old
-  pub ranked : (any : List DdArc) → Each (IsRanked dp (k + 1)) (map (node_view words rows any) below)
-  pub unmerged : (any : List DdArc) → Each (λ (n : NodeView). IsSome n.parent) (map (node_view words rows any) below)
+-- whatever arcs there were before; places have the rows `above` for the nodes above, and `held` for those below
+pub record IsExpanded (rule : List DdNode → TwoLayers) (dp : Dp) (k : ℕ) (above : ℕ → List ℤ) (old new : List Node) (arcs : List DdArc) (held : ℕ → List ℤ) (below : List Node) : Type 0 where
+  pub above_is : (before : List DdArc) (paths : ℕ → List ℕ) → shown_layer paths (map (node_view_by above arcs) new)
+      ≡ (rule (shown_layer paths (map (node_view_by above before) old))).above
+  pub next_is : (before any : List DdArc) (paths : ℕ → List ℕ) → shown_below paths (map (node_view_by held any) below)
+      ≡ (rule (shown_layer paths (map (node_view_by above before) old))).next
+  pub rest : (before : List DdArc) → map without_arcs (map (node_view_by above arcs) new) ≡ map without_arcs (map (node_view_by above before) old)
+  pub places : rows_in new ≡ rows_in old
+  pub ranked : (any : List DdArc) → Each (IsRanked dp (k + 1)) (map (node_view_by held any) below)
+  pub unmerged : (any : List DdArc) → Each (λ (n : NodeView). IsSome n.parent) (map (node_view_by held any) below)
   pub arcs_lie : Each (HasArcsIn arcs) new
-  pub below_stored : (any : List DdArc) (room : ℕ) → length old * dp.choices k ≤ room → Each (IsStored room any) below
+  pub bare : (any : List DdArc) → Each (HasArcsIn any) below
   pub same : length new ≡ length old
   pub few : length below ≤ length old * dp.choices k
   pub few_arcs : length arcs ≤ length old * dp.choices k

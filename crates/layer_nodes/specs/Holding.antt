@@ -1,36 +1,23 @@
--- A layer whose rows stand in a region.
-use Rattle.std.specs.Prelude.{◌≡◌, ℕ, ◌+◌, ◌^◌, ◌<◌, ◌≤◌, ℤ, List, [], ◌∷◌, length}
+-- Layers whose rows stand in a region.
+use Rattle.std.specs.Prelude.{◌≡◌, ℕ, ℤ, true, List, [], ◌∷◌, map, None}
 use Rattle.dp_model.specs.Lists.{Each}
-use Rattle.dp_laws.specs.declared.arc.DdArc.{DdArc}
-use Rattle.layer_candidates.specs.Rows.{row_at}
-use Rattle.row_region.specs.Region.{RegionView, IsRow}
-use Rattle.layer_nodes.specs.declared.node.Node.{Node}
+use Rattle.row_region.specs.Region.{RegionView, IsRow, HasPut}
 use Rattle.layer_nodes.specs.Nodes.{NodeView}
 
 -- the region holds the rows of the nodes
 abbrev pub AreHeld : RegionView → List NodeView → Type 0
 AreHeld region nodes = Each (λ (node : NodeView). IsRow region node.place node.row) nodes
 
--- the arcs of the node are some of the layer's
-abbrev pub HasArcsIn : List DdArc → Node → Type 0
-HasArcsIn arcs node = node.first_arc + node.arcs ≤ length arcs
+-- the places of the rows of the nodes
+abbrev pub places_of : List NodeView → List ℕ
+places_of nodes = map (λ (node : NodeView). node.place) nodes
 
--- there is room for so many nodes, and the arcs of each are some of the layer's
-pub record HasKeptLayer (room : ℕ) (nodes : List Node) (nodes_room : ℕ) (arcs : List DdArc) : Type 0 where
-  pub small : room + 1 < 2 ^ 32
-  pub fits : length nodes ≤ room
-  pub nodes_hold : room ≤ nodes_room
-  pub few_arcs : length arcs < 2 ^ 32
-  pub arcs_lie : Each (HasArcsIn arcs) nodes
+-- the region has at these places the rows that are found there
+abbrev pub HaveRows : RegionView → (ℕ → List ℤ) → List ℕ → Type 0
+HaveRows region row places = Each (λ (place : ℕ). IsRow region place (row place)) places
 
--- the node is a copy of the other one without arcs, and the region holds its row
-pub record IsNodePut (region : RegionView) (row : List ℤ) (other node : Node) : Type 0 where
-  pub held : IsRow region node.row row
-  pub copy : node ≡ record other { row = node.row; first_arc = 0; arcs = 0 }
-
--- so is each of the nodes, where the rows of the others lie in these cells
-abbrev pub AreNodesPut : RegionView → List ℤ → ℕ → List Node → List Node → Type 0
-AreNodesPut region rows words [] [] = Unit {0}
-AreNodesPut region rows words [] (node ∷ nodes) = ⊥
-AreNodesPut region rows words (other ∷ others) [] = ⊥
-AreNodesPut region rows words (other ∷ others) (node ∷ nodes) = IsNodePut region (row_at rows words other.row) other node × AreNodesPut region rows words others nodes
+-- the row was put into the region, and the one node has it, which is exact and has neither parent nor arcs
+pub record HasStarted (row : List ℤ) (value rank : ℤ) (old new : RegionView) (nodes : List NodeView) : Type 0 where
+  pub place : ℕ
+  pub nodes_are : nodes ≡ record { row = row; place = place; value = value; rank = rank; exact = true; parent = None; decision = 0; arcs = []; suffix = None } ∷ []
+  pub put : HasPut old place row new

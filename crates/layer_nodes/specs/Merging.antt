@@ -1,5 +1,5 @@
 -- The last nodes of a layer are merged in memory into one.
-use Rattle.std.specs.Prelude.{◌≡◌, ℕ, ◌-◌, ◌<◌, ℤ, int_lt, false, cond, List, [], ◌∷◌, ◌++◌, length, map, take, drop, Option, Some, None}
+use Rattle.std.specs.Prelude.{◌≡◌, ℕ, ◌-◌, ℤ, int_lt, false, cond, List, [], ◌∷◌, ◌++◌, map, take, drop, Option, Some, None}
 use Rattle.std.specs.List.{filter_map}
 use Rattle.dp_model.specs.Dp.{Dp}
 use Rattle.dp_model.specs.Gaps.{IsStateOf}
@@ -8,10 +8,13 @@ use Rattle.dp_model.specs.Numbers.{add_some}
 use Rattle.dp_laws.specs.Diagrams.Nodes.{DdNode}
 use Rattle.dp_laws.specs.Rules.Redirects.{Redirect}
 use Rattle.dp_laws.specs.Rules.Reducing.{staying, row_of_all, merged_node, merge_redirects}
-use Rattle.layer_candidates.specs.Rows.{row_at}
+use Rattle.layer_candidates.specs.HeldRows.{HasExchanged, held_row}
+use Rattle.row_region.specs.Region.{RegionView, IsRow}
 use Rattle.layer_nodes.specs.declared.node.Node.{Node}
 use Rattle.layer_nodes.specs.Leading.{bare}
 use Rattle.layer_nodes.specs.Redirecting.{IsShort}
+use Rattle.layer_nodes.specs.Holding.{HaveRows}
+use Rattle.layer_nodes.specs.Stored.{rows_in}
 
 -- the greater of two numbers, of which none may be there
 abbrev pub greater : Option ℤ → Option ℤ → Option ℤ
@@ -37,12 +40,13 @@ merged_at dp k place nodes = record {
   exact = false;
 }
 
--- the nodes but for the first width - 1 were merged into one, whose row stands at the place
-pub record HasMerged (dp : Dp) (k width words place : ℕ) (rows : List ℤ) (nodes : List Node) (rows2 : List ℤ) (nodes2 : List Node) (redirects : List (Option Redirect)) : Type 0 where
-  pub before : (q : ℕ) → q < place → row_at rows2 words q ≡ row_at rows words q
-  pub merged : row_at rows2 words place ≡ row_of_all dp k (map (bare rows words) (drop (width - 1) nodes))
-  pub state : IsStateOf dp k (row_at rows2 words place)
-  pub size : length rows2 ≡ length rows
-  pub list : nodes2 ≡ take (width - 1) nodes ++ merged_at dp k place (map (bare rows words) (drop (width - 1) nodes)) ∷ []
-  pub targets : staying (width - 1) ++ redirects ≡ merge_redirects dp k width (map (bare rows words) nodes)
+-- the nodes but for the first width - 1 were merged into one, whose row the region has in place of theirs
+pub record HasMerged (dp : Dp) (k width : ℕ) (old : RegionView) (nodes : List Node) (new : RegionView) (nodes2 : List Node) (redirects : List (Option Redirect)) : Type 0 where
+  pub place : ℕ
+  pub list : nodes2 ≡ take (width - 1) nodes ++ merged_at dp k place (map (bare (held_row old)) (drop (width - 1) nodes)) ∷ []
+  pub held : HaveRows new (held_row old) (rows_in (take (width - 1) nodes))
+  pub merged : IsRow new place (row_of_all dp k (map (bare (held_row old)) (drop (width - 1) nodes)))
+  pub state : IsStateOf dp k (row_of_all dp k (map (bare (held_row old)) (drop (width - 1) nodes)))
+  pub exchanged : HasExchanged old (rows_in nodes) new (rows_in nodes2)
+  pub targets : staying (width - 1) ++ redirects ≡ merge_redirects dp k width (map (bare (held_row old)) nodes)
   pub short : Each IsShort redirects

@@ -7,7 +7,7 @@ use Rattle.dp_laws.specs.Diagrams.Nodes.{DdNode, path_below}
 -- path; a merged node and the first one of all have no parent
 pub record NodeView : Type 0 where
   pub row : List ℤ
-  -- the place of its row
+  -- the place of its row in the region
   pub place : ℕ
   pub value : ℤ
   pub rank : ℤ
@@ -17,7 +17,7 @@ pub record NodeView : Type 0 where
   pub arcs : List DdArc
   pub suffix : Option ℤ
 
--- the nodes of a layer in order, the cells of their rows, and for how many nodes and arcs there is room
+-- the nodes of a layer in order, the length of their rows, and for how many nodes and arcs there is room
 pub record LayerView : Type 0 where
   pub words : ℕ
   pub nodes : List NodeView

@@ -5,6 +5,7 @@ use Rattle.dp_model.specs.Gaps.{IsStateOf}
 use Rattle.dp_model.specs.Lists.{Each, OneOf}
 use Rattle.dp_model.specs.Numbers.{IsFar}
 use Rattle.layer_candidates.specs.Ways.{IsNear, IsNearly}
+use Rattle.layer_nodes.specs.Holding.{places_of}
 use Rattle.layer_nodes.specs.Nodes.{NodeView, LayerView, without_arcs}
 
 -- a node of the layer at depth k that may be extended: its row is a state, with its rank, and its value leaves room for a gain
@@ -36,11 +37,11 @@ AreAmong old new = Each (λ x. OneOf (λ other. other ≡ x) old) new
 pub record KeepsNodes (old new : LayerView) : Type 0 where
   pub words : new.words ≡ old.words
   pub nodes : map without_arcs new.nodes ≡ map without_arcs old.nodes
-  pub places : map (λ (n : NodeView). n.place) new.nodes ≡ map (λ (n : NodeView). n.place) old.nodes
+  pub places : places_of new.nodes ≡ places_of old.nodes
   pub nodes_room : new.nodes_room ≡ old.nodes_room
   pub arcs_room : new.arcs_room ≡ old.arcs_room
 
--- the cells of the rows, and the rooms, stay as they are
+-- the length of rows, and the rooms, stay as they are
 pub record KeepsRoom (old new : LayerView) : Type 0 where
   pub words : new.words ≡ old.words
   pub nodes_room : new.nodes_room ≡ old.nodes_room

@@ -1,8 +1,7 @@
 -- How a layer lies in memory.
-use Rattle.std.specs.Prelude.{ℕ, ◌+◌, ◌*◌, ◌^◌, ◌<◌, ◌≤◌, ℤ, List, length, take, drop, IsSome}
+use Rattle.std.specs.Prelude.{ℕ, ◌+◌, ◌^◌, ◌<◌, ◌≤◌, ℤ, List, length, map, take, drop}
 use Rattle.dp_model.specs.Lists.{Each}
 use Rattle.dp_laws.specs.declared.arc.DdArc.{DdArc}
-use Rattle.layer_candidates.specs.Rows.{row_at}
 use Rattle.layer_nodes.specs.declared.node.Node.{Node}
 use Rattle.layer_nodes.specs.Nodes.{NodeView}
 
@@ -20,33 +19,30 @@ node_view_by row arcs node = record {
   suffix = node.suffix;
 }
 
--- a node in memory whose row lies in the cells of the layer
-abbrev pub node_view : ℕ → List ℤ → List DdArc → Node → NodeView
-node_view words rows arcs node = node_view_by (row_at rows words) arcs node
+-- the places of the rows of nodes in memory
+abbrev pub rows_in : List Node → List ℕ
+rows_in nodes = map (λ (node : Node). node.row) nodes
 
--- the row of a node is one of those for which there is room, or the one behind them, which only a node without a parent has;
--- its arcs are some of the layer's
-pub record IsStored (room : ℕ) (arcs : List DdArc) (node : Node) : Type 0 where
-  pub row : node.row ≤ room
-  pub fresh : IsSome node.parent → node.row < room
-  pub arcs_lie : node.first_arc + node.arcs ≤ length arcs
+-- the node without its arcs
+abbrev pub bare_of : Node → Node
+bare_of node = record node { first_arc = 0; arcs = 0 }
 
--- the row at the place lies in the cells
-abbrev pub IsRowOf : ℕ → List ℤ → ℕ → Type 0
-IsRowOf words rows place = place * words + words ≤ length rows
+-- the arcs of the node are some of the layer's
+abbrev pub HasArcsIn : List DdArc → Node → Type 0
+HasArcsIn arcs node = node.first_arc + node.arcs ≤ length arcs
 
--- the row of the node lies in the cells
-abbrev pub HasRow : ℕ → List ℤ → Node → Type 0
-HasRow words rows node = IsRowOf words rows node.row
-
--- the nodes are stored, and there is room for so many, and for one row more
-pub record HasLayer (words room : ℕ) (nodes : List Node) (nodes_room : ℕ) (rows : List ℤ) (arcs : List DdArc) : Type 0 where
+-- there is room for so many nodes, and the arcs of each are some of the layer's
+pub record HasLayer (room : ℕ) (nodes : List Node) (nodes_room : ℕ) (arcs : List DdArc) : Type 0 where
   pub small : room + 1 < 2 ^ 32
   pub fits : length nodes ≤ room
   pub nodes_hold : room ≤ nodes_room
-  pub rows_hold : (room + 1) * words ≤ length rows
   pub few_arcs : length arcs < 2 ^ 32
-  pub stored : Each (IsStored room arcs) nodes
+  pub arcs_lie : Each (HasArcsIn arcs) nodes
+
+-- there is room for so many nodes or candidates at most, and for a row of so many cells
+pub record Room : Type 0 where
+  pub most : ℕ
+  pub words : ℕ
 
 -- there is memory for so many candidates
 pub record HasExpansion (room ways folds heads next keys exact places : ℕ) : Type 0 where

@@ -6,19 +6,22 @@ use Rattle.dp_laws.specs.Diagrams.Nodes.{DdNode}
 use Rattle.dp_laws.specs.Rules.Compiling.{TwoLayers, prune}
 use Rattle.dp_laws.specs.Rules.Redirects.{Redirect}
 use Rattle.dp_laws.specs.Rules.Pruning.{Leader, at_leader, is_struck, pruned_nodes, prune_redirects}
-use Rattle.layer_candidates.specs.Rows.{row_at}
+use Rattle.layer_candidates.specs.HeldRows.{HasExchanged, held_row}
+use Rattle.row_region.specs.Region.{RegionView}
 use Rattle.layer_nodes.specs.declared.node.Node.{Node}
 use Rattle.layer_nodes.specs.declared.redirecting.LeaderAt.{LeaderAt}
 use Rattle.layer_nodes.specs.declared.striking.Strikes.{Strikes}
 use Rattle.layer_nodes.specs.declared.striking.Strikes.TheVariants.{AtMost, Nothing}
-use Rattle.layer_nodes.specs.Leading.{IsLeaderIn, leaders_of}
+use Rattle.layer_nodes.specs.Leading.{IsLeaderBy, leaders_of}
 use Rattle.layer_nodes.specs.Nodes.{NodeView}
 use Rattle.layer_nodes.specs.Redirecting.{IsShort}
 use Rattle.layer_nodes.specs.Steps.{AreAmong}
+use Rattle.layer_nodes.specs.Holding.{HaveRows}
+use Rattle.layer_nodes.specs.Stored.{rows_in}
 
 -- what a node in memory is shown as has its row, its value, and whether it is exact
-pub record Shows (rows : List ℤ) (words : ℕ) (show : Node → DdNode) : Type 0 where
-  pub rows_are : (node : Node) → (show node).row ≡ row_at rows words node.row
+pub record Shows (row : ℕ → List ℤ) (show : Node → DdNode) : Type 0 where
+  pub rows_are : (node : Node) → (show node).row ≡ row node.row
   pub values_are : (node : Node) → (show node).value ≡ node.value
   pub exact_are : (node : Node) → (show node).exact ≡ node.exact
 
@@ -58,24 +61,29 @@ abbrev pub taken_out : Dp → ℕ → Strikes → List Leader → DdNode → Opt
 taken_out dp k strikes leaders node = cond (is_struck (asking strikes dp) k (threshold_of strikes) node) (Some None) (led_out (at_leader dp k leaders node))
 
 -- the first i nodes were looked at, and those of them that stay are the first ones, so many
-pub record ArePruned (dp : Dp) (k : ℕ) (strikes : Strikes) (rows : List ℤ) (words : ℕ) (old : List Node) (leaders : List LeaderAt) (now : List Node) (redirects : List (Option Redirect)) (stay i : ℕ) : Type 0 where
+pub record ArePruned (dp : Dp) (k : ℕ) (strikes : Strikes) (row : ℕ → List ℤ) (old : List Node) (leaders : List LeaderAt) (now : List Node) (redirects : List (Option Redirect)) (stay i : ℕ) : Type 0 where
   pub left : drop i now ≡ drop i old
   pub size : length now ≡ length old
   pub few : stay ≤ i
   pub count : length redirects ≡ i
-  pub leading : Each (IsLeaderIn dp k rows words) leaders
+  pub leading : Each (IsLeaderBy dp k row) leaders
   pub short : Each IsShort redirects
   pub among : AreAmong old now
-  pub nodes : (show : Node → DdNode) → Shows rows words show
-      → map show (take stay now) ++ pruned_nodes (asking strikes dp) k (threshold_of strikes) (leaders_of rows words leaders) stay (map show (drop i old)) ≡ pruned_nodes (asking strikes dp) k (threshold_of strikes) [] 0 (map show old)
-  pub targets : (show : Node → DdNode) → Shows rows words show
-      → redirects ++ prune_redirects (asking strikes dp) k (threshold_of strikes) (leaders_of rows words leaders) stay (map show (drop i old)) ≡ prune_redirects (asking strikes dp) k (threshold_of strikes) [] 0 (map show old)
+  pub nodes : (show : Node → DdNode) → Shows row show
+      → map show (take stay now) ++ pruned_nodes (asking strikes dp) k (threshold_of strikes) (leaders_of row leaders) stay (map show (drop i old)) ≡ pruned_nodes (asking strikes dp) k (threshold_of strikes) [] 0 (map show old)
+  pub targets : (show : Node → DdNode) → Shows row show
+      → redirects ++ prune_redirects (asking strikes dp) k (threshold_of strikes) (leaders_of row leaders) stay (map show (drop i old)) ≡ prune_redirects (asking strikes dp) k (threshold_of strikes) [] 0 (map show old)
 
 -- the first nodes, so many, are those that stay
-pub record HasPruned (dp : Dp) (k : ℕ) (strikes : Strikes) (rows : List ℤ) (words : ℕ) (old now : List Node) (redirects : List (Option Redirect)) (stay : ℕ) : Type 0 where
+pub record HasPruned (dp : Dp) (k : ℕ) (strikes : Strikes) (row : ℕ → List ℤ) (old now : List Node) (redirects : List (Option Redirect)) (stay : ℕ) : Type 0 where
   pub size : length now ≡ length old
   pub few : stay ≤ length old
   pub short : Each IsShort redirects
   pub among : AreAmong old now
-  pub nodes : (show : Node → DdNode) → Shows rows words show → map show (take stay now) ≡ pruned_nodes (asking strikes dp) k (threshold_of strikes) [] 0 (map show old)
-  pub targets : (show : Node → DdNode) → Shows rows words show → redirects ≡ prune_redirects (asking strikes dp) k (threshold_of strikes) [] 0 (map show old)
+  pub nodes : (show : Node → DdNode) → Shows row show → map show (take stay now) ≡ pruned_nodes (asking strikes dp) k (threshold_of strikes) [] 0 (map show old)
+  pub targets : (show : Node → DdNode) → Shows row show → redirects ≡ prune_redirects (asking strikes dp) k (threshold_of strikes) [] 0 (map show old)
+
+-- of the rows of the old nodes the region has those of the ones that are left, and the others were given back
+pub record HasGiven (base : RegionView) (old : List Node) (region : RegionView) (left : List Node) : Type 0 where
+  pub exchanged : HasExchanged base (rows_in old) region (rows_in left)
+  pub held : HaveRows region (held_row base) (rows_in left)

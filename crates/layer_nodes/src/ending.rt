@@ -5,7 +5,6 @@ ghost use Rattle.dp_model.specs.Lists.{Each};
 ghost use Rattle.dp_model.specs.Numbers.{add_some, greatest};
 ghost use Rattle.layer_nodes.specs.Ending.{suffix_of, lengths, MayAdd, MayFollow, MayLead, MayEnd, ended_layer, ended_last, suffixes_in, arcs_in, ended_in, at_end_in};
 
-use crate::kept_layer::KeptLayer;
 use crate::layer::Layer;
 use crate::merging::greater;
 use crate::node::Node;
@@ -83,7 +82,7 @@ fn end_last(nodes: &mut [Node])
 
 /// Sets the suffixes of a layer, where those of the next one are known: of each node the greatest length of an arc with the
 /// suffix of its target, or none where no arc has a target with a suffix. Nothing else of the layer changes.
-pub fn set_suffixes(layer: &mut KeptLayer, next: &KeptLayer)
+pub fn set_suffixes(layer: &mut Layer, next: &Layer)
     requires arcs { Each (λ node. Each MayAdd node.arcs) layer.old.nodes }
     requires leads { Each (λ node. Each (λ arc. MayLead (map (λ below. below.suffix) next.now.nodes) arc.target) node.arcs) layer.old.nodes }
     ensures { layer.new ≡ ended_layer (map (λ below. below.suffix) next.now.nodes) layer.old }
@@ -92,19 +91,6 @@ pub fn set_suffixes(layer: &mut KeptLayer, next: &KeptLayer)
         layer.nodes.as_mut_slice(),
         layer.arcs.as_slice(),
         next.nodes.as_slice(),
-    );
-}
-
-/// Sets the suffixes of the layer just above the newest one as `set_suffixes` does, where those of the newest one are known.
-pub fn set_suffixes_above(layer: &mut KeptLayer, newest: &Layer)
-    requires arcs { Each (λ node. Each MayAdd node.arcs) layer.old.nodes }
-    requires leads { Each (λ node. Each (λ arc. MayLead (map (λ below. below.suffix) newest.now.nodes) arc.target) node.arcs) layer.old.nodes }
-    ensures { layer.new ≡ ended_layer (map (λ below. below.suffix) newest.now.nodes) layer.old }
-{
-    end_nodes(
-        layer.nodes.as_mut_slice(),
-        layer.arcs.as_slice(),
-        newest.nodes.as_slice(),
     );
 }
 

@@ -1,17 +1,18 @@
 //! A layer is expanded.
 
-ghost use Rattle.std.specs.Prelude.{◌≡◌, ℕ, ◌+◌, ◌*◌, ◌^◌, ◌<◌, ◌≤◌, List, length, IfOk, IsSome, vec_capacity};
+ghost use Rattle.std.specs.Prelude.{◌≡◌, ℕ, ◌+◌, ◌*◌, ◌^◌, ◌<◌, ◌≤◌, [], List, length, vec_capacity, IfOk, IsSome};
 ghost use Rattle.dp_model.specs.Lists.{Each};
 ghost use Rattle.dp_laws.specs.Rules.Compiling.{expand};
+ghost use Rattle.layer_candidates.specs.HeldRows.{held_row, HasExchanged};
 ghost use Rattle.layer_candidates.specs.Members.{IsMemberOf};
 ghost use Rattle.layer_nodes.specs.Expanding.{members_from, IsExpanded};
-ghost use Rattle.layer_nodes.specs.Holding.{AreHeld};
+ghost use Rattle.layer_nodes.specs.Holding.{AreHeld, places_of};
 ghost use Rattle.layer_nodes.specs.Nodes.{shown_layer, shown_below};
 ghost use Rattle.layer_nodes.specs.Sifting.{expand_sifted};
 ghost use Rattle.layer_nodes.specs.Steps.{IsParent, IsRanked, KeepsNodes, KeepsRoom};
+ghost use Rattle.layer_nodes.specs.Stored.{rows_in};
 
 use crate::extending::extend_layer;
-use crate::kept_layer::KeptLayer;
 use crate::layer::Layer;
 use crate::node::Node;
 use crate::numbering::{arrange, arrange_unstruck};
@@ -21,11 +22,14 @@ use layer_candidates::{Key, Way};
 use row_region::Region;
 use std::alloc::Global;
 use std::marker::Model;
+use std::snapshot::Snapshot;
 
 /// The memory in which a layer is expanded. It is made once and used again.
 #[derive(Debug, Drop)]
 pub struct Expansion {
     room: usize,
+    // the parent's state, while it is extended
+    from: Vec<i64>,
     ways: Vec<Way>,
     folds: Vec<u64>,
     heads: Vec<u32>,
@@ -36,25 +40,26 @@ pub struct Expansion {
 }
 
 impl Model for Expansion {
-    ghost use Rattle.std.specs.Prelude.{ℕ, vec_len, vec_capacity};
-    ghost use Rattle.layer_nodes.specs.Stored.{HasExpansion};
+    ghost use Rattle.std.specs.Prelude.{vec_len, vec_capacity};
+    ghost use Rattle.layer_nodes.specs.Stored.{Room, HasExpansion};
 
-    ghost Value = { ℕ };
+    ghost Value = { Room };
 
-    ghost view = { λ e. e.room };
+    ghost view = { λ e. record { most = e.room; words = vec_len e.from } };
 
     ghost invariant = { λ e. HasExpansion e.room (vec_capacity e.ways) (vec_len e.folds) (vec_len e.heads) (vec_len e.next) (vec_capacity e.keys) (vec_len e.exact) (vec_len e.places) };
 }
 
 impl Expansion {
-    /// Memory for so many candidates.
-    pub fn prepare(alloc: Global, room: usize) -> Result<Expansion, OutOfMemory>
+    /// Memory for so many candidates, whose rows have so many cells.
+    pub fn prepare(alloc: Global, room: usize, words: usize) -> Result<Expansion, OutOfMemory>
         requires { room + 1 < 2 ^ 32 }
-        ensures { IfOk result (λ e. e ≡ room) }
+        ensures { IfOk result (λ e. e ≡ record { most = room; words = words }) }
     {
         let slots = (2 * room + 1).next_power_of_two();
         Ok(Expansion {
             room,
+            from: vec![in alloc; 0i64; words]?,
             ways: Vec::with_capacity(alloc, room)?,
             folds: vec![in alloc; 0u64; room]?,
             heads: vec![in alloc; 0u32; slots]?,
@@ -66,28 +71,28 @@ impl Expansion {
     }
 }
 
-/// Extends the nodes of the layer at depth `k`, whose rows stand in `cells`, and makes the nodes of the next layer, whose rows
-/// are written to `rows`.
-fn expand_rows<M: DpModel>(
+/// Extends the nodes of the layer at depth `k`, whose rows the region has, and makes the nodes of the next layer, whose rows are
+/// put into it.
+fn expand_nodes<M: DpModel>(
     model: &M,
     k: usize,
-    words: usize,
-    cells: &[i64],
+    region: &mut Region,
     above: &mut [Node],
     arcs: &mut Vec<DdArc>,
-    rows: &mut [i64],
     below: &mut Vec<Node>,
     expansion: &mut Expansion,
 )
     requires layer { k < (M.meaning (M.numbers model.now)).vars }
-    requires words { words ≡ (M.meaning (M.numbers model.now)).words }
-    requires members { Each (IsMemberOf (M.meaning (M.numbers model.now)) k cells.now words) (members_from 0 above.old) }
+    requires region_words { region.old.words ≡ (M.meaning (M.numbers model.now)).words }
+    requires row_words { expansion.old.words ≡ (M.meaning (M.numbers model.now)).words }
+    requires members { Each (IsMemberOf (M.meaning (M.numbers model.now)) k region.old) (members_from 0 above.old) }
     requires few_nodes { length above.old < 2 ^ 32 }
     requires arcs_room { length above.old * (M.meaning (M.numbers model.now)).choices k ≤ vec_capacity arcs.old }
-    requires rows_room { length above.old * (M.meaning (M.numbers model.now)).choices k * words ≤ length rows.old }
     requires below_room { length above.old * (M.meaning (M.numbers model.now)).choices k ≤ vec_capacity below.old }
-    requires room { length above.old * (M.meaning (M.numbers model.now)).choices k ≤ expansion.old }
-    ensures expanded { IsExpanded (expand (M.meaning (M.numbers model.now)) k) (M.meaning (M.numbers model.now)) k words cells.now above.old above.new arcs.new.items rows.new below.new.items }
+    requires room { length above.old * (M.meaning (M.numbers model.now)).choices k ≤ expansion.old.most }
+    requires spare { length above.old * (M.meaning (M.numbers model.now)).choices k + 1 ≤ region.old.spare }
+    ensures expanded { IsExpanded (expand (M.meaning (M.numbers model.now)) k) (M.meaning (M.numbers model.now)) k (held_row region.old) above.old above.new arcs.new.items (held_row region.new) below.new.items }
+    ensures exchanged { HasExchanged region.old [] region.new (rows_in below.new.items) }
     ensures arcs_capacity { vec_capacity arcs.new ≡ vec_capacity arcs.old }
     ensures below_capacity { vec_capacity below.new ≡ vec_capacity below.old }
     ensures expansion { expansion.new ≡ expansion.old }
@@ -95,22 +100,19 @@ fn expand_rows<M: DpModel>(
     extend_layer(
         model,
         k,
-        words,
-        cells,
+        region,
+        expansion.from.as_mut_slice(),
         above,
         arcs,
-        rows,
         &mut expansion.ways,
         expansion.folds.as_mut_slice(),
         expansion.heads.as_mut_slice(),
         expansion.next.as_mut_slice(),
         expansion.exact.as_mut_slice(),
     );
-    let live = model.first_live(k + 1);
     arrange(
-        rows,
-        words,
-        live,
+        region,
+        model.first_live(k + 1),
         expansion.ways.as_slice(),
         expansion.exact.as_slice(),
         &mut expansion.keys,
@@ -122,23 +124,28 @@ fn expand_rows<M: DpModel>(
 
 /// Expands the layer at depth `k`, whose rows the region holds: its nodes get an arc for each allowed decision, and of each
 /// state the best candidate, in the reduction order, is a node of the next layer, exact where all arcs to its state come from
-/// exact nodes; whatever the paths of the nodes above are. Nothing else of them changes. It takes no memory.
+/// exact nodes; whatever the paths of the nodes above are. Nothing else of them changes. The rows of the nodes that the next layer
+/// had before stay as they are; those of its new ones are put into the region, which has a free row for each candidate and one
+/// more. It takes no memory.
 pub fn expand<M: DpModel>(
     model: &M,
     k: usize,
-    region: &Region,
-    above: &mut KeptLayer,
+    region: &mut Region,
+    above: &mut Layer,
     next: &mut Layer,
     expansion: &mut Expansion,
 )
     requires layer { k < (M.meaning (M.numbers model.now)).vars }
     requires above_words { above.old.words ≡ (M.meaning (M.numbers model.now)).words }
     requires next_words { next.old.words ≡ (M.meaning (M.numbers model.now)).words }
-    requires held { AreHeld region.now above.old.nodes }
+    requires region_words { region.old.words ≡ (M.meaning (M.numbers model.now)).words }
+    requires row_words { expansion.old.words ≡ (M.meaning (M.numbers model.now)).words }
+    requires held { AreHeld region.old above.old.nodes }
     requires nodes { Each (IsParent (M.meaning (M.numbers model.now)) k) above.old.nodes }
     requires arcs_room { length above.old.nodes * (M.meaning (M.numbers model.now)).choices k ≤ above.old.arcs_room }
     requires nodes_room { length above.old.nodes * (M.meaning (M.numbers model.now)).choices k ≤ next.old.nodes_room }
-    requires room { length above.old.nodes * (M.meaning (M.numbers model.now)).choices k ≤ expansion.old }
+    requires room { length above.old.nodes * (M.meaning (M.numbers model.now)).choices k ≤ expansion.old.most }
+    requires spare { length above.old.nodes * (M.meaning (M.numbers model.now)).choices k + 1 ≤ region.old.spare }
     ensures above { (paths : ℕ → List ℕ) → shown_layer paths above.new.nodes ≡ (expand (M.meaning (M.numbers model.now)) k (shown_layer paths above.old.nodes)).above }
     ensures next { (paths : ℕ → List ℕ) → shown_below paths next.new.nodes ≡ (expand (M.meaning (M.numbers model.now)) k (shown_layer paths above.old.nodes)).next }
     ensures ranked { Each (IsRanked (M.meaning (M.numbers model.now)) (k + 1)) next.new.nodes }
@@ -147,43 +154,44 @@ pub fn expand<M: DpModel>(
     ensures rest { KeepsNodes above.old above.new }
     ensures next_rooms { KeepsRoom next.old next.new }
     ensures expansion { expansion.new ≡ expansion.old }
+    ensures held { AreHeld region.new next.new.nodes }
+    ensures exchanged { HasExchanged region.old [] region.new (places_of next.new.nodes) }
 {
-    expand_rows(
+    expand_nodes(
         model,
         k,
-        above.words,
-        region.cells(),
+        region,
         above.nodes.as_mut_slice(),
         &mut above.arcs,
-        next.rows.as_mut_slice(),
         &mut next.nodes,
         expansion,
     );
+    next.held = Snapshot::of(region);
 }
 
-/// Extends the nodes of the layer at depth `k`, whose rows stand in `cells`, and makes the nodes of the next layer that are not
-/// struck, whose rows are written to `rows`.
-fn expand_sifted_rows<M: DpModel>(
+/// Extends the nodes of the layer at depth `k`, whose rows the region has, and makes the nodes of the next layer that are not
+/// struck, whose rows are put into it.
+fn expand_sifted_nodes<M: DpModel>(
     model: &M,
     k: usize,
     threshold: Option<i64>,
-    words: usize,
-    cells: &[i64],
+    region: &mut Region,
     above: &mut [Node],
     arcs: &mut Vec<DdArc>,
-    rows: &mut [i64],
     below: &mut Vec<Node>,
     expansion: &mut Expansion,
 )
     requires layer { k < (M.meaning (M.numbers model.now)).vars }
-    requires words { words ≡ (M.meaning (M.numbers model.now)).words }
-    requires members { Each (IsMemberOf (M.meaning (M.numbers model.now)) k cells.now words) (members_from 0 above.old) }
+    requires region_words { region.old.words ≡ (M.meaning (M.numbers model.now)).words }
+    requires row_words { expansion.old.words ≡ (M.meaning (M.numbers model.now)).words }
+    requires members { Each (IsMemberOf (M.meaning (M.numbers model.now)) k region.old) (members_from 0 above.old) }
     requires few_nodes { length above.old < 2 ^ 32 }
     requires arcs_room { length above.old * (M.meaning (M.numbers model.now)).choices k ≤ vec_capacity arcs.old }
-    requires rows_room { length above.old * (M.meaning (M.numbers model.now)).choices k * words ≤ length rows.old }
     requires below_room { length above.old * (M.meaning (M.numbers model.now)).choices k ≤ vec_capacity below.old }
-    requires room { length above.old * (M.meaning (M.numbers model.now)).choices k ≤ expansion.old }
-    ensures expanded { IsExpanded (expand_sifted (M.meaning (M.numbers model.now)) k threshold) (M.meaning (M.numbers model.now)) k words cells.now above.old above.new arcs.new.items rows.new below.new.items }
+    requires room { length above.old * (M.meaning (M.numbers model.now)).choices k ≤ expansion.old.most }
+    requires spare { length above.old * (M.meaning (M.numbers model.now)).choices k + 1 ≤ region.old.spare }
+    ensures expanded { IsExpanded (expand_sifted (M.meaning (M.numbers model.now)) k threshold) (M.meaning (M.numbers model.now)) k (held_row region.old) above.old above.new arcs.new.items (held_row region.new) below.new.items }
+    ensures exchanged { HasExchanged region.old [] region.new (rows_in below.new.items) }
     ensures arcs_capacity { vec_capacity arcs.new ≡ vec_capacity arcs.old }
     ensures below_capacity { vec_capacity below.new ≡ vec_capacity below.old }
     ensures expansion { expansion.new ≡ expansion.old }
@@ -191,11 +199,10 @@ fn expand_sifted_rows<M: DpModel>(
     extend_layer(
         model,
         k,
-        words,
-        cells,
+        region,
+        expansion.from.as_mut_slice(),
         above,
         arcs,
-        rows,
         &mut expansion.ways,
         expansion.folds.as_mut_slice(),
         expansion.heads.as_mut_slice(),
@@ -206,8 +213,7 @@ fn expand_sifted_rows<M: DpModel>(
         model,
         k + 1,
         threshold,
-        rows,
-        words,
+        region,
         expansion.ways.as_slice(),
         expansion.exact.as_slice(),
         &mut expansion.keys,
@@ -218,24 +224,28 @@ fn expand_sifted_rows<M: DpModel>(
 }
 
 /// Expands the layer at depth `k` as `expand` does, but of the next layer those nodes are left out that are struck by their rough
-/// bound; the arcs to them have no target. They are neither put in order nor made. It takes no memory.
+/// bound; the arcs to them have no target, and their rows are given back. They are neither put in order nor made. It takes no
+/// memory.
 pub fn expand_sifted<M: DpModel>(
     model: &M,
     k: usize,
     threshold: Option<i64>,
-    region: &Region,
-    above: &mut KeptLayer,
+    region: &mut Region,
+    above: &mut Layer,
     next: &mut Layer,
     expansion: &mut Expansion,
 )
     requires layer { k < (M.meaning (M.numbers model.now)).vars }
     requires above_words { above.old.words ≡ (M.meaning (M.numbers model.now)).words }
     requires next_words { next.old.words ≡ (M.meaning (M.numbers model.now)).words }
-    requires held { AreHeld region.now above.old.nodes }
+    requires region_words { region.old.words ≡ (M.meaning (M.numbers model.now)).words }
+    requires row_words { expansion.old.words ≡ (M.meaning (M.numbers model.now)).words }
+    requires held { AreHeld region.old above.old.nodes }
     requires nodes { Each (IsParent (M.meaning (M.numbers model.now)) k) above.old.nodes }
     requires arcs_room { length above.old.nodes * (M.meaning (M.numbers model.now)).choices k ≤ above.old.arcs_room }
     requires nodes_room { length above.old.nodes * (M.meaning (M.numbers model.now)).choices k ≤ next.old.nodes_room }
-    requires room { length above.old.nodes * (M.meaning (M.numbers model.now)).choices k ≤ expansion.old }
+    requires room { length above.old.nodes * (M.meaning (M.numbers model.now)).choices k ≤ expansion.old.most }
+    requires spare { length above.old.nodes * (M.meaning (M.numbers model.now)).choices k + 1 ≤ region.old.spare }
     ensures above { (paths : ℕ → List ℕ) → shown_layer paths above.new.nodes ≡ (expand_sifted (M.meaning (M.numbers model.now)) k threshold (shown_layer paths above.old.nodes)).above }
     ensures next { (paths : ℕ → List ℕ) → shown_below paths next.new.nodes ≡ (expand_sifted (M.meaning (M.numbers model.now)) k threshold (shown_layer paths above.old.nodes)).next }
     ensures ranked { Each (IsRanked (M.meaning (M.numbers model.now)) (k + 1)) next.new.nodes }
@@ -244,17 +254,18 @@ pub fn expand_sifted<M: DpModel>(
     ensures rest { KeepsNodes above.old above.new }
     ensures next_rooms { KeepsRoom next.old next.new }
     ensures expansion { expansion.new ≡ expansion.old }
+    ensures held { AreHeld region.new next.new.nodes }
+    ensures exchanged { HasExchanged region.old [] region.new (places_of next.new.nodes) }
 {
-    expand_sifted_rows(
+    expand_sifted_nodes(
         model,
         k,
         threshold,
-        above.words,
-        region.cells(),
+        region,
         above.nodes.as_mut_slice(),
         &mut above.arcs,
-        next.rows.as_mut_slice(),
         &mut next.nodes,
         expansion,
     );
+    next.held = Snapshot::of(region);
 }

@@ -1,86 +1,165 @@
-ghost use Rattle.std.specs.Prelude.{◌≡◌, ◌+◌, ◌<◌, ◌≤◌, ◌^◌, true, [], ◌∷◌, length, slice_get, option_map, option_and_then, Some, None, IfOk, IsSome};
-ghost use Rattle.layer_nodes.specs.Nodes.{suffix_set};
+ghost use Rattle.std.specs.Prelude.{◌≡◌, ◌+◌, ◌<◌, ◌≤◌, ◌^◌, [], length, map, slice_get, option_map, option_and_then, Some, None, true, IfOk, IsSome, vec_capacity};
+ghost use Rattle.dp_model.specs.Lists.{Each};
+ghost use Rattle.layer_candidates.specs.HeldRows.{AreLive, HasExchanged};
+ghost use Rattle.layer_nodes.specs.Holding.{AreHeld, places_of, HasStarted};
+ghost use Rattle.layer_nodes.specs.Nodes.{NodeView, without_arcs, suffix_set};
+ghost use Rattle.layer_nodes.specs.Stored.{bare_of};
 ghost use Rattle.layer_nodes.specs.Steps.{KeepsRoom};
 
 use crate::node::Node;
-use crate::rows::write_row;
+use crate::rows::give_rows;
 use dp_laws::DdArc;
 use dp_model::OutOfMemory;
-use layer_candidates::row;
+use layer_candidates::put_row;
+use row_region::{Region, RowId};
 use std::alloc::Global;
+use std::fmt;
 use std::marker::Model;
+use std::snapshot::Snapshot;
 
-/// A layer of a diagram: its nodes in order, with their rows and arcs. Its memory is made once and used again.
-#[derive(Debug, Drop)]
+/// A layer of a diagram: its nodes in order, with their arcs, and with the places of their rows in a region that the caller owns.
+/// Its memory is made once and used again.
+#[derive(Drop)]
 pub struct Layer {
     pub(crate) words: usize,
     pub(crate) room: usize,
     pub(crate) nodes: Vec<Node>,
-    pub(crate) rows: Vec<i64>,
     pub(crate) arcs: Vec<DdArc>,
+    // the region when it had the rows of the nodes
+    pub(crate) held: Snapshot<Region>,
 }
 
 impl Model for Layer {
     ghost use Rattle.std.specs.Prelude.{map, vec_capacity};
+    ghost use Rattle.layer_candidates.specs.HeldRows.{held_row};
     ghost use Rattle.layer_nodes.specs.Nodes.{LayerView};
-    ghost use Rattle.layer_nodes.specs.Stored.{node_view, HasLayer};
+    ghost use Rattle.layer_nodes.specs.Stored.{node_view_by, HasLayer};
 
     ghost Value = { LayerView };
 
     ghost view = { λ l. record {
       words = l.words;
-      nodes = map (node_view l.words l.rows.items l.arcs.items) l.nodes.items;
+      nodes = map (node_view_by (held_row l.held.value) l.arcs.items) l.nodes.items;
       nodes_room = l.room;
       arcs_room = vec_capacity l.arcs;
     } };
 
-    ghost invariant = { λ l. HasLayer l.words l.room l.nodes.items (vec_capacity l.nodes) l.rows.items l.arcs.items };
+    ghost invariant = { λ l. HasLayer l.room l.nodes.items (vec_capacity l.nodes) l.arcs.items };
+}
+
+impl fmt::Debug for Layer {
+    fn fmt<W: fmt::Write>(&self, f: &mut fmt::Formatter<W>) -> fmt::Result {
+        f.debug_struct("Layer")
+            .field("words", &self.words)
+            .field("room", &self.room)
+            .field("nodes", &self.nodes)
+            .field("arcs", &self.arcs)
+            .finish_non_exhaustive()
+    }
+}
+
+/// An exact node without parent and arcs, whose row stands at the place.
+fn first_node(place: u32, value: i64, rank: i64) -> Node
+    ensures { result ≡ record { value = value; rank = rank; suffix = None; parent = None; row = place; decision = 0; first_arc = 0; arcs = 0; exact = true } }
+{
+    Node {
+        value,
+        rank,
+        suffix: None,
+        parent: None,
+        row: place,
+        decision: 0,
+        first_arc: 0,
+        arcs: 0,
+        exact: true,
+    }
+}
+
+/// The node without its arcs.
+fn without_arcs(node: Node) -> Node
+    ensures { result ≡ record node { first_arc = 0; arcs = 0 } }
+{
+    Node {
+        first_arc: 0,
+        arcs: 0,
+        ..node
+    }
+}
+
+/// Becomes copies of these nodes without arcs.
+fn list_all(others: &[Node], nodes: &mut Vec<Node>)
+    requires room { length others.now ≤ vec_capacity nodes.old }
+    ensures nodes { nodes.new.items ≡ map bare_of others.now }
+    ensures capacity { vec_capacity nodes.new ≡ vec_capacity nodes.old }
+{
+    nodes.clear();
+    'nodes: for i in 0..others.len() {
+        nodes.push_reserved(without_arcs(others[i]));
+    }
 }
 
 impl Layer {
-    /// An empty layer, with room for so many nodes and so many arcs in all, whose rows have so many cells.
+    /// An empty layer, with room for so many nodes and so many arcs in all, whose rows have so many cells and are to stand in
+    /// the region.
     pub fn prepare(
         alloc: Global,
         words: usize,
         nodes: usize,
         arcs: usize,
+        region: &Region,
     ) -> Result<Layer, OutOfMemory>
         requires few { nodes + 1 < 2 ^ 32 }
-        requires few_words { words ≤ 1024 }
         requires few_arcs { arcs < 2 ^ 32 }
         ensures { IfOk result (λ l. l ≡ record { words = words; nodes = []; nodes_room = nodes; arcs_room = arcs }) }
     {
-        let cells = (nodes + 1) * words;
         Ok(Layer {
             words,
             room: nodes,
             nodes: Vec::with_capacity(alloc, nodes)?,
-            rows: vec![in alloc; 0i64; cells]?,
             arcs: Vec::with_capacity(alloc, arcs)?,
+            held: Snapshot::of(region),
         })
     }
 
-    /// Becomes a layer with one exact node, which has no parent and no arcs.
-    pub fn start(&mut self, row: &[i64], value: i64, rank: i64)
+    /// Becomes a layer with one exact node, which has no parent and no arcs. Its row is put into the region.
+    pub fn start(&mut self, region: &mut Region, row: &[i64], value: i64, rank: i64)
         requires room { 1 ≤ self.old.nodes_room }
         requires cells { length row.now ≡ self.old.words }
-        ensures node { self.new.nodes ≡ record { row = row.now; place = 0; value = value; rank = rank; exact = true; parent = None; decision = 0; arcs = []; suffix = None } ∷ [] }
+        requires words { region.old.words ≡ self.old.words }
+        requires spare { 0 < region.old.spare }
+        ensures node { HasStarted row.now value rank region.old region.new self.new.nodes }
         ensures rooms { KeepsRoom self.old self.new }
     {
-        write_row(self.rows.as_mut_slice(), self.words, 0, row);
+        let place = put_row(region, row);
         self.arcs.clear();
         self.nodes.clear();
-        self.nodes.push_reserved(Node {
-            value,
-            rank,
-            suffix: None,
-            parent: None,
-            row: 0,
-            decision: 0,
-            first_arc: 0,
-            arcs: 0,
-            exact: true,
-        });
+        self.nodes.push_reserved(first_node(place, value, rank));
+        self.held = Snapshot::of(region);
+    }
+
+    /// Becomes a copy of the newest layer, but for its arcs. Its nodes have the rows of the other one's, which stay where they are
+    /// in the region.
+    pub fn keep(&mut self, newest: &Layer, region: &Region)
+        requires room { length newest.now.nodes ≤ self.old.nodes_room }
+        requires words { newest.now.words ≡ self.old.words }
+        requires held { AreHeld region.now newest.now.nodes }
+        ensures nodes { map without_arcs self.new.nodes ≡ map without_arcs newest.now.nodes }
+        ensures places { places_of self.new.nodes ≡ places_of newest.now.nodes }
+        ensures bare { Each (λ (n : NodeView). n.arcs ≡ []) self.new.nodes }
+        ensures held { AreHeld region.now self.new.nodes }
+        ensures rooms { KeepsRoom self.old self.new }
+    {
+        self.arcs.clear();
+        list_all(newest.nodes.as_slice(), &mut self.nodes);
+        self.held = Snapshot::of(region);
+    }
+
+    /// Gives the rows of the nodes back to the region.
+    pub fn drop_rows(&self, region: &mut Region)
+        requires live { AreLive region.old (places_of self.now.nodes) }
+        ensures exchanged { HasExchanged region.old (places_of self.now.nodes) region.new [] }
+    {
+        give_rows(region, self.nodes.as_slice());
     }
 
     /// How many nodes it has.
@@ -98,16 +177,15 @@ impl Layer {
         self.words
     }
 
-    /// The state of a node.
-    pub fn row(&self, node: usize) -> &[i64]
-        requires { node < length self.now.nodes }
+    /// The state of a node, in the region that holds the rows of the layer.
+    pub fn row<'r>(&self, region: &'r Region, node: usize) -> &'r [i64]
+        requires place { node < length self.now.nodes }
+        requires held { AreHeld region.now self.now.nodes }
         ensures { option_map (λ n. n.row) (slice_get self.now.nodes node) ≡ Some result.now }
     {
-        row(
-            self.rows.as_slice(),
-            self.words,
-            self.nodes[node].row as usize,
-        )
+        region.row(RowId {
+            place: self.nodes[node].row,
+        })
     }
 
     /// The greatest length of a path to a node.

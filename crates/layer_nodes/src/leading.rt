@@ -1,12 +1,12 @@
 //! Leaders: the first exact nodes of a layer that no leader before them dominates.
 
-ghost use Rattle.std.specs.Prelude.{◌≡◌, ◌+◌, ◌*◌, ◌≤◌, ◌-ℤ◌, IfSome, length, vec_capacity};
+ghost use Rattle.std.specs.Prelude.{◌≡◌, ◌≤◌, ◌-ℤ◌, IfSome, length, vec_capacity};
 ghost use Rattle.dp_model.specs.Gaps.{IsStateOf};
 ghost use Rattle.dp_model.specs.Lists.{Each};
 ghost use Rattle.dp_model.specs.Numbers.{IsSmall};
 ghost use Rattle.dp_laws.specs.Rules.Pruning.{redirect_within, at_leader};
 ghost use Rattle.dp_laws.specs.Rules.Reducing.{redirect_by};
-ghost use Rattle.layer_candidates.specs.Rows.{row_at};
+ghost use Rattle.layer_candidates.specs.HeldRows.{held_row};
 ghost use Rattle.layer_candidates.specs.Ways.{IsNearly};
 ghost use Rattle.layer_nodes.specs.Redirecting.{IsShort};
 ghost use Rattle.layer_nodes.specs.Leading.{IsIn, IsNodeIn, IsLeaderIn, leaders_of, led_at, bare};
@@ -14,7 +14,8 @@ ghost use Rattle.layer_nodes.specs.Leading.{IsIn, IsNodeIn, IsLeaderIn, leaders_
 use crate::node::Node;
 use crate::redirecting::{LeaderAt, Redirect};
 use dp_model::DpModel;
-use layer_candidates::{MOST_LEADERS, row};
+use layer_candidates::{MOST_LEADERS, row_of};
+use row_region::Region;
 
 /// A node that stays at the place becomes a leader where it is exact and there are fewer than 16.
 pub(crate) fn lead(leaders: &mut Vec<LeaderAt>, place: u32, node: Node)
@@ -55,19 +56,18 @@ fn room(leader: LeaderAt, node: Node) -> i64
 fn redirect_at<M: DpModel>(
     model: &M,
     k: usize,
-    rows: &[i64],
-    words: usize,
+    region: &Region,
     leader: LeaderAt,
     node: Node,
 ) -> Option<Redirect>
-    requires leader { IsLeaderIn (M.meaning (M.numbers model.now)) k rows.now words leader }
-    requires node { IsNodeIn (M.meaning (M.numbers model.now)) k rows.now words node }
-    ensures redirect { result ≡ redirect_within leader.place ((M.meaning (M.numbers model.now)).gap k (row_at rows.now words leader.row) (row_at rows.now words node.row)) leader.value node.value }
+    requires leader { IsLeaderIn (M.meaning (M.numbers model.now)) k region.now leader }
+    requires node { IsNodeIn (M.meaning (M.numbers model.now)) k region.now node }
+    ensures redirect { result ≡ redirect_within leader.place ((M.meaning (M.numbers model.now)).gap k (held_row region.now leader.row) (held_row region.now node.row)) leader.value node.value }
     ensures short { IsShort result }
 {
     let most = room(leader, node);
-    let a = row(rows, words, leader.row as usize);
-    let s = row(rows, words, node.row as usize);
+    let a = row_of(region, leader.row);
+    let s = row_of(region, node.row);
     let gap = model.covers_within(k, a, leader.rank, s, node.rank, most);
     redirect_by(leader.place, gap)
 }
@@ -76,18 +76,17 @@ fn redirect_at<M: DpModel>(
 pub(crate) fn at_leader<M: DpModel>(
     model: &M,
     k: usize,
-    rows: &[i64],
-    words: usize,
+    region: &Region,
     leaders: &[LeaderAt],
     node: Node,
 ) -> Option<Redirect>
-    requires leaders { Each (IsLeaderIn (M.meaning (M.numbers model.now)) k rows.now words) leaders.now }
-    requires node { IsNodeIn (M.meaning (M.numbers model.now)) k rows.now words node }
-    ensures redirect { result ≡ at_leader (M.meaning (M.numbers model.now)) k (leaders_of rows.now words leaders.now) (bare rows.now words node) }
+    requires leaders { Each (IsLeaderIn (M.meaning (M.numbers model.now)) k region.now) leaders.now }
+    requires node { IsNodeIn (M.meaning (M.numbers model.now)) k region.now node }
+    ensures redirect { result ≡ at_leader (M.meaning (M.numbers model.now)) k (leaders_of (held_row region.now) leaders.now) (bare (held_row region.now) node) }
     ensures short { IsShort result }
 {
     'leaders: for i in 0..leaders.len() {
-        let redirect = redirect_at(model, k, rows, words, leaders[i], node);
+        let redirect = redirect_at(model, k, region, leaders[i], node);
         if redirect.is_some() {
             return redirect;
         }

@@ -1,14 +1,13 @@
 //! Layers of a relaxed diagram in flat memory, and the steps by which one is made from the layer above it.
 //!
-//! A layer has its nodes in order and their arcs in one vector; a node names the places of its row and of its first arc. The
-//! newest layer, a `Layer`, has its rows with the candidates in a block of its own. `KeptLayer::keep` copies it to a layer above
-//! the newest one; the rows of those layers stand in a region that the caller owns.
+//! A layer has its nodes in order and their arcs in one vector; a node names the places of its row and of its first arc. The rows
+//! of all layers stand in a region that the caller owns. `Layer::keep` copies the newest layer to one above it, whose nodes have
+//! the same rows; each step that takes nodes out gives their rows back.
 //!
 //! `expand` gives the nodes of a layer an arc for each allowed decision and makes the next layer in the reduction order;
 //! `expand_sifted` does so but leaves out the nodes that are struck; `strike` takes nodes out of it, and behind `expand_sifted`
 //! `drop_dominated` is enough; `keep_first` and `merge_rest` reduce it to a width. In each step the arcs of the layer above are
-//! redirected. `set_last_suffixes`, `set_suffixes_above` and, from layer to layer up, `set_suffixes` tell how far it is from each
-//! node to the last layer.
+//! redirected. `set_last_suffixes` and, from layer to layer up, `set_suffixes` tell how far it is from each node to the last layer.
 //!
 //! It stands on `dp_model`, `dp_laws`, `layer_candidates` and `row_region`. Each step is proved to be the one that is defined in
 //! `dp_laws` on plain lists of nodes. Only the `prepare` calls take memory.
@@ -18,7 +17,6 @@ mod ending;
 mod expanding;
 mod extending;
 mod keeping;
-mod kept_layer;
 mod layer;
 mod leading;
 mod merging;
@@ -28,10 +26,9 @@ mod redirecting;
 mod rows;
 mod striking;
 
-pub use ending::{set_last_suffixes, set_suffixes, set_suffixes_above};
+pub use ending::{set_last_suffixes, set_suffixes};
 pub use expanding::{Expansion, expand, expand_sifted};
 pub use keeping::keep_first;
-pub use kept_layer::KeptLayer;
 pub use layer::Layer;
 pub use merging::merge_rest;
 pub use redirecting::Redirects;

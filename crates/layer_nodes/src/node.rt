@@ -1,5 +1,7 @@
-/// A node of a layer. Its row and its arcs lie in those of the layer; its kept path is that of its parent, a node of the layer
-/// above, with its decision.
+ghost use Rattle.std.specs.Prelude.{◌≡◌, ◌≤◌, length, drop};
+
+/// A node of a layer. Its row stands in a region, and its arcs lie in those of the layer; its kept path is that of its parent, a
+/// node of the layer above, with its decision.
 #[derive(Clone, Copy, Debug)]
 pub struct Node {
     /// The greatest length of a path to it.
@@ -10,7 +12,7 @@ pub struct Node {
     pub suffix: Option<i64>,
     /// The place of its parent in the layer above; a merged node and the first one of all have none.
     pub parent: Option<u32>,
-    /// The place of its row.
+    /// The place of its row in the region.
     pub row: u32,
     /// The decision that leads to it from its parent.
     pub decision: u32,
@@ -20,4 +22,12 @@ pub struct Node {
     pub arcs: u32,
     /// Whether it stands for one state exactly.
     pub exact: bool,
+}
+
+/// The nodes from the place on.
+pub fn nodes_from(nodes: &[Node], first: usize) -> &[Node]
+    requires { first ≤ length nodes.now }
+    ensures { result.now ≡ drop first nodes.now }
+{
+    &nodes[first..]
 }

@@ -1,87 +1,71 @@
 //! The ways to a layer in order become its nodes, and the arcs lead to their places.
 
-ghost use Rattle.std.specs.Prelude.{◌≡◌, ℕ, ◌<◌, ◌≤◌, ◌^◌, Bool, List, length, map, slice_get, option_and_then, vec_capacity};
+ghost use Rattle.std.specs.Prelude.{◌≡◌, ◌≢◌, ℕ, ◌<◌, ◌≤◌, ◌^◌, Bool, List, length, map, None, vec_capacity};
 ghost use Rattle.dp_model.specs.Lists.{Each};
-ghost use Rattle.layer_nodes.specs.Expanding.{mark_at, key_in, IsNumbered, led, node_of, AreArranged};
-ghost use Rattle.layer_nodes.specs.Sifting.{number_in, led_in, AreSifted};
-ghost use Rattle.layer_candidates.specs.Rows.{row_at, HasZeros};
-ghost use Rattle.layer_candidates.specs.Ways.{way_at, AreDistinct};
+ghost use Rattle.layer_nodes.specs.Expanding.{mark_at, key_in, number_at, IsNumbered, LeadsWithin, led, node_of, AreArranged};
+ghost use Rattle.layer_nodes.specs.Sifting.{AreSifted};
+ghost use Rattle.layer_candidates.specs.HeldRows.{held_row, AreLive, HasLeft};
+ghost use Rattle.layer_candidates.specs.Rows.{HasZeros};
+ghost use Rattle.layer_candidates.specs.Ways.{way_at, rows_of, way_row, AreDistinct};
+ghost use Rattle.layer_nodes.specs.Stored.{rows_in};
+ghost use Rattle.row_region.specs.Region.{IsLive};
 
 use crate::node::Node;
 use dp_laws::DdArc;
 use dp_model::DpModel;
 use layer_candidates::{Key, Way, list_unstruck, put_in_order, sort};
+use row_region::Region;
 
-/// Numbers the ways by the places of their keys.
+/// Numbers the ways by the places of their keys. Each number is kept as one more, and what stands at other places stays.
 fn number(keys: &[Key], places: &mut [u32])
     requires within { Each (λ key. key.place < length places.old) keys.now }
     requires small { length keys.now < 2 ^ 32 }
-    ensures { (j : ℕ) → j < length keys.now → IsNumbered (length keys.now) keys.now places.new (key_in keys.now j).place }
+    ensures numbered { (j : ℕ) → j < length keys.now → IsNumbered (length keys.now) keys.now places.new (key_in keys.now j).place }
+    ensures others { (p : ℕ) → ((j : ℕ) → j < length keys.now → (key_in keys.now j).place ≢ p) → number_at places.new p ≡ number_at places.old p }
 {
     'keys: for i in 0..keys.len() {
-        places[keys[i].place as usize] = i as u32;
+        places[keys[i].place as usize] = i as u32 + 1;
     }
 }
 
-/// The number of a target.
-fn number_of(target: Option<u32>, places: &[u32]) -> Option<u32>
-    ensures { result ≡ option_and_then (λ t. slice_get places.now t) target }
+/// Numbers those of so many ways that have keys, by the places of these. The others have no number.
+fn number_some(keys: &[Key], count: usize, places: &mut [u32])
+    requires room { count ≤ length places.old }
+    requires within { Each (λ key. key.place < length places.old) keys.now }
+    requires small { length keys.now < 2 ^ 32 }
+    ensures numbered { (j : ℕ) → j < length keys.now → IsNumbered (length keys.now) keys.now places.new (key_in keys.now j).place }
+    ensures others { (p : ℕ) → p < count → Each (λ key. key.place ≢ p) keys.now → number_at places.new p ≡ None }
 {
-    match places.get(target? as usize) {
-        Some(place) => Some(*place),
-        None => None,
-    }
+    places[..count].fill(0);
+    number(keys, places);
 }
 
-/// The arc with the number of its target.
+/// The number of the way at the place, or none where it has no number.
+fn number_at(place: u32, places: &[u32]) -> Option<u32>
+    requires { place < length places.now }
+    ensures { result ≡ number_at places.now place }
+{
+    places[place as usize].checked_sub(1)
+}
+
+/// The arc with the number of its target, or without a target where it has no number.
 fn led(arc: DdArc, places: &[u32]) -> DdArc
+    requires { LeadsWithin (length places.now) arc }
     ensures { result ≡ led places.now arc }
 {
     DdArc {
-        target: number_of(arc.target, places),
+        target: number_at(arc.target.unwrap(), places),
         ..arc
     }
 }
 
-/// The arcs lead to the numbers of their targets.
+/// The arcs lead to the numbers of their targets, and those whose target has none lead nowhere.
 fn lead(arcs: &mut [DdArc], places: &[u32])
+    requires { Each (LeadsWithin (length places.now)) arcs.old }
     ensures { arcs.new ≡ map (led places.now) arcs.old }
 {
     'arcs: for i in 0..arcs.len() {
         arcs[i] = led(arcs[i], places);
-    }
-}
-
-/// The number of a target's key, or none where it has no key.
-fn number_in(target: Option<u32>, keys: &[Key], places: &[u32]) -> Option<u32>
-    ensures { result ≡ option_and_then (number_in keys.now places.now) target }
-{
-    let target = target?;
-    let number = *places.get(target as usize)?;
-    let key = keys.get(number as usize)?;
-    if key.place == target {
-        Some(number)
-    } else {
-        None
-    }
-}
-
-/// The arc with the number of its target's key, or without a target where it has no key.
-fn led_in(arc: DdArc, keys: &[Key], places: &[u32]) -> DdArc
-    ensures { result ≡ led_in keys.now places.now arc }
-{
-    DdArc {
-        target: number_in(arc.target, keys, places),
-        ..arc
-    }
-}
-
-/// The arcs lead to the numbers of their targets' keys, and those whose target has none lead nowhere.
-fn lead_in(arcs: &mut [DdArc], keys: &[Key], places: &[u32])
-    ensures { arcs.new ≡ map (led_in keys.now places.now) arcs.old }
-{
-    'arcs: for i in 0..arcs.len() {
-        arcs[i] = led_in(arcs[i], keys, places);
     }
 }
 
@@ -94,7 +78,7 @@ fn node_of(way: Way, key: Key, exact: bool) -> Node
         rank: key.rank,
         suffix: None,
         parent: Some(way.parent),
-        row: key.place,
+        row: key.row,
         decision: way.decision,
         first_arc: 0,
         arcs: 0,
@@ -121,8 +105,7 @@ fn list_nodes(ways: &[Way], keys: &[Key], marks: &[bool], nodes: &mut Vec<Node>)
 /// Puts the ways into the reduction order, in which they become the nodes, each with the mark of its place; the arcs, which lead to
 /// places of ways, lead to those of the nodes. The first `live` cells of all rows are zero, and are not compared.
 pub fn arrange(
-    rows: &[i64],
-    words: usize,
+    region: &Region,
     live: usize,
     ways: &[Way],
     marks: &[bool],
@@ -131,31 +114,32 @@ pub fn arrange(
     arcs: &mut [DdArc],
     nodes: &mut Vec<Node>,
 )
-    requires zeros { (i : ℕ) → i < length ways.now → HasZeros live (row_at rows.now words i) }
+    requires held { Each (IsLive region.now) (rows_of ways.now) }
+    requires zeros { (i : ℕ) → i < length ways.now → HasZeros live (way_row region.now ways.now i) }
     requires small { length ways.now < 2 ^ 32 }
+    requires targets { Each (LeadsWithin (length ways.now)) arcs.old }
     requires marks_room { length ways.now ≤ length marks.now }
     requires keys_room { length ways.now ≤ vec_capacity keys.old }
     requires places_room { length ways.now ≤ length places.old }
     requires nodes_room { length ways.now ≤ vec_capacity nodes.old }
-    ensures arranged { AreArranged rows.now words ways.now marks.now arcs.old arcs.new nodes.new.items }
+    ensures arranged { AreArranged (held_row region.now) ways.now marks.now arcs.old arcs.new nodes.new.items }
     ensures keys_capacity { vec_capacity keys.new ≡ vec_capacity keys.old }
     ensures nodes_capacity { vec_capacity nodes.new ≡ vec_capacity nodes.old }
 {
-    put_in_order(rows, words, live, ways, keys);
+    put_in_order(region, live, ways, keys);
     number(keys.as_slice(), places);
     lead(arcs, places);
     list_nodes(ways, keys.as_slice(), marks, nodes);
 }
 
 /// Puts the ways that are not struck into the reduction order, in which they become the nodes, each with the mark of its place;
-/// the arcs, which lead to places of ways, lead to those of the nodes, and those into a struck way lead nowhere. The first `live`
-/// cells of all rows are zero, and are not compared.
+/// the arcs, which lead to places of ways, lead to those of the nodes, and those into a struck way lead nowhere. The rows of the
+/// struck ways are given back.
 pub fn arrange_unstruck<M: DpModel>(
     model: &M,
     k: usize,
     threshold: Option<i64>,
-    rows: &[i64],
-    words: usize,
+    region: &mut Region,
     ways: &[Way],
     marks: &[bool],
     keys: &mut Vec<Key>,
@@ -164,20 +148,22 @@ pub fn arrange_unstruck<M: DpModel>(
     nodes: &mut Vec<Node>,
 )
     requires layer { k ≤ (M.meaning (M.numbers model.now)).vars }
-    requires words { words ≡ (M.meaning (M.numbers model.now)).words }
-    requires distinct { AreDistinct (M.meaning (M.numbers model.now)) k rows.now words ways.now }
+    requires distinct { AreDistinct (M.meaning (M.numbers model.now)) k (way_row region.old ways.now) ways.now }
+    requires held { AreLive region.old (rows_of ways.now) }
     requires small { length ways.now < 2 ^ 32 }
+    requires targets { Each (LeadsWithin (length ways.now)) arcs.old }
     requires marks_room { length ways.now ≤ length marks.now }
     requires keys_room { length ways.now ≤ vec_capacity keys.old }
     requires places_room { length ways.now ≤ length places.old }
     requires nodes_room { length ways.now ≤ vec_capacity nodes.old }
-    ensures arranged { AreSifted (M.meaning (M.numbers model.now)) k threshold rows.now words ways.now marks.now arcs.old arcs.new nodes.new.items }
+    ensures arranged { AreSifted (M.meaning (M.numbers model.now)) k threshold region.old ways.now marks.now arcs.old arcs.new nodes.new.items }
+    ensures left { HasLeft region.old (rows_of ways.now) region.new (rows_in nodes.new.items) }
     ensures keys_capacity { vec_capacity keys.new ≡ vec_capacity keys.old }
     ensures nodes_capacity { vec_capacity nodes.new ≡ vec_capacity nodes.old }
 {
-    list_unstruck(model, k, threshold, rows, words, ways, keys);
-    sort(rows, words, model.first_live(k), keys);
-    number(keys.as_slice(), places);
-    lead_in(arcs, keys.as_slice(), places);
+    list_unstruck(model, k, threshold, region, ways, keys);
+    sort(region, model.first_live(k), keys);
+    number_some(keys.as_slice(), ways.len(), places);
+    lead(arcs, places);
     list_nodes(ways, keys.as_slice(), marks, nodes);
 }

@@ -9,7 +9,7 @@ ghost use Rattle.layer_nodes.specs.Nodes.{shown_layer};
 ghost use Rattle.layer_nodes.specs.Redirecting.{redirect_of, IsShort, IsRedirected, AreRedirected};
 ghost use Rattle.layer_nodes.specs.Steps.{MayBeLengthened, KeepsNodes};
 
-use crate::kept_layer::KeptLayer;
+use crate::layer::Layer;
 use dp_laws::DdArc;
 use dp_model::OutOfMemory;
 use layer_candidates::MOST_LEADERS;
@@ -42,32 +42,35 @@ pub(crate) struct LeaderAt {
     pub(crate) rank: i64,
 }
 
-/// The memory in which a layer is reduced: where the arcs into each of its nodes are redirected, and the leaders. It is made
-/// once and used again.
+/// The memory in which a layer is reduced: where the arcs into each of its nodes are redirected, the leaders, and the cells of a
+/// row into which others are merged. It is made once and used again.
 #[derive(Debug, Drop)]
 pub struct Redirects {
     pub(crate) all: Vec<Option<Redirect>>,
     pub(crate) leaders: Vec<LeaderAt>,
+    pub(crate) merged: Vec<i64>,
 }
 
 impl Model for Redirects {
-    ghost use Rattle.std.specs.Prelude.{ℕ, ◌≤◌, vec_capacity};
+    ghost use Rattle.std.specs.Prelude.{◌≤◌, vec_len, vec_capacity};
+    ghost use Rattle.layer_nodes.specs.Stored.{Room};
 
-    ghost Value = { ℕ };
+    ghost Value = { Room };
 
-    ghost view = { λ r. vec_capacity r.all };
+    ghost view = { λ r. record { most = vec_capacity r.all; words = vec_len r.merged } };
 
     ghost invariant = { λ r. 16 ≤ vec_capacity r.leaders };
 }
 
 impl Redirects {
-    /// Memory for so many nodes.
-    pub fn prepare(alloc: Global, room: usize) -> Result<Redirects, OutOfMemory>
-        ensures { IfOk result (λ redirects. redirects ≡ room) }
+    /// Memory for so many nodes, whose rows have so many cells.
+    pub fn prepare(alloc: Global, room: usize, words: usize) -> Result<Redirects, OutOfMemory>
+        ensures { IfOk result (λ redirects. redirects ≡ record { most = room; words = words }) }
     {
         Ok(Redirects {
             all: Vec::with_capacity(alloc, room)?,
             leaders: Vec::with_capacity(alloc, MOST_LEADERS)?,
+            merged: vec![in alloc; 0i64; words]?,
         })
     }
 }
@@ -148,11 +151,7 @@ fn redirect_arcs_behind(arcs: &mut [DdArc], first: usize, redirects: &[Option<Re
 }
 
 /// The arcs of the layer whose targets stand at `first` or behind it get new ones, and nothing else of it changes.
-pub(crate) fn redirect_layer_behind(
-    layer: &mut KeptLayer,
-    first: usize,
-    redirects: &[Option<Redirect>],
-)
+pub(crate) fn redirect_layer_behind(layer: &mut Layer, first: usize, redirects: &[Option<Redirect>])
     requires short { Each IsShort redirects.now }
     requires lengths { Each MayBeLengthened layer.old.nodes }
     ensures nodes { (paths : ℕ → List ℕ) → shown_layer paths layer.new.nodes ≡ with_redirected (staying first ++ redirects.now) (shown_layer paths layer.old.nodes) }
@@ -162,7 +161,7 @@ pub(crate) fn redirect_layer_behind(
 }
 
 /// The arcs of the layer get new targets, and nothing else of it changes.
-pub(crate) fn redirect_layer(layer: &mut KeptLayer, redirects: &[Option<Redirect>])
+pub(crate) fn redirect_layer(layer: &mut Layer, redirects: &[Option<Redirect>])
     requires short { Each IsShort redirects.now }
     requires lengths { Each MayBeLengthened layer.old.nodes }
     ensures nodes { (paths : ℕ → List ℕ) → shown_layer paths layer.new.nodes ≡ with_redirected redirects.now (shown_layer paths layer.old.nodes) }

@@ -1,15 +1,20 @@
-//! Rows of one length in a block of cells.
+//! Rows of nodes, which stand in a region.
 
-ghost use Rattle.std.specs.Prelude.{◌≡◌, ◌+◌, ◌*◌, ◌≤◌, length};
-ghost use Rattle.layer_candidates.specs.Rows.{with_row};
+ghost use Rattle.std.specs.Prelude.{[]};
+ghost use Rattle.layer_candidates.specs.HeldRows.{AreLive, HasExchanged};
+ghost use Rattle.layer_nodes.specs.Stored.{rows_in};
 
-/// Writes a row into the place.
-pub fn write_row(rows: &mut [i64], words: usize, place: usize, row: &[i64])
-    requires cells { length row.now ≡ words }
-    requires room { place * words + words ≤ length rows.old }
-    ensures rows { rows.new ≡ with_row rows.old (place * words) row.now }
-    ensures size { length rows.new ≡ length rows.old }
+use crate::node::Node;
+use row_region::{Region, RowId};
+
+/// Gives the rows of the nodes back.
+pub fn give_rows(region: &mut Region, nodes: &[Node])
+    requires { AreLive region.old (rows_in nodes.now) }
+    ensures { HasExchanged region.old (rows_in nodes.now) region.new [] }
 {
-    let at = place * words;
-    rows[at..at + row.len()].copy_from_slice(row);
+    'nodes: for i in 0..nodes.len() {
+        region.give(RowId {
+            place: nodes[i].row,
+        });
+    }
 }

@@ -1,23 +1,26 @@
 //! Nodes that are struck, or that a leader dominates, are taken out of a layer.
 
-ghost use Rattle.std.specs.Prelude.{◌≡◌, ℕ, ◌≤◌, ◌<◌, ◌^◌, ◌∷◌, [], ◌++◌, List, IfSome, IsFalse, length, pos, set, slice_get, Some, None, vec_capacity};
+ghost use Rattle.std.specs.Prelude.{◌≡◌, ℕ, ◌≤◌, ◌<◌, ◌^◌, ◌∷◌, [], ◌++◌, List, IfSome, IsFalse, length, pos, set, slice_get, take, Some, None, vec_capacity};
 ghost use Rattle.dp_model.specs.Lists.{Each};
 ghost use Rattle.dp_laws.specs.Rules.Redirects.{with_redirected};
 ghost use Rattle.dp_laws.specs.Rules.Pruning.{is_struck, pruned_nodes, prune_redirects};
+ghost use Rattle.layer_candidates.specs.HeldRows.{AreLive, HasExchanged, held_row};
+ghost use Rattle.layer_nodes.specs.Holding.{AreHeld, places_of};
 ghost use Rattle.layer_nodes.specs.Leading.{IsNodeIn, IsLeaderIn, leaders_of, led_at, bare};
 ghost use Rattle.layer_nodes.specs.Nodes.{shown_layer, shown_below};
 ghost use Rattle.layer_nodes.specs.Redirecting.{IsShort};
 ghost use Rattle.layer_nodes.specs.Steps.{AreAmong, IsNodeOf, MayBeLengthened, KeepsNodes, KeepsRoom};
-ghost use Rattle.layer_nodes.specs.Striking.{threshold_of, AreInexact, asking, unstruck, taken_out, HasPruned};
+ghost use Rattle.layer_nodes.specs.Stored.{rows_in};
+ghost use Rattle.layer_nodes.specs.Striking.{threshold_of, AreInexact, asking, unstruck, taken_out, HasPruned, HasGiven};
 
 use crate::keeping::keep_layer_targets;
-use crate::kept_layer::KeptLayer;
 use crate::layer::Layer;
 use crate::leading::{at_leader, lead};
 use crate::node::Node;
 use crate::redirecting::{LeaderAt, Redirect, Redirects, redirect_layer};
 use dp_model::DpModel;
-use layer_candidates::{is_struck_by, row};
+use layer_candidates::{is_struck_by, row_of};
+use row_region::{Region, RowId};
 
 /// Which nodes are struck before the leaders are asked.
 #[derive(Clone, Copy, Debug)]
@@ -29,21 +32,14 @@ pub(crate) enum Strikes {
 }
 
 /// Whether the node is struck.
-fn is_struck<M: DpModel>(
-    model: &M,
-    k: usize,
-    strikes: Strikes,
-    rows: &[i64],
-    words: usize,
-    node: Node,
-) -> bool
-    requires node { IsNodeIn (M.meaning (M.numbers model.now)) k rows.now words node }
-    ensures { result ≡ is_struck (asking strikes (M.meaning (M.numbers model.now))) k (threshold_of strikes) (bare rows.now words node) }
+fn is_struck<M: DpModel>(model: &M, k: usize, strikes: Strikes, region: &Region, node: Node) -> bool
+    requires node { IsNodeIn (M.meaning (M.numbers model.now)) k region.now node }
+    ensures { result ≡ is_struck (asking strikes (M.meaning (M.numbers model.now))) k (threshold_of strikes) (bare (held_row region.now) node) }
 {
     let Strikes::AtMost(threshold) = strikes else {
         return false;
     };
-    let rough = model.rough_by_rank(k, row(rows, words, node.row as usize), node.rank);
+    let rough = model.rough_by_rank(k, row_of(region, node.row), node.rank);
     is_struck_by(node.value, rough, threshold)
 }
 
@@ -52,20 +48,19 @@ fn taken_out<M: DpModel>(
     model: &M,
     k: usize,
     strikes: Strikes,
-    rows: &[i64],
-    words: usize,
+    region: &Region,
     leaders: &[LeaderAt],
     node: Node,
 ) -> Option<Option<Redirect>>
-    requires leaders { Each (IsLeaderIn (M.meaning (M.numbers model.now)) k rows.now words) leaders.now }
-    requires node { IsNodeIn (M.meaning (M.numbers model.now)) k rows.now words node }
-    ensures out { result ≡ taken_out (M.meaning (M.numbers model.now)) k strikes (leaders_of rows.now words leaders.now) (bare rows.now words node) }
+    requires leaders { Each (IsLeaderIn (M.meaning (M.numbers model.now)) k region.now) leaders.now }
+    requires node { IsNodeIn (M.meaning (M.numbers model.now)) k region.now node }
+    ensures out { result ≡ taken_out (M.meaning (M.numbers model.now)) k strikes (leaders_of (held_row region.now) leaders.now) (bare (held_row region.now) node) }
     ensures short { IfSome result (λ redirect. IsShort redirect) }
 {
-    if is_struck(model, k, strikes, rows, words, node) {
+    if is_struck(model, k, strikes, region, node) {
         return Some(None);
     }
-    let redirect = at_leader(model, k, rows, words, leaders, node)?;
+    let redirect = at_leader(model, k, region, leaders, node)?;
     Some(Some(redirect))
 }
 
@@ -109,22 +104,23 @@ fn keep_at(
 }
 
 /// Takes out the nodes that are struck or dominated. Those that stay close up, and arcs into each node go where it stays, or to
-/// the first leader that dominates it. Answers how many stay.
+/// the first leader that dominates it. The rows of those that go are given back. Answers how many stay.
 fn prune<M: DpModel>(
     model: &M,
     k: usize,
     strikes: Strikes,
-    rows: &[i64],
-    words: usize,
+    region: &mut Region,
     nodes: &mut [Node],
     leaders: &mut Vec<LeaderAt>,
     redirects: &mut Vec<Option<Redirect>>,
 ) -> usize
-    requires nodes { Each (IsNodeIn (M.meaning (M.numbers model.now)) k rows.now words) nodes.old }
+    requires nodes { Each (IsNodeIn (M.meaning (M.numbers model.now)) k region.old) nodes.old }
+    requires live { AreLive region.old (rows_in nodes.old) }
     requires small { length nodes.old < 2 ^ 32 }
     requires leaders_room { 16 ≤ vec_capacity leaders.old }
     requires redirects_room { length nodes.old ≤ vec_capacity redirects.old }
-    ensures pruned { HasPruned (M.meaning (M.numbers model.now)) k strikes rows.now words nodes.old nodes.new redirects.new.items result }
+    ensures pruned { HasPruned (M.meaning (M.numbers model.now)) k strikes (held_row region.old) nodes.old nodes.new redirects.new.items result }
+    ensures given { HasGiven region.old nodes.old region.new (take result nodes.new) }
     ensures leaders_capacity { vec_capacity leaders.new ≡ vec_capacity leaders.old }
     ensures redirects_capacity { vec_capacity redirects.new ≡ vec_capacity redirects.old }
 {
@@ -133,9 +129,12 @@ fn prune<M: DpModel>(
     let mut stay = 0;
     'nodes: for i in 0..nodes.len() {
         let node = nodes[i];
-        let out = taken_out(model, k, strikes, rows, words, leaders.as_slice(), node);
+        let out = taken_out(model, k, strikes, region, leaders.as_slice(), node);
         match out {
-            Some(redirect) => redirects.push_reserved(redirect),
+            Some(redirect) => {
+                region.give(RowId { place: node.row });
+                redirects.push_reserved(redirect);
+            }
             None => {
                 keep_at(nodes, leaders, redirects, node, i, stay);
                 stay += 1;
@@ -158,31 +157,35 @@ fn has_exact(layer: &Layer) -> bool
 }
 
 /// Takes out the nodes of the next layer, at depth `k`, that are struck, or that one of the first 16 exact ones that stay
-/// dominates; the arcs of the nodes above follow.
+/// dominates; the arcs of the nodes above follow, and the rows of those nodes are given back.
 fn take_out<M: DpModel>(
     model: &M,
     k: usize,
     strikes: Strikes,
-    above: &mut KeptLayer,
+    region: &mut Region,
+    above: &mut Layer,
     next: &mut Layer,
     redirects: &mut Redirects,
 )
     requires nodes { Each (IsNodeOf (M.meaning (M.numbers model.now)) k) next.old.nodes }
     requires lengths { Each MayBeLengthened above.old.nodes }
-    requires room { length next.old.nodes ≤ redirects.old }
+    requires room { length next.old.nodes ≤ redirects.old.most }
+    requires held { AreHeld region.old next.old.nodes }
+    requires live { AreLive region.old (places_of next.old.nodes) }
     ensures next { (paths : ℕ → List ℕ) → shown_below paths next.new.nodes ≡ pruned_nodes (asking strikes (M.meaning (M.numbers model.now))) k (threshold_of strikes) [] 0 (shown_below paths next.old.nodes) }
     ensures above { (paths below : ℕ → List ℕ) → shown_layer paths above.new.nodes ≡ with_redirected (prune_redirects (asking strikes (M.meaning (M.numbers model.now))) k (threshold_of strikes) [] 0 (shown_below below next.old.nodes)) (shown_layer paths above.old.nodes) }
     ensures stay { AreAmong next.old.nodes next.new.nodes }
     ensures rest { KeepsNodes above.old above.new }
     ensures next_rooms { KeepsRoom next.old next.new }
     ensures redirects { redirects.new ≡ redirects.old }
+    ensures held { AreHeld region.new next.new.nodes }
+    ensures exchanged { HasExchanged region.old (places_of next.old.nodes) region.new (places_of next.new.nodes) }
 {
     let stay = prune(
         model,
         k,
         strikes,
-        next.rows.as_slice(),
-        next.words,
+        region,
         next.nodes.as_mut_slice(),
         &mut redirects.leaders,
         &mut redirects.all,
@@ -192,51 +195,69 @@ fn take_out<M: DpModel>(
 }
 
 /// Takes out the nodes of the next layer, at depth `k`, that are struck by their rough bound, or that one of the first 16 exact
-/// ones that stay dominates; the arcs of the nodes above follow. It takes no memory.
+/// ones that stay dominates; the arcs of the nodes above follow, and the rows of those nodes are given back. It takes no memory.
 pub fn strike<M: DpModel>(
     model: &M,
     k: usize,
     threshold: Option<i64>,
-    above: &mut KeptLayer,
+    region: &mut Region,
+    above: &mut Layer,
     next: &mut Layer,
     redirects: &mut Redirects,
 )
     requires nodes { Each (IsNodeOf (M.meaning (M.numbers model.now)) k) next.old.nodes }
     requires lengths { Each MayBeLengthened above.old.nodes }
-    requires room { length next.old.nodes ≤ redirects.old }
+    requires room { length next.old.nodes ≤ redirects.old.most }
+    requires held { AreHeld region.old next.old.nodes }
+    requires live { AreLive region.old (places_of next.old.nodes) }
     ensures next { (paths : ℕ → List ℕ) → shown_below paths next.new.nodes ≡ pruned_nodes (M.meaning (M.numbers model.now)) k threshold [] 0 (shown_below paths next.old.nodes) }
     ensures above { (paths below : ℕ → List ℕ) → shown_layer paths above.new.nodes ≡ with_redirected (prune_redirects (M.meaning (M.numbers model.now)) k threshold [] 0 (shown_below below next.old.nodes)) (shown_layer paths above.old.nodes) }
     ensures stay { AreAmong next.old.nodes next.new.nodes }
     ensures rest { KeepsNodes above.old above.new }
     ensures next_rooms { KeepsRoom next.old next.new }
     ensures redirects { redirects.new ≡ redirects.old }
+    ensures held { AreHeld region.new next.new.nodes }
+    ensures exchanged { HasExchanged region.old (places_of next.old.nodes) region.new (places_of next.new.nodes) }
 {
-    take_out(model, k, Strikes::AtMost(threshold), above, next, redirects);
+    take_out(
+        model,
+        k,
+        Strikes::AtMost(threshold),
+        region,
+        above,
+        next,
+        redirects,
+    );
 }
 
 /// Takes out the nodes of the next layer, at depth `k`, that one of the first 16 exact ones that stay dominates; the arcs of the
-/// nodes above follow. No node is struck, and no rough bound asked: it is for a layer whose struck nodes were left out before. It
-/// takes no memory.
+/// nodes above follow, and the rows of those nodes are given back. No node is struck, and no rough bound asked: it is for a layer
+/// whose struck nodes were left out before. It takes no memory.
 pub fn drop_dominated<M: DpModel>(
     model: &M,
     k: usize,
-    above: &mut KeptLayer,
+    region: &mut Region,
+    above: &mut Layer,
     next: &mut Layer,
     redirects: &mut Redirects,
 )
     requires nodes { Each (IsNodeOf (M.meaning (M.numbers model.now)) k) next.old.nodes }
     requires lengths { Each MayBeLengthened above.old.nodes }
-    requires room { length next.old.nodes ≤ redirects.old }
+    requires room { length next.old.nodes ≤ redirects.old.most }
+    requires held { AreHeld region.old next.old.nodes }
+    requires live { AreLive region.old (places_of next.old.nodes) }
     ensures next { (paths : ℕ → List ℕ) → shown_below paths next.new.nodes ≡ pruned_nodes (unstruck (M.meaning (M.numbers model.now))) k None [] 0 (shown_below paths next.old.nodes) }
     ensures above { (paths below : ℕ → List ℕ) → shown_layer paths above.new.nodes ≡ with_redirected (prune_redirects (unstruck (M.meaning (M.numbers model.now))) k None [] 0 (shown_below below next.old.nodes)) (shown_layer paths above.old.nodes) }
     ensures stay { AreAmong next.old.nodes next.new.nodes }
     ensures rest { KeepsNodes above.old above.new }
     ensures next_rooms { KeepsRoom next.old next.new }
     ensures redirects { redirects.new ≡ redirects.old }
+    ensures held { AreHeld region.new next.new.nodes }
+    ensures exchanged { HasExchanged region.old (places_of next.old.nodes) region.new (places_of next.new.nodes) }
 {
     // Only an exact node leads.
     if has_exact(next) {
-        take_out(model, k, Strikes::Nothing, above, next, redirects);
+        take_out(model, k, Strikes::Nothing, region, above, next, redirects);
     } else {
         keep_layer_targets(above, next.len());
     }

@@ -1,13 +1,13 @@
 -- What is known of a live row, and of a free one that is to be written.
 use Rattle.std.proofs.Common.{◌≡◌, ℕ, zero, suc, ◌+◌, ◌*◌, ◌<◌, ◌≤◌, ◌-◌, ℤ, pos, false, List, [], ◌∷◌, ◌++◌, length, set, Option, Some, None, slice_get, get_or, replicate, count_by, is_none, cond, ◌⊎◌, inl, inr, refl, sym, ap, ◌∙◌, arith, append_assoc}
-use Rattle.std.proofs.lemmas.List.{ext_get_or, length-replicate, length-append, get_or-replicate, get_or-set_same, get_or_append_left, get_or-append_right, get_or_at, set_at, set-append_left}
+use Rattle.std.proofs.lemmas.List.{length-replicate, length-append, get_or-replicate, get_or-set_same, get_or_append_left, get_or-append_right, get_or_at, set_at, set-append_left}
 use Rattle.std.proofs.lemmas.List.Sums.{sum_by-append, sum_by-cons}
 use Rattle.std.proofs.lemmas.Option.{slice_get_within, get_or_from_slice_get, slice_get-get_or}
 use Rattle.std.proofs.Math.Nat.{suc-mul}
 use Rattle.row_region.specs.Layout.{free_from, has, row_at, live_row_at, slots, places, first_cell, named, IsFreeRow, HasFreeChain, IsSound}
 use Rattle.row_region.specs.Popping.{SameBut, HasPopped}
 use Rattle.row_region.specs.Region.{HasPut}
-use Rattle.row_region.proofs.Rows.{row_within, length-row, get-row, get-table, table-get, table_same, length-table}
+use Rattle.row_region.proofs.Rows.{row_within, length-row, get-table, table-get, table_same, length-table}
 use Rattle.row_region.proofs.Chains.{live_slot, head_none, spare_counts, kept_slot, pop_chained, pop_slots}
 
 module _ (cells : List ℤ) (words count free spare p : ℕ) (row : List ℤ) (chain : HasFreeChain cells words count free spare) (live : slice_get (slots cells words count free spare) p ≡ Some (Some row)) where
@@ -68,16 +68,9 @@ length-places cells words count fresh free given low =
     let both = length-append (slots cells words fresh free given) (replicate (count - fresh) None) in
     omega arith
 
--- a row that was written with zeros
-pub zeroed_but : (cells new : List ℤ) (words p : ℕ) → length new ≡ length cells → ((k : ℕ) → k < p * words → get_or new k (pos 0) ≡ get_or cells k (pos 0)) → ((k : ℕ) → p * words + words ≤ k → get_or new k (pos 0) ≡ get_or cells k (pos 0)) → SameBut cells new words p
-zeroed_but cells new words p size before after = record { size = size; before = before; after = after }
-
-pub zeroed_row : (new : List ℤ) (words p : ℕ) → p * words + words ≤ length new → ((k : ℕ) → p * words ≤ k → k < p * words + words → get_or new k (pos 0) ≡ pos 0) → row_at new words p ≡ replicate words (pos 0)
-zeroed_row new words p room inside =
-    let a = length-row new words p room in
-    ext_get_or (pos 0) (row_at new words p) (replicate words (pos 0)) (a ∙ sym (length-replicate words (pos 0))) (λ k h.
-    let less : k < words = omega arith in
-    get-row new words p k less ∙ inside (p * words + k) (omega arith) (omega arith) ∙ sym (get_or-replicate words k (pos 0) (pos 0) less))
+-- nothing was written
+pub same_but : (cells : List ℤ) (words p : ℕ) → SameBut cells cells words p
+same_but cells words p = record { size = refl; before = λ k h. refl; after = λ k h. refl }
 
 pub first_set : (cells : List ℤ) (words p : ℕ) (z : ℤ) → 0 < words → p * words + words ≤ length cells → first_cell (set cells (p * words) z) words p ≡ z
 first_set cells words p z positive room = get_or-set_same cells (p * words) z (pos 0) (omega arith)

@@ -1,6 +1,6 @@
 -- A live row is written.
-use Rattle.std.proofs.Common.{◌≡◌, ℕ, ◌+◌, ◌-◌, ◌*◌, ◌≤◌, ℤ, pos, List, ◌++◌, length, get_or, set, take, drop, replicate, Option, Some, None, slice_get, sym, ap, ap₂, ◌∙◌, arith}
-use Rattle.std.proofs.lemmas.List.{length-append, length-take-le, length-drop, get_or_append_left, get_or-append_right, get_or-take, get_or-drop, drop_at, drop-drop, take_at}
+use Rattle.std.proofs.Common.{◌≡◌, ℕ, ◌+◌, ◌-◌, ◌*◌, ◌≤◌, ℤ, pos, List, ◌++◌, length, get_or, set, take, drop, replicate, Option, Some, None, slice_get, sym, ap, ◌∙◌, arith}
+use Rattle.std.proofs.lemmas.List.{length-append, length-take-le, length-drop, get_or_append_left, get_or-append_right, get_or-take, get_or-drop, drop_at, take_at}
 use Rattle.std.proofs.lemmas.Option.{get_or_from_slice_get}
 use Rattle.row_region.specs.Region.{refilled, row_or}
 use Rattle.row_region.specs.Parts.{written}
@@ -60,21 +60,6 @@ module _ (cells : List ℤ) (words p : ℕ) (w : List ℤ) (room : p * words + w
   -- the vector has what was written
   pub written_whole : (len : ℕ) → len ≡ length cells → take len (written at words cells w ++ drop (length (written at words cells w)) cells) ≡ written at words cells w
   written_whole len e = take_at (written at words cells w) (drop (length (written at words cells w)) cells) len (length-written ∙ sym e)
-
--- a row of as many cells is written as it is
-module _ (cells new : List ℤ) (words p : ℕ) (row : List ℤ) (room : p * words + words ≤ length cells) (long : length row ≡ words) (put : new ≡ take (p * words) cells ++ (row ++ drop (p * words + length row) cells)) where
-  as_written : new ≡ written (p * words) words cells row
-  as_written =
-      let whole : refilled words (row_at cells words p) row ≡ row = take_at row (drop (length row) (row_at cells words p)) words long in
-      let behind : drop (p * words + length row) cells ≡ drop words (drop (p * words) cells) = ap (λ (k : ℕ). drop (p * words + k) cells) long ∙ sym (drop-drop words (p * words) cells) in
-      put ∙ ap₂ (λ (r b : List ℤ). take (p * words) cells ++ (r ++ b)) (sym whole) behind
-
-  pub put_but : SameBut cells new words p
-  put_but = rw as_written (written_but cells words p row room)
-
-  pub put_row : row_at new words p ≡ row
-  put_row =
-      rw as_written (written_row cells words p row room) ∙ take_at row (drop (length row) (row_at cells words p)) words long
 
 module _ (cells : List ℤ) (words count fresh free given p len : ℕ) (row w : List ℤ) (sound : IsSound cells words count fresh free given) (live : slice_get (places cells words count fresh free given) p ≡ Some (Some row)) (same : len ≡ length cells) where
   abbrev now : List ℤ

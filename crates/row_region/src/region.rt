@@ -4,7 +4,7 @@ ghost use Rattle.row_region.specs.Region.{IsLive, IsRow, HasTaken, HasPut};
 ghost use Rattle.row_region.specs.Lending.{LendsRow};
 
 use crate::parting::part_of;
-use crate::threading::{pop, write, zero};
+use crate::threading::pop;
 use std::alloc::{AllocError, Global};
 use std::marker::Model;
 
@@ -74,6 +74,25 @@ impl Region {
         Ok(region)
     }
 
+    /// Takes a free row with whatever stands in it.
+    #[inline(always)]
+    pub fn take_free(&mut self) -> RowId
+        requires { 0 < self.old.spare }
+        ensures { (row : List ℤ) × (length row ≡ self.old.words) × HasPut self.old result.place row self.new }
+    {
+        let place = pop(
+            &self.cells,
+            self.words,
+            self.count,
+            &mut self.fresh,
+            &mut self.free,
+            &mut self.given,
+        );
+        RowId {
+            place: place as u32,
+        }
+    }
+
     /// Takes a free row and writes zeros to it; `None` exactly where no row is free.
     pub fn take(&mut self) -> Option<RowId>
         ensures none { IsNone result ↔ (self.old.spare ≡ 0) }
@@ -83,43 +102,9 @@ impl Region {
         if self.spare() == 0 {
             return None;
         }
-        let place = pop(
-            &self.cells,
-            self.words,
-            self.count,
-            &mut self.fresh,
-            &mut self.free,
-            &mut self.given,
-        );
-        let at = place * self.words;
-        zero(&mut self.cells, at, at + self.words);
-        Some(RowId {
-            place: place as u32,
-        })
-    }
-
-    /// Takes a free row and writes these cells to it; `None` exactly where no row is free.
-    pub fn put(&mut self, row: &[i64]) -> Option<RowId>
-        requires { length row.now ≡ self.old.words }
-        ensures none { IsNone result ↔ (self.old.spare ≡ 0) }
-        ensures same { IfNone result (self.new ≡ self.old) }
-        ensures taken { IfSome result (λ id. HasPut self.old id.place row.now self.new) }
-    {
-        if self.spare() == 0 {
-            return None;
-        }
-        let place = pop(
-            &self.cells,
-            self.words,
-            self.count,
-            &mut self.fresh,
-            &mut self.free,
-            &mut self.given,
-        );
-        write(&mut self.cells, place * self.words, row);
-        Some(RowId {
-            place: place as u32,
-        })
+        let id = self.take_free();
+        self.row_mut(id).fill(0);
+        Some(id)
     }
 
     /// Gives a live row back: it is free from then on.

@@ -10,8 +10,8 @@ use Rattle.layer_build.proofs.Ended.{layer-ended, stands-above, next-newest}
 use Rattle.layer_build.proofs.Walked.{place-held}
 use Rattle.layer_build.proofs.ending.end_layer.Goals as goal
 
-pub set_suffixes_above-requires-clause-leads : goal.set_suffixes_above-requires-clause-leads
-set_suffixes_above-requires-clause-leads c =
+pub set_suffixes-requires-clause-leads : goal.set_suffixes-requires-clause-leads
+set_suffixes-requires-clause-leads c =
     let s = c.args.stack.now in
     let depth = c.args.depth in
     let test = c.if-depth-stack-2.true in
@@ -28,9 +28,9 @@ returns-then-depth-stack-2 c =
     let test = c.if-depth-stack-2.true in
     let held = place-held s depth c.requires.stored (omega arith) in
     let old : c.index_mut.result.now ≡ slice_index_or s.layers.items c.place_of-at.result no_layer = lent s.layers.items c.place_of-at.result c.place_of-at.result c.index_mut.result.now _ c.index_mut.ensures.value refl (omega arith) in
-    let is : c.set_suffixes_above.new.layer ≡ ended_layer (map (λ (other : NodeView). other.suffix) (nodes_in s (depth + 1))) (slice_index_or s.layers.items c.place_of-at.result no_layer) =
-    c.set_suffixes_above.ensures ∙ (ap (λ l. ended_layer (map (λ (other : NodeView). other.suffix) l) c.index_mut.result.now) (sym (next-newest s (depth + 1) test)) ∙ ap (ended_layer (map (λ (other : NodeView). other.suffix) (nodes_in s (depth + 1)))) old) in
-    layer-ended s depth c.place_of-at.result (set s.layers.items c.place_of-at.result c.set_suffixes_above.new.layer) c.set_suffixes_above.new.layer c.requires.stored (omega arith) c.place_of-at.ensures is refl _ refl refl refl refl refl refl
+    let is : c.set_suffixes.new.layer ≡ ended_layer (map (λ (other : NodeView). other.suffix) (nodes_in s (depth + 1))) (slice_index_or s.layers.items c.place_of-at.result no_layer) =
+    c.set_suffixes.ensures ∙ (ap (λ l. ended_layer (map (λ (other : NodeView). other.suffix) l) c.index_mut.result.now) (sym (next-newest s (depth + 1) test)) ∙ ap (ended_layer (map (λ (other : NodeView). other.suffix) (nodes_in s (depth + 1)))) old) in
+    layer-ended s depth c.place_of-at.result (set s.layers.items c.place_of-at.result c.set_suffixes.new.layer) c.set_suffixes.new.layer c.requires.stored (omega arith) c.place_of-at.ensures is refl _ refl refl refl refl refl refl
 
 pub end_at-requires-clause-leads : goal.end_at-requires-clause-leads
 end_at-requires-clause-leads c =

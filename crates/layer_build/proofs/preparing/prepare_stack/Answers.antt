@@ -32,6 +32,7 @@ pub returns : goal.returns
 returns g c =
     let dp = g.M.DpModel.meaning (g.M.DpModel.numbers c.args.model.now) in
     let words = c.words-words.ensures in
+    let below = λ (m : ℕ). c.args.room + 1 + (c.args.room + m + 1) in
     record {
       nodes = c.most_choices-most.result;
       arcs = c.room_for.result;
@@ -40,10 +41,9 @@ returns g c =
       last = search rules;
       layers = c.push_reserved-2.ensures.items ∙ (ap₂ (λ (l : List LayerView) (x : LayerView). l ++ x ∷ []) (c.push_reserved.ensures.items ∙ ap₂ (λ (l : List LayerView) (x : LayerView). l ++ x ∷ []) c.in_ok-layers.ensures.layers
           (c.in_ok-second.ensures ∙ ap (λ (n : ℕ). empty_layer n c.most_choices-most.result c.room_for.result) words)) (c.in_ok-top.ensures ∙ ap (λ (n : ℕ). empty_layer n 0 0) words) ∙ simp append_assoc);
-      few = c.most_choices-most.ensures.few;
       choices = c.most_choices-most.ensures.choices;
       pairs = c.room_for.ensures.second;
-      region = c.in_ok-region.ensures ∙ (ap₂ (λ (n v : ℕ). record { words = n; rows = replicate (v * c.args.width + c.most_choices-most.result + c.args.members) None; spare = v * c.args.width + c.most_choices-most.result + c.args.members }) words c.vars-vars.ensures
-          ∙ ap (λ (m : ℕ). record { words = dp.words; rows = replicate (dp.vars * c.args.width + c.most_choices-most.result + m) None; spare = dp.vars * c.args.width + c.most_choices-most.result + m }) c.requires.members);
-      newest = c.in_ok-prepare.ensures ∙ ap (λ (n : ℕ). empty_layer n c.args.room 0) words;
+      region = c.in_ok-region.ensures ∙ (ap₂ (λ (n v : ℕ). record { words = n; rows = replicate (v * c.args.width + c.most_choices-most.result + below c.args.widest) None; spare = v * c.args.width + c.most_choices-most.result + below c.args.widest }) words c.vars-vars.ensures
+          ∙ ap (λ (m : ℕ). record { words = dp.words; rows = replicate (dp.vars * c.args.width + c.most_choices-most.result + below m) None; spare = dp.vars * c.args.width + c.most_choices-most.result + below m }) c.requires.widest);
+      newest = c.in_ok-newest.ensures ∙ ap (λ (n : ℕ). empty_layer n c.args.room 0) words;
     }

@@ -1,6 +1,7 @@
 use Rattle.std.proofs.Common.{◌∙◌}
 use Rattle.layer_nodes.proofs.Holding.{held-nodes}
 use Rattle.layer_build.proofs.Bare.{alike-next, alike-above, alike-parents}
+use Rattle.layer_build.proofs.Places.{held-more}
 use Rattle.layer_build.proofs.stack.expand_newest.Goals as goal
 
 pub expand-requires-clause-nodes : goal.expand-requires-clause-nodes
@@ -21,5 +22,9 @@ returns-clause-next g c paths =
 pub returns-clause-rest : goal.returns-clause-rest
 returns-clause-rest g c = c.expand.ensures.rest.nodes ∙ c.keep.ensures.nodes
 
-pub returns-clause-held : goal.returns-clause-held
-returns-clause-held g c = held-nodes c.keep.new.region c.keep.new.self c.expand.new.above c.expand.ensures.rest c.keep.ensures.held
+pub returns-clause-places : goal.returns-clause-places
+returns-clause-places g c = c.expand.ensures.rest.places ∙ c.keep.ensures.places
+
+pub returns-clause-above_held : goal.returns-clause-above_held
+returns-clause-above_held g c =
+    held-more c.args.region.now c.expand.new.region _ c.expand.ensures.exchanged c.expand.new.above.nodes (held-nodes c.args.region.now c.keep.new.self c.expand.new.above c.expand.ensures.rest c.keep.ensures.held)

@@ -1,6 +1,7 @@
 use Rattle.std.proofs.Common.{◌∙◌}
 use Rattle.layer_nodes.proofs.Holding.{held-nodes}
 use Rattle.layer_build.proofs.Bare.{sifted-alike-next, sifted-alike-above, alike-parents}
+use Rattle.layer_build.proofs.Places.{held-more}
 use Rattle.layer_build.proofs.stack.expand_newest_sifted.Goals as goal
 
 pub expand_sifted-requires-clause-nodes : goal.expand_sifted-requires-clause-nodes
@@ -21,5 +22,9 @@ returns-clause-next g c paths =
 pub returns-clause-rest : goal.returns-clause-rest
 returns-clause-rest g c = c.expand_sifted.ensures.rest.nodes ∙ c.keep.ensures.nodes
 
-pub returns-clause-held : goal.returns-clause-held
-returns-clause-held g c = held-nodes c.keep.new.region c.keep.new.self c.expand_sifted.new.above c.expand_sifted.ensures.rest c.keep.ensures.held
+pub returns-clause-places : goal.returns-clause-places
+returns-clause-places g c = c.expand_sifted.ensures.rest.places ∙ c.keep.ensures.places
+
+pub returns-clause-above_held : goal.returns-clause-above_held
+returns-clause-above_held g c =
+    held-more c.args.region.now c.expand_sifted.new.region _ c.expand_sifted.ensures.exchanged c.expand_sifted.new.above.nodes (held-nodes c.args.region.now c.keep.new.self c.expand_sifted.new.above c.expand_sifted.ensures.rest c.keep.ensures.held)

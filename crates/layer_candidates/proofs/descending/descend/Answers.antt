@@ -1,17 +1,15 @@
-use Rattle.std.proofs.Common.{rules, ◌≡◌, ℕ, ◌+◌, ◌++◌, ◌∷◌, [], pos, List, length, map, take, get_or, sym, ap, append_assoc, ◌∙◌, arith}
+use Rattle.std.proofs.Common.{rules, ◌≡◌, ℕ, ◌+◌, ◌++◌, ◌∷◌, [], List, length, map, take, get_or, sym, ap, append_assoc, ◌∙◌, arith}
 use Rattle.std.proofs.lemmas.List.{take_more, length-take-le, map-append, length_push}
 use Rattle.layer_candidates.specs.declared.key.Key.{Key}
 use Rattle.layer_candidates.specs.declared.member.Member.{Member}
 use Rattle.layer_candidates.specs.declared.step.Step.{Step}
 use Rattle.layer_candidates.specs.Steps.{step_of, entered}
 use Rattle.layer_candidates.proofs.Descended.{entered-push}
+use Rattle.layer_candidates.proofs.Pruned.{none}
 use Rattle.layer_candidates.proofs.descending.descend.Goals as goal
 
-abbrev none : Key
-none = record { value = pos 0; rank = pos 0; place = 0 }
-
 abbrev member_with : Key → ℕ → Member
-member_with key step = record { value = key.value; rank = key.rank; row = key.place; step = step }
+member_with key step = record { value = key.value; rank = key.rank; row = key.row; step = step }
 
 pub kept-preserved : goal.kept-preserved
 kept-preserved c =

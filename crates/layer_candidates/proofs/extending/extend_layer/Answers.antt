@@ -1,11 +1,13 @@
-use Rattle.std.proofs.Common.{◌≡◌, ◌+◌, ◌*◌, ◌≤◌, [], length, take, vec_capacity, IsTrue, mul-le-mul_right, sym, ap, subst, ◌∙◌, arith}
-use Rattle.std.proofs.lemmas.List.{length-take-le}
-use Rattle.dp_model.specs.Decisions.{below}
-use Rattle.layer_candidates.specs.Members.{member_at}
-use Rattle.layer_candidates.specs.Ways.{AreJoined}
-use Rattle.layer_candidates.specs.Extending.{HasWayRoom, HasExtended, AreExtended}
-use Rattle.layer_candidates.proofs.Blocks.{length-row}
-use Rattle.layer_candidates.proofs.Extended.{room-less, members-start, member-each, members-more, members-all}
+use Rattle.std.proofs.Common.{◌≡◌, ◌+◌, ◌∷◌, ◌++◌, [], length, take, drop, IsTrue, sym, ap, subst, ◌∙◌, arith}
+use Rattle.std.proofs.lemmas.List.{length-take-le, drop_more}
+use Rattle.std.proofs.lemmas.List.Sorted.{IsPermutation-sym, IsPermutation-to_front}
+use Rattle.layer_candidates.specs.HeldRows.{AreLive, HasExchanged}
+use Rattle.layer_candidates.specs.Members.{member_rows, IsMemberOf}
+use Rattle.layer_candidates.specs.Ways.{rows_of, way_row}
+use Rattle.layer_candidates.specs.Extending.{AreExtended}
+use Rattle.layer_candidates.proofs.HeldRows.{each-here, live-right, same-then, exchange-then, exchange-moved, exchange-beside, exchange-put, put-same}
+use Rattle.layer_candidates.proofs.Joined.{apart-same, good-same, joined-same, reached-same}
+use Rattle.layer_candidates.proofs.Extended.{no_member, moved-at, extended-same-rows, spot-given, members-start, members-more, members-all}
 use Rattle.layer_candidates.proofs.extending.extend_layer.Goals as goal
 
 pub members-init : goal.members-init
@@ -15,75 +17,99 @@ members-init g c =
     let slots = c.slots_for-slots.result in
     let size : length (take slots a.heads.now) ≡ slots = length-take-le slots a.heads.now (let few = c.slots_for-slots.ensures.within in omega arith) in
     let some = c.slots_for-slots.ensures.some in
+    let places = member_rows a.members.now in
+    let spot = c.take_row-spot.result.place in
+    let new = c.take_row-spot.new.region in
+    let put = c.take_row-spot.ensures in
+    let front = exchange-put a.region.now new spot put.0 put.2 put.1 places c.requires.live in
+    let behind = exchange-moved a.region.now new places (spot ∷ places) (places ++ spot ∷ []) (IsPermutation-sym (places ++ spot ∷ []) (spot ∷ places) (IsPermutation-to_front places spot)) front in
     record {
-      extended = subst (λ l. AreExtended dp a.k 0 a.above.now a.words c.first_live-live.result a.members.now a.rows.now l a.folds.now c.reset.new.heads a.next.now) (sym c.clear.ensures.items)
-          (subst (λ l. AreExtended dp a.k 0 a.above.now a.words c.first_live-live.result a.members.now a.rows.now [] a.folds.now l a.next.now) (sym c.reset.ensures)
-          (members-start dp a.k a.above.now a.words c.first_live-live.result a.members.now a.rows.now a.folds.now a.next.now (length (take slots a.heads.now)) (omega arith)));
+      extended = subst (λ l. AreExtended dp a.k 0 a.region.now c.first_live-live.result a.members.now (way_row new l) l a.folds.now c.reset.new.heads a.next.now) (sym c.clear.ensures.items)
+          (subst (λ l. AreExtended dp a.k 0 a.region.now c.first_live-live.result a.members.now (way_row new []) [] a.folds.now l a.next.now) (sym c.reset.ensures)
+          (members-start dp a.k a.region.now c.first_live-live.result a.members.now (way_row new []) a.folds.now a.next.now (length (take slots a.heads.now)) (omega arith)));
+      exchanged = subst (λ l. HasExchanged a.region.now places new (places ++ spot ∷ rows_of l)) (sym c.clear.ensures.items) behind;
+      same = put-same a.region.now new spot put.0 put.2 put.1 places c.requires.live.live;
       capacity = c.clear.ensures.capacity;
     }
+
+pub move_out-requires-clause-live : goal.move_out-requires-clause-live
+move_out-requires-clause-live g c =
+    let a = c.args in let l = c.members in
+    let next = ap member_rows (drop_more a.members.now l.i no_member c.members-test.true) in
+    (subst (λ ps. AreLive l.region (ps ++ l.spot.place ∷ rows_of l.ways.items)) next l.invariant.exchanged.live).live.0
 
 pub extend_member-requires-clause-state : goal.extend_member-requires-clause-state
 extend_member-requires-clause-state g c κs within =
     let dp = g.M.DpModel.meaning (g.M.DpModel.numbers c.args.model.now) in
-    let m = member-each dp c.args.k c.args.above.now c.args.words c.args.members.now c.members.i _ c.requires.members c.members-test.true in
-    subst (λ r. IsTrue (dp.is_state c.args.k r)) (sym c.row-s.ensures) m.state.test
-
-pub extend_member-requires-clause-cells : goal.extend_member-requires-clause-cells
-extend_member-requires-clause-cells g c κs within =
-    let dp = g.M.DpModel.meaning (g.M.DpModel.numbers c.args.model.now) in
-    let m = member-each dp c.args.k c.args.above.now c.args.words c.args.members.now c.members.i _ c.requires.members c.members-test.true in
-    ap length c.row-s.ensures ∙ (length-row c.args.above.now c.args.words _ m.within ∙ c.requires.words)
-
-pub extend_member-requires-clause-value : goal.extend_member-requires-clause-value
-extend_member-requires-clause-value g c κs within =
-    let dp = g.M.DpModel.meaning (g.M.DpModel.numbers c.args.model.now) in
-    (member-each dp c.args.k c.args.above.now c.args.words c.args.members.now c.members.i _ c.requires.members c.members-test.true).value
+    let a = c.args in let l = c.members in
+    let here = each-here (IsMemberOf dp a.k a.region.now) a.members.now l.i no_member c.requires.members c.members-test.true in
+    let m = moved-at dp a.k a.region.now l.region c.move_out.new.region a.members.now l.i l.spot.place l.ways.items c.move_out.new.cells c.requires.members c.members-test.true l.invariant.exchanged l.invariant.same c.move_out.ensures.cells c.move_out.ensures.given in
+    subst (λ r. IsTrue (dp.is_state a.k r)) (sym m.row) here.held.state.test
 
 pub extend_member-requires-clause-rank : goal.extend_member-requires-clause-rank
 extend_member-requires-clause-rank g c κs within =
     let dp = g.M.DpModel.meaning (g.M.DpModel.numbers c.args.model.now) in
-    (member-each dp c.args.k c.args.above.now c.args.words c.args.members.now c.members.i _ c.requires.members c.members-test.true).rank ∙ ap (dp.rank c.args.k) (sym c.row-s.ensures)
+    let a = c.args in let l = c.members in
+    let here = each-here (IsMemberOf dp a.k a.region.now) a.members.now l.i no_member c.requires.members c.members-test.true in
+    let m = moved-at dp a.k a.region.now l.region c.move_out.new.region a.members.now l.i l.spot.place l.ways.items c.move_out.new.cells c.requires.members c.members-test.true l.invariant.exchanged l.invariant.same c.move_out.ensures.cells c.move_out.ensures.given in
+    here.held.rank ∙ ap (dp.rank a.k) (sym m.row)
 
-pub row-s-requires : goal.row-s-requires
-row-s-requires g c =
+pub extend_member-requires-clause-held : goal.extend_member-requires-clause-held
+extend_member-requires-clause-held g c κs within =
     let dp = g.M.DpModel.meaning (g.M.DpModel.numbers c.args.model.now) in
-    (member-each dp c.args.k c.args.above.now c.args.words c.args.members.now c.members.i _ c.requires.members c.members-test.true).within
+    let a = c.args in let l = c.members in
+    let m = moved-at dp a.k a.region.now l.region c.move_out.new.region a.members.now l.i l.spot.place l.ways.items c.move_out.new.cells c.requires.members c.members-test.true l.invariant.exchanged l.invariant.same c.move_out.ensures.cells c.move_out.ensures.given in
+    live-right c.move_out.new.region (member_rows (drop (l.i + 1) a.members.now)) (l.spot.place ∷ rows_of l.ways.items) m.exchanged.live
 
 pub extend_member-requires-clause-joined : goal.extend_member-requires-clause-joined
 extend_member-requires-clause-joined g c κs within =
     let dp = g.M.DpModel.meaning (g.M.DpModel.numbers c.args.model.now) in
-    let m = member-each dp c.args.k c.args.above.now c.args.words c.args.members.now c.members.i _ c.requires.members c.members-test.true in
-    let long : length c.row-s.result.now ≡ c.args.words = ap length c.row-s.ensures ∙ length-row c.args.above.now c.args.words _ m.within in
-    subst (λ n. AreJoined dp (c.args.k + 1) c.members.rows n c.first_live-live.result c.members.ways.items c.members.folds c.members.heads c.members.next) (sym long) c.members.invariant.extended.joined
-
-pub extend_member-requires-clause-room : goal.extend_member-requires-clause-room
-extend_member-requires-clause-room g c κs within =
-    let dp = g.M.DpModel.meaning (g.M.DpModel.numbers c.args.model.now) in
-    let m = member-each dp c.args.k c.args.above.now c.args.words c.args.members.now c.members.i _ c.requires.members c.members-test.true in
-    let long : length c.row-s.result.now ≡ c.args.words = ap length c.row-s.ensures ∙ length-row c.args.above.now c.args.words _ m.within in
-    let few = c.members.invariant.extended.few in
-    let less : (c.members.i + 1) * dp.choices c.args.k ≤ length c.args.members.now * dp.choices c.args.k = mul-le-mul_right (dp.choices c.args.k) (let t = c.members-test.true in omega arith) in
-    subst (λ n. HasWayRoom n (length c.members.ways.items + dp.choices c.args.k) c.members.rows (vec_capacity c.members.ways) c.members.folds c.members.next) (sym long)
-    (room-less c.args.words (length c.members.ways.items + dp.choices c.args.k) (length c.args.members.now * dp.choices c.args.k) c.args.rows.now c.members.rows _ _ c.args.folds.now c.members.folds c.args.next.now c.members.next
-    c.requires.room (omega arith) c.members.auto.rows c.members.invariant.capacity c.members.auto.folds c.members.auto.next)
+    let a = c.args in let l = c.members in
+    let m = moved-at dp a.k a.region.now l.region c.move_out.new.region a.members.now l.i l.spot.place l.ways.items c.move_out.new.cells c.requires.members c.members-test.true l.invariant.exchanged l.invariant.same c.move_out.ensures.cells c.move_out.ensures.given in
+    joined-same (way_row l.region l.ways.items) (way_row c.move_out.new.region l.ways.items) l.ways.items m.rows dp (a.k + 1) c.first_live-live.result l.folds l.heads l.next l.invariant.extended.joined
 
 pub members-preserved : goal.members-preserved
 members-preserved g c =
     let dp = g.M.DpModel.meaning (g.M.DpModel.numbers c.args.model.now) in
-    let a = c.args in let l = c.members in let e = c.extend_member in
-    let m = member-each dp a.k a.above.now a.words a.members.now l.i _ c.requires.members c.members-test.true in
-    let long : length c.row-s.result.now ≡ a.words = ap length c.row-s.ensures ∙ length-row a.above.now a.words _ m.within in
-    let more = subst (λ n. HasExtended dp a.k (member_at a.members.now l.i).step c.row-s.result.now (member_at a.members.now l.i).value (below (dp.choices a.k)) n c.first_live-live.result l.rows l.ways.items e.new.rows e.new.ways.items e.new.folds e.new.heads e.new.next) long e.ensures.extended in
+    let a = c.args in let l = c.members in
+    let e = c.extend_member in
+    let m = moved-at dp a.k a.region.now l.region c.move_out.new.region a.members.now l.i l.spot.place l.ways.items c.move_out.new.cells c.requires.members c.members-test.true l.invariant.exchanged l.invariant.same c.move_out.ensures.cells c.move_out.ensures.given in
+    let places = member_rows a.members.now in
+    let rest = member_rows (drop (l.i + 1) a.members.now) in
+    let before = l.spot.place ∷ rows_of l.ways.items in
+    let after = e.new.spot.place ∷ rows_of e.new.ways.items in
+    let row = way_row l.region l.ways.items in
+    let mid = way_row c.move_out.new.region l.ways.items in
+    let new = way_row e.new.region e.new.ways.items in
+    let beside = exchange-beside c.move_out.new.region e.new.region before after e.ensures.exchanged rest m.exchanged.live in
     record {
-      extended = members-more dp a.k l.i a.above.now a.words c.first_live-live.result a.members.now _ c.row-s.result.now l.rows e.new.rows l.ways.items e.new.ways.items l.folds l.heads l.next e.new.folds e.new.heads e.new.next
-          l.invariant.extended c.members-test.true c.row-s.ensures more;
+      extended = members-more dp a.k l.i a.region.now c.first_live-live.result a.members.now no_member c.move_out.new.cells mid new l.ways.items e.new.ways.items l.folds l.heads l.next e.new.folds e.new.heads e.new.next
+          (extended-same-rows dp a.k l.i a.region.now c.first_live-live.result a.members.now row mid l.ways.items l.folds l.heads l.next m.rows l.invariant.extended) c.members-test.true m.row e.ensures.extended;
+      exchanged = exchange-then a.region.now c.move_out.new.region e.new.region places (rest ++ before) (rest ++ after) m.exchanged beside.0;
+      same = same-then a.region.now c.move_out.new.region e.new.region rest m.same beside.1;
       capacity = e.ensures.capacity ∙ l.invariant.capacity;
+    }
+
+pub returns-clause-distinct : goal.returns-clause-distinct
+returns-clause-distinct g c =
+    let dp = g.M.DpModel.meaning (g.M.DpModel.numbers c.args.model.now) in
+    let a = c.args in let l = c.members in
+    let spot = spot-given a.region.now l.region c.give.new.self a.members.now l.i l.spot.place l.ways.items (let test = c.members-test.false in let end = l.auto.i-end in omega arith) l.invariant.exchanged c.give.ensures in
+    record {
+      apart = apart-same (way_row l.region l.ways.items) (way_row c.give.new.self l.ways.items) l.ways.items spot.1 l.invariant.extended.joined.apart;
+      good = good-same (way_row l.region l.ways.items) (way_row c.give.new.self l.ways.items) l.ways.items spot.1 dp (a.k + 1) l.invariant.extended.joined.good;
     }
 
 pub returns-clause-list : goal.returns-clause-list
 returns-clause-list g c =
     let dp = g.M.DpModel.meaning (g.M.DpModel.numbers c.args.model.now) in
     let a = c.args in let l = c.members in
-    let test = c.members-test.false in
-    let end = l.auto.i-end in
-    members-all dp a.k l.i a.above.now a.words c.first_live-live.result a.members.now l.rows l.ways.items l.folds l.heads l.next l.invariant.extended (omega arith)
+    let spot = spot-given a.region.now l.region c.give.new.self a.members.now l.i l.spot.place l.ways.items (let test = c.members-test.false in let end = l.auto.i-end in omega arith) l.invariant.exchanged c.give.ensures in
+    λ paths.
+    reached-same (way_row l.region l.ways.items) (way_row c.give.new.self l.ways.items) l.ways.items spot.1 paths
+    ∙ members-all dp a.k l.i a.region.now c.first_live-live.result a.members.now (way_row l.region l.ways.items) l.ways.items l.folds l.heads l.next l.invariant.extended (let test = c.members-test.false in let end = l.auto.i-end in omega arith) paths
+
+pub returns-clause-exchanged : goal.returns-clause-exchanged
+returns-clause-exchanged g c =
+    let a = c.args in let l = c.members in
+    (spot-given a.region.now l.region c.give.new.self a.members.now l.i l.spot.place l.ways.items (let test = c.members-test.false in let end = l.auto.i-end in omega arith) l.invariant.exchanged c.give.ensures).0

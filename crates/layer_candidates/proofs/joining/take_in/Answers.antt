@@ -1,80 +1,88 @@
-use Rattle.std.proofs.Common.{rules, ◌≡◌, ◌≢◌, ℕ, ◌+◌, ◌*◌, ◌<◌, ◌≤◌, ◌∷◌, ◌++◌, [], drop, length, arith, sym, ap, subst, ◌∙◌, inl, add-one}
-use Rattle.std.proofs.lemmas.List.{with_items_is, length_push}
-use Rattle.layer_candidates.specs.Rows.{row_at, live_at}
+use Rattle.std.proofs.Common.{rules, ◌≡◌, ℕ, ℤ, ◌+◌, ◌<◌, ◌∷◌, ◌++◌, [], List, drop, length, take, sym, ap, subst, ◌∙◌, inl}
+use Rattle.std.proofs.lemmas.List.{with_items_is}
 use Rattle.dp_model.specs.Folds.{fold_of}
-use Rattle.layer_candidates.specs.Table.{IsTable}
-use Rattle.layer_candidates.specs.Ways.{all_reached, bettered, AreDistinctRows, AreJoined}
-use Rattle.layer_candidates.proofs.Blocks.{zeros-same}
-use Rattle.layer_candidates.proofs.Joined.{pushed_list, pushed_apart, pushed_ways, bettered_list, bettered_ways, length-bettered, strict}
+use Rattle.layer_candidates.specs.declared.way.Way.{Way}
+use Rattle.layer_candidates.specs.HeldRows.{held_row}
+use Rattle.layer_candidates.specs.Rows.{live_at}
+use Rattle.layer_candidates.specs.Table.{IsTable, IsRowFound, IsPlaced}
+use Rattle.layer_candidates.specs.Ways.{rows_of, way_row, all_reached, bettered, AreJoined}
+use Rattle.layer_candidates.proofs.Joined.{zeros-same, pushed-here, pushed-joined, pushed-list, rows-bettered, length-bettered, bettered-before, bettered-joined, bettered-list, strict}
 use Rattle.layer_candidates.proofs.joining.take_in.Goals as goal
 
+-- what was found, in the words of the arguments
+found : (region : _) (live : ℕ) (ways slice : List Way) (row new : List ℤ) (place : ℕ) → slice ≡ ways → new ≡ drop live row
+    → IsRowFound (way_row region slice) live (length slice) new place → IsRowFound (way_row region ways) live (length ways) (drop live row) place
+found region live ways slice row new place same is h =
+    subst (λ (l : List Way). IsRowFound (way_row region l) live (length l) (drop live row) place) same (subst (λ (n : List ℤ). IsRowFound (way_row region slice) live (length slice) n place) is h)
+
 pub returns-then-place-count-clause-joined : goal.returns-then-place-count-clause-joined
-returns-then-place-count-clause-joined c = λ dp k j new.
+returns-then-place-count-clause-joined c = λ dp k j one.
     let a = c.args in
-    let size : c.len-count.result ≡ length a.ways.now.items = search rules in
-    let none : (i : ℕ) → i < length a.ways.now.items → row_at a.rows.now a.words i ≢ row_at a.rows.now a.words (length a.ways.now.items) =
-    subst (λ (n : ℕ). (i : ℕ) → i < n → row_at a.rows.now a.words i ≢ row_at a.rows.now a.words n) size (λ i within e. c.find-place.ensures.none c.if-place-count.true i within (ap (drop a.live) e)) in
-    let items : c.push_reserved.new.self.items ≡ a.ways.now.items ++ a.way ∷ [] = search rules in
-    let longer : length (a.ways.now.items ++ a.way ∷ []) ≡ length a.ways.now.items + 1 = length_push a.ways.now.items a.way in
-    let folded = c.fold-folded.ensures ∙ ap (fold_of 0) c.live_cells.ensures in
-    let put = c.insert.ensures.table a.rows.now a.words a.live (subst (λ (n : ℕ). IsTable a.rows.now a.words a.live n a.folds.now a.heads.now a.next.now) (sym size) j.table) (subst (λ (n : ℕ). n * a.words + a.words ≤ length a.rows.now) (sym size) c.requires.room) folded in
-    subst (λ l. AreJoined dp k a.rows.now a.words a.live l c.insert.new.folds c.insert.new.heads c.insert.new.next) (sym items) (record {
-      table = subst (λ (n : ℕ). IsTable a.rows.now a.words a.live n c.insert.new.folds c.insert.new.heads c.insert.new.next) (ap (λ (n : ℕ). n + 1) size ∙ sym longer) put;
-      apart = subst (AreDistinctRows a.rows.now a.words) (sym (longer ∙ add-one (length a.ways.now.items))) (pushed_apart a.rows.now a.words a.ways.now.items a.way j.apart none);
-      good = pushed_ways a.rows.now a.words a.ways.now.items a.way dp k j.good new;
-    })
+    let ways = a.ways.now.items in
+    let row = held_row a.region.now a.way.row in
+    let size : c.len-count.result ≡ length ways = search rules in
+    let h = found a.region.now a.live ways c.as_slice.result.now row c.live_cells_of-new.result.now c.find-place.result c.as_slice.ensures.value c.live_cells_of-new.ensures c.find-place.ensures in
+    let new = way_row a.region.now (ways ++ a.way ∷ []) in
+    let folded : c.fold-folded.result ≡ fold_of 0 (live_at new a.live (length ways)) = c.fold-folded.ensures ∙ ap (fold_of 0) (c.live_cells_of-new.ensures ∙ sym (ap (drop a.live) (pushed-here a.region.now ways a.way))) in
+    let items : c.push_reserved.new.self.items ≡ ways ++ a.way ∷ [] = search rules in
+    subst (λ l. AreJoined dp k (way_row a.region.now l) a.live l c.insert.new.folds c.insert.new.heads c.insert.new.next) (sym items)
+    (pushed-joined a.region.now ways a.way dp k a.live a.folds.now a.heads.now a.next.now c.insert.new.folds c.insert.new.heads c.insert.new.next (h.none (c.if-place-count.true ∙ size)) j one
+    (subst (λ (n : ℕ). IsTable new a.live n a.folds.now a.heads.now a.next.now → IsTable new a.live (n + 1) c.insert.new.folds c.insert.new.heads c.insert.new.next) size
+    (λ t. c.insert.ensures.table new a.live t (folded ∙ ap (λ (n : ℕ). fold_of 0 (live_at new a.live n)) (sym size)))))
 
 pub returns-then-place-count-clause-list : goal.returns-then-place-count-clause-list
 returns-then-place-count-clause-list c = λ paths apart.
     let a = c.args in
-    let size : c.len-count.result ≡ length a.ways.now.items = search rules in
-    let none : (i : ℕ) → i < length a.ways.now.items → row_at a.rows.now a.words i ≢ row_at a.rows.now a.words (length a.ways.now.items) =
-    subst (λ (n : ℕ). (i : ℕ) → i < n → row_at a.rows.now a.words i ≢ row_at a.rows.now a.words n) size (λ i within e. c.find-place.ensures.none c.if-place-count.true i within (ap (drop a.live) e)) in
-    let items : c.push_reserved.new.self.items ≡ a.ways.now.items ++ a.way ∷ [] = search rules in
-    ap (all_reached paths a.rows.now a.words) items ∙ pushed_list a.rows.now a.words a.ways.now.items a.way paths none
+    let ways = a.ways.now.items in
+    let size : c.len-count.result ≡ length ways = search rules in
+    let h = found a.region.now a.live ways c.as_slice.result.now (held_row a.region.now a.way.row) c.live_cells_of-new.result.now c.find-place.result c.as_slice.ensures.value c.live_cells_of-new.ensures c.find-place.ensures in
+    let items : c.push_reserved.new.self.items ≡ ways ++ a.way ∷ [] = search rules in
+    ap (λ l. all_reached paths (way_row a.region.now l) l) items ∙ pushed-list a.region.now ways a.way a.live (h.none (c.if-place-count.true ∙ size)) paths
+
+less_of : (c : goal.After-ways-1) → c.find-place.result < length c.args.ways.now.items
+less_of c =
+    let a = c.args in
+    let ways = a.ways.now.items in
+    let size : c.len-count.result ≡ length ways = search rules in
+    let h = found a.region.now a.live ways c.as_slice.result.now (held_row a.region.now a.way.row) c.live_cells_of-new.result.now c.find-place.result c.as_slice.ensures.value c.live_cells_of-new.ensures c.find-place.ensures in
+    strict c.find-place.result (length ways) h.within (λ e. c.if-place-count.false (e ∙ sym size))
+
+same_of : (c : goal.After-ways-1) → way_row c.args.region.now c.args.ways.now.items c.find-place.result ≡ held_row c.args.region.now c.args.way.row
+same_of c =
+    let a = c.args in
+    let h = found a.region.now a.live a.ways.now.items c.as_slice.result.now (held_row a.region.now a.way.row) c.live_cells_of-new.result.now c.find-place.result c.as_slice.ensures.value c.live_cells_of-new.ensures c.find-place.ensures in
+    zeros-same a.live _ _ (c.requires.zeros c.find-place.result (less_of c)) c.requires.new_zeros (h.same (less_of c))
+
+items_of : (c : goal.After-ways-1) → take c.args.ways.now.len (c.better.new.ways ++ drop (length c.better.new.ways) c.args.ways.now.items) ≡ bettered c.args.ways.now.items c.find-place.result c.args.way
+items_of c =
+    let a = c.args in
+    let is : c.better.new.ways ≡ bettered a.ways.now.items c.find-place.result a.way = search rules in
+    let count = length-bettered (way_row a.region.now a.ways.now.items) a.ways.now.items a.way (held_row a.region.now a.way.row) c.find-place.result in
+    let whole : length c.better.new.ways ≡ a.ways.now.len = ap length is ∙ (count ∙ search rules) in
+    with_items_is a.ways.now c.better.new.ways whole ∙ is
 
 pub returns-else-place-count-clause-joined : goal.returns-else-place-count-clause-joined
-returns-else-place-count-clause-joined c = λ dp k j new.
+returns-else-place-count-clause-joined c = λ dp k j one.
     let a = c.args in
-    let size : c.len-count.result ≡ length a.ways.now.items = search rules in
-    let less : c.find-place.result < length a.ways.now.items = subst (λ (n : ℕ). c.find-place.result < n) size (strict c.find-place.result c.len-count.result c.find-place.ensures.within c.if-place-count.false) in
-    let same : row_at a.rows.now a.words c.find-place.result ≡ row_at a.rows.now a.words (length a.ways.now.items) =
-    zeros-same a.live _ _ (c.requires.zeros c.find-place.result (omega arith)) (c.requires.zeros (length a.ways.now.items) (omega arith))
-    (subst (λ (n : ℕ). c.find-place.result < n → live_at a.rows.now a.words a.live c.find-place.result ≡ live_at a.rows.now a.words a.live n) size c.find-place.ensures.same less) in
-    let is : c.better.new.ways ≡ bettered a.ways.now.items c.find-place.result a.way = search rules in
-    let count = length-bettered a.rows.now a.words a.ways.now.items a.way c.find-place.result in
-    let whole : length c.better.new.ways ≡ a.ways.now.len = ap length is ∙ (count ∙ search rules) in
-    let items = with_items_is a.ways.now c.better.new.ways whole ∙ is in
-    subst (λ l. AreJoined dp k a.rows.now a.words a.live l a.folds.now a.heads.now a.next.now) (sym items) (record {
-      table = subst (λ (n : ℕ). IsTable a.rows.now a.words a.live n a.folds.now a.heads.now a.next.now) (sym count) j.table;
-      apart = subst (AreDistinctRows a.rows.now a.words) (sym count) j.apart;
-      good = bettered_ways a.rows.now a.words a.ways.now.items a.way dp k c.find-place.result less same j.good new;
-    })
+    subst (λ l. AreJoined dp k (way_row a.region.now l) a.live l a.folds.now a.heads.now a.next.now) (sym (items_of c))
+    (bettered-joined a.region.now a.ways.now.items a.way c.find-place.result (less_of c) (same_of c) dp k a.live a.folds.now a.heads.now a.next.now j one)
 
 pub returns-else-place-count-clause-list : goal.returns-else-place-count-clause-list
 returns-else-place-count-clause-list c = λ paths apart.
     let a = c.args in
-    let size : c.len-count.result ≡ length a.ways.now.items = search rules in
-    let less : c.find-place.result < length a.ways.now.items = subst (λ (n : ℕ). c.find-place.result < n) size (strict c.find-place.result c.len-count.result c.find-place.ensures.within c.if-place-count.false) in
-    let same : row_at a.rows.now a.words c.find-place.result ≡ row_at a.rows.now a.words (length a.ways.now.items) =
-    zeros-same a.live _ _ (c.requires.zeros c.find-place.result (omega arith)) (c.requires.zeros (length a.ways.now.items) (omega arith))
-    (subst (λ (n : ℕ). c.find-place.result < n → live_at a.rows.now a.words a.live c.find-place.result ≡ live_at a.rows.now a.words a.live n) size c.find-place.ensures.same less) in
-    let is : c.better.new.ways ≡ bettered a.ways.now.items c.find-place.result a.way = search rules in
-    let count = length-bettered a.rows.now a.words a.ways.now.items a.way c.find-place.result in
-    let whole : length c.better.new.ways ≡ a.ways.now.len = ap length is ∙ (count ∙ search rules) in
-    let items = with_items_is a.ways.now c.better.new.ways whole ∙ is in
-    ap (all_reached paths a.rows.now a.words) items ∙ bettered_list a.rows.now a.words a.ways.now.items a.way paths c.find-place.result less same apart
+    ap (λ l. all_reached paths (way_row a.region.now l) l) (items_of c) ∙ bettered-list a.region.now a.ways.now.items a.way c.find-place.result (less_of c) (same_of c) paths apart
 
 pub returns-else-place-count-clause-place : goal.returns-else-place-count-clause-place
 returns-else-place-count-clause-place c =
     let a = c.args in
-    let size : c.len-count.result ≡ length a.ways.now.items = search rules in
-    let less : c.find-place.result < length a.ways.now.items = subst (λ (n : ℕ). c.find-place.result < n) size (strict c.find-place.result c.len-count.result c.find-place.ensures.within c.if-place-count.false) in
-    let same : row_at a.rows.now a.words c.find-place.result ≡ row_at a.rows.now a.words (length a.ways.now.items) =
-    zeros-same a.live _ _ (c.requires.zeros c.find-place.result (omega arith)) (c.requires.zeros (length a.ways.now.items) (omega arith))
-    (subst (λ (n : ℕ). c.find-place.result < n → live_at a.rows.now a.words a.live c.find-place.result ≡ live_at a.rows.now a.words a.live n) size c.find-place.ensures.same less) in
-    let is : c.better.new.ways ≡ bettered a.ways.now.items c.find-place.result a.way = search rules in
-    let count = length-bettered a.rows.now a.words a.ways.now.items a.way c.find-place.result in
-    let whole : length c.better.new.ways ≡ a.ways.now.len = ap length is ∙ (count ∙ search rules) in
-    let items = with_items_is a.ways.now c.better.new.ways whole ∙ is in
-    record { same = same; grown = inl (less, ap length items ∙ count) }
+    let less = less_of c in
+    let count = length-bettered (way_row a.region.now a.ways.now.items) a.ways.now.items a.way (held_row a.region.now a.way.row) c.find-place.result in
+    subst (λ (l : List Way). IsPlaced (way_row a.region.now l) (length a.ways.now.items) (length l) (held_row a.region.now a.way.row) c.find-place.result) (sym (items_of c)) (record {
+      same = bettered-before a.region.now a.ways.now.items a.way c.find-place.result less (same_of c) c.find-place.result less ∙ same_of c;
+      grown = inl (less, count);
+    })
+
+pub returns-else-place-count-clause-old : goal.returns-else-place-count-clause-old
+returns-else-place-count-clause-old c = λ less.
+    let a = c.args in
+    ap rows_of (items_of c) ∙ rows-bettered (way_row a.region.now a.ways.now.items) a.ways.now.items a.way (held_row a.region.now a.way.row) c.find-place.result less

@@ -1,53 +1,98 @@
-use Rattle.std.proofs.Common.{rules, ◌≡◌, ◌+◌, ◌<◌, pos, List, length, get_or, vec_capacity, Vec, Global, false, sym, ap, subst, ◌∙◌}
+use Rattle.std.proofs.Common.{rules, ◌≡◌, ◌+◌, ◌-◌, ◌<◌, ◌++◌, [], List, length, take, drop, get_or, vec_capacity, Vec, Global, false, sym, ap, subst, ◌∙◌, arith}
+use Rattle.std.proofs.lemmas.List.{take_all, length-drop}
+use Rattle.dp_model.specs.Lists.{Each}
 use Rattle.layer_candidates.specs.declared.key.Key.{Key}
-use Rattle.layer_candidates.specs.Pruning.{led_by, with_leader, ArePruned}
-use Rattle.layer_candidates.proofs.Pruned.{key-each, pruned-out, pruned-stays, pruned-full, strictly}
+use Rattle.layer_candidates.specs.HeldRows.{AreLive, HasExchanged, HasLeft}
+use Rattle.layer_candidates.specs.KeyOrder.{key_rows}
+use Rattle.layer_candidates.specs.Pruning.{IsKeyIn, led_by, with_leader, ArePruned}
+use Rattle.layer_candidates.proofs.HeldRows.{each-here, live-right, left-give, left-front}
+use Rattle.layer_candidates.proofs.Pruned.{none, looked, pruned-out, pruned-stays, pruned-full, rows-push, strictly}
 use Rattle.layer_candidates.proofs.pruning.prune.Goals as goal
-use Rattle.layer_candidates.proofs.pruning.prune.Goals.{then-not-is_led+else-len-most, else-not-is_led}
+use Rattle.layer_candidates.proofs.pruning.prune.Goals.{then-is_led, else-is_led+else-len-most}
 
-abbrev none : Key
-none = record { value = pos 0; rank = pos 0; place = 0 }
+-- a slice to the end
+to_end : (keys : List Key) (i : _) → i < length keys → take (length keys - i) (drop i keys) ≡ drop i keys
+to_end keys i less = take_all (length keys - i) (drop i keys) (let e = length-drop i keys in omega arith)
+
+pub is_led-requires-clause-leaders : goal.is_led-requires-clause-leaders
+is_led-requires-clause-leaders g c κs within =
+    let dp = g.M.DpModel.meaning (g.M.DpModel.numbers c.args.model.now) in
+    let a = c.args in let l = c.keys in
+    let look = looked dp a.k a.most a.region.now l.region a.keys.now l.leaders.items l.kept.items l.i c.requires.keys c.keys-test.true l.invariant.pruned l.invariant.left in
+    subst (Each (IsKeyIn dp a.k l.region)) (sym c.as_slice.ensures.value) look.leading
 
 pub is_led-requires-clause-key : goal.is_led-requires-clause-key
 is_led-requires-clause-key g c κs within =
     let dp = g.M.DpModel.meaning (g.M.DpModel.numbers c.args.model.now) in
-    key-each dp c.args.k c.args.rows.now c.args.words c.args.keys.now c.keys.i _ c.requires.keys c.keys-test.true
+    let a = c.args in let l = c.keys in
+    (looked dp a.k a.most a.region.now l.region a.keys.now l.leaders.items l.kept.items l.i c.requires.keys c.keys-test.true l.invariant.pruned l.invariant.left).one
+
+pub give-requires : goal.give-requires
+give-requires g c =
+    let dp = g.M.DpModel.meaning (g.M.DpModel.numbers c.args.model.now) in
+    let a = c.args in let l = c.keys in
+    (looked dp a.k a.most a.region.now l.region a.keys.now l.leaders.items l.kept.items l.i c.requires.keys c.keys-test.true l.invariant.pruned l.invariant.left).one.live
+
+pub give_keys-requires : goal.give_keys-requires
+give_keys-requires g c =
+    let a = c.args in let l = c.keys in
+    subst (λ keys. AreLive l.region (key_rows keys)) (sym (to_end a.keys.now l.i c.keys-test.true))
+    (live-right l.region (key_rows l.kept.items) (key_rows (drop l.i a.keys.now)) l.invariant.left.exchanged.live)
 
 pub returns-then-len-most-clause-pruned : goal.returns-then-len-most-clause-pruned
 returns-then-len-most-clause-pruned g c =
     let dp = g.M.DpModel.meaning (g.M.DpModel.numbers c.args.model.now) in
     let a = c.args in
     let l = c.keys in
-    let test : led_by dp a.k a.rows.now a.words l.leaders.items (get_or a.keys.now l.i none) ≡ false =
-    sym (c.is_led.ensures ∙ ap (λ (ls : List Key). led_by dp a.k a.rows.now a.words ls (get_or a.keys.now l.i none)) c.as_slice.ensures.value) ∙ c.if-not-is_led.true in
+    let look = looked dp a.k a.most a.region.now l.region a.keys.now l.leaders.items l.kept.items l.i c.requires.keys c.keys-test.true l.invariant.pruned l.invariant.left in
+    let test : led_by dp a.k a.region.now l.leaders.items (get_or a.keys.now l.i none) ≡ false =
+    sym look.led ∙ (sym (c.is_led.ensures ∙ ap (λ (ls : List Key). led_by dp a.k l.region ls (get_or a.keys.now l.i none)) c.as_slice.ensures.value) ∙ c.if-is_led.false) in
     let full : length l.kept.items ≡ a.most = search rules in
-    pruned-full dp a.k a.most a.rows.now a.words a.keys.now l.leaders.items l.kept.items l.i none l.invariant.pruned c.keys-test.true test full
+    pruned-full dp a.k a.most a.region.now a.keys.now l.leaders.items l.kept.items l.i none l.invariant.pruned c.keys-test.true test full
+
+pub returns-then-len-most-clause-left : goal.returns-then-len-most-clause-left
+returns-then-len-most-clause-left g c =
+    let a = c.args in let l = c.keys in
+    left-front a.region.now l.region c.give_keys.new.region (key_rows a.keys.now) (key_rows l.kept.items) (key_rows (drop l.i a.keys.now)) l.invariant.left
+    (subst (λ keys. HasExchanged l.region (key_rows keys) c.give_keys.new.region []) (to_end a.keys.now l.i c.keys-test.true) c.give_keys.ensures)
 
 pub keys-preserved : goal.keys-preserved
 keys-preserved g c =
     let dp = g.M.DpModel.meaning (g.M.DpModel.numbers c.args.model.now) in
     let a = c.args in
     let l = c.keys in
-    let is : c.is_led.result ≡ led_by dp a.k a.rows.now a.words l.leaders.items (get_or a.keys.now l.i none) =
-    c.is_led.ensures ∙ ap (λ (ls : List Key). led_by dp a.k a.rows.now a.words ls (get_or a.keys.now l.i none)) c.as_slice.ensures.value in
-    let one = key-each dp a.k a.rows.now a.words a.keys.now l.i none c.requires.keys c.keys-test.true in
-    elim c.if-not-is_led.branch [
-      | then-not-is_led+else-len-most w ↦ (
-          let count : w.len.result ≡ length l.kept.items = search rules in
-          let short : length l.kept.items < a.most = strictly (length l.kept.items) a.most l.invariant.pruned.most_stay (λ e. w.if-len-most.false (count ∙ e)) in
-          let next = pruned-stays dp a.k a.most a.rows.now a.words a.keys.now l.leaders.items l.kept.items l.i none l.invariant.pruned c.keys-test.true (sym is ∙ w.if-not-is_led.true) one short in
+    let h = l.invariant in
+    let old = a.region.now in
+    let keys = a.keys.now in
+    let key = get_or keys l.i none in
+    let rest = key_rows (drop (l.i + 1) keys) in
+    let look = looked dp a.k a.most old l.region keys l.leaders.items l.kept.items l.i c.requires.keys c.keys-test.true h.pruned h.left in
+    let is : c.is_led.result ≡ led_by dp a.k old l.leaders.items key =
+    c.is_led.ensures ∙ (ap (λ (ls : List Key). led_by dp a.k l.region ls key) c.as_slice.ensures.value ∙ look.led) in
+    let one = each-here (IsKeyIn dp a.k old) keys l.i none c.requires.keys c.keys-test.true in
+    elim c.if-is_led.branch [
+      | then-is_led w ↦ (
+          let next = pruned-out dp a.k a.most old keys l.leaders.items l.kept.items l.i none h.pruned c.keys-test.true (sym is ∙ w.if-is_led.true) in
           record {
-            pruned = subst (λ x. ArePruned dp a.k a.most a.rows.now a.words a.keys.now x c.if-not-is_led.kept.items (l.i + 1)) (sym (ap (λ (v : Vec Key Global). v.items) w.leaders-is ∙ w.lead.ensures.leaders))
-                (subst (λ x. ArePruned dp a.k a.most a.rows.now a.words a.keys.now (with_leader l.leaders.items (get_or a.keys.now l.i none)) x (l.i + 1)) (sym (ap (λ (v : Vec Key Global). v.items) w.kept-is ∙ w.push_reserved.ensures.items)) next);
-            leaders_capacity = ap vec_capacity w.leaders-is ∙ (w.lead.ensures.capacity ∙ l.invariant.leaders_capacity);
-            kept_capacity = ap vec_capacity w.kept-is ∙ (w.push_reserved.ensures.capacity ∙ l.invariant.kept_capacity);
+            pruned = subst (λ x. ArePruned dp a.k a.most old keys x c.if-is_led.kept.items (l.i + 1)) (sym (ap (λ (v : Vec Key Global). v.items) w.leaders-is))
+                (subst (λ x. ArePruned dp a.k a.most old keys l.leaders.items x (l.i + 1)) (sym (ap (λ (v : Vec Key Global). v.items) w.kept-is)) next);
+            left = subst (λ r. HasLeft old (key_rows keys) r (key_rows c.if-is_led.kept.items ++ rest)) (sym w.region-is)
+                (subst (λ (v : Vec Key Global). HasLeft old (key_rows keys) w.give.new.self (key_rows v.items ++ rest)) (sym w.kept-is)
+                (left-give old l.region w.give.new.self (key_rows keys) (key_rows l.kept.items) rest key.row look.left w.give.ensures));
+            leaders_capacity = ap vec_capacity w.leaders-is ∙ h.leaders_capacity;
+            kept_capacity = ap vec_capacity w.kept-is ∙ h.kept_capacity;
           })
-      | else-not-is_led w ↦ (
-          let next = pruned-out dp a.k a.most a.rows.now a.words a.keys.now l.leaders.items l.kept.items l.i none l.invariant.pruned c.keys-test.true (sym is ∙ w.if-not-is_led.false) in
+      | else-is_led+else-len-most w ↦ (
+          let count : w.len.result ≡ length l.kept.items = search rules in
+          let short : length l.kept.items < a.most = strictly (length l.kept.items) a.most h.pruned.most_stay (λ e. w.if-len-most.false (count ∙ e)) in
+          let next = pruned-stays dp a.k a.most old keys l.leaders.items l.kept.items l.i none h.pruned c.keys-test.true (sym is ∙ w.if-is_led.false) one short in
           record {
-            pruned = subst (λ x. ArePruned dp a.k a.most a.rows.now a.words a.keys.now x c.if-not-is_led.kept.items (l.i + 1)) (sym (ap (λ (v : Vec Key Global). v.items) w.leaders-is))
-                (subst (λ x. ArePruned dp a.k a.most a.rows.now a.words a.keys.now l.leaders.items x (l.i + 1)) (sym (ap (λ (v : Vec Key Global). v.items) w.kept-is)) next);
-            leaders_capacity = ap vec_capacity w.leaders-is ∙ l.invariant.leaders_capacity;
-            kept_capacity = ap vec_capacity w.kept-is ∙ l.invariant.kept_capacity;
+            pruned = subst (λ x. ArePruned dp a.k a.most old keys x c.if-is_led.kept.items (l.i + 1)) (sym (ap (λ (v : Vec Key Global). v.items) w.leaders-is ∙ w.lead.ensures.leaders))
+                (subst (λ x. ArePruned dp a.k a.most old keys (with_leader l.leaders.items key) x (l.i + 1)) (sym (ap (λ (v : Vec Key Global). v.items) w.kept-is ∙ w.push_reserved.ensures.items)) next);
+            left = subst (λ r. HasLeft old (key_rows keys) r (key_rows c.if-is_led.kept.items ++ rest)) (sym w.region-is)
+                (subst (λ ks. HasLeft old (key_rows keys) l.region (key_rows ks ++ rest)) (sym (ap (λ (v : Vec Key Global). v.items) w.kept-is ∙ w.push_reserved.ensures.items))
+                (subst (HasLeft old (key_rows keys) l.region) (sym (rows-push l.kept.items key rest)) look.left));
+            leaders_capacity = ap vec_capacity w.leaders-is ∙ (w.lead.ensures.capacity ∙ h.leaders_capacity);
+            kept_capacity = ap vec_capacity w.kept-is ∙ (w.push_reserved.ensures.capacity ∙ h.kept_capacity);
           })
     ]

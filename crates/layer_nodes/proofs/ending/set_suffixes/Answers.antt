@@ -3,9 +3,8 @@ use Rattle.std.proofs.lemmas.List.{with_items_is}
 use Rattle.layer_candidates.specs.HeldRows.{held_row}
 use Rattle.layer_nodes.specs.declared.node.Node.{Node}
 use Rattle.layer_nodes.specs.Ending.{suffixes_in}
-use Rattle.layer_nodes.specs.Holding.{HasKeptLayer}
 use Rattle.layer_nodes.specs.Nodes.{NodeView, LayerView}
-use Rattle.layer_nodes.specs.Stored.{node_view_by}
+use Rattle.layer_nodes.specs.Stored.{node_view_by, HasLayer}
 use Rattle.layer_nodes.proofs.Ended.{suffixes-seen, layer-ends, layer-ended}
 use Rattle.layer_nodes.proofs.ending.set_suffixes.Goals as goal
 
@@ -26,7 +25,7 @@ invariant_of-layer c =
     let h = layer-ended l.words l.room l.nodes.cap l.arcs.cap (held_row l.held.value) l.arcs.items l.nodes.items c.args.layer.now c.layer.view_is c.layer.invariant _ _ _ _ c.as_slice.ensures.value c.as_mut_slice.ensures.value below
     new c.end_nodes.ensures in
     let size : length new ≡ l.nodes.len = h.size ∙ search rules in
-    subst (λ ns. HasKeptLayer l.room ns l.nodes.cap l.arcs.items) (sym (with_items_is l.nodes new size)) h.stays
+    subst (λ ns. HasLayer l.room ns l.nodes.cap l.arcs.items) (sym (with_items_is l.nodes new size)) h.stays
 
 pub returns : goal.returns
 returns c =

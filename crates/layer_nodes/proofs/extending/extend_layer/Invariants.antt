@@ -1,13 +1,16 @@
-use Rattle.std.proofs.Common.{◌≡◌, ◌*◌, ◌≤◌, ◌++◌, take, drop, length, vec_capacity}
+use Rattle.std.proofs.Common.{◌≡◌, ◌*◌, ◌≤◌, [], ◌∷◌, ◌++◌, take, drop, length, vec_capacity}
 use Rattle.layer_candidates.specs.Extending.{AreExtended}
+use Rattle.layer_candidates.specs.HeldRows.{held_row, HasExchanged}
+use Rattle.layer_candidates.specs.Ways.{rows_of, way_row}
 use Rattle.layer_nodes.specs.Expanding.{members_from, trials_of, all_spanned, AreTried}
 use Rattle.layer_nodes.proofs.extending.extend_layer.Given as goal
 
 abbrev pub invariant-nodes : goal.invariant-nodes
 invariant-nodes g l = record {
-  extended : AreExtended (g.M.DpModel.meaning (g.M.DpModel.numbers l.model)) l.k l.i l.cells l.words l.live (members_from 0 l.fn.nodes) l.rows l.ways.items l.folds l.heads l.next;
-  tried : AreTried (g.M.DpModel.meaning (g.M.DpModel.numbers l.model)) l.k l.rows l.words (length l.ways.items) (trials_of (g.M.DpModel.meaning (g.M.DpModel.numbers l.model)) l.k l.cells l.words (take l.i l.fn.nodes)) l.marks l.arcs.items;
-  spans : l.nodes ≡ all_spanned (g.M.DpModel.meaning (g.M.DpModel.numbers l.model)) l.k l.cells l.words 0 (take l.i l.fn.nodes) ++ drop l.i l.fn.nodes;
+  extended : AreExtended (g.M.DpModel.meaning (g.M.DpModel.numbers l.model)) l.k l.i l.fn.region l.live (members_from 0 l.fn.nodes) (way_row l.region l.ways.items) l.ways.items l.folds l.heads l.next;
+  exchanged : HasExchanged l.fn.region [] l.region (l.spot.place ∷ rows_of l.ways.items);
+  tried : AreTried (g.M.DpModel.meaning (g.M.DpModel.numbers l.model)) l.k (way_row l.region l.ways.items) (length l.ways.items) (trials_of (g.M.DpModel.meaning (g.M.DpModel.numbers l.model)) l.k (held_row l.fn.region) (take l.i l.fn.nodes)) l.marks l.arcs.items;
+  spans : l.nodes ≡ all_spanned (g.M.DpModel.meaning (g.M.DpModel.numbers l.model)) l.k (held_row l.fn.region) 0 (take l.i l.fn.nodes) ++ drop l.i l.fn.nodes;
   capacity : vec_capacity l.ways ≡ vec_capacity l.fn.ways;
   arcs_few : length l.arcs.items ≤ l.i * (g.M.DpModel.meaning (g.M.DpModel.numbers l.model)).choices l.k;
   arcs_capacity : vec_capacity l.arcs ≡ vec_capacity l.fn.arcs;

@@ -1,7 +1,7 @@
-use Rattle.std.proofs.Common.{◌∙◌, ap, ap₂}
+use Rattle.std.proofs.Common.{◌∙◌, ap}
 use Rattle.dp_model.specs.Gaps.{within}
 use Rattle.dp_model.specs.Laws.{IsLawful}
-use Rattle.layer_candidates.specs.Rows.{row_at}
+use Rattle.layer_candidates.specs.HeldRows.{held_row}
 use Rattle.layer_nodes.proofs.Leaders.{gap-within-small, gap-within-all}
 use Rattle.layer_nodes.proofs.merging.gap_to.Given as given
 use Rattle.layer_nodes.proofs.merging.gap_to.Goals as goal
@@ -13,12 +13,12 @@ pub returns-clause-gap : goal.returns-clause-gap
 returns-clause-gap g c =
     let dp = g.M.DpModel.meaning (g.M.DpModel.numbers c.args.model.now) in
     let a = c.args in
-    c.covers_within.ensures ∙ (ap (within _) (ap₂ (dp.gap a.k) c.row-into.ensures c.row-s.ensures)
-    ∙ gap-within-all dp (laws_of g a.model.now) a.k (row_at a.rows.now a.words a.place) (row_at a.rows.now a.words a.node.row) c.requires.state c.requires.node.state)
+    c.covers_within.ensures ∙ (ap (within _) (ap (dp.gap a.k a.into.now) c.row_of-s.ensures.row)
+    ∙ gap-within-all dp (laws_of g a.model.now) a.k a.into.now (held_row a.region.now a.node.row) c.requires.state c.requires.node.with_row.state)
 
 pub returns-clause-small : goal.returns-clause-small
 returns-clause-small g c =
     let dp = g.M.DpModel.meaning (g.M.DpModel.numbers c.args.model.now) in
     let a = c.args in
-    gap-within-small dp (laws_of g a.model.now) a.k (row_at a.rows.now a.words a.place) (row_at a.rows.now a.words a.node.row) _ c.covers_within.result c.requires.state c.requires.node.state
-    (c.covers_within.ensures ∙ ap (within _) (ap₂ (dp.gap a.k) c.row-into.ensures c.row-s.ensures))
+    gap-within-small dp (laws_of g a.model.now) a.k a.into.now (held_row a.region.now a.node.row) _ c.covers_within.result c.requires.state c.requires.node.with_row.state
+    (c.covers_within.ensures ∙ ap (within _) (ap (dp.gap a.k a.into.now) c.row_of-s.ensures.row))

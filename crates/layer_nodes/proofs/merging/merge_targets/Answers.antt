@@ -1,6 +1,7 @@
 use Rattle.std.proofs.Common.{◌+◌, pos, false, None, sym, ◌∙◌, ap, subst}
 use Rattle.dp_model.specs.Numbers.{add_some}
 use Rattle.dp_laws.specs.Rules.Reducing.{redirect_by}
+use Rattle.layer_candidates.specs.HeldRows.{held_row}
 use Rattle.layer_nodes.specs.declared.node.Node.{Node}
 use Rattle.layer_nodes.specs.Merging.{greater}
 use Rattle.layer_nodes.proofs.Merged.{AreLifted, lifted-more}
@@ -16,8 +17,8 @@ nodes-preserved g c =
     let l = c.nodes in
     let h = l.invariant.lifted in
     record {
-      lifted = subst (λ r. AreLifted dp a.k a.rows.now a.words a.place a.nodes.now a.target a.redirects.now.items c.greater-best.result r (l.i + 1)) (sym c.push_reserved.ensures.items)
-          (lifted-more dp a.k a.rows.now a.words a.place a.nodes.now a.target a.redirects.now.items l.best c.greater-best.result l.redirects.items c.redirect_by.result l.i none h c.nodes-test.true
+      lifted = subst (λ r. AreLifted dp a.k (held_row a.region.now) a.into.now a.nodes.now a.target a.redirects.now.items c.greater-best.result r (l.i + 1)) (sym c.push_reserved.ensures.items)
+          (lifted-more dp a.k (held_row a.region.now) a.into.now a.nodes.now a.target a.redirects.now.items l.best c.greater-best.result l.redirects.items c.redirect_by.result l.i none h c.nodes-test.true
           (c.greater-best.ensures ∙ ap (greater l.best) (c.lifted.ensures ∙ ap (add_some _) c.gap_to-gap.ensures.gap))
           (c.redirect_by.ensures.redirect ∙ ap (redirect_by a.target) c.gap_to-gap.ensures.gap)
           c.redirect_by.ensures.short);

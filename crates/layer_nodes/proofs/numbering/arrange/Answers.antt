@@ -40,7 +40,7 @@ returns-clause-arranged c =
       places = c.number.new.places;
       all = c.put_in_order.ensures.all;
       sorted = c.put_in_order.ensures.sorted;
-      numbered = subst (λ ks. (j : ℕ) → j < length ks → IsNumbered (length ks) ks c.number.new.places (key_in ks j).place) c.as_slice.ensures.value c.number.ensures;
+      numbered = subst (λ ks. (j : ℕ) → j < length ks → IsNumbered (length ks) ks c.number.new.places (key_in ks j).place) c.as_slice.ensures.value c.number.ensures.numbered;
       arcs_are = c.lead.ensures;
       nodes_are = c.list_nodes.ensures.nodes ∙ ap (map (node_of c.args.ways.now c.args.marks.now)) c.as_slice-2.ensures.value;
     }

@@ -1,9 +1,9 @@
-use Rattle.std.proofs.Common.{ℕ, List, is_some, sym, ap, ◌∙◌}
+use Rattle.std.proofs.Common.{ℕ, List, is_some, sym, ap, ◌∙◌, subst}
 use Rattle.std.specs.Vec.{with_items}
 use Rattle.dp_model.specs.Laws.{IsLawful}
 use Rattle.dp_model.specs.Subproblem.{SubView}
 use Rattle.dp_laws.specs.Restricted.Beams.{wide}
-use Rattle.layer_build.specs.Layers.{SpaceView}
+use Rattle.layer_build.specs.Layers.{SpaceView, AreEnough}
 use Rattle.layer_build.proofs.Held.{rows-for-beam, rows-same}
 use Rattle.layer_build.proofs.Memory.{other-layers}
 use Rattle.layer_build.proofs.workspace.Workspace.beam.Given as given
@@ -16,7 +16,9 @@ pub beam-requires-clause-region_room : goal.beam-requires-clause-region_room
 beam-requires-clause-region_room g c κs within =
     let dp = g.M.DpModel.meaning (g.M.DpModel.numbers c.args.model.now) in
     let i = c.self.inside in
-    rows-for-beam dp (laws_of g c.args.model.now) i.words i.width i.held i.stack c.self.invariant.rows
+    let p = c.requires.prepared in
+    let enough = subst (λ (s : SpaceView). AreEnough dp s.width dp.vars s.room) (sym c.self.view_is) p.enough in
+    rows-for-beam dp (laws_of g c.args.model.now) i.words i.width i.held i.stack enough c.self.invariant.rows
 
 pub invariant_of-self : goal.invariant_of-self
 invariant_of-self g c =

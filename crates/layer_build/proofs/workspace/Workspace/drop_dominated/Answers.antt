@@ -1,21 +1,25 @@
-use Rattle.std.proofs.Common.{◌≡◌, ℕ, List, map, length, vec_len, None, rules, sym, ap, ◌∙◌, subst, arith}
+use Rattle.std.proofs.Common.{◌≡◌, ℕ, List, map, length, vec_len, None, rules, sym, ap, ◌∙◌, subst, arith, []}
 use Rattle.dp_model.specs.Lists.{Each}
 use Rattle.dp_laws.specs.Diagrams.Nodes.{DdNode}
 use Rattle.dp_laws.specs.Rules.Compiling.{prune}
 use Rattle.layer_nodes.specs.Nodes.{NodeView, LayerView}
+use Rattle.layer_nodes.specs.Stored.{Room}
 use Rattle.layer_nodes.specs.Striking.{unstruck, drop_dominated}
 use Rattle.layer_nodes.specs.Steps.{IsRanked, MayBeLengthened}
 use Rattle.layer_nodes.proofs.Dropped.{NoneIsStruck}
+use Rattle.dp_laws.specs.Rules.Pruning.{pruned_nodes}
+use Rattle.dp_laws.proofs.Rules.Pruned.{few-pruned}
 use Rattle.layer_build.specs.contracts.workspace.Workspace.{the_view}
 use Rattle.layer_build.specs.Layers.{SpaceView, last_depth, last_layer, on_last_two}
 use Rattle.layer_build.specs.Stacked.{place_above, HaveDepths}
 use Rattle.layer_build.specs.UnderWay.{IsUnderWay}
+use Rattle.layer_build.proofs.Held.{newest-held, newest-live}
 use Rattle.layer_build.proofs.Kept.{pruned-under-way}
 use Rattle.layer_build.proofs.Pruning.{dropped-last}
 use Rattle.layer_build.proofs.Depths.{prune-depths}
 use Rattle.layer_build.proofs.Shown.{stays, ranked-of}
 use Rattle.layer_build.proofs.Going.{deep, count-seen, nodes-seen, lengths-seen, under, lent, above-within}
-use Rattle.layer_build.proofs.Changing.{HasChanged, changed, changed-space, changed-seen, changed-ranks, struck-layers}
+use Rattle.layer_build.proofs.Changing.{HasChanged, HasGivenBack, fewer-by, changed, changed-space, changed-seen, changed-ranks, struck-layers}
 use Rattle.layer_build.proofs.workspace.Workspace.drop_dominated.Goals as goal
 
 pub index_mut-requires : goal.index_mut-requires
@@ -46,8 +50,14 @@ drop_dominated-requires-clause-room g c κs within =
     let u = under dp i c.args.self.now c.self.view_is c.requires.under_way in
     let few = u.few in
     let count = count-seen i h in
-    let fit = h.redirects_fit in
+    let fit = ap (λ (r : Room). r.most) h.redirects_fit in
     omega arith
+
+pub drop_dominated-requires-clause-held : goal.drop_dominated-requires-clause-held
+drop_dominated-requires-clause-held g c κs within = newest-held c.self.inside.words c.self.inside.width c.self.inside.held c.self.inside.stack c.self.invariant.rows
+
+pub drop_dominated-requires-clause-live : goal.drop_dominated-requires-clause-live
+drop_dominated-requires-clause-live g c κs within = newest-live c.self.inside.words c.self.inside.width c.self.inside.held c.self.inside.stack c.self.invariant.rows
 
 pub invariant_of-self : goal.invariant_of-self
 invariant_of-self g c =
@@ -56,12 +66,13 @@ invariant_of-self g c =
     let u = under dp i c.args.self.now c.self.view_is c.requires.under_way in
     let e = c.drop_dominated.ensures in
     let at = c.place_above-at.result in let old = c.index_mut.result.now in
-    let x = c.drop_dominated.new.above in let n = c.drop_dominated.new.next in let r = c.drop_dominated.new.redirects in
+    let x = c.drop_dominated.new.above in let n = c.drop_dominated.new.next in let region = c.drop_dominated.new.region in let r = c.drop_dominated.new.redirects in
     let place = above-within i h in
     let above = lent i.stack.layers.items at (place_above i.stack.vars i.stack.first i.stack.last) old _ c.index_mut.ensures.value c.place_above-at.ensures place in
     let is : HasChanged i at old _ x n r = record { place = c.place_above-at.ensures; lent = c.index_mut.ensures.value; above = above; rest = e.rest; rooms = e.next_rooms; redirects_stay = e.redirects } in
-    let seen = struck-layers (unstruck dp) i h u.one None at old _ x n r i.first_reduced is e.above e.next in
-    changed-space i h at old _ x n r i.first_reduced is (subst (HaveDepths i.stack.first) (sym seen) (prune-depths (unstruck dp) i.stack.last None i.stack.first _ h.depths))
+    let given : HasGivenBack i n region = record { held = e.held; exchanged = e.exchanged; fewer = fewer-by (pruned_nodes (unstruck dp) i.stack.last None [] 0) i.stack.newest.nodes n.nodes e.next (λ l same. few-pruned (unstruck dp) i.stack.last None [] 0 l) } in
+    let seen = struck-layers (unstruck dp) i h u.one None at old _ x n region r i.first_reduced is e.above e.next in
+    changed-space i h at old _ x n region r i.first_reduced is given (subst (HaveDepths i.stack.first) (sym seen) (prune-depths (unstruck dp) i.stack.last None i.stack.first _ h.depths))
 
 pub returns-clause-layers : goal.returns-clause-layers
 returns-clause-layers g c =
@@ -70,13 +81,13 @@ returns-clause-layers g c =
     let u = under dp i c.args.self.now c.self.view_is c.requires.under_way in
     let e = c.drop_dominated.ensures in
     let at = c.place_above-at.result in let old = c.index_mut.result.now in
-    let x = c.drop_dominated.new.above in let n = c.drop_dominated.new.next in let r = c.drop_dominated.new.redirects in
+    let x = c.drop_dominated.new.above in let n = c.drop_dominated.new.next in let region = c.drop_dominated.new.region in let r = c.drop_dominated.new.redirects in
     let place = above-within i h in
     let above = lent i.stack.layers.items at (place_above i.stack.vars i.stack.first i.stack.last) old _ c.index_mut.ensures.value c.place_above-at.ensures place in
     let is : HasChanged i at old _ x n r = record { place = c.place_above-at.ensures; lent = c.index_mut.ensures.value; above = above; rest = e.rest; rooms = e.next_rooms; redirects_stay = e.redirects } in
-    let seen = struck-layers (unstruck dp) i h u.one None at old _ x n r i.first_reduced is e.above e.next in
-    let whole = changed-seen i at old _ x n r i.first_reduced is (on_last_two (drop_dominated dp i.stack.last) (the_view i).layers) seen in
-    let here : the_view (changed i at x n r i.first_reduced) ≡ record (the_view i) { layers = on_last_two (drop_dominated dp (last_depth (the_view i))) (the_view i).layers; ranks = map (λ (node : NodeView). node.rank) n.nodes } =
+    let seen = struck-layers (unstruck dp) i h u.one None at old _ x n region r i.first_reduced is e.above e.next in
+    let whole = changed-seen i at old _ x n region r i.first_reduced is (on_last_two (drop_dominated dp i.stack.last) (the_view i).layers) seen in
+    let here : the_view (changed i at x n region r i.first_reduced) ≡ record (the_view i) { layers = on_last_two (drop_dominated dp (last_depth (the_view i))) (the_view i).layers; ranks = map (λ (node : NodeView). node.rank) n.nodes } =
     whole ∙ ap (λ (k : ℕ). record (the_view i) { layers = on_last_two (drop_dominated dp k) (the_view i).layers; ranks = map (λ (node : NodeView). node.rank) n.nodes }) (sym (deep i h)) in
     here ∙ ap (λ (s : SpaceView). record s { layers = on_last_two (drop_dominated dp (last_depth s)) s.layers; ranks = map (λ (node : NodeView). node.rank) n.nodes }) c.self.view_is
 
@@ -87,21 +98,22 @@ returns-clause-under_way g c = λ t free.
     let u = under dp i c.args.self.now c.self.view_is c.requires.under_way in
     let e = c.drop_dominated.ensures in
     let at = c.place_above-at.result in let old = c.index_mut.result.now in
-    let x = c.drop_dominated.new.above in let n = c.drop_dominated.new.next in let r = c.drop_dominated.new.redirects in
+    let x = c.drop_dominated.new.above in let n = c.drop_dominated.new.next in let region = c.drop_dominated.new.region in let r = c.drop_dominated.new.redirects in
     let place = above-within i h in
     let above = lent i.stack.layers.items at (place_above i.stack.vars i.stack.first i.stack.last) old _ c.index_mut.ensures.value c.place_above-at.ensures place in
     let is : HasChanged i at old _ x n r = record { place = c.place_above-at.ensures; lent = c.index_mut.ensures.value; above = above; rest = e.rest; rooms = e.next_rooms; redirects_stay = e.redirects } in
-    let seen = struck-layers (unstruck dp) i h u.one None at old _ x n r i.first_reduced is e.above e.next in
-    let whole = changed-seen i at old _ x n r i.first_reduced is (on_last_two (drop_dominated dp i.stack.last) (the_view i).layers) seen in
-    let here : the_view (changed i at x n r i.first_reduced) ≡ record (the_view i) { layers = on_last_two (drop_dominated dp (last_depth (the_view i))) (the_view i).layers; ranks = map (λ (node : NodeView). node.rank) n.nodes } =
+    let given : HasGivenBack i n region = record { held = e.held; exchanged = e.exchanged; fewer = fewer-by (pruned_nodes (unstruck dp) i.stack.last None [] 0) i.stack.newest.nodes n.nodes e.next (λ l same. few-pruned (unstruck dp) i.stack.last None [] 0 l) } in
+    let seen = struck-layers (unstruck dp) i h u.one None at old _ x n region r i.first_reduced is e.above e.next in
+    let whole = changed-seen i at old _ x n region r i.first_reduced is (on_last_two (drop_dominated dp i.stack.last) (the_view i).layers) seen in
+    let here : the_view (changed i at x n region r i.first_reduced) ≡ record (the_view i) { layers = on_last_two (drop_dominated dp (last_depth (the_view i))) (the_view i).layers; ranks = map (λ (node : NodeView). node.rank) n.nodes } =
     whole ∙ ap (λ (k : ℕ). record (the_view i) { layers = on_last_two (drop_dominated dp k) (the_view i).layers; ranks = map (λ (node : NodeView). node.rank) n.nodes }) (sym (deep i h)) in
-    let space = changed-space i h at old _ x n r i.first_reduced is (subst (HaveDepths i.stack.first) (sym seen) (prune-depths (unstruck dp) i.stack.last None i.stack.first _ h.depths)) in
+    let space = changed-space i h at old _ x n region r i.first_reduced is given (subst (HaveDepths i.stack.first) (sym seen) (prune-depths (unstruck dp) i.stack.last None i.stack.first _ h.depths)) in
     let ranked = stays (IsRanked dp i.stack.last) i.stack.newest.nodes n.nodes e.stay (ranked-of dp i.stack.last i.stack.newest.nodes (nodes-seen dp i h u)) in
-    let deep-seen : (the_view (changed i at x n r i.first_reduced)).layers ≡ on_last_two (drop_dominated dp (last_depth (the_view i))) (the_view i).layers = ap (λ (s : SpaceView). s.layers) here in
+    let deep-seen : (the_view (changed i at x n region r i.first_reduced)).layers ≡ on_last_two (drop_dominated dp (last_depth (the_view i))) (the_view i).layers = ap (λ (s : SpaceView). s.layers) here in
     let unstruck_now = subst (λ (s : SpaceView). NoneIsStruck dp (last_depth s) t (last_layer s.layers)) (sym c.self.view_is) free in
     let same = dropped-last dp (last_depth (the_view i)) t (the_view i).layers unstruck_now in
     let ranks = map (λ (node : NodeView). node.rank) n.nodes in
     subst (IsUnderWay dp) (sym here)
     (subst (λ (ls : List (List DdNode)). IsUnderWay dp (record (the_view i) { layers = ls; ranks = ranks })) (sym same)
     (pruned-under-way dp (the_view i) ranks t u
-    (changed-ranks dp (prune dp (last_depth (the_view i)) t) i h u at x n r i.first_reduced space (deep-seen ∙ same) ranked)))
+    (changed-ranks dp (prune dp (last_depth (the_view i)) t) i h u at x n region r i.first_reduced space (deep-seen ∙ same) ranked)))

@@ -2,10 +2,12 @@ use Rattle.std.proofs.Common.{◌≡◌, ℕ, ◌*◌, ◌≤◌, map, length, v
 use Rattle.dp_model.specs.Laws.{IsLawful}
 use Rattle.layer_nodes.specs.Sifting.{expand_sifted}
 use Rattle.layer_nodes.specs.Nodes.{NodeView, LayerView}
+use Rattle.layer_nodes.specs.Stored.{Room}
 use Rattle.layer_build.specs.Layers.{SpaceView, last_depth, expand_last}
 use Rattle.layer_build.specs.Stacked.{place_of}
 use Rattle.layer_build.specs.UnderWay.{IsUnderWay}
 use Rattle.layer_build.proofs.Expansions.{expands-sifted}
+use Rattle.layer_build.proofs.Held.{newest-held}
 use Rattle.layer_build.proofs.Going.{parents-seen, under, low-of, words-seen, fits-seen, narrow-seen, spare-seen, lent, place-within, words-of, expanded-space, expanded-seen, expanded-kept}
 use Rattle.layer_build.proofs.workspace.Workspace.expand_sifted.Given as given
 use Rattle.layer_build.proofs.workspace.Workspace.expand_sifted.Goals as goal
@@ -94,7 +96,7 @@ expand_newest_sifted-requires-clause-room g c κs within =
     let u = under dp i c.args.self.now c.self.view_is c.requires.under_way in
     let low = low-of dp i h c.args.self.now c.self.view_is c.requires.under_way c.requires.below in
     let fits = fits-seen dp i h u low (narrow-seen i h c.args.self.now c.self.view_is c.requires.narrow) in
-    subst (λ (n : ℕ). length i.stack.newest.nodes * dp.choices i.stack.last ≤ n) (sym h.expands) fits.candidates
+    subst (λ (n : ℕ). length i.stack.newest.nodes * dp.choices i.stack.last ≤ n) (sym (ap (λ (r : Room). r.most) h.expands)) fits.candidates
 
 pub expand_newest_sifted-requires-clause-spare : goal.expand_newest_sifted-requires-clause-spare
 expand_newest_sifted-requires-clause-spare g c κs within =
@@ -103,6 +105,14 @@ expand_newest_sifted-requires-clause-spare g c κs within =
     let u = under dp i c.args.self.now c.self.view_is c.requires.under_way in
     let low = low-of dp i h c.args.self.now c.self.view_is c.requires.under_way c.requires.below in
     spare-seen dp i h u low (narrow-seen i h c.args.self.now c.self.view_is c.requires.narrow)
+
+pub expand_newest_sifted-requires-clause-row_words : goal.expand_newest_sifted-requires-clause-row_words
+expand_newest_sifted-requires-clause-row_words g c κs within =
+    let dp = g.M.DpModel.meaning (g.M.DpModel.numbers c.args.model.now) in
+    ap (λ (r : Room). r.words) c.self.invariant.expands ∙ words-seen dp c.self.inside c.args.self.now c.self.view_is c.requires.under_way
+
+pub expand_newest_sifted-requires-clause-held : goal.expand_newest_sifted-requires-clause-held
+expand_newest_sifted-requires-clause-held g c κs within = newest-held c.self.inside.words c.self.inside.width c.self.inside.held c.self.inside.stack c.self.invariant.rows
 
 pub overflow_add-self : goal.overflow_add-self
 overflow_add-self g c = (let low = c.self.invariant.stack.last in let small = c.self.invariant.stack.small in omega arith)
@@ -114,7 +124,7 @@ invariant_of-self g c =
     let u = under dp i c.args.self.now c.self.view_is c.requires.under_way in
     let low = low-of dp i h c.args.self.now c.self.view_is c.requires.under_way c.requires.below in
     let e = c.expand_newest_sifted.ensures in
-    expanded-space dp (λ k layer. expand_sifted dp k c.args.threshold layer) (expands-sifted dp c.args.threshold (laws_of g c.args.model.now)) i h u low (narrow-seen i h c.args.self.now c.self.view_is c.requires.narrow) c.expand_newest_sifted.new.above c.expand_newest_sifted.new.newest c.expand_newest_sifted.new.region c.place_of-at.result c.expand_newest_sifted.new.expansion _ _ c.place_of-at.ensures c.index_mut.ensures.value e.rest e.above e.next e.above_rooms e.next_rooms e.expansion (record { held = e.held; others = e.others; spare = e.spare })
+    expanded-space dp (λ k layer. expand_sifted dp k c.args.threshold layer) (expands-sifted dp c.args.threshold (laws_of g c.args.model.now)) i h u low (narrow-seen i h c.args.self.now c.self.view_is c.requires.narrow) c.expand_newest_sifted.new.above c.expand_newest_sifted.new.newest c.expand_newest_sifted.new.region c.place_of-at.result c.expand_newest_sifted.new.expansion _ _ c.place_of-at.ensures c.index_mut.ensures.value e.rest e.above e.next e.above_rooms e.next_rooms e.expansion (record { places = e.places; above_held = e.above_held; held = e.held; exchanged = e.exchanged; few = (let few = e.few in let fits = (fits-seen dp i h u low (narrow-seen i h c.args.self.now c.self.view_is c.requires.narrow)).candidates in omega arith) })
 
 pub returns-clause-layers : goal.returns-clause-layers
 returns-clause-layers g c =

@@ -3,6 +3,7 @@ use Rattle.dp_model.specs.Laws.{IsLawful}
 use Rattle.layer_nodes.specs.Nodes.{NodeView, LayerView, shown_layer}
 use Rattle.layer_build.specs.Layers.{AreEnough}
 use Rattle.layer_build.specs.Stacked.{HaveDepths, path_in, shown_down, nodes_in}
+use Rattle.layer_build.proofs.Held.{room-as}
 use Rattle.layer_build.proofs.Rooms.{has-layers}
 use Rattle.layer_build.proofs.Memory.{other-layers}
 use Rattle.layer_build.proofs.Ready.{ready-rows, ready-stack}
@@ -27,12 +28,12 @@ invariant_of-result g c =
     let none : s.last - s.first ≡ 0 = (let a = r.first in let b = r.last in omega arith) in
     let empty : nodes_in s s.first ≡ [] = newest-at s.vars s.first s.last s.layers.items s.newest s.first (r.first ∙ sym r.last) ∙ ap (λ (l : LayerView). l.nodes) r.newest in
     record {
-      stack = ready-stack dp laws c.args.width c.room_for-room.result c.words-words.result c.in_ok-choices_of.field-0.items s c.requires c.room_for-room.ensures.few r c.words-words.ensures c.in_ok-choices_of.ensures;
+      stack = ready-stack dp laws c.args.width c.room_for-room.result c.words-words.result c.in_ok-choices_of.field-0.items s r c.words-words.ensures c.in_ok-choices_of.ensures;
       rows = ready-rows dp c.args.width c.room_for-room.result c.words-words.result s r c.words-words.ensures;
       first = r.first ∙ sym (ap (λ (l : List ℕ). length l) prefix);
       prefix_fits = omega arith;
-      expands = c.in_ok-prepare.ensures ∙ sym room;
-      redirects_fit = c.in_ok-prepare-2.ensures ∙ sym room;
+      expands = room-as room c.in_ok-prepare.ensures;
+      redirects_fit = room-as room c.in_ok-prepare-2.ensures;
       path = path ∙ sym vars;
       depths = subst (λ (m : ℕ). HaveDepths s.first (shown_down (nodes_in s) (c.in_ok-with_capacity.field-0.items ∷ []) s.first m)) (sym none)
           (subst (λ (l : List NodeView). HaveDepths s.first (shown_layer (path_in (c.in_ok-with_capacity.field-0.items ∷ [])) l ∷ [])) (sym empty) (tt, tt));

@@ -1,12 +1,13 @@
 use Rattle.std.proofs.Common.{◌≤◌, length, sym, ap, ◌∙◌, arith}
+use Rattle.layer_nodes.specs.Nodes.{LayerView}
 use Rattle.layer_build.specs.Layers.{SpaceView, last_depth, layer_at}
 use Rattle.layer_build.proofs.Going.{deep}
 use Rattle.layer_build.proofs.Reading.{begun-low, layer-seen}
 use Rattle.layer_build.proofs.Standing.{has-depth}
 use Rattle.layer_build.proofs.workspace.Workspace.nodes.Goals as goal
 
-pub len_at-requires : goal.len_at-requires
-len_at-requires c =
+pub layer_at-requires : goal.layer_at-requires
+layer_at-requires c =
     let i = c.self.inside in let h = c.self.invariant in
     let at = ap last_depth c.self.view_is in
     let here = deep i h in
@@ -21,4 +22,4 @@ returns c =
     let here = deep i h in
     let last = c.requires.last in
     let high : c.args.depth ≤ i.stack.last = omega arith in
-    c.len_at.ensures.count ∙ (sym (layer-seen i h c.args.depth low high) ∙ ap (λ (s : SpaceView). length (layer_at s c.args.depth)) c.self.view_is)
+    c.len.ensures.count ∙ (ap (λ (l : LayerView). length l.nodes) c.layer_at.ensures ∙ (sym (layer-seen i h c.args.depth low high) ∙ ap (λ (s : SpaceView). length (layer_at s c.args.depth)) c.self.view_is))

@@ -2,7 +2,7 @@ use Rattle.std.proofs.Common.{◌≡◌, true, ℕ, List, length, Some, option_m
 use Rattle.dp_laws.specs.Diagrams.Nodes.{DdNode, node_at}
 use Rattle.layer_build.specs.Layers.{SpaceView, diagram_of}
 use Rattle.layer_build.specs.Stacked.{nodes_in}
-use Rattle.layer_build.proofs.Standing.{StandsAt, stands-so, held-few, whole-path}
+use Rattle.layer_build.proofs.Standing.{StandsAt, stands-so, has-all-depths, whole-path}
 use Rattle.layer_build.proofs.Walked.{path_of, some-is}
 use Rattle.layer_build.proofs.workspace.Workspace.path.Goals as goal
 
@@ -10,7 +10,7 @@ pub write_path-requires-clause-low : goal.write_path-requires-clause-low
 write_path-requires-clause-low c = (stands-so (λ (n : DdNode). n.exact) true c.self.inside c.self.invariant c.args.self.now c.self.view_is c.args.depth c.args.node c.requires.first c.requires.exact).low
 
 pub write_path-requires-clause-stored : goal.write_path-requires-clause-stored
-write_path-requires-clause-stored c = held-few c.self.inside c.self.invariant
+write_path-requires-clause-stored c = has-all-depths c.self.inside c.self.invariant
 
 pub write_path-requires-clause-place : goal.write_path-requires-clause-place
 write_path-requires-clause-place c = (stands-so (λ (n : DdNode). n.exact) true c.self.inside c.self.invariant c.args.self.now c.self.view_is c.args.depth c.args.node c.requires.first c.requires.exact).within

@@ -8,7 +8,7 @@ use Rattle.layer_build.specs.contracts.workspace.Workspace.{the_view}
 use Rattle.layer_build.specs.Layers.{SpaceView, layer_at}
 use Rattle.layer_build.specs.Stacked.{nodes_in}
 use Rattle.layer_build.proofs.Going.{under}
-use Rattle.layer_build.proofs.Standing.{held-few}
+use Rattle.layer_build.proofs.Standing.{has-all-depths}
 use Rattle.layer_build.proofs.Ended.{is-within, suffixes-seen, arcs-seen, ended-space, ended-under-way, all-ended}
 use Rattle.layer_build.proofs.workspace.Workspace.set_suffixes.Goals as goal
 
@@ -16,7 +16,7 @@ pub end_layer-requires-clause-last : goal.end_layer-requires-clause-last
 end_layer-requires-clause-last c = (is-within c.self.inside c.self.invariant c.args.self.now c.self.view_is c.args.depth c.requires.first c.requires.last).low
 
 pub end_layer-requires-clause-stored : goal.end_layer-requires-clause-stored
-end_layer-requires-clause-stored c = held-few c.self.inside c.self.invariant
+end_layer-requires-clause-stored c = has-all-depths c.self.inside c.self.invariant
 
 pub end_layer-requires-clause-arcs : goal.end_layer-requires-clause-arcs
 end_layer-requires-clause-arcs c = λ less.

@@ -7,7 +7,7 @@ use Rattle.layer_build.specs.Finding.{IsFoundAs}
 use Rattle.layer_build.specs.Layers.{last_depth}
 use Rattle.layer_build.specs.Stacked.{nodes_in}
 use Rattle.layer_build.proofs.Going.{deep}
-use Rattle.layer_build.proofs.Standing.{held-few, not-found, found-at, IsFirstAt, written-size, written-front, taken-back, cells-held}
+use Rattle.layer_build.proofs.Standing.{has-all-depths, not-found, found-at, IsFirstAt, written-size, written-front, taken-back, cells-held}
 use Rattle.layer_build.proofs.Walked.{path_of, no_node, read-is}
 use Rattle.layer_build.proofs.workspace.Workspace.write_first_exact.Goals as goal
 
@@ -22,7 +22,7 @@ pub returns-in_err-node-clause-cells : goal.returns-in_err-node-clause-cells
 returns-in_err-node-clause-cells c = cells-held c.self.inside c.self.invariant c.args.self.now c.self.view_is
 
 pub write_front-requires-clause-stored : goal.write_front-requires-clause-stored
-write_front-requires-clause-stored c = held-few c.self.inside c.self.invariant
+write_front-requires-clause-stored c = has-all-depths c.self.inside c.self.invariant
 
 pub write_front-requires-clause-whole : goal.write_front-requires-clause-whole
 write_front-requires-clause-whole c =

@@ -1,8 +1,9 @@
-use Rattle.std.proofs.Common.{rules, ◌≡◌, ◌++◌, ◌∷◌, [], ℕ, List, length, refl, sym, ap, subst, ◌∙◌}
+use Rattle.std.proofs.Common.{rules, ◌≡◌, ◌++◌, ◌∷◌, [], List, length, sym, ap, subst, ◌∙◌}
 use Rattle.dp_model.specs.Gaps.{IsStateOf}
 use Rattle.dp_model.specs.Laws.{IsLawful}
-use Rattle.layer_candidates.specs.Beaming.{AreEnoughMembers}
+use Rattle.layer_candidates.specs.Beaming.{HasBeamRows}
 use Rattle.layer_candidates.specs.HeldRows.{HasExchanged}
+use Rattle.layer_candidates.specs.Members.{member_rows}
 use Rattle.layer_candidates.specs.declared.beam.Beam.{Beam}
 use Rattle.layer_candidates.specs.declared.member.Member.{Member}
 use Rattle.row_region.proofs.Callers.{put_row}
@@ -23,7 +24,7 @@ pub put_row-place-requires-clause-cells : goal.put_row-place-requires-clause-cel
 put_row-place-requires-clause-cells g c =
     let dp = g.M.DpModel.meaning (g.M.DpModel.numbers c.args.model.now) in
     let a = c.args in
-    prefix-cells dp (laws_of g a.model.now) a.prefix.now a.row.now a.self.now.words a.region.now.words c.requires.prefix c.requires.row c.requires.words c.requires.region_words
+    prefix-cells dp (laws_of g a.model.now) a.prefix.now a.row.now a.region.now.words c.requires.prefix c.requires.row c.requires.region_words
 
 pub returns-clause-built : goal.returns-clause-built
 returns-clause-built g c = λ w t h enough.
@@ -33,13 +34,13 @@ returns-clause-built g c = λ w t h enough.
     let put = c.put_row-place.ensures in
     let region = c.put_row-place.new.region in
     let place = c.put_row-place.result in
-    let long = prefix-cells dp laws a.prefix.now a.row.now a.self.now.words a.region.now.words c.requires.prefix c.requires.row c.requires.words c.requires.region_words in
+    let long = prefix-cells dp laws a.prefix.now a.row.now a.region.now.words c.requires.prefix c.requires.row c.requires.region_words in
     let member : c.first_member.result ≡ record { value = a.value; rank = c.rank-rank.result; row = place; step = 0 } = search rules in
-    let members : c.push_reserved-2.new.self.items ≡ c.first_member.result ∷ [] = c.push_reserved-2.ensures.items ∙ ap (λ (l : List Member). l ++ c.first_member.result ∷ []) c.clear-3.ensures.items in
-    let new : Beam = record a.self.now { members = c.push_reserved-2.new.self; held = c.push_reserved.new.self; steps = c.clear.new.self } in
+    let members : c.push_reserved.new.self.items ≡ c.first_member.result ∷ [] = c.push_reserved.ensures.items ∙ ap (λ (l : List Member). l ++ c.first_member.result ∷ []) c.clear-2.ensures.items in
+    let new : Beam = record a.self.now { members = c.push_reserved.new.self; steps = c.clear.new.self } in
     built-start dp laws a.prefix.now w t new region place a.row.now a.value c.rank-rank.result c.requires.prefix c.requires.shorter
-    (layers-same dp w a.self.now new h refl refl (λ n m. m) (search rules) (search rules) (search rules))
-    (subst (AreEnoughMembers dp w) put.spare enough)
+    (layers-same dp w a.self.now new h (λ n m k. k) (search rules) (search rules))
+    (subst (HasBeamRows dp w) put.spare enough)
     (record {
       region_words = put.words ∙ c.requires.region_words;
       found = (put_row a.region.now region place a.row.now put long).found;
@@ -47,7 +48,6 @@ returns-clause-built g c = λ w t h enough.
       value_is = c.requires.value;
       rank_is = c.rank-rank.ensures;
       members = members ∙ ap (λ (m : Member). m ∷ []) member;
-      held = c.push_reserved.ensures.items ∙ ap (λ (l : List ℕ). l ++ place ∷ []) c.clear-2.ensures.items;
       steps = c.clear.ensures.items;
     })
 
@@ -57,6 +57,8 @@ returns-clause-exchanged g c =
     let a = c.args in
     let region = c.put_row-place.new.region in
     let place = c.put_row-place.result in
-    let long = prefix-cells dp (laws_of g a.model.now) a.prefix.now a.row.now a.self.now.words a.region.now.words c.requires.prefix c.requires.row c.requires.words c.requires.region_words in
-    subst (HasExchanged a.region.now [] region) (sym (c.push_reserved.ensures.items ∙ ap (λ (l : List ℕ). l ++ place ∷ []) c.clear-2.ensures.items))
-    (exchange-put a.region.now region [] place a.row.now (record { live = tt; apart = tt }) long c.put_row-place.ensures)
+    let long = prefix-cells dp (laws_of g a.model.now) a.prefix.now a.row.now a.region.now.words c.requires.prefix c.requires.row c.requires.region_words in
+    let member : c.first_member.result ≡ record { value = a.value; rank = c.rank-rank.result; row = place; step = 0 } = search rules in
+    let members : c.push_reserved.new.self.items ≡ c.first_member.result ∷ [] = c.push_reserved.ensures.items ∙ ap (λ (l : List Member). l ++ c.first_member.result ∷ []) c.clear-2.ensures.items in
+    subst (HasExchanged a.region.now [] region) (sym (ap member_rows members ∙ ap (λ (m : Member). m.row ∷ []) member))
+    (exchange-put a.region.now region place a.row.now c.put_row-place.ensures long [] (record { live = tt; apart = tt }))

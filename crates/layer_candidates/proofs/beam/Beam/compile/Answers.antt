@@ -1,6 +1,7 @@
 use Rattle.std.proofs.Common.{◌≡◌, ◌+◌, ◌-◌, ◌<◌, ◌≤◌, ◌^◌, ℕ, Bool, ◌||◌, ◌&&◌, length, vec_capacity, sym, ap, subst, ◌∙◌, arith}
 use Rattle.dp_model.specs.Laws.{IsLawful}
 use Rattle.layer_candidates.specs.Beaming.{IsBuilt, IsNext, most_at, is_between}
+use Rattle.layer_candidates.specs.Members.{member_rows}
 use Rattle.layer_candidates.proofs.Built.{may-descend, built-next, depth}
 use Rattle.layer_candidates.proofs.HeldRows.{exchange-self, exchange-then}
 use Rattle.layer_candidates.proofs.beam.Beam.compile.Given as given
@@ -21,11 +22,11 @@ descend-more-requires-clause-memory g c κs within =
     let low : c.layers.k < dp.vars = (let e = c.vars-vars.ensures in let t = c.layers-test.true in omega arith) in
     (may-descend dp (laws_of g c.args.model.now) c.args.prefix.now c.args.width c.args.threshold c.layers.k c.layers.self c.layers.region c.layers.reduced c.layers.invariant.built c.requires.prefix low).memory
 
-pub descend-more-requires-clause-rows_room : goal.descend-more-requires-clause-rows_room
-descend-more-requires-clause-rows_room g c κs within =
+pub descend-more-requires-clause-spare : goal.descend-more-requires-clause-spare
+descend-more-requires-clause-spare g c κs within =
     let dp = g.M.DpModel.meaning (g.M.DpModel.numbers c.args.model.now) in
     let low : c.layers.k < dp.vars = (let e = c.vars-vars.ensures in let t = c.layers-test.true in omega arith) in
-    (may-descend dp (laws_of g c.args.model.now) c.args.prefix.now c.args.width c.args.threshold c.layers.k c.layers.self c.layers.region c.layers.reduced c.layers.invariant.built c.requires.prefix low).rows_room
+    (may-descend dp (laws_of g c.args.model.now) c.args.prefix.now c.args.width c.args.threshold c.layers.k c.layers.self c.layers.region c.layers.reduced c.layers.invariant.built c.requires.prefix low).spare
 
 pub descend-more-requires-clause-members_room : goal.descend-more-requires-clause-members_room
 descend-more-requires-clause-members_room g c κs within =
@@ -33,20 +34,6 @@ descend-more-requires-clause-members_room g c κs within =
     let low : c.layers.k < dp.vars = (let e = c.vars-vars.ensures in let t = c.layers-test.true in omega arith) in
     let most : c.most_at-most.result ≡ most_at dp (length c.args.prefix.now + (c.layers.k - length c.args.prefix.now)) (length c.args.prefix.now) c.args.width = c.most_at-most.ensures ∙ ap (λ (j : ℕ). most_at dp j (length c.args.prefix.now) c.args.width) (depth (length c.args.prefix.now) c.layers.k c.layers.invariant.built.deep) in
     subst (λ (n : ℕ). n ≤ vec_capacity c.layers.self.members) (sym most) (may-descend dp (laws_of g c.args.model.now) c.args.prefix.now c.args.width c.args.threshold c.layers.k c.layers.self c.layers.region c.layers.reduced c.layers.invariant.built c.requires.prefix low).members_room
-
-pub descend-more-requires-clause-held_room : goal.descend-more-requires-clause-held_room
-descend-more-requires-clause-held_room g c κs within =
-    let dp = g.M.DpModel.meaning (g.M.DpModel.numbers c.args.model.now) in
-    let low : c.layers.k < dp.vars = (let e = c.vars-vars.ensures in let t = c.layers-test.true in omega arith) in
-    let most : c.most_at-most.result ≡ most_at dp (length c.args.prefix.now + (c.layers.k - length c.args.prefix.now)) (length c.args.prefix.now) c.args.width = c.most_at-most.ensures ∙ ap (λ (j : ℕ). most_at dp j (length c.args.prefix.now) c.args.width) (depth (length c.args.prefix.now) c.layers.k c.layers.invariant.built.deep) in
-    subst (λ (n : ℕ). n ≤ vec_capacity c.layers.self.held) (sym most) (may-descend dp (laws_of g c.args.model.now) c.args.prefix.now c.args.width c.args.threshold c.layers.k c.layers.self c.layers.region c.layers.reduced c.layers.invariant.built c.requires.prefix low).held_room
-
-pub descend-more-requires-clause-region_room : goal.descend-more-requires-clause-region_room
-descend-more-requires-clause-region_room g c κs within =
-    let dp = g.M.DpModel.meaning (g.M.DpModel.numbers c.args.model.now) in
-    let low : c.layers.k < dp.vars = (let e = c.vars-vars.ensures in let t = c.layers-test.true in omega arith) in
-    let most : c.most_at-most.result ≡ most_at dp (length c.args.prefix.now + (c.layers.k - length c.args.prefix.now)) (length c.args.prefix.now) c.args.width = c.most_at-most.ensures ∙ ap (λ (j : ℕ). most_at dp j (length c.args.prefix.now) c.args.width) (depth (length c.args.prefix.now) c.layers.k c.layers.invariant.built.deep) in
-    subst (λ (n : ℕ). n ≤ c.layers.region.spare + length c.layers.self.held.items) (sym most) (may-descend dp (laws_of g c.args.model.now) c.args.prefix.now c.args.width c.args.threshold c.layers.k c.layers.self c.layers.region c.layers.reduced c.layers.invariant.built c.requires.prefix low).region_room
 
 pub descend-more-requires-clause-steps_room : goal.descend-more-requires-clause-steps_room
 descend-more-requires-clause-steps_room g c κs within =
@@ -75,11 +62,11 @@ layers-preserved g c =
     c.or_both-reduced.ensures ∙ ap (λ (b : Bool). l.reduced || (c.descend-more.result && b)) (c.is_between.ensures ∙ ap (is_between l.k (length a.prefix.now)) c.vars-vars.ensures) in
     record {
       built = subst (IsBuilt dp a.prefix.now a.width a.threshold (l.k + 1) c.descend-more.new.self c.descend-more.new.region) (sym flag) next;
-      exchanged = exchange-then a.region.now l.region c.descend-more.new.region a.self.now.held.items l.self.held.items c.descend-more.new.self.held.items l.invariant.exchanged c.descend-more.ensures.exchanged;
+      exchanged = exchange-then a.region.now l.region c.descend-more.new.region (member_rows a.self.now.members.items) (member_rows l.self.members.items) (member_rows c.descend-more.new.self.members.items) l.invariant.exchanged c.descend-more.ensures.exchanged;
     }
 
 pub layers-init : goal.layers-init
-layers-init g c = record { built = c.requires.start; exchanged = exchange-self c.args.region.now c.args.self.now.held.items c.requires.start.live }
+layers-init g c = record { built = c.requires.start; exchanged = exchange-self c.args.region.now (member_rows c.args.self.now.members.items) c.requires.start.live }
 
 pub returns-clause-built : goal.returns-clause-built
 returns-clause-built g c =

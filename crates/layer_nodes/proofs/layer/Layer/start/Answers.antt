@@ -1,18 +1,21 @@
-use Rattle.std.proofs.Common.{rules, None, true, ◌≡◌, length, ap, ◌∙◌, arith}
-use Rattle.std.proofs.lemmas.List.{with_items_is}
-use Rattle.layer_candidates.specs.Rows.{row_at}
-use Rattle.layer_candidates.proofs.Blocks.{here-with}
-use Rattle.layer_nodes.specs.declared.node.Node.{Node}
-use Rattle.layer_nodes.proofs.Stored.{start-is, row-fits}
+use Rattle.std.proofs.Common.{[], ◌∷◌, ◌++◌, map, true, None, w64, sym, ap, ap₂, ◌∙◌}
+use Rattle.std.proofs.lemmas.Int.{to_z-of_z}
+use Rattle.layer_candidates.specs.HeldRows.{held_row}
+use Rattle.layer_nodes.specs.Stored.{node_view_by}
+use Rattle.layer_nodes.proofs.Holding.{started-views}
 use Rattle.layer_nodes.proofs.layer.Layer.start.Goals as goal
 
 pub returns-clause-node : goal.returns-clause-node
 returns-clause-node c =
-    let s = c.self.inside in
-    let words : length c.args.row.now ≡ s.words = search rules in
-    let size : length c.write_row.new.rows ≡ s.rows.len = search rules in
-    let cells = c.as_mut_slice.result.now in
-    let room = row-fits s.room s.words 0 (length cells) (omega arith) (search rules) in
-    let is : row_at c.write_row.new.rows s.words 0 ≡ c.args.row.now = ap (λ r. row_at r s.words 0) c.write_row.ensures.rows ∙ here-with cells c.args.row.now s.words 0 room words in
-    let node : Node = record { value = c.args.value; rank = c.args.rank; suffix = None; parent = None; row = 0; decision = 0; first_arc = 0; arcs = 0; exact = true } in
-    start-is s.words _ c.args.row.now c.clear.new.self.items c.push_reserved.new.self.items node (search rules) (search rules) (ap (λ r. row_at r s.words 0) (with_items_is s.rows c.write_row.new.rows size) ∙ is)
+    let a = c.args in
+    let region = c.put_row-place.new.region in
+    let place = c.put_row-place.result in
+    let put = c.put_row-place.ensures in
+    record {
+      place = place;
+      nodes_are = ap₂ (λ h r. map (node_view_by (held_row h) r) c.push_reserved.new.self.items) c.of.ensures c.clear.ensures.items
+          ∙ (ap (map (node_view_by (held_row region) [])) (c.push_reserved.ensures.items ∙ (ap (λ l. l ++ c.first_node.result ∷ []) c.clear-2.ensures.items ∙ ap (λ n. n ∷ []) c.first_node.ensures))
+          ∙ (started-views a.region.now region place a.row.now _ _ put (c.requires.cells ∙ sym c.requires.words)
+          ∙ ap₂ (λ v r. record { row = a.row.now; place = place; value = v; rank = r; exact = true; parent = None; decision = 0; arcs = []; suffix = None } ∷ []) (to_z-of_z w64 a.value c.ranges.value) (to_z-of_z w64 a.rank c.ranges.rank)));
+      put = put;
+    }
