@@ -1,5 +1,5 @@
 -- What the code reads of a row that is a state.
-use Rattle.std.proofs.Common.{zero, suc, cond, min, Option, ◌≡◌, ℕ, ◌+◌, ◌-◌, ◌*◌, ◌<◌, ◌≤◌, ℤ, pos, nat_abs, Bool, true, false, not, ◌&&◌, ◌||◌, nat_eq, nat_le, List, length, Some, ◌≢◌, refl, sym, ap, ap₂, ◌∙◌, arith, w64, to_z, of_z, FitsSigned, inl, inr, ◌⊎◌, eq-eqb}
+use Rattle.std.proofs.Common.{zero, suc, cond, min, Option, ◌≡◌, ℕ, ◌+◌, ◌-◌, ◌*◌, ◌<◌, ◌≤◌, ℤ, pos, nat_abs, Bool, true, false, not, ◌&&◌, ◌||◌, nat_eq, nat_le, List, length, Some, None, ◌≢◌, refl, sym, ap, ap₂, ◌∙◌, arith, w64, to_z, of_z, FitsSigned, inl, inr, ◌⊎◌, eq-eqb}
 use Rattle.std.specs.Prelude.{int_le, is_some, unwrap_or}
 use Rattle.std.proofs.lemmas.Int.{to_z-of_z}
 use Rattle.std.proofs.lemmas.Bool.{cases_eq, cases_lt, false≢true, or_cases, not-true, cases_Bool, ne_eqb, lt-leb}
@@ -112,6 +112,19 @@ no_and : (a b : Bool) → a ≡ false → (a && b) ≡ false
 no_and true b e = absurd (false≢true (sym e))
 no_and false b e = refl
 
+-- a row of the right length of which one set is none
+pub no_positions : (n : ℕ) (s p : List ℤ) → p ≡ positions_of (words_for n) s → is_set n p ≡ false → is_state_row n s ≡ false
+no_positions n s p e fails = and_no (nat_eq (length s) (3 * words_for n + 1)) _ (no_and (is_set n (positions_of (words_for n) s)) _ (rw e at fails))
+
+pub no_must : (n : ℕ) (s m : List ℤ) → m ≡ must_of (words_for n) s → is_set n m ≡ false → is_state_row n s ≡ false
+no_must n s m e fails =
+    and_no (nat_eq (length s) (3 * words_for n + 1)) _ (and_no (is_set n (positions_of (words_for n) s)) _ (no_and (is_set n (must_of (words_for n) s)) _ (rw e at fails)))
+
+pub no_may : (n : ℕ) (s y : List ℤ) → y ≡ may_of (words_for n) s → is_set n y ≡ false → is_state_row n s ≡ false
+no_may n s y e fails =
+    and_no (nat_eq (length s) (3 * words_for n + 1)) _ (and_no (is_set n (positions_of (words_for n) s)) _ (and_no (is_set n (must_of (words_for n) s)) _
+    (no_and (is_set n (may_of (words_for n) s)) _ (rw e at fails))))
+
 -- a row of the right length whose three sets are no state
 pub state_sound : (n : ℕ) (s p m y : List ℤ) (r : Bool) → p ≡ positions_of (words_for n) s → m ≡ must_of (words_for n) s → y ≡ may_of (words_for n) s → is_set n m ≡ true → (IsApart p m y → r ≡ true) → r ≡ false → is_state_row n s ≡ false
 state_sound n s p m y r e f g set from fails =
@@ -126,6 +139,10 @@ state_time n s p m y l e f g ps ms ys h =
 -- what is left of the test where the time is not below 0
 pub time_last : (n : ℕ) (s : List ℤ) (x z : ℤ) → x ≡ z → z ≡ time_of (words_for n) s → int_le (pos 0) x ≡ true → (int_le (pos 0) (time_of (words_for n) s) && int_le (time_of (words_for n) s) (pos 1000000000000)) ≡ is_state_row n s → int_le x (pos 1000000000000) ≡ is_state_row n s
 time_last n s x z e f t g =
+    ap (λ b. b && int_le x (pos 1000000000000)) (sym t) ∙ ap (λ x. int_le (pos 0) x && int_le x (pos 1000000000000)) (e ∙ f) ∙ g
+
+pub time_below : (n : ℕ) (s : List ℤ) (x z : ℤ) → x ≡ z → z ≡ time_of (words_for n) s → int_le (pos 0) x ≡ false → (int_le (pos 0) (time_of (words_for n) s) && int_le (time_of (words_for n) s) (pos 1000000000000)) ≡ is_state_row n s → false ≡ is_state_row n s
+time_below n s x z e f t g =
     ap (λ b. b && int_le x (pos 1000000000000)) (sym t) ∙ ap (λ x. int_le (pos 0) x && int_le x (pos 1000000000000)) (e ∙ f) ∙ g
 
 -- ---- decisions
@@ -156,6 +173,21 @@ return_no i t d h =
 pub return_some : (i : Instance) (t : TourState) (d way : ℕ) → d ≡ 0 → ((v : ℕ) → v < i.nodes → t.must v ≡ false) → leg i t d ≡ Some way → nat_le (t.time + way) (closing i d) ≡ may_return i t d
 return_some i t d way n e l =
     sym (ap₂ ◌&&◌ (eq-eqb d 0 n) (ap₂ ◌&&◌ (all_below-from i.nodes (λ v. not (t.must v)) (λ v l. ap not (e v l))) (ap (λ o. (is_some o || nat_eq i.nodes 1) && nat_le (t.time + unwrap_or o 0) (closing i d)) l)))
+
+-- another node than 0 is no return
+pub return_elsewhere : (i : Instance) (t : TourState) (d : ℕ) → d ≢ 0 → may_return i t d ≡ false
+return_elsewhere i t d n = no_and (nat_eq d 0) _ (ne_eqb d 0 n)
+
+-- a return from no position but the node itself
+pub return_alone : (i : Instance) (t : TourState) (d : ℕ) → d ≡ 0 → ((v : ℕ) → v < i.nodes → t.must v ≡ false) → leg i t d ≡ None → i.nodes ≡ 1 → nat_le t.time (closing i d) ≡ may_return i t d
+return_alone i t d n e l one =
+    let same : t.time ≡ t.time + 0 = omega arith in
+    ap (λ at. nat_le at (closing i d)) same
+    ∙ sym (ap₂ ◌&&◌ (eq-eqb d 0 n) (ap₂ ◌&&◌ (all_below-from i.nodes (λ v. not (t.must v)) (λ v l. ap not (e v l))) (ap₂ (λ o b. (is_some o || b) && nat_le (t.time + unwrap_or o 0) (closing i d)) l (eq-eqb i.nodes 1 one))))
+
+pub return_nowhere : (i : Instance) (t : TourState) (d : ℕ) → leg i t d ≡ None → i.nodes ≢ 1 → may_return i t d ≡ false
+return_nowhere i t d l more =
+    and_no (nat_eq d 0) _ (and_no (all_below i.nodes (λ v. not (t.must v))) _ (no_and (is_some (leg i t d) || nat_eq i.nodes 1) _ (ap₂ (λ o b. is_some o || b) l (ne_eqb i.nodes 1 more))))
 
 -- ---- parts as shown
 

@@ -1,6 +1,6 @@
-ghost use Rattle.std.specs.Prelude.{◌≡◌, ℕ, ◌+◌, ◌*◌, ◌^◌, ◌<◌, ◌≤◌, ◌≤ℤ◌, ◌↔◌, ◌||◌, pos, nat_le, if◌then◌else◌, true, false, Some, None, IsTrue, IsNone, IfSome, is_some, length};
+ghost use Rattle.std.specs.Prelude.{◌≡◌, ℕ, ◌+◌, ◌*◌, ◌^◌, ◌<◌, ◌≤◌, ◌≤ℤ◌, ◌↔◌, pos, nat_le, if◌then◌else◌, true, false, Some, None, IsTrue, IsNone, IfSome, is_some, length};
 ghost use Rattle.node_sets.specs.Sets as sets;
-ghost use Rattle.node_sets.specs.Sets.{AreWords, has};
+ghost use Rattle.node_sets.specs.Sets.{AreWords};
 ghost use Rattle.node_sets.specs.Sums.{count_below};
 ghost use Rattle.tsp_windows.specs.Instance.{closing};
 ghost use Rattle.tsp_windows.specs.States as states;
@@ -16,6 +16,13 @@ use node_sets::{
     clear, contains, count, is_disjoint, is_empty, is_set, is_subset, is_union_subset, join, least,
     next_of_either, union_with, words_for, write_one, write_others, write_split,
 };
+
+/// When the node of an allowed decision is reached, and how many nodes must be visited behind it.
+#[derive(Clone, Copy)]
+struct Reached {
+    arrival: u64,
+    left: i64,
+}
 
 /// Whether each way on from the one state is one from the other, and no later.
 fn covers(nodes: usize, a: &[i64], s: &[i64]) -> bool
@@ -50,17 +57,6 @@ fn is_sound(positions: &[i64], must: &[i64], may: &[i64]) -> bool
     ensures { IsTrue result ↔ IsApart positions.now must.now may.now }
 {
     !is_empty(positions) && is_disjoint(must, may) && !contains(must, 0) && !contains(may, 0)
-}
-
-/// Whether a node stands in one of two sets.
-fn is_listed(must: &[i64], may: &[i64], node: usize) -> bool
-    requires must_cells { AreWords must.now }
-    requires may_cells { AreWords may.now }
-    requires must_inside { node < 32 * length must.now }
-    requires may_inside { node < 32 * length may.now }
-    ensures { result ≡ (has must.now node || has may.now node) }
-{
-    contains(must, node) || contains(may, node)
 }
 
 /// Whether a row of the right length is a state.
@@ -148,26 +144,33 @@ impl TspWindows {
         }
     }
 
-    /// When a node other than 0 that must or may be visited is reached, or none where it is no such node or is not reached
-    /// in time. Node 0 never must or may be.
+    /// How a node other than 0 that must or may be visited is reached, or none where it is no such node or is not reached in
+    /// time. Node 0 never must or may be. So many nodes as the rank must be visited.
     #[inline(always)]
-    fn visited(&self, s: &[i64], to: usize) -> Option<u64>
+    fn visited(&self, s: &[i64], rank: i64, to: usize) -> Option<Reached>
         requires state { IsTrue (is_state_row self.now.nodes s.now) }
+        requires rank { rank ≡ pos (count_below self.now.nodes (shown (sets.words_for self.now.nodes) s.now).must) }
         requires inside { to < self.now.nodes }
         ensures allowed { is_some result ≡ states.may_visit (instance_in self.now) (shown (sets.words_for self.now.nodes) s.now) to }
-        ensures arrival { IfSome result (λ at. at ≡ states.arrival (instance_in self.now) (shown (sets.words_for self.now.nodes) s.now) to) }
-        ensures small { IfSome result (λ at. at < 2 ^ 62) }
+        ensures arrival { IfSome result (λ r. r.arrival ≡ states.arrival (instance_in self.now) (shown (sets.words_for self.now.nodes) s.now) to) }
+        ensures small { IfSome result (λ r. r.arrival < 2 ^ 62) }
+        ensures left { IfSome result (λ r. r.left ≡ pos (count_below self.now.nodes (states.moved (instance_in self.now) (shown (sets.words_for self.now.nodes) s.now) to).must)) }
     {
         let state = parts_of(self.nodes, s);
         if state.time >= self.too_late[to] {
             return None;
         }
-        let listed = is_listed(state.must, state.may, to);
+        let wanted = contains(state.must, to);
+        let listed = wanted || contains(state.may, to);
         if !listed {
             return None;
         }
         let way = self.leg(s, to)?;
-        self.in_time(to, state.time + u64::from(way))
+        let arrival = self.in_time(to, state.time + u64::from(way))?;
+        Some(Reached {
+            arrival,
+            left: rank - i64::from(wanted),
+        })
     }
 
     /// When node 0 is reached again, or none where it is another node, a node is left to be visited or it is not reached in
@@ -200,21 +203,24 @@ impl TspWindows {
         }
     }
 
-    /// When the node of a decision is reached, or none where the decision is not allowed.
+    /// How the node of a decision is reached, or none where the decision is not allowed. So many nodes as the rank must be
+    /// visited.
     #[inline(always)]
-    fn reached(&self, k: usize, s: &[i64], rank: i64, to: usize) -> Option<u64>
+    fn reached(&self, k: usize, s: &[i64], rank: i64, to: usize) -> Option<Reached>
         requires layer { k < self.now.nodes }
         requires state { IsTrue (is_state_row self.now.nodes s.now) }
         requires rank { rank ≡ pos (count_below self.now.nodes (shown (sets.words_for self.now.nodes) s.now).must) }
         requires inside { to < self.now.nodes }
         ensures allowed { is_some result ≡ states.may_go (instance_in self.now) k (shown (sets.words_for self.now.nodes) s.now) to }
-        ensures arrival { IfSome result (λ at. at ≡ states.arrival (instance_in self.now) (shown (sets.words_for self.now.nodes) s.now) to) }
-        ensures small { IfSome result (λ at. at < 2 ^ 62) }
+        ensures arrival { IfSome result (λ r. r.arrival ≡ states.arrival (instance_in self.now) (shown (sets.words_for self.now.nodes) s.now) to) }
+        ensures small { IfSome result (λ r. r.arrival < 2 ^ 62) }
+        ensures left { IfSome result (λ r. r.left ≡ pos (count_below self.now.nodes (states.moved (instance_in self.now) (shown (sets.words_for self.now.nodes) s.now) to).must)) }
     {
         if k + 1 < self.nodes {
-            return self.visited(s, to);
+            return self.visited(s, rank, to);
         }
-        self.returned(s, rank, to)
+        let arrival = self.returned(s, rank, to)?;
+        Some(Reached { arrival, left: 0 })
     }
 
     /// The first node from one on that must or may be visited, or the number of nodes where there is none.
@@ -256,20 +262,6 @@ impl TspWindows {
         ensures { result ≡ pos (count_below self.now.nodes (shown (sets.words_for self.now.nodes) s.now).must) }
     {
         count(parts_of(self.nodes, s).must) as i64
-    }
-
-    /// How many nodes must be visited behind a visit, by how many before it.
-    fn left_behind(&self, s: &[i64], rank: i64, to: usize) -> i64
-        requires state { IsTrue (is_state_row self.now.nodes s.now) }
-        requires rank { rank ≡ pos (count_below self.now.nodes (shown (sets.words_for self.now.nodes) s.now).must) }
-        requires inside { to < self.now.nodes }
-        ensures { result ≡ pos (count_below self.now.nodes (states.moved (instance_in self.now) (shown (sets.words_for self.now.nodes) s.now) to).must) }
-    {
-        if contains(parts_of(self.nodes, s).must, to) {
-            rank - 1
-        } else {
-            rank
-        }
     }
 
     /// The sum of the least ways to the nodes that must be visited and home, or none where the state is lost. So many nodes as
@@ -439,12 +431,14 @@ impl DpModel for TspWindows {
         out: &mut [i64],
     ) -> Option<Extended> {
         let to = d as usize;
-        let arrival = self.reached(k, s, rank, to)?;
-        let departure = arrival.max(self.windows[to].opening);
+        let reached = self.reached(k, s, rank, to)?;
+        let departure = reached.arrival.max(self.windows[to].opening);
         let gain = parts_of(self.nodes, s).time as i64 - departure as i64;
-        let rank = self.left_behind(s, rank, to);
         write_moved(out, self, s, to, departure);
-        Some(Extended { gain, rank })
+        Some(Extended {
+            gain,
+            rank: reached.left,
+        })
     }
 
     #[inline(always)]

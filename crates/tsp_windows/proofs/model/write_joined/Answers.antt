@@ -17,6 +17,39 @@ pub join-requires-clause-may_cells : goal.join-requires-clause-may_cells
 join-requires-clause-may_cells c =
     subst AreWords (sym (split_may (words_for c.args.nodes) _ c.args.acc.now _ _ _ c.few_words-words.ensures c.split_at_mut-positions.ensures.back c.split_at_mut-must.ensures.back c.split_at_mut-may.ensures.front)) (state_row-gives c.args.nodes c.args.acc.now c.requires.kept).may.cells
 
+pub split_at_mut-positions-requires : goal.split_at_mut-positions-requires
+split_at_mut-positions-requires c = omega (arith, c.few_words-words.ensures, (state_row-gives c.args.nodes c.args.acc.now c.requires.kept).cells)
+
+pub split_at_mut-must-requires : goal.split_at_mut-must-requires
+split_at_mut-must-requires c = omega (arith, c.split_at_mut-positions.ensures.back_len, c.few_words-words.ensures, (state_row-gives c.args.nodes c.args.acc.now c.requires.kept).cells)
+
+pub split_at_mut-may-requires : goal.split_at_mut-may-requires
+split_at_mut-may-requires c = omega (arith, c.split_at_mut-positions.ensures.back_len, c.split_at_mut-must.ensures.back_len, c.few_words-words.ensures, (state_row-gives c.args.nodes c.args.acc.now c.requires.kept).cells)
+
+pub union_with-requires-clause-other_cells : goal.union_with-requires-clause-other_cells
+union_with-requires-clause-other_cells c = c.parts_of-state.ensures.positions_set.cells
+
+pub union_with-requires-clause-same : goal.union_with-requires-clause-same
+union_with-requires-clause-same c = c.split_at_mut-positions.ensures.front_len ∙ (c.few_words-words.ensures ∙ sym c.parts_of-state.ensures.positions_set.words)
+
+pub join-requires-clause-other_must_cells : goal.join-requires-clause-other_must_cells
+join-requires-clause-other_must_cells c = c.parts_of-state.ensures.must_set.cells
+
+pub join-requires-clause-other_may_cells : goal.join-requires-clause-other_may_cells
+join-requires-clause-other_may_cells c = c.parts_of-state.ensures.may_set.cells
+
+pub join-requires-clause-may_same : goal.join-requires-clause-may_same
+join-requires-clause-may_same c = c.split_at_mut-must.ensures.front_len ∙ sym c.split_at_mut-may.ensures.front_len
+
+pub join-requires-clause-other_must_same : goal.join-requires-clause-other_must_same
+join-requires-clause-other_must_same c = c.split_at_mut-must.ensures.front_len ∙ (c.few_words-words.ensures ∙ sym c.parts_of-state.ensures.must_set.words)
+
+pub join-requires-clause-other_may_same : goal.join-requires-clause-other_may_same
+join-requires-clause-other_may_same c = c.split_at_mut-must.ensures.front_len ∙ (c.few_words-words.ensures ∙ sym c.parts_of-state.ensures.may_set.words)
+
+pub bounds-time-0 : goal.bounds-time-0
+bounds-time-0 c = omega (arith, c.split_at_mut-positions.ensures.back_len, c.split_at_mut-must.ensures.back_len, c.split_at_mut-may.ensures.back_len, c.few_words-words.ensures, (state_row-gives c.args.nodes c.args.acc.now c.requires.kept).cells)
+
 pub returns : goal.returns
 unfolding joined shown
 returns c =

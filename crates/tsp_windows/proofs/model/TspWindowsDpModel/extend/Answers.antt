@@ -20,11 +20,11 @@ returns-clause-extended c =
     let behind : TourState = moved i state c.args.d in
     let inside : c.args.d < m.nodes = subst (λ (j : Instance). c.args.d < j.nodes) m.spelled c.requires.decision in
     let leaves : c.max-departure.result ≡ departure i state c.args.d =
-    c.max-departure.ensures ∙ ap₂ max c.in_ok-arrival.ensures.arrival (ap (λ (w : Window). w.opening) (get_or_read m.windows.items c.args.d _ (omega (arith, m.each_window, inside)) c.index.ensures no_window)) in
+    c.max-departure.ensures ∙ ap₂ max c.in_ok-reached.ensures.arrival (ap (λ (w : Window). w.opening) (get_or_read m.windows.items c.args.d _ (omega (arith, m.each_window, inside)) c.index.ensures no_window)) in
     let bounded = moved-bounded i state c.args.d inside (state_row-gives m.nodes c.args.s.now (subst (λ (j : Instance). IsTrue (is_state_row j.nodes c.args.s.now)) m.spelled c.requires.state)).bounded in
     let shows : shown (words_for m.nodes) (row_for (words_for m.nodes) behind) ≡ behind = shown-row_for (words_for m.nodes) m.nodes behind (words_enough m.nodes) bounded in (
       subst (λ (j : Instance). to_z w64 (of_z w64 (to_z w64 c.parts_of.result.time -ℤ to_z w64 c.max-departure.result)) ≡ pos (shown (words_for j.nodes) c.args.s.now).time -ℤ pos (departure j (shown (words_for j.nodes) c.args.s.now) c.args.d)) (sym m.spelled)
           (gain_is state.time (departure i state c.args.d) c.parts_of.ensures.time c.parts_of.ensures.early leaves (search rules)),
-      subst (λ (j : Instance). to_z w64 (of_z w64 c.left_behind-rank.result) ≡ pos (count_below j.nodes (shown (words_for j.nodes) (row_for (words_for j.nodes) (moved j (shown (words_for j.nodes) c.args.s.now) c.args.d))).must)) (sym m.spelled)
-          (read_count c.left_behind-rank.result m.nodes behind.must c.left_behind-rank.ensures m.few ∙ ap (λ (t : TourState). pos (count_below m.nodes t.must)) (sym shows)),
+      subst (λ (j : Instance). to_z w64 (of_z w64 c.in_ok-reached.reached.left) ≡ pos (count_below j.nodes (shown (words_for j.nodes) (row_for (words_for j.nodes) (moved j (shown (words_for j.nodes) c.args.s.now) c.args.d))).must)) (sym m.spelled)
+          (read_count c.in_ok-reached.reached.left m.nodes behind.must c.in_ok-reached.ensures.left m.few ∙ ap (λ (t : TourState). pos (count_below m.nodes t.must)) (sym shows)),
     )
