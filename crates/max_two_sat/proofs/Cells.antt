@@ -1,5 +1,5 @@
 -- One entry of a row, and the rows from an entry on.
-use Rattle.std.proofs.Common.{◌≡◌, ℕ, zero, suc, ◌+◌, ◌^◌, ◌<◌, ◌≤◌, ℤ, pos, ◌+ℤ◌, ◌-ℤ◌, ◌≤ℤ◌, List, ◌∷◌, length, drop, get_or, refl, arith, ap, ◌∙◌, to_z, of_z, w64}
+use Rattle.std.proofs.Common.{◌≡◌, ℕ, zero, suc, ◌+◌, ◌^◌, ◌<◌, ◌≤◌, ℤ, pos, ◌+ℤ◌, ◌-ℤ◌, ◌≤ℤ◌, List, ◌∷◌, length, drop, get_or, refl, arith, ap, ◌∙◌, FitsSigned, to_z, of_z, w64}
 use Rattle.std.specs.Prelude.{IsTrue}
 use Rattle.std.specs.Int.{int_min}
 use Rattle.std.proofs.lemmas.Int.{ints, clamps}
@@ -93,6 +93,28 @@ pub lesser-done : (us : List UnitWeights) (i : ℕ) (total : ℤ) → length us 
 lesser-done us i total h before =
     sum-done (lesser_units us) (lesser_units (drop i us)) total (ap lesser_units (drop_all i us h)) before
 
+-- the two parts of a benefit are no greater than its size
+above-small : (t : ℤ) → size_of t ≤ℤ pos (2 ^ 48) → (pos 0 ≤ℤ above_zero t) × (above_zero t ≤ℤ pos (2 ^ 48))
+above-small t size = (omega (arith, ints, clamps), omega (arith, ints, clamps))
+
+below-small : (t : ℤ) → size_of t ≤ℤ pos (2 ^ 48) → (pos 0 ≤ℤ below_zero t) × (below_zero t ≤ℤ pos (2 ^ 48))
+below-small t size = (omega (arith, ints, clamps), omega (arith, ints, clamps))
+
+-- two weights together fit a word
+sum-fits : (a b : ℤ) → pos 0 ≤ℤ a → a ≤ℤ pos (2 ^ 48) → pos 0 ≤ℤ b → b ≤ℤ pos (2 ^ 48) → FitsSigned w64 (a +ℤ b)
+sum-fits a b a_low a_high b_low b_high = omega (arith, ints)
+
+-- the sum on the true side of a later variable fits a word
+pub true-fits : (p : PairWeights) (t : ℤ) (d : ℕ) (above on_true : ℤ) → PairIsPositive p → pair_total p ≤ℤ pos (2 ^ 48) → size_of t ≤ℤ pos (2 ^ 48) →
+    above ≡ above_zero (to_z w64 (of_z w64 t)) → on_true ≡ open_true p d → FitsSigned w64 (to_z w64 (of_z w64 above) +ℤ to_z w64 (of_z w64 on_true))
+true-fits p t d above on_true here weight size above_is true_is =
+    let split = parts p d here in
+    let read : to_z w64 (of_z w64 t) ≡ t = read_by_size t (omega (arith, ints)) in
+    let above_there : above ≡ above_zero t = rw read at above_is in
+    let small = above-small t size in
+    let if_true : to_z w64 (of_z w64 above) +ℤ to_z w64 (of_z w64 on_true) ≡ above_zero t +ℤ open_true p d = omega (arith, ints) in
+    rw if_true (sum-fits (above_zero t) (open_true p d) small.0 small.1 split.true_low (omega (arith, ints)))
+
 -- the two sides of a later variable are read as they are
 pub record SidesAre (p : PairWeights) (t : ℤ) (d : ℕ) (if_true if_false : ℤ) : Type 0 where
   pub on_true : if_true ≡ above_zero t +ℤ open_true p d
@@ -109,10 +131,8 @@ sides-are p t d above below on_true on_false here weight size above_is below_is 
     let read : to_z w64 (of_z w64 t) ≡ t = read_by_size t (omega (arith, ints)) in
     let above_there : above ≡ above_zero t = rw read at above_is in
     let below_there : below ≡ below_zero t = rw read at below_is in
-    let above_low : pos 0 ≤ℤ above_zero t = omega (arith, ints, clamps) in
-    let above_high : above_zero t ≤ℤ pos (2 ^ 48) = omega (arith, ints, clamps) in
-    let below_low : pos 0 ≤ℤ below_zero t = omega (arith, ints, clamps) in
-    let below_high : below_zero t ≤ℤ pos (2 ^ 48) = omega (arith, ints, clamps) in
+    let above_range = above-small t size in
+    let below_range = below-small t size in
     let if_true : to_z w64 (of_z w64 above) +ℤ to_z w64 (of_z w64 on_true) ≡ above_zero t +ℤ open_true p d = omega (arith, ints) in
     let if_false : to_z w64 (of_z w64 below) +ℤ to_z w64 (of_z w64 on_false) ≡ below_zero t +ℤ open_false p d = omega (arith, ints) in
     record {

@@ -109,6 +109,9 @@ always-allowed i k s d layer choice = record { layer = layer; choice = choice; t
 pub units-most : (i : Instance) → IsWithinLimits i → units_total i.units ≤ℤ pos (2 ^ 48)
 units-most i kept = omega (arith, ints, kept.total, kept.tautologies, pairs_total-positive i.pairs kept.pairs)
 
+pub pairs-most : (i : Instance) → IsWithinLimits i → pairs_total i.pairs ≤ℤ pos (2 ^ 48)
+pairs-most i kept = omega (arith, ints, kept.total, kept.tautologies, units_total-positive i.units kept.units)
+
 -- the weight of the pairs from a layer on, as it stands in memory
 pub later-read : (i : Instance) (later : List ℤ) (k : ℕ) (d : ℤ) → later ≡ later_totals (rows_of (length i.units) i.pairs) → k ≤ length i.units →
     get_or later k d ≡ rows_total (drop k (rows_of (length i.units) i.pairs))

@@ -166,6 +166,9 @@ shifts-more ps d i items cell h is before =
     let cut : shifts_of d (drop i ps) ≡ shift_of d (get_or ps i no_pair) ∷ shifts_of d (drop (i + 1) ps) = ap (shifts_of d) (drop_more ps i no_pair h) in
     append_assoc items (cell ∷ []) (shifts_of d (drop (i + 1) ps)) ∙ rw is (rw cut at before)
 
+pub shifts-done : (ps : List PairWeights) (d i : ℕ) (items : List ℤ) → length ps ≤ i → items ++ shifts_of d (drop i ps) ≡ shifts_of d ps → items ≡ shifts_of d ps
+shifts-done ps d i items h before = let none : drop i ps ≡ [] = drop_all i ps h in sym (append-nil items) ∙ rw none at before
+
 -- one more stake of a row
 pub stakes-grow : (ps : List PairWeights) (d i : ℕ) (total cell : ℤ) → i < length ps → IsTrue (pairs_are_positive ps) → pairs_total ps ≤ℤ pos (2 ^ 48)
     → cell ≡ stake_of d (get_or ps i no_pair) → (total +ℤ stakes_of d (drop i ps) ≡ stakes_of d ps) × (pos 0 ≤ℤ total) → SumGrows (stakes_of d ps) (stakes_of d (drop (i + 1) ps)) total cell

@@ -1,5 +1,5 @@
 -- Passes over a list of truth values.
-use Rattle.std.proofs.Common.{◌≡◌, ℕ, zero, suc, ◌+◌, ◌^◌, ◌<◌, ◌≤◌, ℤ, pos, ◌+ℤ◌, ◌-ℤ◌, ◌≤ℤ◌, Bool, true, false, List, [], ◌∷◌, length, drop, get_or, refl, arith, ap, subst, sym, ◌∙◌, to_z, of_z, w64}
+use Rattle.std.proofs.Common.{◌≡◌, ℕ, zero, suc, ◌+◌, ◌^◌, ◌<◌, ◌≤◌, ℤ, pos, ◌+ℤ◌, ◌-ℤ◌, ◌≤ℤ◌, Bool, true, false, List, [], ◌∷◌, length, drop, get_or, refl, arith, ap, subst, sym, ◌∙◌, FitsSigned, to_z, of_z, w64}
 use Rattle.std.specs.Prelude.{IsTrue, ◌&&◌, ◌==◌, nat_lt, Some, None, if◌then◌else◌}
 use Rattle.std.proofs.lemmas.Bool.{eqb-true, and_parts}
 use Rattle.std.proofs.lemmas.Bool.Decides.{nat_tests}
@@ -197,16 +197,27 @@ value-none i xs answer kept is no_assignment =
     let test : ((length xs == length i.units) && all_truth_values xs) ≡ false = sym is ∙ no_assignment in
     subst (λ (b : Bool). SolutionGives (program_of i) xs (if b then Some (weight_of i xs) else None)) test (own_value-agrees i xs kept)
 
+pub own-none : (i : Instance) (xs : List ℕ) (answer : Bool) → answer ≡ ((length xs == length i.units) && all_truth_values xs) → answer ≡ false → None ≡ own_value i xs
+own-none i xs answer is no_assignment =
+    let test : ((length xs == length i.units) && all_truth_values xs) ≡ false = sym is ∙ no_assignment in
+    subst (λ (b : Bool). None ≡ (if b then Some (weight_of i xs) else None)) (sym test) refl
+
+-- an assignment has a value for each variable
+pub assigned : (i : Instance) (xs : List ℕ) (answer : Bool) → answer ≡ ((length xs == length i.units) && all_truth_values xs) → answer ≡ true → length xs ≡ length i.units
+assigned i xs answer is yes_assignment = eqb-true (length xs) (length i.units) (and_parts _ _ (sym is ∙ yes_assignment)).0
+
 pub record ValueIs (i : Instance) (xs : List ℕ) (units_part pairs_part : ℤ) : Type 0 where
   pub value : Some (i.tautologies +ℤ (units_part +ℤ pairs_part)) ≡ own_value i xs
   pub solution : IsSolutionWith (program_of i) xs (i.tautologies +ℤ (units_part +ℤ pairs_part))
+  pub parts_fit : FitsSigned w64 (to_z w64 (of_z w64 units_part) +ℤ to_z w64 (of_z w64 pairs_part))
+  pub sum_fits : FitsSigned w64 (to_z w64 (of_z w64 i.tautologies) +ℤ to_z w64 (of_z w64 (to_z w64 (of_z w64 units_part) +ℤ to_z w64 (of_z w64 pairs_part))))
   pub read : to_z w64 (of_z w64 (to_z w64 (of_z w64 i.tautologies) +ℤ to_z w64 (of_z w64 (to_z w64 (of_z w64 units_part) +ℤ to_z w64 (of_z w64 pairs_part))))) ≡ i.tautologies +ℤ (units_part +ℤ pairs_part)
 
 pub value-is : (i : Instance) (xs : List ℕ) (answer : Bool) (units_part pairs_part : ℤ) → IsWithinLimits i → answer ≡ ((length xs == length i.units) && all_truth_values xs) → answer ≡ true →
     units_part ≡ units_value i.units xs → pairs_part ≡ rows_value (rows_of (length xs) i.pairs) xs → ValueIs i xs units_part pairs_part
 value-is i xs answer units_part pairs_part kept is yes_assignment units_is pairs_is =
     let test : ((length xs == length i.units) && all_truth_values xs) ≡ true = sym is ∙ yes_assignment in
-    let whole : length xs ≡ length i.units = eqb-true (length xs) (length i.units) (and_parts _ _ test).0 in
+    let whole : length xs ≡ length i.units = assigned i xs answer is yes_assignment in
     let pairs : pairs_part ≡ rows_value (rows_of (length i.units) i.pairs) xs = pairs_is ∙ ap (λ n. rows_value (rows_of n i.pairs) xs) whole in
     let sum : i.tautologies +ℤ (units_part +ℤ pairs_part) ≡ weight_of i xs = omega (arith, ints) in
     let agrees : IsSolutionWith (program_of i) xs (weight_of i xs) =
@@ -217,5 +228,7 @@ value-is i xs answer units_part pairs_part kept is yes_assignment units_is pairs
     record {
       value = subst (λ (b : Bool). Some (i.tautologies +ℤ (units_part +ℤ pairs_part)) ≡ (if b then Some (weight_of i xs) else None)) (sym test) (ap (λ v. Some v) sum);
       solution = record { solution = agrees.solution; value = sum ∙ agrees.value };
+      parts_fit = omega (arith, ints, kept.total, kept.tautologies, pairs_bounds.0, pairs_bounds.1);
+      sum_fits = omega (arith, ints, kept.total, kept.tautologies, pairs_bounds.0, pairs_bounds.1);
       read = omega (arith, ints, kept.total, kept.tautologies, pairs_bounds.0, pairs_bounds.1);
     }

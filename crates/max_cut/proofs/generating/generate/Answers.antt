@@ -1,4 +1,4 @@
-use Rattle.std.proofs.Common.{rules}
+use Rattle.std.proofs.Common.{rules, arith}
 use Rattle.max_cut.proofs.DrawnWeights.{none_drawn, one_more}
 use Rattle.max_cut.proofs.generating.generate.Goals as goal
 
@@ -10,3 +10,6 @@ loop-preserved c =
     let weight = c.draw_weight.ensures in
     one_more c.args.seed c.loop.counter c.loop.draws c.draw_weight.new.draws c.loop.weights.items c.push.new.self.items c.draw_weight.result c.loop.invariant
     weight.weight weight.behind weight.small (search rules)
+
+pub prepared-requires : goal.prepared-requires
+prepared-requires c = record { few = c.requires.size; whole = omega arith; small = c.loop.invariant.small }

@@ -10,3 +10,9 @@ loop-preserved c =
     let clause = c.draw_clause.ensures in
     one_more c.args.n c.args.seed c.loop.counter c.loop.draws c.draw_clause.new.draws (gathered_in c.loop.draft) (gathered_in c.draw_clause.new.draft) c.loop.invariant
     clause.clause clause.behind clause.drawing clause.count
+
+pub draw_clause-requires-clause-drawing : goal.draw_clause-requires-clause-drawing
+draw_clause-requires-clause-drawing c = c.loop.invariant.drawing
+
+pub prepared-requires-clause-gathered : goal.prepared-requires-clause-gathered
+prepared-requires-clause-gathered c = c.loop.invariant.drawing.under_way.gathered

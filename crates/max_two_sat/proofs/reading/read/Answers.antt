@@ -7,3 +7,6 @@ use Rattle.max_two_sat.proofs.reading.read.Goals as goal
 pub read_clauses-requires-clause-under_way : goal.read_clauses-requires-clause-under_way
 read_clauses-requires-clause-under_way c =
     subst (λ (g : Gathered). IsGathering c.in_ok-header.header g) (sym c.in_ok-draft.ensures) (way-begins c.in_ok-header.header c.in_ok-header.ensures.variables)
+
+pub prepared-requires-clause-gathered : goal.prepared-requires-clause-gathered
+prepared-requires-clause-gathered c = c.in_ok-read_clauses.ensures.gathered

@@ -1,5 +1,6 @@
-use Rattle.std.proofs.Common.{arith}
+use Rattle.std.proofs.Common.{arith, ap}
 use Rattle.std.proofs.lemmas.Int.{ints}
+use Rattle.max_two_sat.specs.Clauses.{Gathered}
 use Rattle.max_two_sat.specs.Drafted.{gathered_in}
 use Rattle.max_two_sat.proofs.Gathering.{clause-fits, total-low}
 use Rattle.max_two_sat.proofs.reading_clauses.read_clause.Goals as goal
@@ -34,3 +35,12 @@ pub returns-clause-under_way : goal.returns-clause-under_way
 returns-clause-under_way c =
     let fits = clause-fits c.args.header (gathered_in c.args.draft.now) c.in_ok-weight.weight c.in_ok-literals.literals c.requires.under_way c.requires.few c.in_ok-weight.ensures.range c.in_ok-literals.ensures.range in
     rw (c.add.ensures, fits.read) fits.after
+
+pub read_literals-requires : goal.read_literals-requires
+read_literals-requires c = omega (arith, c.requires.under_way.variables, c.requires.under_way.gathered.variables)
+
+pub add-requires-clause-clauses : goal.add-requires-clause-clauses
+add-requires-clause-clauses c = c.requires.few
+
+pub returns-clause-count : goal.returns-clause-count
+returns-clause-count c = ap (λ (g : Gathered). g.clauses) c.add.ensures

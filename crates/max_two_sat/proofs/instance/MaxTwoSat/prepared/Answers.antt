@@ -18,3 +18,12 @@ of_decision-requires-clause-weight c = rw c.as_slice-2.ensures.value (pairs-most
 
 pub of_decision-requires-2-clause-weight : goal.of_decision-requires-2-clause-weight
 of_decision-requires-2-clause-weight c = rw c.as_slice-3.ensures.value (pairs-most c.args.draft c.requires.gathered)
+
+pub sums_from-requires-clause-positive : goal.sums_from-requires-clause-positive
+sums_from-requires-clause-positive c = rw c.as_slice.ensures.value c.requires.gathered.pairs
+
+pub of_decision-requires-clause-positive : goal.of_decision-requires-clause-positive
+of_decision-requires-clause-positive c = rw c.as_slice-2.ensures.value c.requires.gathered.pairs
+
+pub of_decision-requires-2-clause-positive : goal.of_decision-requires-2-clause-positive
+of_decision-requires-2-clause-positive c = rw c.as_slice-3.ensures.value c.requires.gathered.pairs
