@@ -2,16 +2,16 @@
 //! the board of a search.
 //!
 //! It stands on `board_lock`, and for the board on `worker_gate` and a knapsack. `Counter` is a value with slots whose two steps are
-//! moves, `work` is what one worker does, and `fan_out` runs the workers beside one another. That two threads ran, no clause says and
-//! no test shows.
+//! moves, `work` is what one worker does, and `fan_out` runs the workers beside one another. All but the counter is test code, so that
+//! each function is proved once. That two threads ran, no clause says and no test shows.
 #![tactic(auto)]
 
+#[cfg(test)]
 mod boards;
 mod counter;
 #[cfg(test)]
 mod tests;
+#[cfg(test)]
 mod workers;
 
-pub use boards::{meet_over_board, open_board};
 pub use counter::Counter;
-pub use workers::{Desk, close, count_all, fan_out, meet, open, work};

@@ -1,4 +1,5 @@
-use crate::{close, count_all, meet, meet_over_board, open, open_board};
+use crate::boards::{meet_over_board, open_board};
+use crate::workers::{close, count_all, meet, open};
 use knapsack::read;
 use std::test::Fail;
 
@@ -16,9 +17,9 @@ fn workers_count_to_the_limit(rt: HostRuntime) -> Result<(), Fail> {
 fn two_seats_over_a_counter(rt: HostRuntime) -> Result<(), Fail> {
     let (turn, mut seats) = open(rt.alloc(), 200, 2)?;
     let found = meet(&rt, &turn, seats.as_mut_slice(), 110);
-    assert!(rt; found == Some((Some(110), Some(Some(110)))));
     let counter = close(turn, seats);
-    assert!(rt; counter.best() == Some(110));
+    let left = (found, counter.best());
+    assert!(rt; left == (Some((Some(110), Some(Some(110)))), Some(110)));
     Ok(())
 }
 
@@ -30,8 +31,8 @@ fn two_seats(rt: HostRuntime) -> Result<(), Fail> {
     };
     let (turn, mut seats) = open_board(rt.alloc(), model)?;
     let found = meet_over_board(&rt, &turn, seats.as_mut_slice(), &[1, 1, 0]);
-    assert!(rt; found == Some((Some(110), Some(Some(110)))));
     let board = worker_gate::close(turn, seats);
-    assert!(rt; board.incumbent_value() == Some(110));
+    let left = (found, board.incumbent_value());
+    assert!(rt; left == (Some((Some(110), Some(Some(110)))), Some(110)));
     Ok(())
 }
