@@ -2,7 +2,7 @@
 """Counts what a sceptic has to read: the definitions that a clause stands on, with their lines.
 
     tools/audit.py                     prints a table, for the clause of `run` and for parts of it
-    tools/audit.py CRATE/FILE NAME     lists the definitions under one, as solver_cli/Job/Reports IsProved
+    tools/audit.py CRATE/FILE NAME     lists the definitions under one, as solver_jobs/Reports IsProved
 
 It follows names through the imports of specs/ and through the re-exports of Lib.antt. Comments, blank lines and imports are
 not counted, nor is what the kit defines, nor the types that are declared in src/ (their number is given).
@@ -118,10 +118,10 @@ def main():
             lines = len(specs[at].lines[name]) if at != "declared" else "a type of src/"
             print(f"{at.removeprefix('Rattle.').replace('.specs.', '/').replace('.', '/')} {name}: {lines}")
         return
-    rows = [("all that the clause of `run` says (`HasEnded`)", ["solver_cli/Call/Ended HasEnded"])]
-    rows += [("`proved`, for any problem (`IsProved`)", ["solver_cli/Job/Reports IsProved"])]
-    rows += [("`infeasible` (`IsInfeasible`)", ["solver_cli/Job/Reports IsInfeasible"])]
-    rows += [("`stopped` (`IsStopped`)", ["solver_cli/Job/Answers IsStopped"])]
+    rows = [("all that the clause of `run` says (`HasEnded`)", ["solver_jobs/Ended HasEnded"])]
+    rows += [("`proved`, for any problem (`IsProved`)", ["solver_jobs/Reports IsProved"])]
+    rows += [("`infeasible` (`IsInfeasible`)", ["solver_jobs/Reports IsInfeasible"])]
+    rows += [("`stopped` (`IsStopped`)", ["solver_jobs/Answers IsStopped"])]
     for name, (own, program, grammar) in PROBLEMS.items():
         rows += [(f"{name}: the value in its own words", [own]), (f"{name}: its dynamic program", [program])]
         rows += [(f"{name}: its grammar", [grammar])]

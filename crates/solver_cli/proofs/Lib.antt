@@ -1,5 +1,2 @@
-pub mod Conclusions
-pub mod Covering
-pub mod Reports
+pub mod Over
 pub mod Widths
-pub mod Checking

@@ -1,4 +1,2 @@
--- a job on a text, and its answer
-pub mod Job
--- the words, streams and statuses of the top call
-pub mod Call
+-- the desks of the workers
+pub mod Desks

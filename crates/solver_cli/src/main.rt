@@ -1,25 +1,24 @@
-//! The program, in two parts: a job on a text and its answer (`job`), and the words, streams and statuses of the top call (`call`).
+//! The program: what its words ask for is done with its input, and the answer is written.
 //!
-//! A job stands on `problems` for instances, on `search_core` and `worker_gate` for the search, on `bound_cover` and `cover_text`
-//! for covers, on `sha2` for digests and on `solver_report` for answers. A proved answer is a best solution, an infeasible one
-//! says that there is no feasible solution, and a search that stopped early tells its incumbent and a bound that no feasible
-//! solution exceeds; it stops for the budget only where that is less than the number of prefixes. A width is refused exactly
-//! where it is 0 or above the greatest one.
+//! `run` is the top call, over any source and sink; `main` lends it standard input and output. Its contract says how a run ends: with
+//! an answer that is right for the words and the bytes that were read, whose text was written whole with its status, or of which a
+//! part was written, with status 7, where the sink failed or took nothing.
 //!
-//! `run` is the top call, over any source and sink; `main` lends it standard input and output. It stands on `dd_io` for these and on
-//! `solver_words` for the words. Its contract says how a run ends: with an answer that is right for the words and the bytes that
-//! were read, whose text was written whole with its status, or of which a part was written, with status 7, where the sink
-//! failed or took nothing.
+//! It stands on `solver_jobs` for what is answered and said, and on `worker_gate` for the search, which it starts here. A width is
+//! refused exactly where it is 0 or above the greatest one.
 #![tactic(auto)]
 
-mod call;
-mod job;
+mod answering;
+mod drawing;
+mod replying;
+mod run;
+mod solving;
 #[cfg(test)]
 mod tests;
 
-pub use call::run;
-use call::say;
 use dd_io::{StdSink, StdSource};
+pub use run::run;
+use solver_jobs::say;
 use solver_report::Answer;
 use std::alloc::AllocError;
 use std::env;

@@ -1,5 +1,6 @@
 mod covers;
 mod meeting;
+mod words;
 
 use crate::run;
 use dd_io::{MemSink, MemSource};
@@ -55,286 +56,303 @@ fn run_line<R: Threads + Wait + Sync>(
     Ok(Printed { text, status })
 }
 
-/// Runs the words of each line on its input, and compares what is printed, and the status.
+/// The words of a line, an input, what is printed, and the status.
+type Case = (&'static str, &'static str, &'static str, u8);
+
+/// Runs the words of the line on its input, over a source and a sink of which these calls fail, and compares what is printed, and the
+/// status.
+fn prints_over<R: Abort + Threads + Wait + Sync>(
+    rt: &R,
+    alloc: Global,
+    case: Case,
+    failing_reads: &[u64],
+    failing_writes: &[u64],
+) -> Result<(), Fail> {
+    let (line, input, text, status) = case;
+    let printed = run_line(rt, alloc, line, input, failing_reads, failing_writes)?;
+    let told = (printed.text.taken(), printed.status);
+    assert_eq!(rt; told, (text.as_bytes(), status), "{line} on {input}");
+    Ok(())
+}
+
+/// The same for each case, where no call fails.
 fn prints<R: Abort + Threads + Wait + Sync>(
     rt: &R,
     alloc: Global,
-    cases: &[(&str, &str, &str, u8)],
+    cases: &[Case],
 ) -> Result<(), Fail> {
-    for (line, input, text, status) in cases.iter().copied() {
-        let printed = run_line(rt, alloc, line, input, &[], &[])?;
-        assert_eq!(rt; printed.text.taken(), text.as_bytes(), "{line} on {input}");
-        assert_eq!(rt; printed.status, status, "{line} on {input}");
+    for case in cases {
+        prints_over(rt, alloc, *case, &[], &[])?;
     }
     Ok(())
 }
 
+/// Reports of each problem, and instances that are drawn.
+const PRINTED: &[Case] = &[
+    (
+        "solve knapsack",
+        THREE_ITEMS,
+        "proved\nvalue 120\nassignment 0 1 1\n",
+        0,
+    ),
+    (
+        "solve knapsack --workers 4 --width 1",
+        THREE_ITEMS,
+        "proved\nvalue 120\nassignment 0 1 1\n",
+        0,
+    ),
+    (
+        "solve knapsack --workers 4 --width 1 --cutset frontier",
+        THREE_ITEMS,
+        "proved\nvalue 120\nassignment 0 1 1\n",
+        0,
+    ),
+    (
+        "solve knapsack",
+        "2 7\n10 3 2\n7 2 3\n",
+        "proved\nvalue 24\nassignment 1 2\n",
+        0,
+    ),
+    (
+        "solve knapsack",
+        "0 5\n",
+        "proved\nvalue 0\nassignment\n",
+        0,
+    ),
+    (
+        "solve knapsack",
+        "2 0\n5 0\n9 1\n",
+        "proved\nvalue 5\nassignment 1 0\n",
+        0,
+    ),
+    (
+        "solve knapsack --budget 0",
+        THREE_ITEMS,
+        "stopped budget\nvalue none\nbound 121\n",
+        2,
+    ),
+    (
+        "solve --stats knapsack --budget=0",
+        THREE_ITEMS,
+        "stopped budget\nvalue none\nbound 121\ntaken 0\nfinished 0\n",
+        2,
+    ),
+    (
+        "solve knapsack --width 1 --budget 1",
+        THREE_ITEMS,
+        "stopped budget\nvalue 110\nassignment 1 1 0\nbound 121\n",
+        2,
+    ),
+    (
+        "solve knapsack --width 1 --stats",
+        THREE_ITEMS,
+        "proved\nvalue 120\nassignment 0 1 1\ntaken 3\nfinished 3\n",
+        0,
+    ),
+    (
+        "solve knapsack --width 4 --stats",
+        TEN_ITEMS,
+        "proved\nvalue 709\nassignment 1 3 0 3 3 0 1 0 1 0\ntaken 10\nfinished 10\n",
+        0,
+    ),
+    (
+        "solve knapsack --width 4 --stats --cutset frontier",
+        TEN_ITEMS,
+        "proved\nvalue 709\nassignment 1 3 0 3 3 0 1 0 1 0\ntaken 9\nfinished 9\n",
+        0,
+    ),
+    (
+        "solve maxcut",
+        "3 3\n1 2 3\n2 3 1\n1 3 2\n",
+        "proved\nvalue 5\nassignment 0 1 1\n",
+        0,
+    ),
+    (
+        "solve maxcut",
+        "2 1\n1 2 -4\n",
+        "proved\nvalue 0\nassignment 0 0\n",
+        0,
+    ),
+    (
+        "solve max2sat",
+        "p wcnf 2 4\n3 1 2 0\n2 -1 2 0\n4 1 -2 0\n1 -1 -2 0\n",
+        "proved\nvalue 9\nassignment 1 1\n",
+        0,
+    ),
+    (
+        "solve max2sat",
+        "p wcnf 1 3\n5 1 -1 0\n2 -1 0\n1 1 1 0\n",
+        "proved\nvalue 7\nassignment 0\n",
+        0,
+    ),
+    (
+        "solve max2sat",
+        "p wcnf 3 1\n1 1 2 3 0\n",
+        "instance three-literals 2 7\n",
+        3,
+    ),
+    (
+        "solve max2sat",
+        "c a comment\np cnf 2 3\n1 2 0\n-1 2 0\n1 -2 0\n%\n0\n",
+        "proved\nvalue 3\nassignment 1 1\n",
+        0,
+    ),
+    (
+        "solve tsptw",
+        "3\n0 2 9\n2 0 3\n4 3 0\n0 100\n5 20\n0 30\n",
+        "proved\nvalue -12\nassignment 1 2 0\n",
+        0,
+    ),
+    (
+        "solve tsptw",
+        "3\n0 2 9\n2 0 3\n4 3 0\n0 100\n5 20\n0 1\n",
+        "infeasible\n",
+        1,
+    ),
+    (
+        "solve tsptw",
+        "3\n0 2 9\n2 0 3\n4 3 0\n0 100\n5 20\n0 8\n",
+        "proved\nvalue -12\nassignment 1 2 0\n",
+        0,
+    ),
+    (
+        "solve tsptw",
+        "1\n0\n0 10\n",
+        "proved\nvalue 0\nassignment 0\n",
+        0,
+    ),
+    ("generate knapsack 2 0", "", "2 68\n1 19 2\n18 49 2\n", 0),
+    ("generate maxcut 2 0", "", "2 1\n1 2 -4\n", 0),
+    ("generate max2sat 2 0", "", DRAWN_CLAUSES, 0),
+    ("generate tsptw 3 0", "", DRAWN_TOURS, 0),
+];
+
 #[test]
 fn prints_what_it_must(rt: HostRuntime) -> Result<(), Fail> {
-    let cases = [
-        (
-            "solve knapsack",
-            THREE_ITEMS,
-            "proved\nvalue 120\nassignment 0 1 1\n",
-            0u8,
-        ),
-        (
-            "solve knapsack --workers 4 --width 1",
-            THREE_ITEMS,
-            "proved\nvalue 120\nassignment 0 1 1\n",
-            0,
-        ),
-        (
-            "solve knapsack --workers 4 --width 1 --cutset frontier",
-            THREE_ITEMS,
-            "proved\nvalue 120\nassignment 0 1 1\n",
-            0,
-        ),
-        (
-            "solve knapsack",
-            "2 7\n10 3 2\n7 2 3\n",
-            "proved\nvalue 24\nassignment 1 2\n",
-            0,
-        ),
-        (
-            "solve knapsack",
-            "0 5\n",
-            "proved\nvalue 0\nassignment\n",
-            0,
-        ),
-        (
-            "solve knapsack",
-            "2 0\n5 0\n9 1\n",
-            "proved\nvalue 5\nassignment 1 0\n",
-            0,
-        ),
-        (
-            "solve knapsack --budget 0",
-            THREE_ITEMS,
-            "stopped budget\nvalue none\nbound 121\n",
-            2,
-        ),
-        (
-            "solve --stats knapsack --budget=0",
-            THREE_ITEMS,
-            "stopped budget\nvalue none\nbound 121\ntaken 0\nfinished 0\n",
-            2,
-        ),
-        (
-            "solve knapsack --width 1 --budget 1",
-            THREE_ITEMS,
-            "stopped budget\nvalue 110\nassignment 1 1 0\nbound 121\n",
-            2,
-        ),
-        (
-            "solve knapsack --width 1 --stats",
-            THREE_ITEMS,
-            "proved\nvalue 120\nassignment 0 1 1\ntaken 3\nfinished 3\n",
-            0,
-        ),
-        (
-            "solve knapsack --width 4 --stats",
-            TEN_ITEMS,
-            "proved\nvalue 709\nassignment 1 3 0 3 3 0 1 0 1 0\ntaken 10\nfinished 10\n",
-            0,
-        ),
-        (
-            "solve knapsack --width 4 --stats --cutset frontier",
-            TEN_ITEMS,
-            "proved\nvalue 709\nassignment 1 3 0 3 3 0 1 0 1 0\ntaken 9\nfinished 9\n",
-            0,
-        ),
-        (
-            "solve maxcut",
-            "3 3\n1 2 3\n2 3 1\n1 3 2\n",
-            "proved\nvalue 5\nassignment 0 1 1\n",
-            0,
-        ),
-        (
-            "solve maxcut",
-            "2 1\n1 2 -4\n",
-            "proved\nvalue 0\nassignment 0 0\n",
-            0,
-        ),
-        (
-            "solve max2sat",
-            "p wcnf 2 4\n3 1 2 0\n2 -1 2 0\n4 1 -2 0\n1 -1 -2 0\n",
-            "proved\nvalue 9\nassignment 1 1\n",
-            0,
-        ),
-        (
-            "solve max2sat",
-            "p wcnf 1 3\n5 1 -1 0\n2 -1 0\n1 1 1 0\n",
-            "proved\nvalue 7\nassignment 0\n",
-            0,
-        ),
-        (
-            "solve max2sat",
-            "p wcnf 3 1\n1 1 2 3 0\n",
-            "instance three-literals 2 7\n",
-            3,
-        ),
-        (
-            "solve max2sat",
-            "c a comment\np cnf 2 3\n1 2 0\n-1 2 0\n1 -2 0\n%\n0\n",
-            "proved\nvalue 3\nassignment 1 1\n",
-            0,
-        ),
-        (
-            "solve tsptw",
-            "3\n0 2 9\n2 0 3\n4 3 0\n0 100\n5 20\n0 30\n",
-            "proved\nvalue -12\nassignment 1 2 0\n",
-            0,
-        ),
-        (
-            "solve tsptw",
-            "3\n0 2 9\n2 0 3\n4 3 0\n0 100\n5 20\n0 1\n",
-            "infeasible\n",
-            1,
-        ),
-        (
-            "solve tsptw",
-            "3\n0 2 9\n2 0 3\n4 3 0\n0 100\n5 20\n0 8\n",
-            "proved\nvalue -12\nassignment 1 2 0\n",
-            0,
-        ),
-        (
-            "solve tsptw",
-            "1\n0\n0 10\n",
-            "proved\nvalue 0\nassignment 0\n",
-            0,
-        ),
-        ("generate knapsack 2 0", "", "2 68\n1 19 2\n18 49 2\n", 0),
-        ("generate maxcut 2 0", "", "2 1\n1 2 -4\n", 0),
-        ("generate max2sat 2 0", "", DRAWN_CLAUSES, 0),
-        ("generate tsptw 3 0", "", DRAWN_TOURS, 0),
-    ];
-    prints(&rt, rt.alloc(), &cases)
+    prints(&rt, rt.alloc(), PRINTED)
 }
+
+/// Words and inputs with a fault, and what stands beside a fault and is none.
+const REFUSED: &[Case] = &[
+    ("solve knapsack", "", "instance end-of-text 1 1\n", 3),
+    ("solve knapsack", "x\n", "instance not-number 1 1\n", 3),
+    (
+        "solve knapsack",
+        "1001 5\n",
+        "instance out-of-range 1 1\n",
+        3,
+    ),
+    (
+        "digest knapsack",
+        "3 10\n60 5\n",
+        "instance end-of-text 3 1\n",
+        3,
+    ),
+    ("solve knapsack", "0 5\n7\n", "instance trailing 2 1\n", 3),
+    ("solve knapsack", "\u{e9}\n", "instance not-ascii 1 1\n", 3),
+    ("solve maxcut", "2 1\n1 3 5\n", "instance vertex 2 3\n", 3),
+    ("solve tsptw", "1\n0\n5 4\n", "instance window 3 3\n", 3),
+    (
+        "solve max2sat",
+        "p cnf 1 2\n1 0\n",
+        "instance count 3 1\n",
+        3,
+    ),
+    (
+        "solve max2sat",
+        "p wcnf 1 1 10\n10 1 0\n",
+        "instance hard 2 1\n",
+        3,
+    ),
+    (
+        "solve max2sat",
+        "p wcnf 1 1 10\n9 1 0\n",
+        "proved\nvalue 9\nassignment 1\n",
+        0,
+    ),
+    (
+        "solve max2sat",
+        "p wcnf 1 2\n281474976710656 1 0\n1 -1 0\n",
+        "instance limit 3 1\n",
+        3,
+    ),
+    ("solve max2sat", "h 1 0\n", "instance word 1 1\n", 3),
+    ("", THREE_ITEMS, "words usage\n", 4),
+    ("solve", THREE_ITEMS, "words usage\n", 4),
+    ("solve knapsak", THREE_ITEMS, "words model\n", 4),
+    (
+        "solve knapsack --width 0",
+        THREE_ITEMS,
+        "words number width\n",
+        4,
+    ),
+    ("solve knapsack --width 1242757", THREE_ITEMS, "width\n", 4),
+    (
+        "solve knapsack --width 3 --width 4",
+        THREE_ITEMS,
+        "words usage\n",
+        4,
+    ),
+    (
+        "solve knapsack --cutset x",
+        THREE_ITEMS,
+        "words cutset\n",
+        4,
+    ),
+    (
+        "solve knapsack --budget 18446744073709551616",
+        THREE_ITEMS,
+        "words number budget\n",
+        4,
+    ),
+    ("generate knapsack 1001 0", "", "words number n\n", 4),
+    ("check", THREE_ITEMS, "cover word 1 1\n", 3),
+    (
+        "solve knapsack --workers 17",
+        THREE_ITEMS,
+        "words number workers\n",
+        4,
+    ),
+];
 
 #[test]
 fn refuses_at_the_place(rt: HostRuntime) -> Result<(), Fail> {
-    let cases = [
-        ("solve knapsack", "", "instance end-of-text 1 1\n", 3u8),
-        ("solve knapsack", "x\n", "instance not-number 1 1\n", 3),
-        (
-            "solve knapsack",
-            "1001 5\n",
-            "instance out-of-range 1 1\n",
-            3,
-        ),
-        (
-            "digest knapsack",
-            "3 10\n60 5\n",
-            "instance end-of-text 3 1\n",
-            3,
-        ),
-        ("solve knapsack", "0 5\n7\n", "instance trailing 2 1\n", 3),
-        ("solve knapsack", "\u{e9}\n", "instance not-ascii 1 1\n", 3),
-        ("solve maxcut", "2 1\n1 3 5\n", "instance vertex 2 3\n", 3),
-        ("solve tsptw", "1\n0\n5 4\n", "instance window 3 3\n", 3),
-        (
-            "solve max2sat",
-            "p cnf 1 2\n1 0\n",
-            "instance count 3 1\n",
-            3,
-        ),
-        (
-            "solve max2sat",
-            "p wcnf 1 1 10\n10 1 0\n",
-            "instance hard 2 1\n",
-            3,
-        ),
-        (
-            "solve max2sat",
-            "p wcnf 1 1 10\n9 1 0\n",
-            "proved\nvalue 9\nassignment 1\n",
-            0,
-        ),
-        (
-            "solve max2sat",
-            "p wcnf 1 2\n281474976710656 1 0\n1 -1 0\n",
-            "instance limit 3 1\n",
-            3,
-        ),
-        ("solve max2sat", "h 1 0\n", "instance word 1 1\n", 3),
-        ("", THREE_ITEMS, "words usage\n", 4),
-        ("solve", THREE_ITEMS, "words usage\n", 4),
-        ("solve knapsak", THREE_ITEMS, "words model\n", 4),
-        (
-            "solve knapsack --width 0",
-            THREE_ITEMS,
-            "words number width\n",
-            4,
-        ),
-        ("solve knapsack --width 1242757", THREE_ITEMS, "width\n", 4),
-        (
-            "solve knapsack --width 3 --width 4",
-            THREE_ITEMS,
-            "words usage\n",
-            4,
-        ),
-        (
-            "solve knapsack --cutset x",
-            THREE_ITEMS,
-            "words cutset\n",
-            4,
-        ),
-        (
-            "solve knapsack --budget 18446744073709551616",
-            THREE_ITEMS,
-            "words number budget\n",
-            4,
-        ),
-        ("generate knapsack 1001 0", "", "words number n\n", 4),
-        ("check", THREE_ITEMS, "cover word 1 1\n", 3),
-        (
-            "solve knapsack --workers 17",
-            THREE_ITEMS,
-            "words number workers\n",
-            4,
-        ),
-    ];
-    prints(&rt, rt.alloc(), &cases)
+    prints(&rt, rt.alloc(), REFUSED)
 }
 
 #[test]
 fn solves_what_it_draws(rt: HostRuntime) -> Result<(), Fail> {
-    let printed = run_line(
-        &rt,
-        rt.alloc(),
-        "generate knapsack 2 0 --solve",
-        "",
-        &[0],
-        &[],
-    )?;
     let report = "proved\nvalue 19\nassignment 1 1\ntaken 1\nfinished 1\n";
-    assert_eq!(rt; printed.text.taken(), report.as_bytes());
-    assert_eq!(rt; printed.status, 0);
-    Ok(())
+    let case = ("generate knapsack 2 0 --solve", "", report, 0);
+    prints_over(&rt, rt.alloc(), case, &[0], &[])
 }
 
 #[test]
 fn tells_faults_of_the_outside(rt: HostRuntime) -> Result<(), Fail> {
-    let unread = run_line(&rt, rt.alloc(), "solve knapsack", THREE_ITEMS, &[0], &[])?;
-    assert_eq!(rt; unread.text.taken(), "read fault\n".as_bytes());
-    assert_eq!(rt; unread.status, 6);
-    let unwritten = run_line(&rt, rt.alloc(), "solve knapsack", THREE_ITEMS, &[], &[0])?;
-    assert_eq!(rt; unwritten.text.taken(), "".as_bytes());
-    assert_eq!(rt; unwritten.status, 7);
-    let neither = run_line(&rt, rt.alloc(), "solve knapsack", THREE_ITEMS, &[0], &[0])?;
-    assert_eq!(rt; neither.text.taken(), "".as_bytes());
-    assert_eq!(rt; neither.status, 6);
-    Ok(())
+    let line = "solve knapsack";
+    let unread = (line, THREE_ITEMS, "read fault\n", 6);
+    prints_over(&rt, rt.alloc(), unread, &[0], &[])?;
+    let unwritten = (line, THREE_ITEMS, "", 7);
+    prints_over(&rt, rt.alloc(), unwritten, &[], &[0])?;
+    let neither = (line, THREE_ITEMS, "", 6);
+    prints_over(&rt, rt.alloc(), neither, &[0], &[0])
 }
+
+/// The digest of the three items.
+const DIGEST: &str = "88b310997f4897e8b02cdec421c4964c734a77532e09709e47d7dbfee26f1db5\n";
+
+/// One instance in two texts.
+const DIGESTED: &[Case] = &[
+    ("digest knapsack", THREE_ITEMS, DIGEST, 0),
+    (
+        "digest knapsack",
+        "3  10\n60  5  1\n50  4  1\n70  6  1\n",
+        DIGEST,
+        0,
+    ),
+];
 
 #[test]
 fn one_instance_has_one_digest(rt: HostRuntime) -> Result<(), Fail> {
-    let digest = "88b310997f4897e8b02cdec421c4964c734a77532e09709e47d7dbfee26f1db5\n";
-    for input in [THREE_ITEMS, "3  10\n60  5  1\n50  4  1\n70  6  1\n"] {
-        let printed = run_line(&rt, rt.alloc(), "digest knapsack", input, &[], &[])?;
-        assert_eq!(rt; printed.text.taken(), digest.as_bytes(), "{input}");
-        assert_eq!(rt; printed.status, 0);
-    }
-    Ok(())
+    prints(&rt, rt.alloc(), DIGESTED)
 }

@@ -10,8 +10,6 @@ mod command;
 mod command_syntax;
 mod job;
 mod reading;
-#[cfg(test)]
-mod tests;
 mod values;
 mod words_error;
 

@@ -1,4 +1,4 @@
-use super::{DRAWN_CLAUSES, TEN_ITEMS, THREE_ITEMS, prints, run_line};
+use super::{Case, DRAWN_CLAUSES, TEN_ITEMS, THREE_ITEMS, prints, run_line};
 use crate::run;
 use dd_io::{MemSink, MemSource};
 use std::alloc::{AllocError, Global};
@@ -12,134 +12,136 @@ use worker_gate::NoGate;
 const COVER: &str =
     "proved\nvalue 4\nassignment 1\ncover knapsack\ninstance 8\n1 1\n4 1\nlayer 0 1\n4 ; 1 ; 0 0 1 0\nlayer 1 1\n0 ; 1\nend\n";
 
+/// Covers and what a check of each says.
+const CHECKED: &[Case] = &[
+    ("check", COVER, "accepted\n", 0),
+    (
+        "check",
+        "proved\nvalue 4\nassignment 1\ncover knapsack\ninstance 8\n1 1\n4 1\nlayer 0 1\n3 ; 1 ; 0 0 1 0\nlayer 1 1\n0 ; 1\nend\n",
+        "refused arc 0 0 1\n",
+        9,
+    ),
+    (
+        "check",
+        "proved\nvalue 4\nassignment 1\ncover knapsack\ninstance 8\n1 1\n4 1\nlayer 0 1\n4 ; 1 ; 0 0 1 0\nlayer 1 1\n0 ; 1\n",
+        "cover end-of-text 12 1\n",
+        3,
+    ),
+    ("check", "", "cover end-of-text 1 1\n", 3),
+    ("check", "prooved", "cover word 1 1\n", 3),
+    (
+        "check",
+        "proved\nvalue 4\nassignment 2\ncover knapsack\ninstance 8\n1 1\n4 1\nlayer 0 1\n4 ; 1 ; 0 0 1 0\nlayer 1 1\n0 ; 1\nend\n",
+        "refused assignment\n",
+        9,
+    ),
+    (
+        "check",
+        "proved\nvalue 4\nassignment 0\ncover knapsack\ninstance 8\n1 1\n4 1\nlayer 0 1\n4 ; 1 ; 0 0 1 0\nlayer 1 1\n0 ; 1\nend\n",
+        "refused value\n",
+        9,
+    ),
+    (
+        "check",
+        "proved\nvalue 4\nassignment 1\ncover knapsack\ninstance 8\n1 1\n4 1\nlayer 0 1\n4 ; 1 ; 0 0 1 0\nend\n",
+        "refused layers\n",
+        9,
+    ),
+    (
+        "check",
+        "proved\nvalue 4\nassignment 1\ncover knapsack\ninstance 8\n1 1\n4 1\nlayer 0 1\n4 ; 2 ; 0 0 1 0\nlayer 1 1\n0 ; 1\nend\n",
+        "refused root\n",
+        9,
+    ),
+    (
+        "check",
+        "proved\nvalue 4\nassignment 1\ncover knapsack\ninstance 8\n1 1\n4 1\nlayer 0 2\n4 ; 1 ; 0 0 1 0\n0 ; 2\nlayer 1 1\n0 ; 1\nend\n",
+        "refused row 0 1\n",
+        9,
+    ),
+    (
+        "check",
+        "proved\nvalue 4\nassignment 1\ncover knapsack\ninstance 8\n1 1\n4 1\nlayer 0 1\n3 ; 1\nlayer 1 1\n0 ; 1\nend\n",
+        "refused rough 0 0\n",
+        9,
+    ),
+    (
+        "check",
+        "proved\nvalue 4\nassignment 1\ncover knapsack\ninstance 8\n1 1\n4 1\nlayer 0 1\n4 ; 1\nlayer 1 1\n0 ; 1\nend\n",
+        "accepted\n",
+        0,
+    ),
+    (
+        "check",
+        "proved\nvalue 4\nassignment 1\ncover knapsack\ninstance 8\n1 1\n4 1\nlayer 0 1\n4 ; 1 ; 0 r 1 r\nlayer 1 1\n0 ; 1\nend\n",
+        "accepted\n",
+        0,
+    ),
+    (
+        "check",
+        "proved\nvalue 4\nassignment 1\ncover knapsack\ninstance 8\n1 1\n4 1\nlayer 0 1\n4 ; 1 ; 0 0 1 0\nlayer 1 1\n0 ; 0\nend\n",
+        "refused target 0 0 0\n",
+        9,
+    ),
+    (
+        "check",
+        "proved\nvalue 4\nassignment 1\ncover knapsack\ninstance 8\n1 1\n4 1\nlayer 0 1\n4 ; 1 ; 0 0 1 0\nlayer 1 1\n0 ; 2\nend\n",
+        "refused target 0 0 0\n",
+        9,
+    ),
+    (
+        "check",
+        "proved\nvalue 4\nassignment 1\ncover knapsack\ninstance 8\n1 1\n4 1\nlayer 0 1\n4 ; 1 ; 1 0\nlayer 1 1\n0 ; 1\nend\n",
+        "refused target 0 0 0\n",
+        9,
+    ),
+    (
+        "check",
+        "proved\nvalue 4\nassignment 1\ncover knapsack\ninstance 8\n1 1\n4 1\nlayer 0 1\n4 ; 1 ; 0 0 1 0\nlayer 1 1\n-1 ; 1\nend\n",
+        "refused terminal 0\n",
+        9,
+    ),
+    (
+        "check",
+        "proved\nvalue 4\nassignment 1\ncover knapsack\ninstance 8\n1 1\n4 x\nlayer 0 1\n4 ; 1 ; 0 0 1 0\nlayer 1 1\n0 ; 1\nend\n",
+        "instance not-number 2 3\n",
+        3,
+    ),
+    (
+        "check",
+        "proved\nvalue 4\nassignment 1\ncover knapsack\ninstance 8\n1 1\n4 x\nlayer 0 1\n4 ; 1 ; 0 0 1 0\nlayer 1 1\n0 ; 1\n",
+        "cover end-of-text 12 1\n",
+        3,
+    ),
+    (
+        "check",
+        "proved\nvalue 4\nassignment 1\ntaken 3\nfinished 2\ncover knapsack\ninstance 8\n1 1\n4 1\nlayer 0 1\n4 ; 1 ; 0 0 1 0\nlayer 1 1\n0 ; 1\nend\n",
+        "accepted\n",
+        0,
+    ),
+    (
+        "check",
+        "infeasible\ncover tsptw\ninstance 35\n3\n0 2 9\n2 0 3\n4 3 0\n0 100\n5 20\n0 1\nlayer 0 1\nnone ; 1 6 0 0\nlayer 1 0\nlayer 2 0\nlayer 3 0\nend\n",
+        "accepted\n",
+        0,
+    ),
+    (
+        "check",
+        "proved\nvalue 0\nassignment 0 0\ncover maxcut\ninstance 11\n2 1\n1 2 -4\nlayer 0 1\n4 ; 0 0\nlayer 1 0\nlayer 2 0\nend\n",
+        "accepted\n",
+        0,
+    ),
+    (
+        "check",
+        "proved\nvalue 5\nassignment 1\ncover max2sat\ninstance 17\np wcnf 1 1\n5 1 0\nlayer 0 1\n5 ; 5\nlayer 1 0\nend\n",
+        "accepted\n",
+        0,
+    ),
+];
+
 #[test]
 fn checks_covers(rt: HostRuntime) -> Result<(), Fail> {
-    let cases = [
-        ("check", COVER, "accepted\n", 0u8),
-        (
-            "check",
-            "proved\nvalue 4\nassignment 1\ncover knapsack\ninstance 8\n1 1\n4 1\nlayer 0 1\n3 ; 1 ; 0 0 1 0\nlayer 1 1\n0 ; 1\nend\n",
-            "refused arc 0 0 1\n",
-            9,
-        ),
-        (
-            "check",
-            "proved\nvalue 4\nassignment 1\ncover knapsack\ninstance 8\n1 1\n4 1\nlayer 0 1\n4 ; 1 ; 0 0 1 0\nlayer 1 1\n0 ; 1\n",
-            "cover end-of-text 12 1\n",
-            3,
-        ),
-        ("check", "", "cover end-of-text 1 1\n", 3),
-        ("check", "prooved", "cover word 1 1\n", 3),
-        (
-            "check",
-            "proved\nvalue 4\nassignment 2\ncover knapsack\ninstance 8\n1 1\n4 1\nlayer 0 1\n4 ; 1 ; 0 0 1 0\nlayer 1 1\n0 ; 1\nend\n",
-            "refused assignment\n",
-            9,
-        ),
-        (
-            "check",
-            "proved\nvalue 4\nassignment 0\ncover knapsack\ninstance 8\n1 1\n4 1\nlayer 0 1\n4 ; 1 ; 0 0 1 0\nlayer 1 1\n0 ; 1\nend\n",
-            "refused value\n",
-            9,
-        ),
-        (
-            "check",
-            "proved\nvalue 4\nassignment 1\ncover knapsack\ninstance 8\n1 1\n4 1\nlayer 0 1\n4 ; 1 ; 0 0 1 0\nend\n",
-            "refused layers\n",
-            9,
-        ),
-        (
-            "check",
-            "proved\nvalue 4\nassignment 1\ncover knapsack\ninstance 8\n1 1\n4 1\nlayer 0 1\n4 ; 2 ; 0 0 1 0\nlayer 1 1\n0 ; 1\nend\n",
-            "refused root\n",
-            9,
-        ),
-        (
-            "check",
-            "proved\nvalue 4\nassignment 1\ncover knapsack\ninstance 8\n1 1\n4 1\nlayer 0 2\n4 ; 1 ; 0 0 1 0\n0 ; 2\nlayer 1 1\n0 ; 1\nend\n",
-            "refused row 0 1\n",
-            9,
-        ),
-        (
-            "check",
-            "proved\nvalue 4\nassignment 1\ncover knapsack\ninstance 8\n1 1\n4 1\nlayer 0 1\n3 ; 1\nlayer 1 1\n0 ; 1\nend\n",
-            "refused rough 0 0\n",
-            9,
-        ),
-        (
-            "check",
-            "proved\nvalue 4\nassignment 1\ncover knapsack\ninstance 8\n1 1\n4 1\nlayer 0 1\n4 ; 1\nlayer 1 1\n0 ; 1\nend\n",
-            "accepted\n",
-            0,
-        ),
-        (
-            "check",
-            "proved\nvalue 4\nassignment 1\ncover knapsack\ninstance 8\n1 1\n4 1\nlayer 0 1\n4 ; 1 ; 0 r 1 r\nlayer 1 1\n0 ; 1\nend\n",
-            "accepted\n",
-            0,
-        ),
-        (
-            "check",
-            "proved\nvalue 4\nassignment 1\ncover knapsack\ninstance 8\n1 1\n4 1\nlayer 0 1\n4 ; 1 ; 0 0 1 0\nlayer 1 1\n0 ; 0\nend\n",
-            "refused target 0 0 0\n",
-            9,
-        ),
-        (
-            "check",
-            "proved\nvalue 4\nassignment 1\ncover knapsack\ninstance 8\n1 1\n4 1\nlayer 0 1\n4 ; 1 ; 0 0 1 0\nlayer 1 1\n0 ; 2\nend\n",
-            "refused target 0 0 0\n",
-            9,
-        ),
-        (
-            "check",
-            "proved\nvalue 4\nassignment 1\ncover knapsack\ninstance 8\n1 1\n4 1\nlayer 0 1\n4 ; 1 ; 1 0\nlayer 1 1\n0 ; 1\nend\n",
-            "refused target 0 0 0\n",
-            9,
-        ),
-        (
-            "check",
-            "proved\nvalue 4\nassignment 1\ncover knapsack\ninstance 8\n1 1\n4 1\nlayer 0 1\n4 ; 1 ; 0 0 1 0\nlayer 1 1\n-1 ; 1\nend\n",
-            "refused terminal 0\n",
-            9,
-        ),
-        (
-            "check",
-            "proved\nvalue 4\nassignment 1\ncover knapsack\ninstance 8\n1 1\n4 x\nlayer 0 1\n4 ; 1 ; 0 0 1 0\nlayer 1 1\n0 ; 1\nend\n",
-            "instance not-number 2 3\n",
-            3,
-        ),
-        (
-            "check",
-            "proved\nvalue 4\nassignment 1\ncover knapsack\ninstance 8\n1 1\n4 x\nlayer 0 1\n4 ; 1 ; 0 0 1 0\nlayer 1 1\n0 ; 1\n",
-            "cover end-of-text 12 1\n",
-            3,
-        ),
-        (
-            "check",
-            "proved\nvalue 4\nassignment 1\ntaken 3\nfinished 2\ncover knapsack\ninstance 8\n1 1\n4 1\nlayer 0 1\n4 ; 1 ; 0 0 1 0\nlayer 1 1\n0 ; 1\nend\n",
-            "accepted\n",
-            0,
-        ),
-        (
-            "check",
-            "infeasible\ncover tsptw\ninstance 35\n3\n0 2 9\n2 0 3\n4 3 0\n0 100\n5 20\n0 1\nlayer 0 1\nnone ; 1 6 0 0\nlayer 1 0\nlayer 2 0\nlayer 3 0\nend\n",
-            "accepted\n",
-            0,
-        ),
-        (
-            "check",
-            "proved\nvalue 0\nassignment 0 0\ncover maxcut\ninstance 11\n2 1\n1 2 -4\nlayer 0 1\n4 ; 0 0\nlayer 1 0\nlayer 2 0\nend\n",
-            "accepted\n",
-            0,
-        ),
-        (
-            "check",
-            "proved\nvalue 5\nassignment 1\ncover max2sat\ninstance 17\np wcnf 1 1\n5 1 0\nlayer 0 1\n5 ; 5\nlayer 1 0\nend\n",
-            "accepted\n",
-            0,
-        ),
-    ];
-    prints(&rt, rt.alloc(), &cases)
+    prints(&rt, rt.alloc(), CHECKED)
 }
 
 /// From a byte of the cover on and up to another: what is printed where the lowest bit of one of them is flipped, and the status.
@@ -227,8 +229,7 @@ fn tells_flips<R: Abort + Threads + Wait + Sync>(
     let (from, to, text, own) = flips;
     for at in from..to {
         let (out, status) = checked(rt, alloc, flipped(alloc, at)?)?;
-        assert_eq!(rt; out.taken(), text.as_bytes(), "byte {at}");
-        assert_eq!(rt; status, own, "byte {at}");
+        assert_eq!(rt; (out.taken(), status), (text.as_bytes(), own), "byte {at}");
     }
     Ok(())
 }
@@ -248,7 +249,7 @@ const TOUR: &str = "3\n0 2 9\n2 0 3\n4 3 0\n0 100\n5 20\n0 8\n";
 const NO_TOUR: &str = "3\n0 2 9\n2 0 3\n4 3 0\n0 100\n5 20\n0 1\n";
 
 /// Words, an instance, how what is printed begins, and the status.
-const COVERED: &[(&str, &str, &str, u8)] = &[
+const COVERED: &[Case] = &[
     (
         "solve knapsack --cover",
         TEN_ITEMS,
@@ -299,40 +300,38 @@ fn printed_covers_are_accepted(rt: HostRuntime) -> Result<(), Fail> {
     for (line, input, begins, status) in COVERED.iter().copied() {
         let printed = run_line(&rt, rt.alloc(), line, input, &[], &[])?;
         let text = printed.text.taken();
-        assert!(rt; text.starts_with(begins.as_bytes()), "{line} on {input}");
-        assert_eq!(rt; printed.status, status, "{line} on {input}");
+        let told = (text.starts_with(begins.as_bytes()), printed.status);
         let (verdict, own) = checked(&rt, rt.alloc(), text.to_vec(rt.alloc())?)?;
-        assert_eq!(rt;
-            verdict.taken(),
-            "accepted\n".as_bytes(),
-            "{line} on {input}"
-        );
-        assert_eq!(rt; own, 0, "{line} on {input}");
+        let accepted = (verdict.taken(), own);
+        let wanted = ((true, status), ("accepted\n".as_bytes(), 0));
+        assert_eq!(rt; (told, accepted), wanted, "{line} on {input}");
     }
     Ok(())
 }
 
+/// Searches after which no cover is printed.
+const COVERLESS: &[Case] = &[
+    (
+        "solve knapsack --cover --budget 0",
+        THREE_ITEMS,
+        "stopped budget\nvalue none\nbound 121\n",
+        2,
+    ),
+    (
+        "solve knapsack --cover-words 5",
+        THREE_ITEMS,
+        "proved\nvalue 120\nassignment 0 1 1\n",
+        0,
+    ),
+    (
+        "solve knapsack --cover --journal j",
+        THREE_ITEMS,
+        "words usage\n",
+        4,
+    ),
+];
+
 #[test]
 fn a_stopped_search_prints_no_cover(rt: HostRuntime) -> Result<(), Fail> {
-    let cases = [
-        (
-            "solve knapsack --cover --budget 0",
-            THREE_ITEMS,
-            "stopped budget\nvalue none\nbound 121\n",
-            2u8,
-        ),
-        (
-            "solve knapsack --cover-words 5",
-            THREE_ITEMS,
-            "proved\nvalue 120\nassignment 0 1 1\n",
-            0,
-        ),
-        (
-            "solve knapsack --cover --journal j",
-            THREE_ITEMS,
-            "words usage\n",
-            4,
-        ),
-    ];
-    prints(&rt, rt.alloc(), &cases)
+    prints(&rt, rt.alloc(), COVERLESS)
 }

@@ -74,8 +74,7 @@ fn two_workers_meet(rt: HostRuntime) -> Result<(), Fail> {
     let mut out = MemSink::new(alloc, Vec::new(alloc));
     let status = run(&rt, alloc, words.as_slice(), &mut input, &mut out, &gate);
     let text = "proved\nvalue 120\nassignment 0 1 1\n";
-    assert_eq!(rt; out.taken(), text.as_bytes());
-    assert_eq!(rt; status, 0);
-    assert_eq!(rt; gate.met.load(Ordering::SeqCst), 1);
+    let told = (out.taken(), status, gate.met.load(Ordering::SeqCst));
+    assert_eq!(rt; told, (text.as_bytes(), 0, 1));
     Ok(())
 }

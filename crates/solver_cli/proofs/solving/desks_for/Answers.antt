@@ -1,0 +1,18 @@
+use Rattle.std.proofs.Common.{List, arith, subst, sym}
+use Rattle.std.proofs.lemmas.List.Elements.{All-push}
+use Rattle.std.specs.List.{All}
+use Rattle.worker_gate.specs.Prepared.{IsPreparedDesk}
+use Rattle.worker_gate.specs.declared.desk.Desk.{Desk}
+use Rattle.solver_cli.proofs.solving.desks_for.Goals as goal
+
+pub loop-made-preserved : goal.loop-made-preserved
+loop-made-preserved g c =
+    let D : Desk → Type 0 = IsPreparedDesk (g.M.DpModel.meaning (g.M.DpModel.numbers c.args.model.now)) c.args.width in
+    let i = c.loop-made.invariant in
+    let e = c.push_reserved-in-loop-made.ensures in (
+      omega (arith, i.0, e.len),
+      omega (arith, c.loop-made-test.true, c.loop-made.auto),
+      omega (arith, i.2, e.capacity),
+      subst (λ (xs : List Desk). All D xs) (sym e.items) (All-push D c.loop-made.desks.items c.in_ok-prepare.field-0 i.3 c.in_ok-prepare.ensures.desk),
+      i.4,
+    )

@@ -1,0 +1,89 @@
+use solver_words::read_words;
+use std::alloc::{AllocError, Global};
+use std::test::Fail;
+
+/// The words of a line, which `|` separates.
+fn words_of(alloc: Global, line: &str) -> Result<Vec<String>, AllocError> {
+    let mut words = Vec::new(alloc);
+    for word in line.split('|') {
+        words.push(String::from_str(alloc, word)?)?;
+    }
+    Ok(words)
+}
+
+const DEFAULTS: &str =
+    "JobSettings { width: None, workers: 1, budget: 18446744073709551615, cutset: LastExactLayer, stats: false }";
+
+/// Words and what they ask for, or why they are refused.
+const ASKED: &[(&str, &str)] = &[
+    (
+        "solve|knapsack",
+        "Ok(Solve { model: Knapsack, settings: DEFAULTS, journal: None, cover_words: None })",
+    ),
+    (
+        "solve|--width=64|--cover|maxcut|--workers|2|--budget=9|--cutset|lel|--journal=a=b|--cover-words|50|--stats",
+        "Ok(Solve { model: MaxCut, settings: JobSettings { width: Some(64), workers: 2, budget: 9, cutset: LastExactLayer, stats: true }, journal: Some(\"a=b\"), cover_words: Some(50) })",
+    ),
+    (
+        "resume|j|--cutset=frontier",
+        "Ok(Resume { path: \"j\", settings: JobSettings { width: None, workers: 1, budget: 18446744073709551615, cutset: Frontier, stats: false } })",
+    ),
+    (
+        "solve|max2sat|--cover",
+        "Ok(Solve { model: MaxTwoSat, settings: DEFAULTS, journal: None, cover_words: Some(67108864) })",
+    ),
+    (
+        "solve|max2sat|--cover-words=5",
+        "Ok(Solve { model: MaxTwoSat, settings: DEFAULTS, journal: None, cover_words: None })",
+    ),
+    (
+        "resume|--|-j",
+        "Ok(Resume { path: \"-j\", settings: DEFAULTS })",
+    ),
+    ("check", "Ok(Check)"),
+    ("digest|tsptw", "Ok(Digest { model: TspWindows })"),
+    (
+        "generate|maxcut|024|--solve|7",
+        "Ok(Generate { model: MaxCut, n: 24, seed: 7, solve: true })",
+    ),
+    ("solve", "Err(Usage)"),
+    ("help", "Err(Usage)"),
+    ("solve|--help", "Err(Usage)"),
+    ("solve|knapsack|--stats|--stats", "Err(Usage)"),
+    ("solve|knapsack|--width|-3", "Err(Usage)"),
+    ("solve|knapsack|--width=", "Err(Usage)"),
+    ("solve|knapsack|--width|", "Err(Usage)"),
+    ("solve|knapsack|--stats=1", "Err(Usage)"),
+    ("solve|--|knapsack|--stats", "Err(Usage)"),
+    ("solve|help", "Err(Model)"),
+    ("solve|knap|--width=0", "Err(Model)"),
+    (
+        "solve|knapsack|--cutset=x|--width=0",
+        "Err(Number { option: \"width\" })",
+    ),
+    (
+        "solve|knapsack|--cutset=frontie|--cover-words=x",
+        "Err(Cutset)",
+    ),
+    (
+        "solve|knapsack|--cutset=frontier|--cover-words=x",
+        "Err(Number { option: \"cover-words\" })",
+    ),
+    ("generate|tsptw|0|x", "Err(Number { option: \"n\" })"),
+    ("generate|knapsack|0|+1", "Err(Number { option: \"seed\" })"),
+];
+
+#[test]
+fn lines_and_what_they_ask_for(rt: HostRuntime) -> Result<(), Fail> {
+    for (line, wanted) in ASKED.iter().copied() {
+        let words = words_of(rt.alloc(), line)?;
+        let answer = read_words(rt.alloc(), words.as_slice());
+        let wanted = wanted.replace(rt.alloc(), "DEFAULTS", DEFAULTS)?;
+        assert_eq!(rt;
+            format!(in rt.alloc(); "{answer:?}")?.as_str(),
+            wanted.as_str(),
+            "{line}"
+        );
+    }
+    Ok(())
+}

@@ -1,0 +1,159 @@
+-- A printed report with its cover is accepted.
+use Rattle.std.proofs.Common.{◌≡◌, ℕ, ◌+◌, ◌^◌, ◌<◌, ◌≤◌, ℤ, pos, ◌+ℤ◌, List, [], ◌∷◌, ◌++◌, length, Bool, true, false, Option, Some, None, Vec, refl, sym, ◌∙◌, ap, subst, append_assoc, length-append, arith}
+use Rattle.std.specs.Prelude.{codes, Ok, MatchResult}
+use Rattle.std.specs.declared.alloc.Global.{Global}
+use Rattle.std.proofs.lemmas.Int.{ints}
+use Rattle.std.proofs.lemmas.List.{append-nil}
+use Rattle.dp_model.specs.Dp.{Dp}
+use Rattle.dp_model.specs.Laws.{IsLawful}
+use Rattle.dp_model.specs.Lists.{Each}
+use Rattle.dp_model.specs.NumberLaws.{int_le-from}
+use Rattle.dp_model.specs.Prefixes.{IsPath}
+use Rattle.dp_model.proofs.Sizes.{value_of-far}
+use Rattle.bound_cover.specs.Covers.{CoverRow}
+use Rattle.bound_cover.specs.Verdicts.{checked_rows, value_fault, verdict, verdict_of, worth}
+use Rattle.bound_cover.specs.declared.cover.Verdict.TheVariants.{Accepted}
+use Rattle.bound_cover.proofs.Sound.{checked-by}
+use Rattle.bound_cover.proofs.Worths.{worth-whole}
+use Rattle.cover_text.specs.Heads.{ClaimView}
+use Rattle.cover_text.specs.Outputs.{CountsView, IsToldClaim, MayBeCounts, claim_lines, counts_lines, cover_lines, printed_lines, printed_output, printed_whole}
+use Rattle.cover_text.specs.Printed.{printed_cover}
+use Rattle.cover_text.specs.Texts.{CoverTextView, text_of}
+use Rattle.cover_text.proofs.OutputsRead.{outputs_read}
+use Rattle.problem_names.specs.declared.ModelName.{ModelName}
+use Rattle.problems.specs.Theories.{theory_of}
+use Rattle.problems.specs.Theory.{Theory}
+use Rattle.solver_report.specs.Report.{assignment_line, best_told, count_line, count_lines, is_final, line, number_line, outcome_lines, report}
+use Rattle.solver_report.specs.declared.answer.Answer.TheVariants as answers
+use Rattle.solver_report.specs.declared.answer.Counts.{Counts}
+use Rattle.solver_report.specs.declared.answer.Outcome.{Outcome}
+use Rattle.solver_report.specs.declared.answer.Outcome.TheVariants.{Proved, Infeasible, Stopped}
+use Rattle.board_laws.specs.Board.{BoardState}
+use Rattle.solver_jobs.specs.Answers.{IsCounted, IsOutcomeOf}
+use Rattle.solver_jobs.specs.Checks.{Checks, ChecksText, IsTrueReport, RefusesCover, RefusesInstance}
+use Rattle.solver_jobs.specs.Covers.{IsAccepted, IsCoverText, IsCovered}
+
+-- ---- what is told
+
+-- the assignment that is told with a value
+abbrev pub assignment_told : Outcome → List ℕ
+assignment_told (Proved best) = best.decisions
+assignment_told Infeasible = []
+assignment_told (Stopped stop incumbent bound) = []
+
+abbrev pub claim_told : Outcome → ClaimView
+claim_told outcome = record { best = best_told outcome; assignment = assignment_told outcome }
+
+abbrev pub counts_told : Option Counts → Option CountsView
+counts_told None = None
+counts_told (Some counts) = Some (record { taken = counts.taken; finished = counts.finished })
+
+-- at its end a search tells a true report
+pub true-told : (dp : Dp) (own : List ℕ → Option ℤ) (budget : ℕ) (board : BoardState) (outcome : Outcome) → is_final outcome ≡ true → IsOutcomeOf dp own budget board outcome
+    → IsTrueReport dp own (best_told outcome) (assignment_told outcome)
+true-told dp own budget board (Proved found) final h = h
+true-told dp own budget board Infeasible final h = h
+true-told dp own budget board (Stopped stop incumbent bound) final h = absurd (cc)
+
+-- decisions have 32 bits
+path-small : (dp : Dp) → IsLawful dp → (k : ℕ) (s : List ℤ) (x : List ℕ) → IsPath dp k s x → Each (λ d. d < 2 ^ 32) x
+path-small dp laws k s [] path = tt
+path-small dp laws k s (d ∷ x) path =
+    let few = path.0.choice in
+    let most = laws.sizes.choices k path.0.layer in (omega arith, path-small dp laws (k + 1) (dp.step k s d) x path.1)
+
+-- value and decisions can be printed
+told-fits : (dp : Dp) → IsLawful dp → (own : List ℕ → Option ℤ) (outcome : Outcome) → IsTrueReport dp own (best_told outcome) (assignment_told outcome) → IsToldClaim (best_told outcome) (assignment_told outcome)
+told-fits dp laws own (Proved found) h =
+    let far = value_of-far dp laws found.decisions h.found_one.solution.prefix in
+    let low = far.low in let high = far.high in let same = h.found_one.value in
+    (record { low = omega (arith, ints); high = omega (arith, ints) }, path-small dp laws 0 dp.root found.decisions h.found_one.solution.prefix)
+told-fits dp laws own Infeasible h = refl
+told-fits dp laws own (Stopped stop incumbent bound) h = refl
+
+-- counts have 64 bits
+pub counts-fit : (dp : Dp) (board : BoardState) (stats : Bool) (counts : Option Counts) → IsCounted dp board stats counts → MayBeCounts (counts_told counts)
+counts-fit dp board stats None h = tt
+counts-fit dp board true (Some counts) h = let low = h.in_order in let few = h.sized in record { taken = few; finished = omega arith }
+counts-fit dp board false (Some counts) h = absurd h
+
+-- ---- how it is printed
+
+outcome-printed : (outcome : Outcome) → is_final outcome ≡ true → outcome_lines outcome ≡ printed_lines (claim_lines (best_told outcome) (assignment_told outcome))
+outcome-printed (Proved found) final = ap (λ z. line (codes "proved") ++ (number_line (codes "value") found.value ++ z)) (sym (append-nil (assignment_line found.decisions)))
+outcome-printed Infeasible final = sym (append-nil (line (codes "infeasible")))
+outcome-printed (Stopped stop incumbent bound) final = absurd (cc)
+
+counts-printed : (counts : Option Counts) → count_lines counts ≡ printed_lines (counts_lines (counts_told counts))
+counts-printed None = refl
+counts-printed (Some counts) = ap (λ z. count_line (codes "taken") counts.taken ++ z) (sym (append-nil (count_line (codes "finished") counts.finished)))
+
+whole-printed : (outcome : Outcome) (counts : Option Counts) (name : ModelName) (instance : List ℕ) (cover : List (List CoverRow)) (text : List ℕ) → is_final outcome ≡ true → text ≡ printed_whole name instance cover
+    → outcome_lines outcome ++ (count_lines counts ++ text) ≡ printed_output (claim_told outcome) (counts_told counts) name instance cover
+whole-printed outcome counts name instance cover text final e =
+    ap (λ z. z ++ (count_lines counts ++ text)) (outcome-printed outcome final)
+    ∙ (ap (λ z. printed_lines (claim_lines (best_told outcome) (assignment_told outcome)) ++ (z ++ text)) (counts-printed counts)
+    ∙ ap (λ z. printed_lines (claim_lines (best_told outcome) (assignment_told outcome)) ++ (printed_lines (counts_lines (counts_told counts)) ++ z)) e)
+
+-- the lines, the instance and the sections, appended one after another to nothing
+pub whole-made : (name : ModelName) (size : ℕ) (instance nothing head part both text : List ℕ) (cover : List (List CoverRow)) → nothing ≡ [] → head ≡ nothing ++ printed_lines (cover_lines name size) → both ≡ head ++ part → text ≡ both ++ printed_cover cover
+    → part ≡ instance → size ≡ length instance → text ≡ printed_whole name instance cover
+whole-made name size instance nothing head part both text cover none lines more sections same long =
+    let behind = part ++ printed_cover cover in
+    let begun : head ≡ printed_lines (cover_lines name size) = lines ∙ ap (λ z. z ++ printed_lines (cover_lines name size)) none in
+    sections ∙ (ap (λ z. z ++ printed_cover cover) more ∙ (append_assoc head part (printed_cover cover) ∙ (ap (λ z. z ++ behind) begun
+    ∙ (ap (λ z. printed_lines (cover_lines name size) ++ (z ++ printed_cover cover)) same ∙ ap (λ n. printed_lines (cover_lines name n) ++ (instance ++ printed_cover cover)) long))))
+
+-- a part of a text is no longer than the text
+part-short : (a b head part tail text : List ℕ) (most : ℕ) → text ≡ head ++ (part ++ tail) → length (a ++ (b ++ text)) ≤ most → length part ≤ most
+part-short a b head part tail text most e short =
+    let one = length-append a (b ++ text) in
+    let two = length-append b text in
+    let three : length text ≡ length (head ++ (part ++ tail)) = ap length e in
+    let four = length-append head (part ++ tail) in
+    let five = length-append part tail in
+    omega arith
+
+-- ---- that it is accepted
+
+fine-value : (value : ℤ) (found : Option ℤ) → found ≡ Some value → value_fault found value ≡ None
+fine-value value found e = rw (e, int_le-from value value (omega (arith, ints))) refl
+
+-- a true report with rows that pass for its value has no failing test
+passes-whole : (dp : Dp) (own : List ℕ → Option ℤ) (value : Option ℤ) (x : List ℕ) (cover : List (List CoverRow)) → IsTrueReport dp own value x → checked_rows dp value cover ≡ None → Accepted ≡ verdict dp value (pos 0) x cover
+passes-whole dp own None x cover h e = ap verdict_of (sym (checked-by dp None (pos 0) x cover refl e))
+passes-whole dp own (Some value) x cover h e =
+    let solution = h.found_one.solution in
+    let worth_is : worth dp x ≡ Some value = worth-whole dp x solution.prefix solution.whole ∙ ap Some (sym h.found_one.value) in
+    let claim : value +ℤ pos 0 ≡ value = omega (arith, ints) in
+    ap verdict_of (sym (checked-by dp (Some value) (pos 0) x cover (fine-value value (worth dp x) worth_is) (subst (λ v. checked_rows dp (Some v) cover ≡ None) (sym claim) e)))
+
+-- what was read is checked
+checks-read : (name : ModelName) (t : Theory) (numbers : List ℤ) (held : CoverTextView) (text : List ℕ) → theory_of name ≡ t → held.model ≡ name → t.spelled held.instance ≡ Ok numbers → text_of text ≡ Ok held
+    → Checks (t.program numbers) (t.own_value numbers) held (answers.Checked Accepted) → IsAccepted name held.instance text
+checks-read name t numbers held text named problem spelled is_read checks =
+    let answer = answers.Checked Accepted in
+    let here : ChecksText t held answer = subst (λ r. MatchResult r (λ ns. Checks (t.program ns) (t.own_value ns) held answer) (λ e. RefusesInstance e answer)) (sym spelled) checks in
+    record {
+      held = held;
+      is_read = is_read;
+      of_problem = problem;
+      of_instance = refl;
+      accepted = subst (λ r. MatchResult r (λ h. ChecksText (theory_of h.model) h answer) (λ e. RefusesCover e answer)) (sym is_read) (subst (λ u. ChecksText u held answer) (sym (ap theory_of problem ∙ named)) here);
+    }
+
+-- a true report with its printed cover is accepted
+pub covered-told : (name : ModelName) (t : Theory) (numbers : List ℤ) (dp : Dp) (outcome : Outcome) (counts : Option Counts) (cover : Vec ℕ Global)
+    → theory_of name ≡ t → dp ≡ t.program numbers → IsLawful dp → is_final outcome ≡ true → IsTrueReport dp (t.own_value numbers) (best_told outcome) (assignment_told outcome) → MayBeCounts (counts_told counts)
+    → t.spelled (t.canonical numbers) ≡ Ok numbers → IsCoverText dp name (t.canonical numbers) (best_told outcome) cover.items → IsCovered name (t.canonical numbers) (answers.Covered outcome counts (Some cover))
+covered-told name t numbers dp outcome counts cover named same laws final true_one fits spelled made = λ short.
+    let instance = t.canonical numbers in
+    let held : CoverTextView = record { model = name; best = best_told outcome; assignment = assignment_told outcome; instance = instance; cover = made.cover } in
+    let few = part-short (outcome_lines outcome) (count_lines counts) (printed_lines (cover_lines name (length instance))) instance (printed_cover made.cover) cover.items (2 ^ 28) made.printed short in
+    let is_read : text_of (report (answers.Covered outcome counts (Some cover))) ≡ Ok held =
+    ap text_of (whole-printed outcome counts name instance made.cover cover.items final made.printed)
+    ∙ outputs_read (claim_told outcome) (counts_told counts) name instance made.cover (told-fits dp laws (t.own_value numbers) outcome true_one) fits (omega arith) made.written in
+    let checks : Checks dp (t.own_value numbers) held (answers.Checked Accepted) =
+    record { exact = passes-whole dp (t.own_value numbers) (best_told outcome) (assignment_told outcome) made.cover true_one made.passes; sound = λ _. true_one } in
+    checks-read name t numbers held (report (answers.Covered outcome counts (Some cover))) named refl spelled is_read
+    (subst (λ d. Checks d (t.own_value numbers) held (answers.Checked Accepted)) same checks)

@@ -1,0 +1,4 @@
+pub mod Conclusions
+pub mod Covered
+pub mod Reports
+pub mod Checked

@@ -1,0 +1,29 @@
+use Rattle.std.proofs.Common.{◌≡◌, ◌∙◌, length, ap, List, ℕ}
+use Rattle.dp_model.specs.Laws.{IsLawful}
+use Rattle.cover_text.proofs.PassingWritten.{passing-written}
+use Rattle.solver_jobs.proofs.Covered.{whole-made}
+use Rattle.solver_jobs.proofs.covering.cover_text.Given as given
+use Rattle.solver_jobs.proofs.covering.cover_text.Goals as goal
+
+laws_of : (g : given.Over) (m : g.row.P.Denot) → IsLawful (g.P.DpModel.meaning (g.P.DpModel.numbers m))
+laws_of g m = (g.met.P.DpModel g.world.𝓛 g.world.𝓜 g.world.𝓡 ((λ s x. x), (λ x. x), (λ x. x), λ x. x)).lawful m
+
+pub returns-clause-text : goal.returns-clause-text
+returns-clause-text g c =
+    let dp = g.P.DpModel.meaning (g.P.DpModel.numbers c.args.model.now) in
+    let cover = c.in_ok-cover.cover in
+    let passes = c.in_ok-cover.ensures.best c.requires in
+    let instance : List ℕ = g.P.Problem.theory.canonical (g.P.DpModel.numbers c.args.model.now) in
+    let same : c.in_ok-instance.instance.items ≡ instance = c.in_ok-instance.ensures.text in
+    let h1 = c.in_ok-push_head.ensures in
+    let h2 = c.in_ok-extend_from_slice.ensures.items in
+    let h3 = c.in_ok-push_cover.ensures in
+    let h4 = c.len.ensures in
+    let h5 = c.as_slice.ensures.value in
+    let h6 = c.new-text.ensures.items in
+    record {
+      cover = cover;
+      passes = passes;
+      written = passing-written dp (laws_of g c.args.model.now) c.args.claim cover passes c.layers.ensures.short c.in_ok-cover.ensures.writable;
+      printed = whole-made c.args.name c.len.result instance c.new-text.result.items c.push_head.new.out.items c.as_slice.result.now c.extend_from_slice.new.self.items c.push_cover.new.out.items cover h6 h1 h2 h3 (h5 ∙ same) (h4 ∙ (c.in_ok-instance.instance.ok.0 ∙ ap length same));
+    }

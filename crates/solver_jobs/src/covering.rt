@@ -1,0 +1,74 @@
+ghost use Rattle.std.specs.Prelude.{◌≡◌, ◌^◌, ◌<◌, ◌++◌, Ok, IfOk, OnOk};
+ghost use Rattle.cover_text.specs.Outputs.{cover_lines, printed_lines};
+ghost use Rattle.dp_model.specs.Best.{best};
+ghost use Rattle.problems.specs.Theories.{theory_of};
+ghost use Rattle.solver_jobs.specs.Answers.{HasSearched, Solves};
+ghost use Rattle.solver_jobs.specs.Covers.{IsCoverText, IsCovered};
+
+use crate::text_job::Search;
+use cover_book::explore_whole;
+use cover_text::push_cover;
+use dd_text::{push_number, push_text};
+use dp_model::OutOfMemory;
+use problem_names::ModelName;
+use problems::Problem;
+use solver_report::{Answer, Counts, Outcome};
+use std::alloc::Global;
+
+/// The answer to a search of an instance of the named problem: its report, and the cover behind it where one is asked for and the search
+/// went to its end.
+pub fn told<P: Problem>(
+    alloc: Global,
+    name: ModelName,
+    model: &P,
+    outcome: Outcome,
+    counts: Option<Counts>,
+    search: Search,
+) -> Answer
+    requires named { theory_of name ≡ P.theory }
+    requires searched { HasSearched (P.meaning (P.numbers model.now)) (P.theory.own_value (P.numbers model.now)) search outcome counts }
+    ensures solves { Solves (P.meaning (P.numbers model.now)) (P.theory.own_value (P.numbers model.now)) search result }
+    ensures covered { IsCovered name (P.theory.canonical (P.numbers model.now)) result }
+{
+    if !search.cover || !outcome.is_final() {
+        return Answer::Searched(outcome, counts);
+    }
+    match cover_text(alloc, name, model, outcome.best()) {
+        Ok(text) => Answer::Covered(outcome, counts, Some(text)),
+        Err(_) => Answer::Covered(outcome, counts, None),
+    }
+}
+
+/// The text of a cover for the best value, or for none where there is no feasible solution. Fails only for want of memory.
+fn cover_text<P: Problem>(
+    alloc: Global,
+    name: ModelName,
+    model: &P,
+    claim: Option<i64>,
+) -> Result<Vec<u8>, OutOfMemory>
+    requires { claim ≡ best (P.meaning (P.numbers model.now)) }
+    ensures text { IfOk result (λ text. IsCoverText (P.meaning (P.numbers model.now)) name (P.theory.canonical (P.numbers model.now)) claim text.items) }
+    ensures reads_back { IfOk result (λ text. P.theory.spelled (P.theory.canonical (P.numbers model.now)) ≡ Ok (P.numbers model.now)) }
+{
+    let cover = explore_whole(alloc, model, claim)?;
+    // What the cover keeps of its layers.
+    let _ = cover.layers();
+    let instance = P::print(alloc, model)?;
+    let mut text = Vec::new(alloc);
+    push_head(&mut text, name, instance.len())?;
+    text.extend_from_slice(instance.as_slice())?;
+    push_cover(&mut text, model, &cover)?;
+    Ok(text)
+}
+
+/// Appends the lines of a cover before its instance, which has so many bytes.
+fn push_head(out: &mut Vec<u8>, name: ModelName, size: usize) -> Result<(), OutOfMemory>
+    requires { size < 2 ^ 63 }
+    ensures { OnOk result (out.new.items ≡ out.old.items ++ printed_lines (cover_lines name size)) }
+{
+    push_text(out, "cover ")?;
+    push_text(out, name.text())?;
+    push_text(out, "\ninstance ")?;
+    push_number(out, size as i64)?;
+    push_text(out, "\n")
+}
