@@ -1,5 +1,5 @@
 -- A layer is expanded in the same way whatever arcs it had.
-use Rattle.std.proofs.Common.{◌≡◌, ℕ, ℤ, Option, Bool, ◌&&◌, ◌||◌, not, ◌+◌, List, [], ◌∷◌, map, None, refl, sym, ap, ap₂, ◌∙◌, subst}
+use Rattle.std.proofs.Common.{◌≡◌, ℕ, ℤ, Bool, ◌&&◌, ◌||◌, not, ◌+◌, List, [], ◌∷◌, map, None, refl, sym, ap, ap₂, ◌∙◌, subst}
 use Rattle.dp_model.specs.Dp.{Dp}
 use Rattle.dp_model.specs.Lists.{Each}
 use Rattle.dp_model.specs.Reached.{Reached}
@@ -11,7 +11,9 @@ use Rattle.dp_laws.specs.Rules.Compiling.{expand}
 use Rattle.dp_laws.specs.Rules.Redirects.{with_redirected}
 use Rattle.layer_nodes.specs.Nodes.{NodeView, shown_from, shown_layer, without_arcs}
 use Rattle.layer_nodes.specs.Steps.{IsParent}
-use Rattle.layer_nodes.specs.Sifting.{sifted_nodes, sift_redirects, expand_sifted}
+use Rattle.layer_nodes.specs.declared.striking.Strikes.{Strikes}
+use Rattle.layer_nodes.specs.declared.striking.Strikes.TheVariants.{AtMost, Nothing}
+use Rattle.layer_nodes.specs.Sifting.{sifted_nodes, sift_redirects, expanded_by}
 
 -- a node without its arcs
 abbrev pub bare : DdNode → DdNode
@@ -43,12 +45,14 @@ bare-next dp k layer = next-bare dp k layer
 bare-above : (dp : Dp) (k : ℕ) (layer : List DdNode) → (expand dp k (map bare layer)).above ≡ (expand dp k layer).above
 bare-above dp k layer = ap (λ (l : List DdNode). with_arcs dp k l (map bare layer)) (next-bare dp k layer) ∙ arcs-bare dp k (new_layer dp k layer) layer
 
--- and without its struck nodes
-sifted-bare-next : (dp : Dp) (k : ℕ) (t : Option ℤ) (layer : List DdNode) → (expand_sifted dp k t (map bare layer)).next ≡ (expand_sifted dp k t layer).next
-sifted-bare-next dp k t layer = ap (sifted_nodes dp (k + 1) t) (bare-next dp k layer)
+-- and so it is without what is struck
+by-bare-next : (strikes : Strikes) (dp : Dp) (k : ℕ) (layer : List DdNode) → (expanded_by strikes dp k (map bare layer)).next ≡ (expanded_by strikes dp k layer).next
+by-bare-next (AtMost t) dp k layer = ap (sifted_nodes dp (k + 1) t) (bare-next dp k layer)
+by-bare-next Nothing dp k layer = bare-next dp k layer
 
-sifted-bare-above : (dp : Dp) (k : ℕ) (t : Option ℤ) (layer : List DdNode) → (expand_sifted dp k t (map bare layer)).above ≡ (expand_sifted dp k t layer).above
-sifted-bare-above dp k t layer = ap₂ (λ next above. with_redirected (sift_redirects dp (k + 1) t 0 next) above) (bare-next dp k layer) (bare-above dp k layer)
+by-bare-above : (strikes : Strikes) (dp : Dp) (k : ℕ) (layer : List DdNode) → (expanded_by strikes dp k (map bare layer)).above ≡ (expanded_by strikes dp k layer).above
+by-bare-above (AtMost t) dp k layer = ap₂ (λ next above. with_redirected (sift_redirects dp (k + 1) t 0 next) above) (bare-next dp k layer) (bare-above dp k layer)
+by-bare-above Nothing dp k layer = bare-above dp k layer
 
 shown-bare-from : (paths : ℕ → List ℕ) (i : ℕ) (nodes : List NodeView) → shown_from paths i (map without_arcs nodes) ≡ map bare (shown_from paths i nodes)
 shown-bare-from paths i [] = refl
@@ -58,21 +62,15 @@ shown-bare-from paths i (n ∷ nodes) = ap₂ (λ (a : DdNode) (l : List DdNode)
 alike-shown : (paths : ℕ → List ℕ) (old new : List NodeView) → map without_arcs new ≡ map without_arcs old → map bare (shown_layer paths new) ≡ map bare (shown_layer paths old)
 alike-shown paths old new e = sym (shown-bare-from paths 0 new) ∙ (ap (shown_layer paths) e ∙ shown-bare-from paths 0 old)
 
-pub alike-next : (dp : Dp) (k : ℕ) (paths : ℕ → List ℕ) (old new : List NodeView) → map without_arcs new ≡ map without_arcs old → (expand dp k (shown_layer paths new)).next ≡ (expand dp k (shown_layer paths old)).next
-alike-next dp k paths old new e = sym (bare-next dp k (shown_layer paths new)) ∙ (ap (λ (l : List DdNode). (expand dp k l).next) (alike-shown paths old new e) ∙ bare-next dp k (shown_layer paths old))
+pub alike-next : (strikes : Strikes) (dp : Dp) (k : ℕ) (paths : ℕ → List ℕ) (old new : List NodeView) → map without_arcs new ≡ map without_arcs old
+    → (expanded_by strikes dp k (shown_layer paths new)).next ≡ (expanded_by strikes dp k (shown_layer paths old)).next
+alike-next strikes dp k paths old new e =
+    sym (by-bare-next strikes dp k (shown_layer paths new)) ∙ (ap (λ (l : List DdNode). (expanded_by strikes dp k l).next) (alike-shown paths old new e) ∙ by-bare-next strikes dp k (shown_layer paths old))
 
-pub alike-above : (dp : Dp) (k : ℕ) (paths : ℕ → List ℕ) (old new : List NodeView) → map without_arcs new ≡ map without_arcs old → (expand dp k (shown_layer paths new)).above ≡ (expand dp k (shown_layer paths old)).above
-alike-above dp k paths old new e = sym (bare-above dp k (shown_layer paths new)) ∙ (ap (λ (l : List DdNode). (expand dp k l).above) (alike-shown paths old new e) ∙ bare-above dp k (shown_layer paths old))
-
-pub sifted-alike-next : (dp : Dp) (k : ℕ) (t : Option ℤ) (paths : ℕ → List ℕ) (old new : List NodeView) → map without_arcs new ≡ map without_arcs old
-    → (expand_sifted dp k t (shown_layer paths new)).next ≡ (expand_sifted dp k t (shown_layer paths old)).next
-sifted-alike-next dp k t paths old new e =
-    sym (sifted-bare-next dp k t (shown_layer paths new)) ∙ (ap (λ (l : List DdNode). (expand_sifted dp k t l).next) (alike-shown paths old new e) ∙ sifted-bare-next dp k t (shown_layer paths old))
-
-pub sifted-alike-above : (dp : Dp) (k : ℕ) (t : Option ℤ) (paths : ℕ → List ℕ) (old new : List NodeView) → map without_arcs new ≡ map without_arcs old
-    → (expand_sifted dp k t (shown_layer paths new)).above ≡ (expand_sifted dp k t (shown_layer paths old)).above
-sifted-alike-above dp k t paths old new e =
-    sym (sifted-bare-above dp k t (shown_layer paths new)) ∙ (ap (λ (l : List DdNode). (expand_sifted dp k t l).above) (alike-shown paths old new e) ∙ sifted-bare-above dp k t (shown_layer paths old))
+pub alike-above : (strikes : Strikes) (dp : Dp) (k : ℕ) (paths : ℕ → List ℕ) (old new : List NodeView) → map without_arcs new ≡ map without_arcs old
+    → (expanded_by strikes dp k (shown_layer paths new)).above ≡ (expanded_by strikes dp k (shown_layer paths old)).above
+alike-above strikes dp k paths old new e =
+    sym (by-bare-above strikes dp k (shown_layer paths new)) ∙ (ap (λ (l : List DdNode). (expanded_by strikes dp k l).above) (alike-shown paths old new e) ∙ by-bare-above strikes dp k (shown_layer paths old))
 
 pub alike-parents : (dp : Dp) (k : ℕ) (old new : List NodeView) → map without_arcs new ≡ map without_arcs old → Each (IsParent dp k) old → Each (IsParent dp k) new
 alike-parents dp k old [] e h = tt

@@ -14,7 +14,9 @@ use Rattle.dp_laws.specs.Rules.Within.{IsBetween, IsLayerWithin, AreWithin}
 use Rattle.dp_laws.proofs.Diagrams.Places.{same-Some, Has-at}
 use Rattle.dp_laws.proofs.Rules.Redirecting.{GoesTo}
 use Rattle.dp_laws.proofs.Rules.Within.{expand-within, redirect-within}
-use Rattle.layer_nodes.specs.Sifting.{sifted_nodes, sift_redirects, sifted, expand_sifted}
+use Rattle.layer_nodes.specs.declared.striking.Strikes.{Strikes}
+use Rattle.layer_nodes.specs.declared.striking.Strikes.TheVariants.{AtMost, Nothing}
+use Rattle.layer_nodes.specs.Sifting.{sifted_nodes, sift_redirects, sifted, expand_sifted, expanded_by}
 use Rattle.layer_nodes.proofs.SiftedLayers.{struck-at, stays-at}
 use Rattle.layer_build.specs.Stacked.{HaveDepth}
 use Rattle.layer_build.proofs.Depths.{expanded-above, expanded-next, redirected-depth}
@@ -25,7 +27,7 @@ pub record Expands (dp : Dp) (rule : ℕ → List DdNode → TwoLayers) : Type 0
   pub above : (k : ℕ) (layer : List DdNode) → HaveDepth k layer → HaveDepth k (rule k layer).above
   pub next : (k : ℕ) (layer : List DdNode) → k < dp.vars → HaveDepth k layer → HaveDepth (k + 1) (rule k layer).next
 
-pub expands : (dp : Dp) → IsLawful dp → Expands dp (expand dp)
+expands : (dp : Dp) → IsLawful dp → Expands dp (expand dp)
 expands dp laws = record {
   within = λ k w layer low h. expand-within dp laws k w layer low h;
   above = λ k layer h. expanded-above dp k layer h;
@@ -77,9 +79,13 @@ module _ (dp : Dp) (t : Option ℤ) where
       let P = λ (n : DdNode). IsTrue n.exact → length n.path ≡ k in
       each-of-all P (sifted_nodes dp d t nodes) (λ x has. each-has P nodes x h (sifted-has d nodes x has))
 
-  pub expands-sifted : IsLawful dp → Expands dp (λ k layer. expand_sifted dp k t layer)
+  expands-sifted : IsLawful dp → Expands dp (λ k layer. expand_sifted dp k t layer)
   expands-sifted laws = record {
     within = λ k w layer low h. sifted-within laws k w (expand dp k layer) (expand-within dp laws k w layer low h);
     above = λ k layer h. redirected-depth (sift_redirects dp (k + 1) t 0 (expand dp k layer).next) k (expand dp k layer).above (expanded-above dp k layer h);
     next = λ k layer low h. sifted-depth (k + 1) (k + 1) (expand dp k layer).next (expanded-next dp k layer low h);
   }
+
+pub expands-by : (dp : Dp) (strikes : Strikes) → IsLawful dp → Expands dp (expanded_by strikes dp)
+expands-by dp (AtMost t) laws = expands-sifted dp t laws
+expands-by dp Nothing laws = expands dp laws

@@ -111,23 +111,6 @@ walked-more s prefix out depth node k at h less d decision place next = go paren
           list = ap (λ (l : List ℕ). rest ++ l) tail ∙ (sym (append_assoc rest (d ∷ []) (drop k out)) ∙ (ap (λ (l : List ℕ). l ++ drop k out) (sym is) ∙ h.list));
         }
 
-one-path : (prefix : List ℕ) (at : ℕ) → length (path_in (prefix ∷ []) at) ≡ length prefix → path_in (prefix ∷ []) at ≡ prefix
-one-path prefix zero e = refl
-one-path [] (suc at) e = refl
-one-path (x ∷ prefix) (suc at) e = absurd (omega arith)
-
-pub walked-end : (s : Stack) (prefix out : List ℕ) (depth node k at : ℕ) → IsWalked s prefix out depth node k at → k ≤ s.first → length prefix ≡ s.first
-    → prefix ++ drop (length prefix) out ≡ path_of (nodes_in s) prefix s.first depth node
-walked-end s prefix out depth node k at h end begun =
-    let above = h.above in
-    let none : k - s.first ≡ 0 = omega arith in
-    let here : path_of (nodes_in s) prefix s.first k at ≡ path_in (prefix ∷ []) at = ap (λ (m : ℕ). path_in (paths_at (nodes_in s) (prefix ∷ []) s.first m) at) none in
-    let deep = ap (λ (l : List ℕ). length l) here in
-    let long = h.long in
-    let is : path_of (nodes_in s) prefix s.first k at ≡ prefix = here ∙ one-path prefix at (omega arith) in
-    let size : length prefix ≡ k = omega arith in
-    ap₂ (λ (l : List ℕ) (i : ℕ). l ++ drop i out) (sym is) size ∙ h.list
-
 -- ---- the first exact node
 
 -- none of the first nodes is exact

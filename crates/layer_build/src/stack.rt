@@ -2,16 +2,15 @@
 
 ghost use Rattle.std.specs.Prelude.{◌≡◌, ◌+◌, ◌-◌, ◌*◌, ◌<◌, ◌≤◌, ℕ, List, [], IsSome, length, map};
 ghost use Rattle.dp_model.specs.Lists.{Each};
-ghost use Rattle.dp_laws.specs.Rules.Compiling.{expand};
 ghost use Rattle.layer_candidates.specs.HeldRows.{AreLive, HasExchanged};
 ghost use Rattle.layer_nodes.specs.Nodes.{shown_layer, shown_below, without_arcs};
-ghost use Rattle.layer_nodes.specs.Sifting.{expand_sifted};
+ghost use Rattle.layer_nodes.specs.Sifting.{expanded_by};
 ghost use Rattle.layer_nodes.specs.Steps.{IsParent, IsRanked, KeepsRoom};
 ghost use Rattle.layer_nodes.specs.Holding.{AreHeld, places_of};
 ghost use Rattle.layer_build.specs.Stacked.{layer_in, place_of, place_above, places_above, HasDepth, HasAllDepths};
 
 use dp_model::DpModel;
-use layer_nodes::{Expansion, Layer, expand, expand_sifted};
+use layer_nodes::{Expansion, Layer, Strikes, expand};
 use row_region::Region;
 
 /// A layer for each depth, then the one just below the first, and an empty one, which stands above the first; and the last
@@ -75,10 +74,12 @@ pub(crate) fn drop_above(stack: &mut Stack, from: usize)
     }
 }
 
-/// The last layer, at depth `k`, is kept at its place above and expanded into the next one.
+/// The last layer, at depth `k`, is kept at its place above and expanded into the next one, of which the nodes are left out that
+/// are struck.
 pub(crate) fn expand_newest<M: DpModel>(
     model: &M,
     k: usize,
+    strikes: Strikes,
     region: &mut Region,
     above: &mut Layer,
     newest: &mut Layer,
@@ -96,8 +97,8 @@ pub(crate) fn expand_newest<M: DpModel>(
     requires nodes_room { length newest.old.nodes * (M.meaning (M.numbers model.now)).choices k ≤ newest.old.nodes_room }
     requires row_words { expansion.old.words ≡ (M.meaning (M.numbers model.now)).words }
     requires room { length newest.old.nodes * (M.meaning (M.numbers model.now)).choices k ≤ expansion.old.most }
-    ensures above { (paths : ℕ → List ℕ) → shown_layer paths above.new.nodes ≡ (expand (M.meaning (M.numbers model.now)) k (shown_layer paths newest.old.nodes)).above }
-    ensures next { (paths : ℕ → List ℕ) → shown_below paths newest.new.nodes ≡ (expand (M.meaning (M.numbers model.now)) k (shown_layer paths newest.old.nodes)).next }
+    ensures above { (paths : ℕ → List ℕ) → shown_layer paths above.new.nodes ≡ (expanded_by strikes (M.meaning (M.numbers model.now)) k (shown_layer paths newest.old.nodes)).above }
+    ensures next { (paths : ℕ → List ℕ) → shown_below paths newest.new.nodes ≡ (expanded_by strikes (M.meaning (M.numbers model.now)) k (shown_layer paths newest.old.nodes)).next }
     ensures ranked { Each (IsRanked (M.meaning (M.numbers model.now)) (k + 1)) newest.new.nodes }
     ensures unmerged { Each (λ n. IsSome n.parent) newest.new.nodes }
     ensures few { length newest.new.nodes ≤ length newest.old.nodes * (M.meaning (M.numbers model.now)).choices k }
@@ -111,45 +112,5 @@ pub(crate) fn expand_newest<M: DpModel>(
     ensures expansion { expansion.new ≡ expansion.old }
 {
     above.keep(newest, region);
-    expand(model, k, region, above, newest, expansion);
-}
-
-/// Does as `expand_newest` does, but of the next layer the nodes are left out that are struck by their rough bound.
-pub(crate) fn expand_newest_sifted<M: DpModel>(
-    model: &M,
-    k: usize,
-    threshold: Option<i64>,
-    region: &mut Region,
-    above: &mut Layer,
-    newest: &mut Layer,
-    expansion: &mut Expansion,
-)
-    requires layer { k < (M.meaning (M.numbers model.now)).vars }
-    requires above_words { above.old.words ≡ (M.meaning (M.numbers model.now)).words }
-    requires next_words { newest.old.words ≡ (M.meaning (M.numbers model.now)).words }
-    requires region_words { region.old.words ≡ (M.meaning (M.numbers model.now)).words }
-    requires nodes { Each (IsParent (M.meaning (M.numbers model.now)) k) newest.old.nodes }
-    requires copy_room { length newest.old.nodes ≤ above.old.nodes_room }
-    requires held { AreHeld region.old newest.old.nodes }
-    requires spare { length newest.old.nodes * (M.meaning (M.numbers model.now)).choices k + 1 ≤ region.old.spare }
-    requires arcs_room { length newest.old.nodes * (M.meaning (M.numbers model.now)).choices k ≤ above.old.arcs_room }
-    requires nodes_room { length newest.old.nodes * (M.meaning (M.numbers model.now)).choices k ≤ newest.old.nodes_room }
-    requires row_words { expansion.old.words ≡ (M.meaning (M.numbers model.now)).words }
-    requires room { length newest.old.nodes * (M.meaning (M.numbers model.now)).choices k ≤ expansion.old.most }
-    ensures above { (paths : ℕ → List ℕ) → shown_layer paths above.new.nodes ≡ (expand_sifted (M.meaning (M.numbers model.now)) k threshold (shown_layer paths newest.old.nodes)).above }
-    ensures next { (paths : ℕ → List ℕ) → shown_below paths newest.new.nodes ≡ (expand_sifted (M.meaning (M.numbers model.now)) k threshold (shown_layer paths newest.old.nodes)).next }
-    ensures ranked { Each (IsRanked (M.meaning (M.numbers model.now)) (k + 1)) newest.new.nodes }
-    ensures unmerged { Each (λ n. IsSome n.parent) newest.new.nodes }
-    ensures few { length newest.new.nodes ≤ length newest.old.nodes * (M.meaning (M.numbers model.now)).choices k }
-    ensures rest { map without_arcs above.new.nodes ≡ map without_arcs newest.old.nodes }
-    ensures places { places_of above.new.nodes ≡ places_of newest.old.nodes }
-    ensures above_held { AreHeld region.new above.new.nodes }
-    ensures held { AreHeld region.new newest.new.nodes }
-    ensures exchanged { HasExchanged region.old [] region.new (places_of newest.new.nodes) }
-    ensures above_rooms { KeepsRoom above.old above.new }
-    ensures next_rooms { KeepsRoom newest.old newest.new }
-    ensures expansion { expansion.new ≡ expansion.old }
-{
-    above.keep(newest, region);
-    expand_sifted(model, k, threshold, region, above, newest, expansion);
+    expand(model, k, strikes, region, above, newest, expansion);
 }

@@ -7,7 +7,7 @@ ghost use Rattle.dp_model.specs.Subproblem.{IsOwn};
 ghost use Rattle.dp_laws.specs.Restricted.Beams.{beam, wide};
 ghost use Rattle.dp_laws.specs.Rules.Compiling.{expand, prune, keep_first, merge_rest, start_layer};
 ghost use Rattle.dp_laws.specs.Rules.Pruning.{is_struck};
-ghost use Rattle.layer_nodes.specs.Sifting.{expand_sifted};
+ghost use Rattle.layer_nodes.specs.Sifting.{expand_sifted, expanded_by};
 ghost use Rattle.layer_nodes.specs.Striking.{drop_dominated};
 ghost use Rattle.layer_candidates.specs.Beaming.{IsFirst};
 ghost use Rattle.layer_build.specs.Layers.{IsWidth, IsPreparedFor, last_depth, last_layer, expand_last, on_last_two, reduced_first};
@@ -15,11 +15,11 @@ ghost use Rattle.layer_build.specs.Space.{IsSpacePrepared};
 ghost use Rattle.layer_build.specs.UnderWay.{IsUnderWay};
 
 use crate::preparing::{choices_of, prepare_stack, room_for};
-use crate::stack::{Stack, drop_above, expand_newest, expand_newest_sifted, place_above, place_of};
+use crate::stack::{Stack, drop_above, expand_newest, place_above, place_of};
 use crate::width::greatest_width;
 use dp_model::{DpModel, OutOfMemory, Sub};
 use layer_candidates::{Beam, Beamed};
-use layer_nodes::{Expansion, Redirects, drop_dominated, keep_first, merge_rest, strike};
+use layer_nodes::{Expansion, Redirects, Strikes, drop_dominated, keep_first, merge_rest, strike};
 use std::alloc::Global;
 use std::marker::Model;
 
@@ -146,6 +146,30 @@ impl Workspace {
         self.held = first;
     }
 
+    /// Expands the last layer: of the new last layer the nodes are left out that are struck.
+    fn expand_by<M: DpModel>(&mut self, model: &M, strikes: Strikes)
+        requires under_way { IsUnderWay (M.meaning (M.numbers model.now)) self.old }
+        requires below { last_depth self.old < (M.meaning (M.numbers model.now)).vars }
+        requires narrow { length self.old.prefix + 2 ≤ last_depth self.old → length (last_layer self.old.layers) ≤ self.old.width }
+        ensures layers { self.new ≡ record self.old {
+          layers = expand_last (expanded_by strikes (M.meaning (M.numbers model.now)) (last_depth self.old)) self.old.layers;
+          ranks = self.new.ranks;
+        } }
+        ensures under_way { IsUnderWay (M.meaning (M.numbers model.now)) self.new }
+    {
+        let at = place_of(self.stack.vars, self.stack.first, self.stack.last);
+        expand_newest(
+            model,
+            self.stack.last,
+            strikes,
+            &mut self.stack.region,
+            &mut self.stack.layers[at],
+            &mut self.stack.newest,
+            &mut self.expansion,
+        );
+        self.stack.last += 1;
+    }
+
     /// Extends each node of the last layer by each allowed decision. Of each state the best child, in the reduction order, is a
     /// node of the new last layer, exact where all arcs to its state come from exact nodes.
     pub fn expand_layer<M: DpModel>(&mut self, model: &M)
@@ -158,16 +182,7 @@ impl Workspace {
         } }
         ensures under_way { IsUnderWay (M.meaning (M.numbers model.now)) self.new }
     {
-        let at = place_of(self.stack.vars, self.stack.first, self.stack.last);
-        expand_newest(
-            model,
-            self.stack.last,
-            &mut self.stack.region,
-            &mut self.stack.layers[at],
-            &mut self.stack.newest,
-            &mut self.expansion,
-        );
-        self.stack.last += 1;
+        self.expand_by(model, Strikes::Nothing);
     }
 
     /// Expands the last layer as `expand_layer` does, but of the new last layer those nodes are left out that are struck by their
@@ -182,17 +197,7 @@ impl Workspace {
         } }
         ensures under_way { IsUnderWay (M.meaning (M.numbers model.now)) self.new }
     {
-        let at = place_of(self.stack.vars, self.stack.first, self.stack.last);
-        expand_newest_sifted(
-            model,
-            self.stack.last,
-            threshold,
-            &mut self.stack.region,
-            &mut self.stack.layers[at],
-            &mut self.stack.newest,
-            &mut self.expansion,
-        );
-        self.stack.last += 1;
+        self.expand_by(model, Strikes::AtMost(threshold));
     }
 
     /// Takes out the nodes of the last layer that are struck by their rough bound, or that one of the first 16 exact ones that

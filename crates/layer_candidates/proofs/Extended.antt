@@ -21,7 +21,7 @@ use Rattle.layer_candidates.specs.Rows.{HasZeros}
 use Rattle.layer_candidates.specs.Ways.{rows_of, way_row, reached_by, all_reached, IsNear, IsNearly, IsWay, AllHaveZeros, AreWays, AreJoined}
 use Rattle.layer_candidates.specs.Members.{member_rows, member_as, members_as, IsMemberOf}
 use Rattle.layer_candidates.specs.Extending.{HasWayRoom, parent_as, all_allowed, HasExtended, AreExtended}
-use Rattle.layer_candidates.proofs.HeldRows.{each-here, each-left, each-right, held-same, same-self, same-then, ways-same, exchange-self, exchange-then, exchange-moved, put-same, exchange-put, given-same, exchange-give, written-here, written-beside, exchange-written}
+use Rattle.layer_candidates.proofs.HeldRows.{each-here, each-left, each-right, held-same, same-self, same-then, ways-same, exchange-self, exchange-then, exchange-moved, length-rows, put-same, exchange-put, given-same, exchange-give, written-here, written-beside, exchange-written}
 use Rattle.layer_candidates.proofs.Joined.{last_or, all_joined_both, row-kept, joined-same, reached-same}
 use Rattle.row_region.specs.Region.{RegionView, IsLive, HasPut}
 
@@ -220,6 +220,57 @@ extended-skipped dp k step s value live from to old_row row old_ways ways folds 
       list = λ paths. h.list paths ∙ ap (λ ds. all_joined (all_reached paths old_row old_ways) (map (extended dp k (parent_as paths step s value)) ds)) (sym (allowed-skipped dp k s from to on skipped));
       few = omega arith;
     }
+
+-- A parent's decisions, one after another.
+
+-- its ways by those below n were taken in, and the region has their rows, and the row at the spot
+pub record IsExtending (dp : Dp) (k step : ℕ) (s : List ℤ) (value : ℤ) (live n : ℕ) (old : RegionView) (old_spot : ℕ) (old_ways : List Way) (region : RegionView) (spot : ℕ) (ways : List Way) (folds heads next : List ℕ) : Type 0 where
+  pub extended : HasExtended dp k step s value (below n) live (way_row old old_ways) old_ways (way_row region ways) ways folds heads next
+  pub exchanged : HasExchanged old (old_spot ∷ rows_of old_ways) region (spot ∷ rows_of ways)
+
+module _ (dp : Dp) (k step : ℕ) (s : List ℤ) (value : ℤ) (live : ℕ) (old : RegionView) (old_spot : ℕ) (old_ways : List Way) where
+  -- up to the first one that is not stepped over
+  pub extending-first : (to : ℕ) (folds heads next : List ℕ) → 0 ≤ to → AreSkipped dp k s 0 to → AreLive old (old_spot ∷ rows_of old_ways) → AreJoined dp (k + 1) (way_row old old_ways) live old_ways folds heads next
+      → IsExtending dp k step s value live to old old_spot old_ways old old_spot old_ways folds heads next
+  extending-first to folds heads next on skipped held joined = record {
+    extended = extended-skipped dp k step s value live 0 to (way_row old old_ways) (way_row old old_ways) old_ways old_ways folds heads next on skipped
+        (extended-none dp k step s value live (way_row old old_ways) old_ways folds heads next joined);
+    exchanged = exchange-self old (old_spot ∷ rows_of old_ways) held;
+  }
+
+  module _ (n : ℕ) (region : RegionView) (spot : ℕ) (ways : List Way) (folds heads next : List ℕ) (h : IsExtending dp k step s value live n old old_spot old_ways region spot ways folds heads next) where
+    -- n, and up to the next one
+    pub extending-more : (to : ℕ) (new : RegionView) (spot2 : ℕ) (ways2 : List Way) (folds2 heads2 next2 : List ℕ) → n + 1 ≤ to → AreSkipped dp k s (n + 1) to
+        → HasExtended dp k step s value (n ∷ []) live (way_row region ways) ways (way_row new ways2) ways2 folds2 heads2 next2 → HasExchanged region (spot ∷ rows_of ways) new (spot2 ∷ rows_of ways2)
+        → IsExtending dp k step s value live to old old_spot old_ways new spot2 ways2 folds2 heads2 next2
+    extending-more to new spot2 ways2 folds2 heads2 next2 on skipped one x = record {
+      extended = extended-skipped dp k step s value live (n + 1) to (way_row old old_ways) (way_row new ways2) old_ways ways2 folds2 heads2 next2 on skipped
+          (extended-next dp k step s value live n (way_row old old_ways) (way_row region ways) (way_row new ways2) old_ways ways ways2 folds heads next folds2 heads2 next2 h.extended one);
+      exchanged = exchange-then old region new (old_spot ∷ rows_of old_ways) (spot ∷ rows_of ways) (spot2 ∷ rows_of ways2) h.exchanged x;
+    }
+
+    -- there is a free row for the next way, and memory
+    pub extending-spare : n < dp.choices k → dp.choices k ≤ old.spare → 0 < region.spare
+    extending-spare less enough =
+        let few = h.extended.few in
+        let count = length-below n in
+        let spare = h.exchanged.spare in
+        let before = length-rows old_ways in
+        let after = length-rows ways in
+        omega arith
+
+    pub extending-room : n < dp.choices k → (cap cap2 : ℕ) (folds0 next0 : List ℕ) → HasWayRoom (length old_ways + dp.choices k) cap folds0 next0 → cap2 ≡ cap → length folds ≡ length folds0 → length next ≡ length next0
+        → HasWayRoom (length ways + 1) cap2 folds next
+    extending-room less cap cap2 folds0 next0 room a b c =
+        let few = h.extended.few in
+        let count = length-below n in
+        room-less (length ways + 1) (length old_ways + dp.choices k) cap cap2 folds0 folds next0 next room (omega arith) a b c
+
+    -- all of them
+    pub extending-all : n ≤ dp.choices k → ¬ (n < dp.choices k) → HasExtended dp k step s value (below (dp.choices k)) live (way_row old old_ways) old_ways (way_row region ways) ways folds heads next
+    extending-all within past =
+        let all : n ≡ dp.choices k = omega arith in
+        subst (λ (m : ℕ). HasExtended dp k step s value (below m) live (way_row old old_ways) old_ways (way_row region ways) ways folds heads next) all h.extended
 
 -- Members.
 

@@ -10,7 +10,7 @@ use Rattle.dp_model.proofs.RowLemmas.{nat_eq-is, nat_eq-self}
 use Rattle.dp_laws.specs.Pairs.{EachTwo}
 use Rattle.dp_laws.proofs.Restricted.Permutations.{two-append, each-permutation, keys-permutation}
 use Rattle.layer_candidates.specs.declared.way.Way.{Way}
-use Rattle.layer_candidates.specs.HeldRows.{IsNoneOf, AreLive, HasExchanged, held_row, AreSame, HasLeft, HasWritten}
+use Rattle.layer_candidates.specs.HeldRows.{IsNoneOf, AreLive, HasExchanged, IsSameRegion, held_row, AreSame, HasLeft, HasWritten}
 use Rattle.layer_candidates.specs.Ways.{way_at, rows_of, way_row}
 use Rattle.row_region.specs.Region.{RegionView, IsRow, IsLive, HasPut, row_or, refilled, with_row}
 use Rattle.row_region.proofs.Callers.{put_row, put_others, given_others, get-set}
@@ -95,6 +95,15 @@ exchange-then old now new before between held first second = record {
   others = λ place row here apart. (let stays = first.others place row here apart in second.others place row stays.0 stays.1);
   live = second.live;
 }
+
+-- where all rows that were taken are given back, the region has those that it had
+pub exchange-none : (old new : RegionView) → HasExchanged old [] new [] → IsSameRegion old new
+exchange-none old new h =
+    let spare = h.spare in
+    record {
+      more = record { words = h.words; count = h.count; same = λ place row here. (h.others place row here tt).0 };
+      spare = omega arith;
+    }
 
 -- the order of the places does not matter
 pub live-moved : (region : RegionView) (places moved : List ℕ) → IsPermutation places moved → AreLive region places → AreLive region moved

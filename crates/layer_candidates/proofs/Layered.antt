@@ -21,6 +21,7 @@ use Rattle.layer_candidates.specs.declared.step.Step.{Step}
 use Rattle.layer_candidates.specs.declared.way.Way.{Way}
 use Rattle.layer_candidates.specs.KeyOrder.{goes_before, key_rows, all_of, IsKeyOf}
 use Rattle.layer_candidates.specs.HeldRows.{AreLive, HasExchanged, AreSame, HasLeft, held_row}
+use Rattle.layer_candidates.specs.Layering.{AreListed}
 use Rattle.layer_candidates.specs.Members.{member_rows, member_as, members_as, IsHeldAt}
 use Rattle.layer_candidates.specs.Pruning.{keyed, all_keyed, unstruck_keys, IsKeyIn, HasPruned}
 use Rattle.layer_candidates.specs.Rows.{HasZeros}
@@ -118,16 +119,6 @@ zeros-same old new live (key ∷ keys) same zeros = (subst (HasZeros live) (sym 
 
 -- The whole layer.
 
--- the ways were made, their keys were struck and put in order
-pub record IsMade (dp : Dp) (k : ℕ) (t : Option ℤ) (above r1 r2 : RegionView) (members : List Member) (ways : List Way) (keys : List Key) (steps : List Step) : Type 0 where
-  pub distinct : AreDistinct dp (k + 1) (way_row r1 ways) ways
-  pub list : (paths : ℕ → List ℕ) → all_reached paths (way_row r1 ways) ways ≡ all_joined [] (candidates dp k (members_as paths above members))
-  pub exchanged : HasExchanged above (member_rows members) r1 (rows_of ways)
-  pub struck : HasLeft r1 (rows_of ways) r2 (key_rows (unstruck_keys dp (k + 1) t r1 ways))
-  pub moved : IsPermutation (unstruck_keys dp (k + 1) t r1 ways) keys
-  pub sorted : IsSortedBy (goes_before (held_row r2)) keys
-  pub reached : Each (IsReachedWithin (length steps)) members
-
 -- the keys that are not struck can be put in order
 pub unstruck-live : (r1 r2 : RegionView) (places : List ℕ) (keys : List Key) → HasLeft r1 places r2 (key_rows keys) → Each (λ key. IsLive r2 key.row) keys
 unstruck-live r1 r2 places keys struck = each-row (IsLive r2) keys struck.exchanged.live.live
@@ -138,14 +129,14 @@ unstruck-zeros dp k t r1 r2 ways live held struck zeros =
     let keys = unstruck_keys dp k t r1 ways in
     zeros-same r1 r2 live keys (rows-same r1 r2 keys struck.same (key-places-of (IsLive r1) ways keys (unstruck-of dp k t r1 ways) held)) (unstruck-rows dp k t r1 ways (HasZeros live) zeros)
 
-module _ (dp : Dp) (k : ℕ) (t : Option ℤ) (above r1 r2 : RegionView) (members : List Member) (ways : List Way) (keys : List Key) (steps : List Step) (h : IsMade dp k t above r1 r2 members ways keys steps) where
+module _ (dp : Dp) (k : ℕ) (t : Option ℤ) (above r1 r2 : RegionView) (members : List Member) (ways : List Way) (keys : List Key) (h : AreListed dp k t above r1 r2 members ways keys) where
   pub layer-keys : Each (IsKeyOf ways) keys
-  layer-keys = unstruck-are dp (k + 1) t r1 ways keys h.moved
+  layer-keys = unstruck-are dp (k + 1) t r1 ways keys h.all
 
   ordered : HasLeft r1 (rows_of ways) r2 (key_rows keys)
   ordered =
       let unstruck = unstruck_keys dp (k + 1) t r1 ways in
-      left-moved r1 r2 (rows_of ways) (key_rows unstruck) (key_rows keys) (IsPermutation-map (λ (key : Key). key.row) unstruck keys h.moved) h.struck
+      left-moved r1 r2 (rows_of ways) (key_rows unstruck) (key_rows keys) (IsPermutation-map (λ (key : Key). key.row) unstruck keys h.all) h.struck
 
   pub layer-live : AreLive r2 (key_rows keys)
   layer-live = ordered.exchanged.live
@@ -156,33 +147,30 @@ module _ (dp : Dp) (k : ℕ) (t : Option ℤ) (above r1 r2 : RegionView) (member
   pub layer-in : Each (IsKeyIn dp (k + 1) r2) keys
   layer-in = keys-same dp (k + 1) r1 r2 keys ordered.same (key-in dp (k + 1) r1 ways h.distinct.good h.exchanged.live.live keys layer-keys)
 
-  abbrev paths_of : List ℕ → ℕ → List ℕ
-  paths_of prefix = path_at prefix steps
-
-  pub whole : (prefix : List ℕ) → undominated dp (k + 1) [] (all_keyed (paths_of prefix) r2 ways keys) ≡ whole_layer dp k t (members_as (paths_of prefix) above members)
-  whole prefix =
+  pub whole : (paths : ℕ → List ℕ) → undominated dp (k + 1) [] (all_keyed paths r2 ways keys) ≡ whole_layer dp k t (members_as paths above members)
+  whole paths =
       let sorted = sorted-same (held_row r2) (held_row r1) keys (Each-then (λ (key : Key). held_row r2 key.row ≡ held_row r1 key.row) (λ (key : Key). held_row r1 key.row ≡ held_row r2 key.row) keys (λ key e. sym e) keys-still) h.sorted in
-      ap (undominated dp (k + 1) []) (keyed-of (paths_of prefix) r1 r2 ways keys layer-keys keys-still
-      ∙ (unstruck-in-order dp (k + 1) t r1 ways keys h.moved h.distinct.apart h.distinct.good sorted (paths_of prefix)
-      ∙ ap (λ rs. unstruck dp (k + 1) t (in_order dp (k + 1) rs)) (h.list (paths_of prefix))))
+      ap (undominated dp (k + 1) []) (keyed-of paths r1 r2 ways keys layer-keys keys-still
+      ∙ (unstruck-in-order dp (k + 1) t r1 ways keys h.all h.distinct.apart h.distinct.good sorted paths
+      ∙ ap (λ rs. unstruck dp (k + 1) t (in_order dp (k + 1) rs)) (h.list paths)))
 
-  module _ (most : ℕ) (r3 : RegionView) (kept : List Key) (more : Bool) (done : HasPruned dp (k + 1) most r2 keys kept more) (left : HasLeft r2 (key_rows keys) r3 (key_rows kept)) where
+  module _ (most : ℕ) (r3 : RegionView) (kept : List Key) (more : Bool) (done : HasPruned dp (k + 1) most r2 keys kept more) (left : HasLeft r2 (key_rows keys) r3 (key_rows kept)) (steps : List Step) where
     pub kept-places : Each (λ key. key.place < length ways) kept
     kept-places = done.places (length ways) (Each-then (IsKeyOf ways) (λ key. key.place < length ways) keys (λ key h. h.within) layer-keys)
 
-    parents-low : Each (λ key. (way_at ways key.place).parent ≤ length steps) kept
-    parents-low = Each-then (λ (key : Key). key.place < length ways) (λ (key : Key). (way_at ways key.place).parent ≤ length steps) kept
-        (λ key low. parents-within dp k (length steps) above members (way_row r1 ways) ways h.reached h.list key.place low) kept-places
+    parents-low : Each (IsReachedWithin (length steps)) members → Each (λ key. (way_at ways key.place).parent ≤ length steps) kept
+    parents-low reached = Each-then (λ (key : Key). key.place < length ways) (λ (key : Key). (way_at ways key.place).parent ≤ length steps) kept
+        (λ key low. parents-within dp k (length steps) above members (way_row r1 ways) ways reached h.list key.place low) kept-places
 
-    pub next-list : (prefix : List ℕ) → members_as (path_at prefix (steps ++ map (step_of ways) kept)) r3 (entered (length steps) kept)
-        ≡ take most (whole_layer dp k t (members_as (paths_of prefix) above members))
-    next-list prefix =
+    pub next-list : Each (IsReachedWithin (length steps)) members → (prefix : List ℕ) → members_as (path_at prefix (steps ++ map (step_of ways) kept)) r3 (entered (length steps) kept)
+        ≡ take most (whole_layer dp k t (members_as (path_at prefix steps) above members))
+    next-list reached prefix =
         let live = Each-then (IsKeyIn dp (k + 1) r2) (λ (key : Key). IsLive r2 key.row) kept (λ key h. h.live) done.within in
         entered-same (path_at prefix (steps ++ map (step_of ways) kept)) r2 r3 (length steps) kept left.same live
-        ∙ (descended prefix r2 ways steps kept parents-low ∙ (done.list (paths_of prefix) ways ∙ ap (take most) (whole prefix)))
+        ∙ (descended prefix r2 ways steps kept (parents-low reached) ∙ (done.list (path_at prefix steps) ways ∙ ap (take most) (whole (path_at prefix steps))))
 
-    pub next-more : (prefix : List ℕ) → more ≡ nat_lt most (length (whole_layer dp k t (members_as (paths_of prefix) above members)))
-    next-more prefix = done.more_stay (paths_of prefix) ways ∙ ap (λ l. nat_lt most (length l)) (whole prefix)
+    pub next-more : (prefix : List ℕ) → more ≡ nat_lt most (length (whole_layer dp k t (members_as (path_at prefix steps) above members)))
+    next-more prefix = done.more_stay (path_at prefix steps) ways ∙ ap (λ l. nat_lt most (length l)) (whole (path_at prefix steps))
 
     pub next-held : Each (IsHeldAt dp (k + 1) r3) (entered (length steps) kept)
     next-held = held-each dp (k + 1) (length steps) r3 kept (keys-same dp (k + 1) r2 r3 kept left.same done.within)
@@ -192,8 +180,8 @@ module _ (dp : Dp) (k : ℕ) (t : Option ℤ) (above r1 r2 : RegionView) (member
         subst (HasExchanged above (member_rows members) r3) (sym (entered-rows (length steps) kept))
         (exchange-then above r2 r3 (member_rows members) (key_rows keys) (key_rows kept) (exchange-then above r1 r2 (member_rows members) (rows_of ways) (key_rows keys) h.exchanged ordered.exchanged) left.exchanged)
 
-    pub next-backward : AreBackward steps → AreBackward (steps ++ map (step_of ways) kept)
-    next-backward back = behind steps kept parents-low back
+    pub next-backward : Each (IsReachedWithin (length steps)) members → AreBackward steps → AreBackward (steps ++ map (step_of ways) kept)
+    next-backward reached back = behind steps kept (parents-low reached) back
       where
         behind : (before : List Step) (keys : List Key) → Each (λ key. (way_at ways key.place).parent ≤ length before) keys → AreBackward before → AreBackward (before ++ map (step_of ways) keys)
         behind before [] low back = subst AreBackward (sym (append-nil before)) back

@@ -1,4 +1,5 @@
 pub mod HeldRows
+pub mod Blocks
 pub mod Tops
 pub mod Joined
 pub mod Extended

@@ -1,4 +1,5 @@
 pub mod Rows
+pub mod Blocks
 pub mod Table
 pub mod Ways
 pub mod Members

@@ -11,7 +11,7 @@ ghost use Rattle.layer_candidates.specs.Ways.{IsNear};
 ghost use Rattle.row_region.specs.Region.{RegionView};
 
 use crate::candidates::Candidates;
-use crate::holding::{give_members, put_row};
+use crate::holding::{give_rows, put_row};
 use crate::member::Member;
 use crate::step::Step;
 use crate::walking::write_path;
@@ -209,7 +209,7 @@ impl Beam {
         self.begin(region, model, prefix, row, value);
         let reduced = self.compile(region, model, prefix, width, threshold);
         let value = self.first(prefix, out);
-        give_members(region, self.members.as_slice());
+        give_rows(region, self.members.as_slice());
         Beamed { value, reduced }
     }
 

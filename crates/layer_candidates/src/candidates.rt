@@ -2,7 +2,7 @@ ghost use Rattle.std.specs.Prelude.{◌≡◌, ℕ, ◌+◌, ◌*◌, ◌<◌, �
 ghost use Rattle.dp_model.specs.Lists.{Each};
 ghost use Rattle.dp_laws.specs.Restricted.Beam.{whole_layer};
 ghost use Rattle.layer_candidates.specs.HeldRows.{AreLive, HasExchanged};
-ghost use Rattle.layer_candidates.specs.Layering.{HasMemory};
+ghost use Rattle.layer_candidates.specs.Layering.{HasMemory, HasListed};
 ghost use Rattle.layer_candidates.specs.Members.{member_rows, members_as, IsHeldAt, IsMemberOf};
 ghost use Rattle.layer_candidates.specs.Steps.{path_at, AreBackward, IsReachedWithin};
 
@@ -52,6 +52,47 @@ impl Candidates {
         })
     }
 
+    /// Lists the candidates for the layer below the one at depth `k` that are not struck, in the reduction order. The members' rows
+    /// are given back, and so are those of the struck candidates.
+    fn list_next<M: DpModel>(
+        &mut self,
+        model: &M,
+        k: usize,
+        threshold: Option<i64>,
+        region: &mut Region,
+        members: &[Member],
+    )
+        requires layer { k < (M.meaning (M.numbers model.now)).vars }
+        requires words { region.old.words ≡ (M.meaning (M.numbers model.now)).words }
+        requires members { Each (IsMemberOf (M.meaning (M.numbers model.now)) k region.old) members.now }
+        requires live { AreLive region.old (member_rows members.now) }
+        requires memory { HasMemory (M.meaning (M.numbers model.now)).words (length members.now * (M.meaning (M.numbers model.now)).choices k) self.old }
+        requires spare { length members.now * (M.meaning (M.numbers model.now)).choices k + 1 ≤ region.old.spare }
+        ensures listed { HasListed (M.meaning (M.numbers model.now)) k threshold region.old members.now region.new self.new }
+        ensures memory { (words count : ℕ) → HasMemory words count self.old → HasMemory words count self.new }
+    {
+        extend_layer(
+            model,
+            k,
+            members,
+            region,
+            self.parent.as_mut_slice(),
+            &mut self.ways,
+            self.folds.as_mut_slice(),
+            self.heads.as_mut_slice(),
+            self.next.as_mut_slice(),
+        );
+        list_unstruck(
+            model,
+            k + 1,
+            threshold,
+            region,
+            self.ways.as_slice(),
+            &mut self.keys,
+        );
+        sort(region, model.first_live(k + 1), &mut self.keys);
+    }
+
     /// Makes the layer below the one at depth `k`, as many of its first members as `most`: the members are exchanged, and so are
     /// their rows in the region; each new one has a step of its own. Answers whether there are more. It takes no memory.
     pub fn next_layer<M: DpModel>(
@@ -86,26 +127,7 @@ impl Candidates {
         ensures members_capacity { vec_capacity members.new ≡ vec_capacity members.old }
         ensures steps_capacity { vec_capacity steps.new ≡ vec_capacity steps.old }
     {
-        extend_layer(
-            model,
-            k,
-            members.as_slice(),
-            region,
-            self.parent.as_mut_slice(),
-            &mut self.ways,
-            self.folds.as_mut_slice(),
-            self.heads.as_mut_slice(),
-            self.next.as_mut_slice(),
-        );
-        list_unstruck(
-            model,
-            k + 1,
-            threshold,
-            region,
-            self.ways.as_slice(),
-            &mut self.keys,
-        );
-        sort(region, model.first_live(k + 1), &mut self.keys);
+        self.list_next(model, k, threshold, region, members.as_slice());
         let more = prune(
             model,
             k + 1,

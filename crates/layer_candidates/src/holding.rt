@@ -1,13 +1,9 @@
 //! Rows of a region are taken and given back.
 
-ghost use Rattle.std.specs.Prelude.{◌≡◌, ℕ, ◌+◌, ◌<◌, ℤ, [], List, Bool, true, false, length, map, Some, None, slice_set};
+ghost use Rattle.std.specs.Prelude.{◌≡◌, ℕ, ◌+◌, ◌<◌, ℤ, [], List, true, false, length, map, None, slice_set};
 ghost use Rattle.layer_candidates.specs.HeldRows.{held_row, AreLive, HasExchanged};
-ghost use Rattle.layer_candidates.specs.KeyOrder.{key_rows};
-ghost use Rattle.layer_candidates.specs.Members.{member_rows};
 ghost use Rattle.row_region.specs.Region.{IsLive, HasPut};
 
-use crate::key::Key;
-use crate::member::Member;
 use crate::rows::row_of;
 use row_region::{Region, RowId};
 
@@ -54,24 +50,24 @@ pub fn move_out(region: &mut Region, place: u32, cells: &mut [i64])
     region.give(RowId { place });
 }
 
-/// Gives the rows of the keys back.
-pub fn give_keys(region: &mut Region, keys: &[Key])
-    requires { AreLive region.old (key_rows keys.now) }
-    ensures { HasExchanged region.old (key_rows keys.now) region.new [] }
-{
-    'keys: for i in 0..keys.len() {
-        region.give(RowId { place: keys[i].row });
-    }
+/// A thing that has a row of a region.
+pub trait HasRow {
+    /// The place of its row.
+    ghost place: { Self → ℕ };
+
+    /// The place of its row.
+    fn row(&self) -> u32
+        ensures { result ≡ place self.now };
 }
 
-/// Gives the rows of the members back.
-pub fn give_members(region: &mut Region, members: &[Member])
-    requires { AreLive region.old (member_rows members.now) }
-    ensures { HasExchanged region.old (member_rows members.now) region.new [] }
+/// Gives the rows of some things back.
+pub fn give_rows<T: HasRow>(region: &mut Region, things: &[T])
+    requires { AreLive region.old (map T.place things.now) }
+    ensures { HasExchanged region.old (map T.place things.now) region.new [] }
 {
-    'members: for i in 0..members.len() {
+    'things: for i in 0..things.len() {
         region.give(RowId {
-            place: members[i].row,
+            place: things[i].row(),
         });
     }
 }

@@ -1,3 +1,5 @@
+use crate::holding::HasRow;
+
 /// By what a way is put into the reduction order.
 #[derive(Clone, Copy, Debug)]
 pub struct Key {
@@ -9,4 +11,12 @@ pub struct Key {
     pub place: u32,
     /// The place of its state's row.
     pub row: u32,
+}
+
+impl HasRow for Key {
+    ghost place = { λ key. key.row };
+
+    fn row(&self) -> u32 {
+        self.row
+    }
 }

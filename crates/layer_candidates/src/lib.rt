@@ -10,6 +10,7 @@
 #![tactic(auto)]
 
 mod beam;
+mod block;
 mod candidates;
 mod descending;
 mod extending;
@@ -29,7 +30,7 @@ mod way;
 pub use beam::{Beam, Beamed};
 pub use candidates::Candidates;
 pub use extending::{Taken, extend_by};
-pub use holding::{move_out, put_row, take_row};
+pub use holding::{HasRow, give_rows, put_row, take_row};
 pub use key::Key;
 pub use member::Member;
 pub use ordering::{put_in_order, sort};

@@ -1,3 +1,5 @@
+use crate::holding::HasRow;
+
 /// A member of a layer: a prefix by its last step, with its state and value.
 #[derive(Clone, Copy, Debug)]
 pub struct Member {
@@ -9,4 +11,12 @@ pub struct Member {
     pub row: u32,
     /// The step by which the prefix is reached.
     pub step: u32,
+}
+
+impl HasRow for Member {
+    ghost place = { λ member. member.row };
+
+    fn row(&self) -> u32 {
+        self.row
+    }
 }

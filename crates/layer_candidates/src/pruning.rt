@@ -8,7 +8,7 @@ ghost use Rattle.layer_candidates.specs.KeyOrder.{key_rows};
 ghost use Rattle.layer_candidates.specs.Ways.{IsNearly};
 ghost use Rattle.layer_candidates.specs.Pruning.{IsKeyIn, led_by, with_leader, HasPruned};
 
-use crate::holding::give_keys;
+use crate::holding::give_rows;
 use crate::key::Key;
 use crate::rows::row_of;
 use dp_model::DpModel;
@@ -93,7 +93,7 @@ pub fn prune<M: DpModel>(
             region.give(RowId { place: key.row });
         } else {
             if kept.len() == most {
-                give_keys(region, &keys[i..]);
+                give_rows(region, &keys[i..]);
                 return true;
             }
             lead(leaders, key);

@@ -14,6 +14,8 @@ use Rattle.layer_candidates.specs.KeyOrder.{goes_before}
 use Rattle.layer_candidates.specs.Pruning.{unstruck_keys}
 use Rattle.row_region.specs.Region.{RegionView}
 use Rattle.layer_nodes.specs.declared.node.Node.{Node}
+use Rattle.layer_nodes.specs.declared.striking.Strikes.{Strikes}
+use Rattle.layer_nodes.specs.declared.striking.Strikes.TheVariants.{AtMost, Nothing}
 use Rattle.layer_nodes.specs.Expanding.{key_in, number_at, node_of, IsNumbered, led}
 
 -- the nodes of the layer at depth k that are not struck
@@ -35,6 +37,11 @@ sifted dp k t two = record { above = with_redirected (sift_redirects dp k t 0 tw
 -- the layer at depth k with its arcs, and of the next one the nodes that are not struck
 abbrev pub expand_sifted : Dp → ℕ → Option ℤ → List DdNode → TwoLayers
 expand_sifted dp k t layer = sifted dp (k + 1) t (expand dp k layer)
+
+-- the layer at depth k with its arcs, and the next one without what is struck
+abbrev pub expanded_by : Strikes → Dp → ℕ → List DdNode → TwoLayers
+expanded_by (AtMost t) dp k = expand_sifted dp k t
+expanded_by Nothing dp k = expand dp k
 
 -- the ways of the layer at depth k that are not struck became the nodes, in the reduction order, and the arcs lead to their
 -- places; the region has the rows of all ways

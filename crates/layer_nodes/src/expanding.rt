@@ -2,13 +2,12 @@
 
 ghost use Rattle.std.specs.Prelude.{◌≡◌, ℕ, ◌+◌, ◌*◌, ◌^◌, ◌<◌, ◌≤◌, [], List, length, vec_capacity, IfOk, IsSome};
 ghost use Rattle.dp_model.specs.Lists.{Each};
-ghost use Rattle.dp_laws.specs.Rules.Compiling.{expand};
 ghost use Rattle.layer_candidates.specs.HeldRows.{held_row, HasExchanged};
 ghost use Rattle.layer_candidates.specs.Members.{IsMemberOf};
 ghost use Rattle.layer_nodes.specs.Expanding.{members_from, IsExpanded};
 ghost use Rattle.layer_nodes.specs.Holding.{AreHeld, places_of};
 ghost use Rattle.layer_nodes.specs.Nodes.{shown_layer, shown_below};
-ghost use Rattle.layer_nodes.specs.Sifting.{expand_sifted};
+ghost use Rattle.layer_nodes.specs.Sifting.{expanded_by};
 ghost use Rattle.layer_nodes.specs.Steps.{IsParent, IsRanked, KeepsNodes, KeepsRoom};
 ghost use Rattle.layer_nodes.specs.Stored.{rows_in};
 
@@ -16,6 +15,7 @@ use crate::extending::extend_layer;
 use crate::layer::Layer;
 use crate::node::Node;
 use crate::numbering::{arrange, arrange_unstruck};
+use crate::striking::Strikes;
 use dp_laws::DdArc;
 use dp_model::{DpModel, OutOfMemory};
 use layer_candidates::{Key, Way};
@@ -71,11 +71,12 @@ impl Expansion {
     }
 }
 
-/// Extends the nodes of the layer at depth `k`, whose rows the region has, and makes the nodes of the next layer, whose rows are
-/// put into it.
+/// Extends the nodes of the layer at depth `k`, whose rows the region has, and makes the nodes of the next layer that are not
+/// struck, whose rows are put into it.
 fn expand_nodes<M: DpModel>(
     model: &M,
     k: usize,
+    strikes: Strikes,
     region: &mut Region,
     above: &mut [Node],
     arcs: &mut Vec<DdArc>,
@@ -91,7 +92,7 @@ fn expand_nodes<M: DpModel>(
     requires below_room { length above.old * (M.meaning (M.numbers model.now)).choices k ≤ vec_capacity below.old }
     requires room { length above.old * (M.meaning (M.numbers model.now)).choices k ≤ expansion.old.most }
     requires spare { length above.old * (M.meaning (M.numbers model.now)).choices k + 1 ≤ region.old.spare }
-    ensures expanded { IsExpanded (expand (M.meaning (M.numbers model.now)) k) (M.meaning (M.numbers model.now)) k (held_row region.old) above.old above.new arcs.new.items (held_row region.new) below.new.items }
+    ensures expanded { IsExpanded (expanded_by strikes (M.meaning (M.numbers model.now)) k) (M.meaning (M.numbers model.now)) k (held_row region.old) above.old above.new arcs.new.items (held_row region.new) below.new.items }
     ensures exchanged { HasExchanged region.old [] region.new (rows_in below.new.items) }
     ensures arcs_capacity { vec_capacity arcs.new ≡ vec_capacity arcs.old }
     ensures below_capacity { vec_capacity below.new ≡ vec_capacity below.old }
@@ -110,26 +111,42 @@ fn expand_nodes<M: DpModel>(
         expansion.next.as_mut_slice(),
         expansion.exact.as_mut_slice(),
     );
-    arrange(
-        region,
-        model.first_live(k + 1),
-        expansion.ways.as_slice(),
-        expansion.exact.as_slice(),
-        &mut expansion.keys,
-        expansion.places.as_mut_slice(),
-        arcs.as_mut_slice(),
-        below,
-    );
+    match strikes {
+        Strikes::AtMost(threshold) => arrange_unstruck(
+            model,
+            k + 1,
+            threshold,
+            region,
+            expansion.ways.as_slice(),
+            expansion.exact.as_slice(),
+            &mut expansion.keys,
+            expansion.places.as_mut_slice(),
+            arcs.as_mut_slice(),
+            below,
+        ),
+        Strikes::Nothing => arrange(
+            region,
+            model.first_live(k + 1),
+            expansion.ways.as_slice(),
+            expansion.exact.as_slice(),
+            &mut expansion.keys,
+            expansion.places.as_mut_slice(),
+            arcs.as_mut_slice(),
+            below,
+        ),
+    }
 }
 
 /// Expands the layer at depth `k`, whose rows the region holds: its nodes get an arc for each allowed decision, and of each
 /// state the best candidate, in the reduction order, is a node of the next layer, exact where all arcs to its state come from
-/// exact nodes; whatever the paths of the nodes above are. Nothing else of them changes. The rows of the nodes that the next layer
-/// had before stay as they are; those of its new ones are put into the region, which has a free row for each candidate and one
-/// more. It takes no memory.
+/// exact nodes; whatever the paths of the nodes above are. Of the next layer the nodes that are struck are left out: the arcs to
+/// them have no target, and they are neither put in order nor made. Nothing else of the nodes above changes. The rows of the nodes
+/// that the next layer had before stay as they are; those of its new ones are put into the region, which has a free row for each
+/// candidate and one more. It takes no memory.
 pub fn expand<M: DpModel>(
     model: &M,
     k: usize,
+    strikes: Strikes,
     region: &mut Region,
     above: &mut Layer,
     next: &mut Layer,
@@ -146,8 +163,8 @@ pub fn expand<M: DpModel>(
     requires nodes_room { length above.old.nodes * (M.meaning (M.numbers model.now)).choices k ≤ next.old.nodes_room }
     requires room { length above.old.nodes * (M.meaning (M.numbers model.now)).choices k ≤ expansion.old.most }
     requires spare { length above.old.nodes * (M.meaning (M.numbers model.now)).choices k + 1 ≤ region.old.spare }
-    ensures above { (paths : ℕ → List ℕ) → shown_layer paths above.new.nodes ≡ (expand (M.meaning (M.numbers model.now)) k (shown_layer paths above.old.nodes)).above }
-    ensures next { (paths : ℕ → List ℕ) → shown_below paths next.new.nodes ≡ (expand (M.meaning (M.numbers model.now)) k (shown_layer paths above.old.nodes)).next }
+    ensures above { (paths : ℕ → List ℕ) → shown_layer paths above.new.nodes ≡ (expanded_by strikes (M.meaning (M.numbers model.now)) k (shown_layer paths above.old.nodes)).above }
+    ensures next { (paths : ℕ → List ℕ) → shown_below paths next.new.nodes ≡ (expanded_by strikes (M.meaning (M.numbers model.now)) k (shown_layer paths above.old.nodes)).next }
     ensures ranked { Each (IsRanked (M.meaning (M.numbers model.now)) (k + 1)) next.new.nodes }
     ensures unmerged { Each (λ n. IsSome n.parent) next.new.nodes }
     ensures few { length next.new.nodes ≤ length above.old.nodes * (M.meaning (M.numbers model.now)).choices k }
@@ -160,107 +177,7 @@ pub fn expand<M: DpModel>(
     expand_nodes(
         model,
         k,
-        region,
-        above.nodes.as_mut_slice(),
-        &mut above.arcs,
-        &mut next.nodes,
-        expansion,
-    );
-    next.held = Snapshot::of(region);
-}
-
-/// Extends the nodes of the layer at depth `k`, whose rows the region has, and makes the nodes of the next layer that are not
-/// struck, whose rows are put into it.
-fn expand_sifted_nodes<M: DpModel>(
-    model: &M,
-    k: usize,
-    threshold: Option<i64>,
-    region: &mut Region,
-    above: &mut [Node],
-    arcs: &mut Vec<DdArc>,
-    below: &mut Vec<Node>,
-    expansion: &mut Expansion,
-)
-    requires layer { k < (M.meaning (M.numbers model.now)).vars }
-    requires region_words { region.old.words ≡ (M.meaning (M.numbers model.now)).words }
-    requires row_words { expansion.old.words ≡ (M.meaning (M.numbers model.now)).words }
-    requires members { Each (IsMemberOf (M.meaning (M.numbers model.now)) k region.old) (members_from 0 above.old) }
-    requires few_nodes { length above.old < 2 ^ 32 }
-    requires arcs_room { length above.old * (M.meaning (M.numbers model.now)).choices k ≤ vec_capacity arcs.old }
-    requires below_room { length above.old * (M.meaning (M.numbers model.now)).choices k ≤ vec_capacity below.old }
-    requires room { length above.old * (M.meaning (M.numbers model.now)).choices k ≤ expansion.old.most }
-    requires spare { length above.old * (M.meaning (M.numbers model.now)).choices k + 1 ≤ region.old.spare }
-    ensures expanded { IsExpanded (expand_sifted (M.meaning (M.numbers model.now)) k threshold) (M.meaning (M.numbers model.now)) k (held_row region.old) above.old above.new arcs.new.items (held_row region.new) below.new.items }
-    ensures exchanged { HasExchanged region.old [] region.new (rows_in below.new.items) }
-    ensures arcs_capacity { vec_capacity arcs.new ≡ vec_capacity arcs.old }
-    ensures below_capacity { vec_capacity below.new ≡ vec_capacity below.old }
-    ensures expansion { expansion.new ≡ expansion.old }
-{
-    extend_layer(
-        model,
-        k,
-        region,
-        expansion.from.as_mut_slice(),
-        above,
-        arcs,
-        &mut expansion.ways,
-        expansion.folds.as_mut_slice(),
-        expansion.heads.as_mut_slice(),
-        expansion.next.as_mut_slice(),
-        expansion.exact.as_mut_slice(),
-    );
-    arrange_unstruck(
-        model,
-        k + 1,
-        threshold,
-        region,
-        expansion.ways.as_slice(),
-        expansion.exact.as_slice(),
-        &mut expansion.keys,
-        expansion.places.as_mut_slice(),
-        arcs.as_mut_slice(),
-        below,
-    );
-}
-
-/// Expands the layer at depth `k` as `expand` does, but of the next layer those nodes are left out that are struck by their rough
-/// bound; the arcs to them have no target, and their rows are given back. They are neither put in order nor made. It takes no
-/// memory.
-pub fn expand_sifted<M: DpModel>(
-    model: &M,
-    k: usize,
-    threshold: Option<i64>,
-    region: &mut Region,
-    above: &mut Layer,
-    next: &mut Layer,
-    expansion: &mut Expansion,
-)
-    requires layer { k < (M.meaning (M.numbers model.now)).vars }
-    requires above_words { above.old.words ≡ (M.meaning (M.numbers model.now)).words }
-    requires next_words { next.old.words ≡ (M.meaning (M.numbers model.now)).words }
-    requires region_words { region.old.words ≡ (M.meaning (M.numbers model.now)).words }
-    requires row_words { expansion.old.words ≡ (M.meaning (M.numbers model.now)).words }
-    requires held { AreHeld region.old above.old.nodes }
-    requires nodes { Each (IsParent (M.meaning (M.numbers model.now)) k) above.old.nodes }
-    requires arcs_room { length above.old.nodes * (M.meaning (M.numbers model.now)).choices k ≤ above.old.arcs_room }
-    requires nodes_room { length above.old.nodes * (M.meaning (M.numbers model.now)).choices k ≤ next.old.nodes_room }
-    requires room { length above.old.nodes * (M.meaning (M.numbers model.now)).choices k ≤ expansion.old.most }
-    requires spare { length above.old.nodes * (M.meaning (M.numbers model.now)).choices k + 1 ≤ region.old.spare }
-    ensures above { (paths : ℕ → List ℕ) → shown_layer paths above.new.nodes ≡ (expand_sifted (M.meaning (M.numbers model.now)) k threshold (shown_layer paths above.old.nodes)).above }
-    ensures next { (paths : ℕ → List ℕ) → shown_below paths next.new.nodes ≡ (expand_sifted (M.meaning (M.numbers model.now)) k threshold (shown_layer paths above.old.nodes)).next }
-    ensures ranked { Each (IsRanked (M.meaning (M.numbers model.now)) (k + 1)) next.new.nodes }
-    ensures unmerged { Each (λ n. IsSome n.parent) next.new.nodes }
-    ensures few { length next.new.nodes ≤ length above.old.nodes * (M.meaning (M.numbers model.now)).choices k }
-    ensures rest { KeepsNodes above.old above.new }
-    ensures next_rooms { KeepsRoom next.old next.new }
-    ensures expansion { expansion.new ≡ expansion.old }
-    ensures held { AreHeld region.new next.new.nodes }
-    ensures exchanged { HasExchanged region.old [] region.new (places_of next.new.nodes) }
-{
-    expand_sifted_nodes(
-        model,
-        k,
-        threshold,
+        strikes,
         region,
         above.nodes.as_mut_slice(),
         &mut above.arcs,

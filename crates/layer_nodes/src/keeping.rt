@@ -15,8 +15,8 @@ ghost use Rattle.layer_nodes.specs.Steps.{AreAmong, MayBeLengthened, KeepsNodes,
 use crate::layer::Layer;
 use crate::node::nodes_from;
 use crate::redirecting::put_arc;
-use crate::rows::give_rows;
 use dp_laws::DdArc;
+use layer_candidates::give_rows;
 use row_region::Region;
 
 /// The arc without its target where that is at or behind the width, or none where the arc stays as it is.

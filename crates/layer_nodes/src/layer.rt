@@ -1,4 +1,4 @@
-ghost use Rattle.std.specs.Prelude.{◌≡◌, ◌+◌, ◌<◌, ◌≤◌, ◌^◌, [], length, map, slice_get, option_map, option_and_then, Some, None, true, IfOk, IsSome, vec_capacity};
+ghost use Rattle.std.specs.Prelude.{◌≡◌, ◌+◌, ◌<◌, ◌≤◌, ◌^◌, [], length, map, slice_get, option_map, option_and_then, Some, IfOk, IsSome, vec_capacity};
 ghost use Rattle.dp_model.specs.Lists.{Each};
 ghost use Rattle.layer_candidates.specs.HeldRows.{AreLive, HasExchanged};
 ghost use Rattle.layer_nodes.specs.Holding.{AreHeld, places_of, HasStarted};
@@ -6,11 +6,10 @@ ghost use Rattle.layer_nodes.specs.Nodes.{NodeView, without_arcs, suffix_set};
 ghost use Rattle.layer_nodes.specs.Stored.{bare_of};
 ghost use Rattle.layer_nodes.specs.Steps.{KeepsRoom};
 
-use crate::node::Node;
-use crate::rows::give_rows;
+use crate::node::{Node, lone_node};
 use dp_laws::DdArc;
 use dp_model::OutOfMemory;
-use layer_candidates::put_row;
+use layer_candidates::{give_rows, put_row};
 use row_region::{Region, RowId};
 use std::alloc::Global;
 use std::fmt;
@@ -55,23 +54,6 @@ impl fmt::Debug for Layer {
             .field("nodes", &self.nodes)
             .field("arcs", &self.arcs)
             .finish_non_exhaustive()
-    }
-}
-
-/// An exact node without parent and arcs, whose row stands at the place.
-fn first_node(place: u32, value: i64, rank: i64) -> Node
-    ensures { result ≡ record { value = value; rank = rank; suffix = None; parent = None; row = place; decision = 0; first_arc = 0; arcs = 0; exact = true } }
-{
-    Node {
-        value,
-        rank,
-        suffix: None,
-        parent: None,
-        row: place,
-        decision: 0,
-        first_arc: 0,
-        arcs: 0,
-        exact: true,
     }
 }
 
@@ -133,7 +115,8 @@ impl Layer {
         let place = put_row(region, row);
         self.arcs.clear();
         self.nodes.clear();
-        self.nodes.push_reserved(first_node(place, value, rank));
+        self.nodes
+            .push_reserved(lone_node(place, value, rank, true));
         self.held = Snapshot::of(region);
     }
 

@@ -4,10 +4,10 @@
 //! of all layers stand in a region that the caller owns. `Layer::keep` copies the newest layer to one above it, whose nodes have
 //! the same rows; each step that takes nodes out gives their rows back.
 //!
-//! `expand` gives the nodes of a layer an arc for each allowed decision and makes the next layer in the reduction order;
-//! `expand_sifted` does so but leaves out the nodes that are struck; `strike` takes nodes out of it, and behind `expand_sifted`
-//! `drop_dominated` is enough; `keep_first` and `merge_rest` reduce it to a width. In each step the arcs of the layer above are
-//! redirected. `set_last_suffixes` and, from layer to layer up, `set_suffixes` tell how far it is from each node to the last layer.
+//! `expand` gives the nodes of a layer an arc for each allowed decision and makes the next layer in the reduction order, with or
+//! without the nodes that are struck; `strike` takes nodes out of it, and where the struck ones were left out `drop_dominated` is
+//! enough; `keep_first` and `merge_rest` reduce it to a width. In each step the arcs of the layer above are redirected.
+//! `set_last_suffixes` and, from layer to layer up, `set_suffixes` tell how far it is from each node to the last layer.
 //!
 //! It stands on `dp_model`, `dp_laws`, `layer_candidates` and `row_region`. Each step is proved to be the one that is defined in
 //! `dp_laws` on plain lists of nodes. Only the `prepare` calls take memory.
@@ -23,13 +23,12 @@ mod merging;
 mod node;
 mod numbering;
 mod redirecting;
-mod rows;
 mod striking;
 
 pub use ending::{set_last_suffixes, set_suffixes};
-pub use expanding::{Expansion, expand, expand_sifted};
+pub use expanding::{Expansion, expand};
 pub use keeping::keep_first;
 pub use layer::Layer;
 pub use merging::merge_rest;
 pub use redirecting::Redirects;
-pub use striking::{drop_dominated, strike};
+pub use striking::{Strikes, drop_dominated, strike};

@@ -1,6 +1,6 @@
 //! The last nodes of a layer are merged into one.
 
-ghost use Rattle.std.specs.Prelude.{◌≡◌, ℕ, ℤ, ◌+◌, ◌<◌, ◌≤◌, ◌^◌, ◌++◌, List, IfSome, IsSome, false, None, length, map, vec_capacity};
+ghost use Rattle.std.specs.Prelude.{◌≡◌, ℕ, ℤ, ◌+◌, ◌<◌, ◌≤◌, ◌^◌, ◌++◌, List, IfSome, IsSome, length, map, vec_capacity};
 ghost use Rattle.dp_model.specs.Gaps.{IsStateOf};
 ghost use Rattle.dp_model.specs.Lists.{Each};
 ghost use Rattle.dp_model.specs.Numbers.{IsSmall, add_some, greatest};
@@ -18,11 +18,10 @@ ghost use Rattle.layer_nodes.specs.Stored.{rows_in};
 
 use crate::layer::Layer;
 use crate::leading::redirect_by;
-use crate::node::{Node, nodes_from};
+use crate::node::{Node, lone_node, nodes_from};
 use crate::redirecting::{Redirect, Redirects, redirect_layer_behind};
-use crate::rows::give_rows;
 use dp_model::DpModel;
-use layer_candidates::{put_row, row_of};
+use layer_candidates::{give_rows, put_row, row_of};
 use row_region::Region;
 use std::snapshot::Snapshot;
 
@@ -124,23 +123,6 @@ fn merge_targets<M: DpModel>(
     best
 }
 
-/// An inexact node with its row at the place, and without parent and arcs.
-fn merged_node(value: i64, rank: i64, place: u32) -> Node
-    ensures { result ≡ record { value = value; rank = rank; suffix = None; parent = None; row = place; decision = 0; first_arc = 0; arcs = 0; exact = false } }
-{
-    Node {
-        value,
-        rank,
-        suffix: None,
-        parent: None,
-        row: place,
-        decision: 0,
-        first_arc: 0,
-        arcs: 0,
-        exact: false,
-    }
-}
-
 /// Merges the nodes but for the first `width - 1` into one, and tells where the arcs into them go. Their rows are given back, and
 /// the one into which they are merged, which is made in the cells `into`, is put into the region.
 fn merge_nodes<M: DpModel>(
@@ -174,7 +156,7 @@ fn merge_nodes<M: DpModel>(
     give_rows(region, last);
     let place = put_row(region, into);
     nodes.truncate(first);
-    nodes.push_reserved(merged_node(best.unwrap_or(0), rank, place));
+    nodes.push_reserved(lone_node(place, best.unwrap_or(0), rank, false));
 }
 
 /// Merges the nodes of the next layer, at depth `k`, but for the first `width - 1`, into one that stands last; the arcs of the

@@ -1,4 +1,6 @@
-ghost use Rattle.std.specs.Prelude.{◌≡◌, ◌≤◌, length, drop};
+ghost use Rattle.std.specs.Prelude.{◌≡◌, ◌≤◌, length, drop, None};
+
+use layer_candidates::HasRow;
 
 /// A node of a layer. Its row stands in a region, and its arcs lie in those of the layer; its kept path is that of its parent, a
 /// node of the layer above, with its decision.
@@ -22,6 +24,31 @@ pub struct Node {
     pub arcs: u32,
     /// Whether it stands for one state exactly.
     pub exact: bool,
+}
+
+impl HasRow for Node {
+    ghost place = { λ node. node.row };
+
+    fn row(&self) -> u32 {
+        self.row
+    }
+}
+
+/// A node without parent and arcs, whose row stands at the place.
+pub fn lone_node(place: u32, value: i64, rank: i64, exact: bool) -> Node
+    ensures { result ≡ record { value = value; rank = rank; suffix = None; parent = None; row = place; decision = 0; first_arc = 0; arcs = 0; exact = exact } }
+{
+    Node {
+        value,
+        rank,
+        suffix: None,
+        parent: None,
+        row: place,
+        decision: 0,
+        first_arc: 0,
+        arcs: 0,
+        exact,
+    }
 }
 
 /// The nodes from the place on.

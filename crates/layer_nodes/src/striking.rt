@@ -22,9 +22,9 @@ use dp_model::DpModel;
 use layer_candidates::{is_struck_by, row_of};
 use row_region::{Region, RowId};
 
-/// Which nodes are struck before the leaders are asked.
+/// Which nodes of a layer are struck.
 #[derive(Clone, Copy, Debug)]
-pub(crate) enum Strikes {
+pub enum Strikes {
     /// Those that their rough bound lifts to at most the threshold, and those without one.
     AtMost(Option<i64>),
     /// None: the rough bounds are not asked.

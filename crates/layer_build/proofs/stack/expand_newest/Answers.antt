@@ -12,12 +12,12 @@ expand-requires-clause-nodes g c κs within =
 pub returns-clause-above : goal.returns-clause-above
 returns-clause-above g c paths =
     let dp = g.M.DpModel.meaning (g.M.DpModel.numbers c.args.model.now) in
-    c.expand.ensures.above paths ∙ alike-above dp c.args.k paths c.args.newest.now.nodes c.keep.new.self.nodes c.keep.ensures.nodes
+    c.expand.ensures.above paths ∙ alike-above c.args.strikes dp c.args.k paths c.args.newest.now.nodes c.keep.new.self.nodes c.keep.ensures.nodes
 
 pub returns-clause-next : goal.returns-clause-next
 returns-clause-next g c paths =
     let dp = g.M.DpModel.meaning (g.M.DpModel.numbers c.args.model.now) in
-    c.expand.ensures.next paths ∙ alike-next dp c.args.k paths c.args.newest.now.nodes c.keep.new.self.nodes c.keep.ensures.nodes
+    c.expand.ensures.next paths ∙ alike-next c.args.strikes dp c.args.k paths c.args.newest.now.nodes c.keep.new.self.nodes c.keep.ensures.nodes
 
 pub returns-clause-rest : goal.returns-clause-rest
 returns-clause-rest g c = c.expand.ensures.rest.nodes ∙ c.keep.ensures.nodes

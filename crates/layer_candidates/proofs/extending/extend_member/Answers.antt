@@ -1,64 +1,53 @@
-use Rattle.std.proofs.Common.{◌≡◌, ◌+◌, ◌∷◌, length, refl, subst, ◌∙◌, arith}
-use Rattle.dp_model.specs.Decisions.{below}
-use Rattle.dp_laws.proofs.Diagrams.Places.{length-below}
-use Rattle.layer_candidates.specs.Extending.{HasExtended}
-use Rattle.layer_candidates.specs.Ways.{rows_of, way_row}
-use Rattle.layer_candidates.proofs.HeldRows.{exchange-self, exchange-then, length-rows}
-use Rattle.layer_candidates.proofs.Extended.{room-less, extended-none, extended-next, extended-skipped}
+use Rattle.std.proofs.Common.{refl, subst, ◌<◌, ◌∙◌, arith}
+use Rattle.layer_candidates.proofs.Extended.{extending-first, extending-more, extending-spare, extending-room, extending-all}
 use Rattle.layer_candidates.proofs.extending.extend_member.Goals as goal
 
 pub decisions-init : goal.decisions-init
 decisions-init g c =
     let dp = g.M.DpModel.meaning (g.M.DpModel.numbers c.args.model.now) in
     let a = c.args in let first = c.next_choice-decision in
-    let row = way_row a.region.now a.ways.now.items in
     let within = first.ensures.within in
     let choices = c.choices-choices.ensures in
     record {
-      extended = extended-skipped dp a.k a.parent.step a.s.now a.parent.value a.live 0 first.result row row a.ways.now.items a.ways.now.items a.folds.now a.heads.now a.next.now
-          first.ensures.on first.ensures.skipped (extended-none dp a.k a.parent.step a.s.now a.parent.value a.live row a.ways.now.items a.folds.now a.heads.now a.next.now c.requires.joined);
-      exchanged = exchange-self a.region.now (a.spot.now.place ∷ rows_of a.ways.now.items) c.requires.held;
+      extending = extending-first dp a.k a.parent.step a.s.now a.parent.value a.live a.region.now a.spot.now.place a.ways.now.items first.result a.folds.now a.heads.now a.next.now first.ensures.on first.ensures.skipped c.requires.held c.requires.joined;
       within = omega arith;
       capacity = refl;
     }
 
+pub extend_by-requires-clause-joined : goal.extend_by-requires-clause-joined
+extend_by-requires-clause-joined g c κs within = c.decisions.invariant.extending.extended.joined
+
+pub extend_by-requires-clause-words : goal.extend_by-requires-clause-words
+extend_by-requires-clause-words g c κs within = c.decisions.invariant.extending.exchanged.words ∙ c.requires.words
+
+pub extend_by-requires-clause-held : goal.extend_by-requires-clause-held
+extend_by-requires-clause-held g c κs within = c.decisions.invariant.extending.exchanged.live
+
 pub extend_by-requires-clause-room : goal.extend_by-requires-clause-room
 extend_by-requires-clause-room g c κs within =
+    let dp = g.M.DpModel.meaning (g.M.DpModel.numbers c.args.model.now) in
+    let a = c.args in let l = c.decisions in
     let less = c.decisions-test.true in
     let choices = c.choices-choices.ensures in
-    let h = c.decisions.invariant.extended in
-    let few = h.few in
-    let count = length-below c.decisions.decision in
-    room-less (length c.decisions.ways.items + 1) (length c.args.ways.now.items + _) _ _ c.args.folds.now c.decisions.folds c.args.next.now c.decisions.next
-    c.requires.room (omega arith) c.decisions.invariant.capacity c.decisions.auto.folds c.decisions.auto.next
+    extending-room dp a.k a.parent.step a.s.now a.parent.value a.live a.region.now a.spot.now.place a.ways.now.items l.decision l.region l.spot.place l.ways.items l.folds l.heads l.next l.invariant.extending (omega arith) _ _ a.folds.now a.next.now c.requires.room l.invariant.capacity l.auto.folds l.auto.next
 
 pub extend_by-requires-clause-spare : goal.extend_by-requires-clause-spare
 extend_by-requires-clause-spare g c κs within =
+    let dp = g.M.DpModel.meaning (g.M.DpModel.numbers c.args.model.now) in
+    let a = c.args in let l = c.decisions in
     let less = c.decisions-test.true in
     let choices = c.choices-choices.ensures in
-    let few = c.decisions.invariant.extended.few in
-    let count = length-below c.decisions.decision in
-    let spare = c.decisions.invariant.exchanged.spare in
-    let enough = c.requires.spare in
-    let old = length-rows c.args.ways.now.items in
-    let new = length-rows c.decisions.ways.items in
-    omega arith
+    extending-spare dp a.k a.parent.step a.s.now a.parent.value a.live a.region.now a.spot.now.place a.ways.now.items l.decision l.region l.spot.place l.ways.items l.folds l.heads l.next l.invariant.extending (omega arith) c.requires.spare
 
 pub decisions-preserved : goal.decisions-preserved
 decisions-preserved g c =
     let dp = g.M.DpModel.meaning (g.M.DpModel.numbers c.args.model.now) in
     let a = c.args in let l = c.decisions in let e = c.extend_by in let after = c.next_choice-decision-in-decisions in
-    let old = way_row a.region.now a.ways.now.items in
-    let new = way_row e.new.region e.new.ways.items in
     let within = after.ensures.within in
     let choices = c.choices-choices.ensures in
     record {
-      extended = extended-skipped dp a.k a.parent.step a.s.now a.parent.value a.live (l.decision + 1) after.result old new a.ways.now.items e.new.ways.items e.new.folds e.new.heads e.new.next
-          after.ensures.on after.ensures.skipped
-          (extended-next dp a.k a.parent.step a.s.now a.parent.value a.live l.decision old (way_row l.region l.ways.items) new a.ways.now.items l.ways.items e.new.ways.items l.folds l.heads l.next e.new.folds e.new.heads e.new.next
-          l.invariant.extended e.ensures.extended);
-      exchanged = exchange-then a.region.now l.region e.new.region (a.spot.now.place ∷ rows_of a.ways.now.items) (l.spot.place ∷ rows_of l.ways.items) (e.new.spot.place ∷ rows_of e.new.ways.items)
-          l.invariant.exchanged e.ensures.exchanged;
+      extending = extending-more dp a.k a.parent.step a.s.now a.parent.value a.live a.region.now a.spot.now.place a.ways.now.items l.decision l.region l.spot.place l.ways.items l.folds l.heads l.next l.invariant.extending
+          after.result e.new.region e.new.spot.place e.new.ways.items e.new.folds e.new.heads e.new.next after.ensures.on after.ensures.skipped e.ensures.extended e.ensures.exchanged;
       within = omega arith;
       capacity = e.ensures.capacity ∙ l.invariant.capacity;
     }
@@ -70,5 +59,7 @@ returns-clause-extended g c =
     let past = c.decisions-test.false in
     let within = l.invariant.within in
     let choices = c.choices-choices.ensures in
-    let all : l.decision ≡ dp.choices a.k = omega arith in
-    subst (λ n. HasExtended dp a.k a.parent.step a.s.now a.parent.value (below n) a.live (way_row a.region.now a.ways.now.items) a.ways.now.items (way_row l.region l.ways.items) l.ways.items l.folds l.heads l.next) all l.invariant.extended
+    extending-all dp a.k a.parent.step a.s.now a.parent.value a.live a.region.now a.spot.now.place a.ways.now.items l.decision l.region l.spot.place l.ways.items l.folds l.heads l.next l.invariant.extending (omega arith) (λ less. omega arith)
+
+pub returns-clause-exchanged : goal.returns-clause-exchanged
+returns-clause-exchanged g c = c.decisions.invariant.extending.exchanged

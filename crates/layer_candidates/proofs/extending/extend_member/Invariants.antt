@@ -1,14 +1,10 @@
-use Rattle.std.proofs.Common.{◌≡◌, ◌-◌, ◌≤◌, ◌∷◌, vec_capacity}
-use Rattle.dp_model.specs.Decisions.{below}
-use Rattle.layer_candidates.specs.Extending.{HasExtended}
-use Rattle.layer_candidates.specs.HeldRows.{HasExchanged}
-use Rattle.layer_candidates.specs.Ways.{rows_of, way_row}
+use Rattle.std.proofs.Common.{◌≡◌, ◌-◌, ◌≤◌, vec_capacity}
+use Rattle.layer_candidates.proofs.Extended.{IsExtending}
 use Rattle.layer_candidates.proofs.extending.extend_member.Given as goal
 
 abbrev pub invariant-decisions : goal.invariant-decisions
 invariant-decisions g l = record {
-  extended : HasExtended (g.M.DpModel.meaning (g.M.DpModel.numbers l.model)) l.k l.parent.step l.s l.parent.value (below l.decision) l.live (way_row l.fn.region l.fn.ways.items) l.fn.ways.items (way_row l.region l.ways.items) l.ways.items l.folds l.heads l.next;
-  exchanged : HasExchanged l.fn.region (l.fn.spot.place ∷ rows_of l.fn.ways.items) l.region (l.spot.place ∷ rows_of l.ways.items);
+  extending : IsExtending (g.M.DpModel.meaning (g.M.DpModel.numbers l.model)) l.k l.parent.step l.s l.parent.value l.live l.decision l.fn.region l.fn.spot.place l.fn.ways.items l.region l.spot.place l.ways.items l.folds l.heads l.next;
   within : l.decision ≤ l.choices;
   capacity : vec_capacity l.ways ≡ vec_capacity l.fn.ways;
 }

@@ -33,8 +33,8 @@ give-requires g c =
     let a = c.args in let l = c.keys in
     (looked dp a.k a.most a.region.now l.region a.keys.now l.leaders.items l.kept.items l.i c.requires.keys c.keys-test.true l.invariant.pruned l.invariant.left).one.live
 
-pub give_keys-requires : goal.give_keys-requires
-give_keys-requires g c =
+pub give_rows-requires : goal.give_rows-requires
+give_rows-requires g c =
     let a = c.args in let l = c.keys in
     subst (λ keys. AreLive l.region (key_rows keys)) (sym (to_end a.keys.now l.i c.keys-test.true))
     (live-right l.region (key_rows l.kept.items) (key_rows (drop l.i a.keys.now)) l.invariant.left.exchanged.live)
@@ -53,8 +53,8 @@ returns-then-len-most-clause-pruned g c =
 pub returns-then-len-most-clause-left : goal.returns-then-len-most-clause-left
 returns-then-len-most-clause-left g c =
     let a = c.args in let l = c.keys in
-    left-front a.region.now l.region c.give_keys.new.region (key_rows a.keys.now) (key_rows l.kept.items) (key_rows (drop l.i a.keys.now)) l.invariant.left
-    (subst (λ keys. HasExchanged l.region (key_rows keys) c.give_keys.new.region []) (to_end a.keys.now l.i c.keys-test.true) c.give_keys.ensures)
+    left-front a.region.now l.region c.give_rows.new.region (key_rows a.keys.now) (key_rows l.kept.items) (key_rows (drop l.i a.keys.now)) l.invariant.left
+    (subst (λ keys. HasExchanged l.region (key_rows keys) c.give_rows.new.region []) (to_end a.keys.now l.i c.keys-test.true) c.give_rows.ensures)
 
 pub keys-preserved : goal.keys-preserved
 keys-preserved g c =

@@ -2,7 +2,7 @@ use Rattle.std.proofs.Common.{rules, ◌≡◌, ◌+◌, ◌*◌, ◌≤◌, [],
 use Rattle.std.proofs.lemmas.List.{with_items_is, length-map}
 use Rattle.dp_model.specs.Laws.{IsLawful}
 use Rattle.dp_model.specs.Lists.{Each}
-use Rattle.dp_laws.specs.Rules.Compiling.{expand}
+use Rattle.layer_nodes.specs.Sifting.{expanded_by}
 use Rattle.layer_candidates.specs.Members.{IsMemberOf}
 use Rattle.layer_candidates.specs.HeldRows.{held_row, HasExchanged}
 use Rattle.layer_nodes.specs.Expanding.{IsExpanded, members_from}
@@ -37,14 +37,14 @@ returns-clause-above g c = λ paths.
     let N = c.next.inside in
     let e = c.expand_nodes in
     let view = ap (λ (l : LayerView). l.nodes) c.above.view_is in
-    let h = subst (λ old. IsExpanded (expand dp a.k) dp a.k (held_row a.region.now) old e.new.above e.new.arcs.items (held_row e.new.region) e.new.below.items) c.as_mut_slice.ensures.value e.ensures.expanded in
+    let h = subst (λ old. IsExpanded (expanded_by a.strikes dp a.k) dp a.k (held_row a.region.now) old e.new.above e.new.arcs.items (held_row e.new.region) e.new.below.items) c.as_mut_slice.ensures.value e.ensures.expanded in
     let row = held_row A.held.value in
     let have = held-rows a.region.now row A.arcs.items A.nodes.items (subst (AreHeld a.region.now) (sym view) c.requires.held) in
     let size : length e.new.above ≡ A.nodes.len = search rules in
     let nodes = with_items_is A.nodes e.new.above size in
     ap (λ l. shown_layer paths (map (node_view_by row e.new.arcs.items) l)) nodes
-    ∙ (above-by (expand dp a.k) dp a.k a.region.now A.nodes.items e.new.above e.new.arcs.items (held_row e.new.region) e.new.below.items h row have A.arcs.items paths
-    ∙ ap (λ l. (expand dp a.k (shown_layer paths l)).above) view)
+    ∙ (above-by (expanded_by a.strikes dp a.k) dp a.k a.region.now A.nodes.items e.new.above e.new.arcs.items (held_row e.new.region) e.new.below.items h row have A.arcs.items paths
+    ∙ ap (λ l. (expanded_by a.strikes dp a.k (shown_layer paths l)).above) view)
 
 pub returns-clause-next : goal.returns-clause-next
 returns-clause-next g c = λ paths.
@@ -54,13 +54,13 @@ returns-clause-next g c = λ paths.
     let N = c.next.inside in
     let e = c.expand_nodes in
     let view = ap (λ (l : LayerView). l.nodes) c.above.view_is in
-    let h = subst (λ old. IsExpanded (expand dp a.k) dp a.k (held_row a.region.now) old e.new.above e.new.arcs.items (held_row e.new.region) e.new.below.items) c.as_mut_slice.ensures.value e.ensures.expanded in
+    let h = subst (λ old. IsExpanded (expanded_by a.strikes dp a.k) dp a.k (held_row a.region.now) old e.new.above e.new.arcs.items (held_row e.new.region) e.new.below.items) c.as_mut_slice.ensures.value e.ensures.expanded in
     let row = held_row A.held.value in
     let have = held-rows a.region.now row A.arcs.items A.nodes.items (subst (AreHeld a.region.now) (sym view) c.requires.held) in
     let is : c.of.result.value ≡ e.new.region = c.of.ensures in
     ap (λ r. shown_below paths (map (node_view_by (held_row r) N.arcs.items) e.new.below.items)) is
-    ∙ (next-by (expand dp a.k) dp a.k a.region.now A.nodes.items e.new.above e.new.arcs.items (held_row e.new.region) e.new.below.items h row have A.arcs.items paths N.arcs.items
-    ∙ ap (λ l. (expand dp a.k (shown_layer paths l)).next) view)
+    ∙ (next-by (expanded_by a.strikes dp a.k) dp a.k a.region.now A.nodes.items e.new.above e.new.arcs.items (held_row e.new.region) e.new.below.items h row have A.arcs.items paths N.arcs.items
+    ∙ ap (λ l. (expanded_by a.strikes dp a.k (shown_layer paths l)).next) view)
 
 pub returns-clause-rest : goal.returns-clause-rest
 returns-clause-rest g c =
@@ -70,7 +70,7 @@ returns-clause-rest g c =
     let N = c.next.inside in
     let e = c.expand_nodes in
     let view = ap (λ (l : LayerView). l.nodes) c.above.view_is in
-    let h = subst (λ old. IsExpanded (expand dp a.k) dp a.k (held_row a.region.now) old e.new.above e.new.arcs.items (held_row e.new.region) e.new.below.items) c.as_mut_slice.ensures.value e.ensures.expanded in
+    let h = subst (λ old. IsExpanded (expanded_by a.strikes dp a.k) dp a.k (held_row a.region.now) old e.new.above e.new.arcs.items (held_row e.new.region) e.new.below.items) c.as_mut_slice.ensures.value e.ensures.expanded in
     let row = held_row A.held.value in
     let have = held-rows a.region.now row A.arcs.items A.nodes.items (subst (AreHeld a.region.now) (sym view) c.requires.held) in
     let size : length e.new.above ≡ A.nodes.len = search rules in
@@ -78,7 +78,7 @@ returns-clause-rest g c =
     record {
       words = ap (λ (l : LayerView). l.words) c.above.view_is;
       nodes = ap (λ l. map without_arcs (map (node_view_by row e.new.arcs.items) l)) nodes
-          ∙ (rest-by (expand dp a.k) dp a.k a.region.now A.nodes.items e.new.above e.new.arcs.items (held_row e.new.region) e.new.below.items h row have A.arcs.items
+          ∙ (rest-by (expanded_by a.strikes dp a.k) dp a.k a.region.now A.nodes.items e.new.above e.new.arcs.items (held_row e.new.region) e.new.below.items h row have A.arcs.items
           ∙ ap (λ (l : LayerView). map without_arcs l.nodes) c.above.view_is);
       places = places-seen row e.new.arcs.items _ ∙ (ap rows_in nodes ∙ (h.places ∙ (sym (places-seen row A.arcs.items A.nodes.items) ∙ ap places_of view)));
       nodes_room = ap (λ (l : LayerView). l.nodes_room) c.above.view_is;
@@ -92,7 +92,7 @@ returns-clause-held g c =
     let A = c.above.inside in
     let N = c.next.inside in
     let e = c.expand_nodes in
-    let h = subst (λ old. IsExpanded (expand dp a.k) dp a.k (held_row a.region.now) old e.new.above e.new.arcs.items (held_row e.new.region) e.new.below.items) c.as_mut_slice.ensures.value e.ensures.expanded in
+    let h = subst (λ old. IsExpanded (expanded_by a.strikes dp a.k) dp a.k (held_row a.region.now) old e.new.above e.new.arcs.items (held_row e.new.region) e.new.below.items) c.as_mut_slice.ensures.value e.ensures.expanded in
     let is : c.of.result.value ≡ e.new.region = c.of.ensures in
     subst (λ r. AreHeld e.new.region (map (node_view_by (held_row r) N.arcs.items) e.new.below.items)) (sym is)
     (ranked-held dp (laws_of g a.model.now) (a.k + 1) e.new.region N.arcs.items e.new.below.items (e.ensures.exchanged.words ∙ c.requires.region_words) e.ensures.exchanged.live.live (h.ranked N.arcs.items))
@@ -110,7 +110,7 @@ invariant_of-next g c =
     let A = c.above.inside in
     let N = c.next.inside in
     let e = c.expand_nodes in
-    let h = subst (λ old. IsExpanded (expand dp a.k) dp a.k (held_row a.region.now) old e.new.above e.new.arcs.items (held_row e.new.region) e.new.below.items) c.as_mut_slice.ensures.value e.ensures.expanded in
+    let h = subst (λ old. IsExpanded (expanded_by a.strikes dp a.k) dp a.k (held_row a.region.now) old e.new.above e.new.arcs.items (held_row e.new.region) e.new.below.items) c.as_mut_slice.ensures.value e.ensures.expanded in
     let count : length A.nodes.items ≡ length a.above.now.nodes = sym (length-map A.nodes.items (node_view_by (held_row A.held.value) A.arcs.items)) ∙ ap (λ (l : LayerView). length l.nodes) c.above.view_is in
     let room : N.room ≡ a.next.now.nodes_room = ap (λ (l : LayerView). l.nodes_room) c.next.view_is in
     let hold : length A.nodes.items * dp.choices a.k ≤ N.room = subst (λ n. n * dp.choices a.k ≤ N.room) (sym count) (subst (λ n. length a.above.now.nodes * dp.choices a.k ≤ n) (sym room) c.requires.nodes_room) in

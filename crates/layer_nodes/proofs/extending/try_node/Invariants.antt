@@ -1,17 +1,15 @@
-use Rattle.std.proofs.Common.{◌≡◌, ◌+◌, ◌-◌, ◌≤◌, ◌∷◌, ◌++◌, List, length, vec_capacity}
+use Rattle.std.proofs.Common.{◌≡◌, ◌+◌, ◌-◌, ◌≤◌, ◌++◌, List, length, vec_capacity}
 use Rattle.dp_model.specs.Decisions.{below}
-use Rattle.layer_candidates.specs.Extending.{HasExtended}
-use Rattle.layer_candidates.specs.HeldRows.{HasExchanged}
-use Rattle.layer_candidates.specs.Ways.{rows_of, way_row}
+use Rattle.layer_candidates.specs.Ways.{way_row}
+use Rattle.layer_candidates.proofs.Extended.{IsExtending}
 use Rattle.layer_nodes.specs.Expanding.{Trial, trials_by, AreTried}
 use Rattle.layer_nodes.proofs.extending.try_node.Given as goal
 
 abbrev pub invariant-decisions : goal.invariant-decisions
 invariant-decisions g l = record {
-  extended : HasExtended (g.M.DpModel.meaning (g.M.DpModel.numbers l.model)) l.k l.parent.step l.s l.parent.value (below l.decision) l.live (way_row l.fn.region l.fn.ways.items) l.fn.ways.items (way_row l.region l.ways.items) l.ways.items l.folds l.heads l.next;
+  extending : IsExtending (g.M.DpModel.meaning (g.M.DpModel.numbers l.model)) l.k l.parent.step l.s l.parent.value l.live l.decision l.fn.region l.fn.spot.place l.fn.ways.items l.region l.spot.place l.ways.items l.folds l.heads l.next;
   tried : (ts : List Trial) → AreTried (g.M.DpModel.meaning (g.M.DpModel.numbers l.model)) l.k (way_row l.fn.region l.fn.ways.items) (length l.fn.ways.items) ts l.fn.marks l.fn.arcs.items
       → AreTried (g.M.DpModel.meaning (g.M.DpModel.numbers l.model)) l.k (way_row l.region l.ways.items) (length l.ways.items) (ts ++ trials_by (g.M.DpModel.meaning (g.M.DpModel.numbers l.model)) l.k l.s l.exact (below l.decision)) l.marks l.arcs.items;
-  exchanged : HasExchanged l.fn.region (l.fn.spot.place ∷ rows_of l.fn.ways.items) l.region (l.spot.place ∷ rows_of l.ways.items);
   within : l.decision ≤ l.choices;
   capacity : vec_capacity l.ways ≡ vec_capacity l.fn.ways;
   arcs_few : length l.arcs.items ≤ length l.fn.arcs.items + l.decision;

@@ -67,9 +67,9 @@ returns-clause-merged g c =
     (rows-found dp a.k old nodes c.requires.nodes)
     (c.merge_into_row.ensures.merged ∙ ap (λ l. row_of_all dp a.k (map (bare (held_row old)) l)) last)
     c.merge_into_row.ensures.state
-    c.merge_targets-best.result c.merge_targets-best.new.redirects.items c.merged_node.result c.push_reserved.new.self.items
+    c.merge_targets-best.result c.merge_targets-best.new.redirects.items c.lone_node.result c.push_reserved.new.self.items
     (c.merge_targets-best.ensures.value ∙ ap (λ l. greatest (lifted dp a.k into (map (bare (held_row old)) l))) last)
     (c.merge_targets-best.ensures.redirects ∙ ap₂ (λ s l. s ++ map (merge_redirect dp a.k first into) (map (bare (held_row old)) l)) c.clear.ensures.items last)
     c.merge_targets-best.ensures.short
-    (c.merged_node.ensures ∙ ap₂ (λ v r. record { value = v; rank = r; suffix = None; parent = None; row = c.put_row-place.result; decision = 0; first_arc = 0; arcs = 0; exact = false }) (to_z-of_z w64 c.unwrap_or.result (record { sfits = c.unwrap_or.type_inv }) ∙ c.unwrap_or.ensures) (to_z-of_z w64 c.rank-rank.result (record { sfits = c.rank-rank.type_inv }) ∙ c.rank-rank.ensures))
-    (c.push_reserved.ensures.items ∙ ap (λ l. l ++ c.merged_node.result ∷ []) c.truncate.ensures.items)
+    (c.lone_node.ensures ∙ ap₂ (λ v r. record { value = v; rank = r; suffix = None; parent = None; row = c.put_row-place.result; decision = 0; first_arc = 0; arcs = 0; exact = false }) (to_z-of_z w64 c.unwrap_or.result (record { sfits = c.unwrap_or.type_inv }) ∙ c.unwrap_or.ensures) (to_z-of_z w64 c.rank-rank.result (record { sfits = c.rank-rank.type_inv }) ∙ c.rank-rank.ensures))
+    (c.push_reserved.ensures.items ∙ ap (λ l. l ++ c.lone_node.result ∷ []) c.truncate.ensures.items)

@@ -1,16 +1,16 @@
 use Rattle.std.proofs.Common.{◌≡◌, ℕ, ◌*◌, ◌≤◌, map, length, vec_len, rules, sym, ap, ◌∙◌, subst, arith}
 use Rattle.dp_model.specs.Laws.{IsLawful}
-use Rattle.dp_laws.specs.Rules.Compiling.{expand}
+use Rattle.layer_nodes.specs.Sifting.{expanded_by}
 use Rattle.layer_nodes.specs.Nodes.{NodeView, LayerView}
 use Rattle.layer_nodes.specs.Stored.{Room}
 use Rattle.layer_build.specs.Layers.{SpaceView, last_depth, expand_last}
 use Rattle.layer_build.specs.Stacked.{place_of}
 use Rattle.layer_build.specs.UnderWay.{IsUnderWay}
-use Rattle.layer_build.proofs.Expansions.{expands}
+use Rattle.layer_build.proofs.Expansions.{expands-by}
 use Rattle.layer_build.proofs.Held.{newest-held}
 use Rattle.layer_build.proofs.Going.{parents-seen, under, low-of, words-seen, fits-seen, narrow-seen, spare-seen, lent, place-within, words-of, expanded-space, expanded-seen, expanded-kept}
-use Rattle.layer_build.proofs.workspace.Workspace.expand_layer.Given as given
-use Rattle.layer_build.proofs.workspace.Workspace.expand_layer.Goals as goal
+use Rattle.layer_build.proofs.workspace.Workspace.expand_by.Given as given
+use Rattle.layer_build.proofs.workspace.Workspace.expand_by.Goals as goal
 
 laws_of : (g : given.Over) (m : g.row.M.Denot) → IsLawful (g.M.DpModel.meaning (g.M.DpModel.numbers m))
 laws_of g m = (g.met.M.DpModel g.world.𝓛 g.world.𝓜 g.world.𝓡 ((λ s x. x), (λ x. x), (λ x. x), λ x. x)).lawful m
@@ -124,7 +124,7 @@ invariant_of-self g c =
     let u = under dp i c.args.self.now c.self.view_is c.requires.under_way in
     let low = low-of dp i h c.args.self.now c.self.view_is c.requires.under_way c.requires.below in
     let e = c.expand_newest.ensures in
-    expanded-space dp (expand dp) (expands dp (laws_of g c.args.model.now)) i h u low (narrow-seen i h c.args.self.now c.self.view_is c.requires.narrow) c.expand_newest.new.above c.expand_newest.new.newest c.expand_newest.new.region c.place_of-at.result c.expand_newest.new.expansion _ _ c.place_of-at.ensures c.index_mut.ensures.value e.rest e.above e.next e.above_rooms e.next_rooms e.expansion (record { places = e.places; above_held = e.above_held; held = e.held; exchanged = e.exchanged; few = (let few = e.few in let fits = (fits-seen dp i h u low (narrow-seen i h c.args.self.now c.self.view_is c.requires.narrow)).candidates in omega arith) })
+    expanded-space dp (expanded_by c.args.strikes dp) (expands-by dp c.args.strikes (laws_of g c.args.model.now)) i h u low (narrow-seen i h c.args.self.now c.self.view_is c.requires.narrow) c.expand_newest.new.above c.expand_newest.new.newest c.expand_newest.new.region c.place_of-at.result c.expand_newest.new.expansion _ _ c.place_of-at.ensures c.index_mut.ensures.value e.rest e.above e.next e.above_rooms e.next_rooms e.expansion (record { places = e.places; above_held = e.above_held; held = e.held; exchanged = e.exchanged; few = (let few = e.few in let fits = (fits-seen dp i h u low (narrow-seen i h c.args.self.now c.self.view_is c.requires.narrow)).candidates in omega arith) })
 
 pub returns-clause-layers : goal.returns-clause-layers
 returns-clause-layers g c =
@@ -133,8 +133,8 @@ returns-clause-layers g c =
     let low = low-of dp i h c.args.self.now c.self.view_is c.requires.under_way c.requires.below in
     let e = c.expand_newest.ensures in
     let n = c.expand_newest.new.newest in
-    let seen = expanded-seen (expand dp) i h low c.expand_newest.new.above n c.expand_newest.new.region c.place_of-at.result c.expand_newest.new.expansion c.place_of-at.ensures e.rest e.above e.next e.next_rooms in
-    seen ∙ ap (λ (s : SpaceView). record s { layers = expand_last (expand dp (last_depth s)) s.layers; ranks = map (λ (node : NodeView). node.rank) n.nodes }) c.self.view_is
+    let seen = expanded-seen (expanded_by c.args.strikes dp) i h low c.expand_newest.new.above n c.expand_newest.new.region c.place_of-at.result c.expand_newest.new.expansion c.place_of-at.ensures e.rest e.above e.next e.next_rooms in
+    seen ∙ ap (λ (s : SpaceView). record s { layers = expand_last (expanded_by c.args.strikes dp (last_depth s)) s.layers; ranks = map (λ (node : NodeView). node.rank) n.nodes }) c.self.view_is
 
 pub returns-clause-under_way : goal.returns-clause-under_way
 returns-clause-under_way g c =
@@ -144,5 +144,5 @@ returns-clause-under_way g c =
     let low = low-of dp i h c.args.self.now c.self.view_is c.requires.under_way c.requires.below in
     let e = c.expand_newest.ensures in
     let n = c.expand_newest.new.newest in
-    let seen = expanded-seen (expand dp) i h low c.expand_newest.new.above n c.expand_newest.new.region c.place_of-at.result c.expand_newest.new.expansion c.place_of-at.ensures e.rest e.above e.next e.next_rooms in
-    subst (IsUnderWay dp) (sym seen) (expanded-kept dp (expand dp) (expands dp (laws_of g c.args.model.now)) i h u low n (narrow-seen i h c.args.self.now c.self.view_is c.requires.narrow) e.next e.ranked e.unmerged e.few)
+    let seen = expanded-seen (expanded_by c.args.strikes dp) i h low c.expand_newest.new.above n c.expand_newest.new.region c.place_of-at.result c.expand_newest.new.expansion c.place_of-at.ensures e.rest e.above e.next e.next_rooms in
+    subst (IsUnderWay dp) (sym seen) (expanded-kept dp (expanded_by c.args.strikes dp) (expands-by dp c.args.strikes (laws_of g c.args.model.now)) i h u low n (narrow-seen i h c.args.self.now c.self.view_is c.requires.narrow) e.next e.ranked e.unmerged e.few)
