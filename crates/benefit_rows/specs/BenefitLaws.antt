@@ -3,7 +3,8 @@ use Rattle.std.specs.Prelude.{◌≡◌, ℕ, zero, suc, ℤ, pos, ◌+ℤ◌, �
 use Rattle.std.proofs.Common.{arith, ap, sym, ◌∙◌}
 use Rattle.std.proofs.lemmas.Int.{ints, clamps}
 use Rattle.std.proofs.lemmas.List.{take-append-drop}
-use Rattle.benefit_rows.specs.Benefits.{size_of, choice_gain, gains_of, rank_of, gap_between, gap_of, benefit_merged, merged_of, differences, sums_of}
+use Rattle.std.specs.Int.{int_max, int_min}
+use Rattle.benefit_rows.specs.Benefits.{above_zero, below_zero, size_of, choice_gain, gains_of, rank_of, gap_between, gap_of, benefit_merged, merged_of, differences, sums_of}
 
 -- One benefit.
 
@@ -15,6 +16,10 @@ size_of-add y z = omega (arith, ints, clamps)
 
 pub size_of-sub : (y z : ℤ) → size_of (y -ℤ z) ≤ℤ (size_of y +ℤ size_of z)
 size_of-sub y z = omega (arith, ints, clamps)
+
+-- no size exceeds another one by more than that of the difference
+size_of-behind : (a s : ℤ) → size_of s ≤ℤ (size_of a +ℤ size_of (s -ℤ a))
+size_of-behind a s = omega (arith, ints, clamps)
 
 -- a benefit lies between its size and the negated size
 pub size_of-bounds : (z : ℤ) → (z ≤ℤ size_of z) × ((pos 0 -ℤ size_of z) ≤ℤ z)
@@ -44,9 +49,26 @@ pub gap_between-bounds : (a s : ℤ) (d : ℕ) → choice_gain s d ≤ℤ (choic
 gap_between-bounds a s zero = omega (arith, ints, clamps)
 gap_between-bounds a s (suc d) = omega (arith, ints, clamps)
 
+-- a benefit is what is above zero less what is below
+pub above_less_below : (z : ℤ) → above_zero z -ℤ below_zero z ≡ z
+above_less_below z = omega (arith, ints, clamps)
+
+-- the lesser of two numbers, by how far their difference is above zero and below
+pub lesser_above : (p q d : ℤ) → p -ℤ q ≡ d → int_min p q +ℤ above_zero d ≡ p
+lesser_above p q d e = omega (arith, ints, clamps)
+
+pub lesser_below : (p q d : ℤ) → p -ℤ q ≡ d → int_min p q +ℤ below_zero d ≡ q
+lesser_below p q d e = omega (arith, ints, clamps)
+
+-- twice the greater of two numbers, by the size of their difference
+greater_twice : (p q d : ℤ) → p -ℤ q ≡ d → int_max p q +ℤ int_max p q ≡ (p +ℤ q) +ℤ size_of d
+greater_twice p q d e = omega (arith, ints, clamps)
+
 -- the gap by sizes alone
 pub gap_between-by_sizes : (a s : ℤ) → gap_between a s +ℤ gap_between a s ≡ (size_of s -ℤ size_of a) +ℤ size_of (s -ℤ a)
-gap_between-by_sizes a s = omega (arith, ints, clamps)
+gap_between-by_sizes a s =
+    let twice = greater_twice (above_zero s -ℤ above_zero a) (below_zero s -ℤ below_zero a) (s -ℤ a) (omega (arith, ints, above_less_below a, above_less_below s)) in
+    omega (arith, ints)
 
 pub benefit_merged-left : (a s : ℤ) → size_of (benefit_merged a s) ≤ℤ size_of a
 benefit_merged-left a s = grind (arith, ints, clamps)
@@ -117,7 +139,7 @@ pub rank_of-differences : (as_ ss : List ℤ) → length as_ ≡ length ss → r
 rank_of-differences [] [] p = omega (arith, ints)
 rank_of-differences [] (s ∷ ss) p = absurd (omega arith)
 rank_of-differences (a ∷ as_) [] p = absurd (omega arith)
-rank_of-differences (a ∷ as_) (s ∷ ss) p = omega (arith, ints, clamps, rank_of-differences as_ ss (omega arith))
+rank_of-differences (a ∷ as_) (s ∷ ss) p = omega (arith, ints, size_of-behind a s, rank_of-differences as_ ss (omega arith))
 
 pub length-differences : (as_ ss : List ℤ) → length as_ ≡ length ss → length (differences as_ ss) ≡ length as_
 length-differences [] ss p = refl

@@ -1,6 +1,7 @@
 -- What reads and writes in a row do to bytes that are told.
 use Rattle.std.proofs.Common.{◌≡◌, ℕ, ◌+◌, ◌-◌, ◌≤◌, List, ◌++◌, length, take, drop, Option, None, Some, refl, ap, append_assoc, arith, length-append}
 use Rattle.std.proofs.Math.Seq.{drop-append-add, take-add}
+use Rattle.std.proofs.lemmas.List.{length-take-le}
 use Rattle.std.specs.Io.KnownBytes.{append_known, prepend_known}
 use Rattle.dd_io.specs.Told.{Skips}
 use Rattle.dd_io.specs.ReadErrors.{IsReadCount}
@@ -17,6 +18,17 @@ pub Skips-prepend_known : (bytes : List ℕ) (between now : Option (List ℕ)) (
     Skips between now n → Skips (prepend_known bytes between) now (length bytes + n)
 Skips-prepend_known bytes None now n gone = gone
 Skips-prepend_known bytes (Some rest) now n gone = (rw length-append (omega arith), rw drop-append-add gone.1)
+
+-- nothing is gone
+Skips-none : (known : Option (List ℕ)) → Skips known known 0
+Skips-none None = refl
+Skips-none (Some bytes) = (omega arith, refl)
+
+-- the first bytes of a piece that were read are gone
+pub Skips-read : (piece : List ℕ) (n : ℕ) (before now : Option (List ℕ)) → n ≤ length piece → before ≡ prepend_known (take n piece) now → Skips before now n
+Skips-read piece n before now in_range is =
+    let count : length (take n piece) + 0 ≡ n = omega (arith, length-take-le n piece in_range) in
+    rw is (rw count at (Skips-prepend_known (take n piece) now now 0 (Skips-none now)))
 
 -- and how many they are together, below a limit
 pub IsReadCount-more : (e : ReadError) (limit already n : ℕ) →

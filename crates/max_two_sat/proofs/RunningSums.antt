@@ -1,6 +1,6 @@
 -- Sums that grow entry by entry up to a whole that is bounded.
-use Rattle.std.proofs.Common.{◌≡◌, ◌^◌, ℤ, pos, ◌+ℤ◌, ◌≤ℤ◌, arith}
-use Rattle.std.proofs.lemmas.Int.{ints}
+use Rattle.std.proofs.Common.{◌≡◌, ◌^◌, ℤ, pos, ◌+ℤ◌, ◌≤ℤ◌, FitsSigned, to_z, of_z, w64, arith}
+use Rattle.std.proofs.lemmas.Int.{ints, to_z-of_z}
 
 -- a sum so far, the next part and the sum of the rest
 pub record SumGrows (whole rest total part : ℤ) : Type 0 where
@@ -43,3 +43,15 @@ parts-add whole first second sum first_low second_low high = record {
   second_low = second_low;
   second_high = omega (arith, ints);
 }
+
+-- two words that are added, neither of them negative, whose sum is small
+pub record WordsAdd (z w : ℤ) : Type 0 where
+  pub fits : FitsSigned w64 (to_z w64 (of_z w64 z) +ℤ to_z w64 (of_z w64 w))
+  pub is : to_z w64 (of_z w64 (to_z w64 (of_z w64 z) +ℤ to_z w64 (of_z w64 w))) ≡ z +ℤ w
+
+pub words-add : (z w : ℤ) → pos 0 ≤ℤ z → pos 0 ≤ℤ w → (z +ℤ w) ≤ℤ pos (2 ^ 48) → WordsAdd z w
+words-add z w z_low w_low high =
+    let z_read = to_z-of_z w64 z (omega (arith, ints)) in
+    let w_read = to_z-of_z w64 w (omega (arith, ints)) in
+    let fits : FitsSigned w64 (z +ℤ w) = omega (arith, ints) in
+    record { fits = rw (z_read, w_read) fits; is = rw (z_read, w_read) (to_z-of_z w64 (z +ℤ w) fits) }

@@ -17,6 +17,7 @@ use Rattle.max_two_sat.specs.Instance.{rows_of, row_at, pair_count, pair_total, 
 use Rattle.max_two_sat.specs.Limits.{PairIsPositive, pairs_are_positive, pair_is_positive}
 use Rattle.max_two_sat.specs.Laws.Limits.{pair-positive, size-is}
 use Rattle.max_two_sat.specs.Program.{cell_part, grown, row_gain, shared_gain, all_zero, is_within}
+use Rattle.max_two_sat.specs.Laws.Split.{sides_of}
 use Rattle.max_two_sat.specs.Laws.Rows.{length-rows_of, drop-rows}
 use Rattle.max_two_sat.specs.Shifts.{shift_of, shifts_of, stake_of, stakes_of, half_lost}
 use Rattle.max_two_sat.specs.Laws.Totals.{total_by-positive, all-drop}
@@ -57,8 +58,8 @@ grown-shifts (p ∷ ps) (t ∷ ts) d = ap (λ us. (t +ℤ shift_of d p) ∷ us) 
 
 -- twice a part is the stake and what the benefit loses in size
 part-twice : (p : PairWeights) (t : ℤ) (d : ℕ) → cell_part p t d +ℤ cell_part p t d ≡ (size_of t +ℤ stake_of d p) -ℤ size_of (t +ℤ shift_of d p)
-part-twice p t zero = omega (arith, ints, clamps)
-part-twice p t (suc d) = omega (arith, ints, clamps)
+part-twice p t zero = let sides = sides_of p t zero in omega (arith, ints)
+part-twice p t (suc d) = let sides = sides_of p t (suc d) in omega (arith, ints)
 
 pub shared-twice : (ps : List PairWeights) (ts : List ℤ) (d : ℕ) → length ps ≡ length ts
     → shared_gain ps ts d +ℤ shared_gain ps ts d ≡ (rank_of ts +ℤ stakes_of d ps) -ℤ rank_of (sums_of ts (shifts_of d ps))

@@ -2,9 +2,11 @@
 use Rattle.std.specs.Prelude.{◌≡◌, ℕ, zero, suc, ◌+◌, ◌<◌, ℤ, pos, ◌+ℤ◌, ◌-ℤ◌, List, [], ◌∷◌, ◌++◌, length, take, drop, refl}
 use Rattle.std.proofs.Common.{arith, ap, get_or, add-one}
 use Rattle.std.proofs.Math.Seq.{drop-cons}
-use Rattle.std.proofs.lemmas.Int.{ints, clamps}
+use Rattle.std.proofs.lemmas.Int.{ints}
 use Rattle.std.proofs.lemmas.List.{length-drop}
-use Rattle.benefit_rows.specs.Benefits.{choice_gain, gains_of}
+use Rattle.std.specs.Int.{int_min}
+use Rattle.benefit_rows.specs.Benefits.{above_zero, below_zero, choice_gain, gains_of}
+use Rattle.benefit_rows.specs.BenefitLaws.{above_less_below, lesser_above, lesser_below}
 use Rattle.dp_model.specs.Prefixes.{gain_of}
 use Rattle.max_two_sat.specs.declared.weights.PairWeights.{PairWeights}
 use Rattle.max_two_sat.specs.Instance.{Instance, rows_of, row_at, pair_count}
@@ -12,14 +14,24 @@ use Rattle.max_two_sat.specs.OwnWords.{pair_value, row_value, rows_value}
 use Rattle.max_two_sat.specs.Program.{cell_part, open_true, open_false, grown, shared_gain, row_gain, row_step, words_of, program_of}
 use Rattle.max_two_sat.specs.Laws.Rows.{length-rows_of, length-row_at, drop-rows, words_of-some, length-step, drop-step}
 
+-- the lesser of the two sides of a later variable, by what its benefit is behind the decision
+pub record Sides (p : PairWeights) (t : ℤ) (d : ℕ) : Type 0 where
+  pub if_true : int_min (above_zero t +ℤ open_true p d) (below_zero t +ℤ open_false p d) +ℤ above_zero (t +ℤ (open_true p d -ℤ open_false p d)) ≡ above_zero t +ℤ open_true p d
+  pub if_false : int_min (above_zero t +ℤ open_true p d) (below_zero t +ℤ open_false p d) +ℤ below_zero (t +ℤ (open_true p d -ℤ open_false p d)) ≡ below_zero t +ℤ open_false p d
+
+pub sides_of : (p : PairWeights) (t : ℤ) (d : ℕ) → Sides p t d
+sides_of p t d =
+    let apart : (above_zero t +ℤ open_true p d) -ℤ (below_zero t +ℤ open_false p d) ≡ t +ℤ (open_true p d -ℤ open_false p d) = omega (arith, ints, above_less_below t) in
+    record { if_true = lesser_above _ _ _ apart; if_false = lesser_below _ _ _ apart }
+
 -- one pair: its clauses give what is settled and the lesser of what is open, and the rest is the second variable's benefit
 pub cell_split : (p : PairWeights) (t : ℤ) (d y : ℕ) →
     choice_gain t y +ℤ pair_value p d y ≡
     cell_part p t d +ℤ choice_gain (t +ℤ (open_true p d -ℤ open_false p d)) y
-cell_split p t zero zero = omega (arith, ints, clamps)
-cell_split p t zero (suc y) = omega (arith, ints, clamps)
-cell_split p t (suc d) zero = omega (arith, ints, clamps)
-cell_split p t (suc d) (suc y) = omega (arith, ints, clamps)
+cell_split p t zero zero = let sides = sides_of p t zero in omega (arith, ints)
+cell_split p t zero (suc y) = let sides = sides_of p t zero in omega (arith, ints)
+cell_split p t (suc d) zero = let sides = sides_of p t (suc d) in omega (arith, ints)
+cell_split p t (suc d) (suc y) = let sides = sides_of p t (suc d) in omega (arith, ints)
 
 pub row_split : (ps : List PairWeights) (ts : List ℤ) (d : ℕ) (ys : List ℕ) → length ps ≡ length ts → length ys ≡ length ts →
     gains_of ts ys +ℤ row_value ps d ys ≡ shared_gain ps ts d +ℤ gains_of (grown ps ts d) ys
