@@ -1,9 +1,12 @@
+use crate::comparing::equal;
 use dd_io::{
     Failed, MemSink, MemSource, ReadError, Sink, Source, StdSink, StdSource, WriteError, read_all,
     write_all,
 };
+use std::alloc::{AllocError, Global};
 use std::io;
 use std::io::{ErrorKind, Read};
+use std::process::Abort;
 use std::test::Fail;
 
 /// A reader that a signal interrupts once, then gives one byte, and then fails.
@@ -27,79 +30,128 @@ impl Read for Unsteady {
     }
 }
 
+/// A limit, the call that fails, the error, how many bytes are left, and how many calls failed.
+type Reading = (usize, u64, Option<ReadError>, usize, u64);
+
+const READINGS: &[Reading] = &[
+    (3, 9, None, 0, 0),
+    (usize::MAX, 9, None, 0, 0),
+    (2, 9, Some(ReadError::TooLong), 0, 0),
+    (0, 9, Some(ReadError::TooLong), 2, 0),
+    (3, 0, Some(ReadError::Fault), 3, 1),
+    (3, 1, Some(ReadError::Fault), 0, 1),
+];
+
+/// Three bytes, of which the call of this number fails.
+fn three_bytes(alloc: Global, failing: u64) -> Result<MemSource, AllocError> {
+    Ok(MemSource::new([1, 2, 3].to_vec(alloc)?, [failing].to_vec(alloc)?))
+}
+
+/// The error of the reading, where it has one; else all three bytes were read.
+fn error_of(
+    rt: &impl Abort,
+    alloc: Global,
+    source: &mut MemSource,
+    limit: usize,
+) -> Option<ReadError> {
+    match read_all(alloc, source, limit) {
+        Ok(bytes) => {
+            equal(rt, bytes.as_slice(), [1, 2, 3].as_slice());
+            None
+        }
+        Err(error) => Some(error),
+    }
+}
+
+/// The bytes are read up to the limit.
+fn reads(rt: &impl Abort, alloc: Global, reading: Reading) -> Result<(), AllocError> {
+    let (limit, failing, _, _, _) = reading;
+    let mut source = three_bytes(alloc, failing)?;
+    let error = error_of(rt, alloc, &mut source, limit);
+    let found = (limit, failing, error, source.left().len(), source.faults());
+    equal(rt, found, reading);
+    Ok(())
+}
+
 #[test]
 fn reads_up_to_the_limit(rt: HostRuntime) -> Result<(), Fail> {
-    let alloc = rt.alloc();
-    for (limit, failing, error, left) in [
-        (3, 9, None, 0),
-        (usize::MAX, 9, None, 0),
-        (2, 9, Some(ReadError::TooLong), 0),
-        (0, 9, Some(ReadError::TooLong), 2),
-        (3, 0, Some(ReadError::Fault), 3),
-        (3, 1, Some(ReadError::Fault), 0),
-    ] {
-        let mut source = MemSource::new([1, 2, 3].to_vec(alloc)?, [failing].to_vec(alloc)?);
-        match read_all(alloc, &mut source, limit) {
-            Ok(bytes) => {
-                assert_eq!(rt; error, None, "limit {limit}");
-                assert_eq!(rt; bytes.as_slice(), [1, 2, 3].as_slice(), "limit {limit}");
-            }
-            Err(answer) => assert_eq!(rt; Some(answer), error, "limit {limit}"),
-        }
-        assert_eq!(rt; source.left().len(), left, "limit {limit}");
-        assert_eq!(rt;
-            source.faults(),
-            u64::from(error == Some(ReadError::Fault)),
-            "limit {limit}"
-        );
+    for reading in READINGS {
+        reads(&rt, rt.alloc(), *reading)?;
     }
+    Ok(())
+}
+
+#[test]
+fn no_bytes_are_read(rt: HostRuntime) -> Result<(), Fail> {
+    let alloc = rt.alloc();
     let mut empty = MemSource::new(Vec::new(alloc), Vec::new(alloc));
-    assert_eq!(rt; read_all(alloc, &mut empty, 0)?.len(), 0);
-    assert_eq!(rt; empty.calls(), 1);
+    let bytes = read_all(alloc, &mut empty, 0)?;
+    equal(&rt, (bytes.len(), empty.calls()), (0, 1));
+    Ok(())
+}
+
+#[test]
+fn many_bytes_are_read(rt: HostRuntime) -> Result<(), Fail> {
+    let alloc = rt.alloc();
     let mut large = MemSource::new(vec![in alloc; 5u8; 200_000]?, Vec::new(alloc));
     let bytes = read_all(alloc, &mut large, 1 << 26)?;
-    assert_eq!(rt; bytes.len(), 200_000);
-    assert!(rt; bytes.iter().all(|byte| *byte == 5));
+    let fives = bytes.iter().filter(|byte| **byte == 5).count();
+    equal(&rt, (bytes.len(), fives), (200_000, 200_000));
     Ok(())
 }
 
 #[test]
-fn listed_calls_fail(rt: HostRuntime) -> Result<(), Fail> {
-    let alloc = rt.alloc();
-    let mut source = MemSource::new([1, 2, 3].to_vec(alloc)?, [1].to_vec(alloc)?);
+fn listed_reads_fail(rt: HostRuntime) -> Result<(), Fail> {
+    let mut source = three_bytes(rt.alloc(), 1)?;
     let mut piece = [0; 2];
-    assert_eq!(rt; source.read(&mut piece), Ok(2));
-    assert_eq!(rt; source.read(&mut piece), Err(Failed));
-    assert_eq!(rt; source.read(&mut piece), Ok(1));
-    assert_eq!(rt; piece, [3, 2]);
-    assert_eq!(rt; source.read(&mut piece), Ok(0));
-    let mut sink = MemSink::new(alloc, [1].to_vec(alloc)?);
-    assert_eq!(rt; write_all(&mut sink, b"ab"), Ok(()));
-    assert_eq!(rt; write_all(&mut sink, b"cd"), Err(WriteError::Fault));
-    assert_eq!(rt; sink.write(b"ef"), Ok(2));
-    assert_eq!(rt; sink.taken(), b"abef".as_slice());
-    assert_eq!(rt; sink.calls(), 3);
-    assert_eq!(rt; sink.faults(), 1);
+    for wanted in [Ok(2), Err(Failed), Ok(1), Ok(0)] {
+        equal(&rt, source.read(&mut piece), wanted);
+    }
+    equal(&rt, piece, [3, 2]);
     Ok(())
 }
 
 #[test]
-fn readers_and_writers_are_adapted(rt: HostRuntime) -> Result<(), Fail> {
+fn listed_writes_fail(rt: HostRuntime) -> Result<(), Fail> {
     let alloc = rt.alloc();
-    let mut source = StdSource::new(b"solve".as_slice());
-    assert_eq!(rt;
-        read_all(alloc, &mut source, 5)?.as_slice(),
-        b"solve".as_slice()
+    let mut sink = MemSink::new(alloc, [1].to_vec(alloc)?);
+    equal(&rt, write_all(&mut sink, b"ab"), Ok(()));
+    equal(&rt, write_all(&mut sink, b"cd"), Err(WriteError::Fault));
+    equal(&rt, sink.write(b"ef"), Ok(2));
+    equal(
+        &rt,
+        (sink.taken(), sink.calls(), sink.faults()),
+        (b"abef".as_slice(), 3, 1),
     );
-    assert_eq!(rt; source.faults(), 0);
+    Ok(())
+}
+
+#[test]
+fn readers_are_adapted(rt: HostRuntime) -> Result<(), Fail> {
+    let mut source = StdSource::new(b"solve".as_slice());
+    let bytes = read_all(rt.alloc(), &mut source, 5)?;
+    equal(
+        &rt,
+        (bytes.as_slice(), source.faults()),
+        (b"solve".as_slice(), 0),
+    );
     let mut unsteady = StdSource::new(Unsteady { calls: 0 });
     let mut piece = [0; 2];
-    assert_eq!(rt; unsteady.read(&mut piece), Ok(1));
-    assert_eq!(rt; unsteady.read(&mut piece), Err(Failed));
-    assert_eq!(rt; unsteady.faults(), 1);
+    equal(&rt, unsteady.read(&mut piece), Ok(1));
+    equal(&rt, unsteady.read(&mut piece), Err(Failed));
+    equal(&rt, unsteady.faults(), 1);
+    Ok(())
+}
+
+#[test]
+fn writers_are_adapted(rt: HostRuntime) -> Result<(), Fail> {
     let mut room = [0; 2];
     let mut sink = StdSink::new(room.as_mut_slice());
-    assert_eq!(rt; write_all(&mut sink, b"abc"), Err(WriteError::Stuck));
-    assert_eq!(rt; (sink.faults(), sink.idle()), (0, 1));
+    let error = write_all(&mut sink, b"abc");
+    equal(
+        &rt,
+        (error, sink.faults(), sink.idle()),
+        (Err(WriteError::Stuck), 0, 1),
+    );
     Ok(())
 }

@@ -7,6 +7,8 @@
 #[cfg(test)]
 mod benefits;
 #[cfg(test)]
+mod comparing;
+#[cfg(test)]
 mod io;
 #[cfg(test)]
 mod names;

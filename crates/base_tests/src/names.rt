@@ -1,11 +1,10 @@
+use crate::comparing::equal;
 use problem_names::ModelName;
-use std::test::Fail;
 
 #[test]
-fn each_problem_has_its_word(rt: HostRuntime) -> Result<(), Fail> {
+fn each_problem_has_its_word(rt: HostRuntime) {
     for name in ModelName::ALL {
-        assert_eq!(rt; ModelName::named(name.text()), Some(name));
+        equal(&rt, ModelName::named(name.text()), Some(name));
     }
-    assert_eq!(rt; ModelName::named("knapsacks"), None);
-    Ok(())
+    equal(&rt, ModelName::named("knapsacks"), None);
 }

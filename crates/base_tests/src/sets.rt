@@ -1,80 +1,93 @@
+use crate::comparing::equal;
 use node_sets::*;
-use std::test::Fail;
 
 #[test]
-fn one_member_after_another(rt: HostRuntime) -> Result<(), Fail> {
+fn members_are_inserted(rt: HostRuntime) {
     let mut row = [7i64, 9];
     clear(&mut row);
     insert(&mut row, 0);
     insert(&mut row, 32);
     insert(&mut row, 40);
-    assert_eq!(rt; row, [1, 257]);
-    assert_eq!(rt; count(&row), 3);
-    assert_eq!(rt; least(&row), Some(0));
-    assert_eq!(rt; is_empty(&row), false);
-    for (v, is_member) in [(0, true), (31, false), (32, true), (40, true), (63, false)] {
-        assert!(rt; v < 64);
-        assert_eq!(rt; contains(&row, v), is_member, "{v}");
-    }
+    equal(&rt, row, [1, 257]);
+}
+
+#[test]
+fn members_are_looked_up(rt: HostRuntime) {
+    let row = [1i64, 257];
+    equal(
+        &rt,
+        (count(&row), least(&row), is_empty(&row)),
+        (3, Some(0), false),
+    );
+    let at_word_ends = [contains(&row, 0), contains(&row, 31), contains(&row, 32)];
+    equal(&rt, at_word_ends, [true, false, true]);
+    equal(&rt, [contains(&row, 40), contains(&row, 63)], [true, false]);
     for (from, next) in [(0, Some(0)), (1, Some(32)), (33, Some(40)), (41, None)] {
-        assert_eq!(rt; next_member(&row, from), next, "from {from}");
+        equal(&rt, next_member(&[1, 257], from), next);
     }
+}
+
+#[test]
+fn rows_are_sets_of_numbers_below(rt: HostRuntime) {
     for (n, is) in [
-        (33, false),
+        (33u8, false),
         (40, false),
         (41, true),
         (64, true),
         (65, false),
     ] {
-        assert_eq!(rt; is_set(&row, n), is, "below {n}");
+        equal(&rt, (n, is_set(&[1, 257], usize::from(n))), (n, is));
     }
-    Ok(())
 }
 
 #[test]
-fn members_come_in_order(rt: HostRuntime) -> Result<(), Fail> {
+fn members_come_in_order(rt: HostRuntime) {
     let row = [9i64, 0, 2147483648];
     let mut rest = Members::of(&row);
     for member in [Some(0), Some(3), Some(95), None, None] {
-        assert_eq!(rt; rest.next(), member);
+        equal(&rt, rest.next(), member);
     }
-    Ok(())
 }
 
 #[test]
-fn rows_are_written_whole(rt: HostRuntime) -> Result<(), Fail> {
+fn rows_are_written_whole(rt: HostRuntime) {
     let mut row = [7i64, 9];
     write_others(&mut row, 34);
-    assert_eq!(rt; row, [4294967294, 3]);
+    equal(&rt, row, [4294967294, 3]);
     write_one(&mut row, 33);
-    assert_eq!(rt; row, [0, 2]);
-    let (mut must, mut may) = ([7i64, 7], [7i64, 7]);
+    equal(&rt, row, [0, 2]);
+}
+
+#[test]
+fn rows_are_split(rt: HostRuntime) {
+    let (mut row, mut must, mut may) = ([7i64, 9], [7i64, 7], [7i64, 7]);
     write_split(&mut row, &mut must, &mut may, &[6, 3], &[1, 8], 33);
-    assert_eq!(rt; row, [0, 2]);
-    assert_eq!(rt; must, [6, 1]);
-    assert_eq!(rt; may, [1, 8]);
-    Ok(())
+    equal(&rt, [row, must, may], [[0, 2], [6, 1], [1, 8]]);
 }
 
 #[test]
-fn two_sets_make_one(rt: HostRuntime) -> Result<(), Fail> {
+fn two_sets_make_one(rt: HostRuntime) {
+    let mut row = [0b1000i64];
+    union_with(&mut row, &[0b0011]);
+    equal(&rt, row, [0b1011]);
+}
+
+#[test]
+fn sets_are_compared(rt: HostRuntime) {
     let (odd, low, high) = ([0b1010i64], [0b0011i64], [0b1000i64]);
-    let mut row = high;
-    union_with(&mut row, &low);
-    assert_eq!(rt; row, [0b1011]);
-    assert_eq!(rt; is_subset(&high, &odd), true);
-    assert_eq!(rt; is_subset(&odd, &low), false);
-    assert_eq!(rt; is_disjoint(&high, &low), true);
-    assert_eq!(rt; is_union_subset(&high, &low, &odd, &low), true);
-    assert_eq!(rt; is_union_subset(&odd, &low, &high, &high), false);
-    Ok(())
+    equal(
+        &rt,
+        [is_subset(&high, &odd), is_subset(&odd, &low)],
+        [true, false],
+    );
+    equal(&rt, is_disjoint(&high, &low), true);
+    equal(&rt, is_union_subset(&high, &low, &odd, &low), true);
+    equal(&rt, is_union_subset(&odd, &low, &high, &high), false);
 }
 
 #[test]
-fn what_must_be_and_may_be_is_joined(rt: HostRuntime) -> Result<(), Fail> {
+fn what_must_be_and_may_be_is_joined(rt: HostRuntime) {
     let (mut must, mut may) = ([0b00110i64], [0b01000i64]);
     join(&mut must, &mut may, &[0b00010], &[0b10000]);
-    assert_eq!(rt; must, [0b00010]);
-    assert_eq!(rt; may, [0b11100]);
-    Ok(())
+    equal(&rt, [must, may], [[0b00010], [0b11100]]);
 }
