@@ -2,7 +2,7 @@
 pub mod Lists
 pub mod With
 pub mod Slots
-mod Counting
+pub mod Counting
 pub mod Frontier
 -- fates
 pub mod Fates
@@ -17,7 +17,9 @@ pub mod GivingBack
 pub mod Taking
 pub mod Carrying
 pub mod Halting
+pub mod Fresh
 pub mod First
+pub mod Restoring
 -- what runs keep, and what good boards say
 pub mod Running
 pub mod Reading

@@ -6,6 +6,7 @@ use Rattle.dp_model.specs.Dp.{Dp}
 use Rattle.dp_model.specs.Numbers.{AtMost, is_above}
 use Rattle.dp_model.specs.Prefixes.{IsSolution, value_of}
 use Rattle.dp_model.specs.Subproblem.{Subproblem}
+use Rattle.shared_fringe.specs.Tickets.{Ticketed}
 use Rattle.board_laws.specs.declared.cause.Cause.{Cause}
 use Rattle.board_laws.specs.declared.fate.Fate.{Fate}
 use Rattle.board_laws.specs.declared.settings.Settings.{Settings}
@@ -13,6 +14,7 @@ use Rattle.board_laws.specs.Board.{AreSettings, BoardState, incumbent_value, rea
 use Rattle.board_laws.specs.Bound.{board_bound}
 use Rattle.board_laws.specs.Finishing.{MayFinish}
 use Rattle.board_laws.specs.GoodBoard.{IncumbentHolds, IsBoard, IsGood}
+use Rattle.board_laws.specs.Restoring.{MayRestore, IsListSound, restored_board}
 use Rattle.board_laws.specs.Runs.{Step, May, after, worker_of, IsRun, IsLaterInRun}
 use Rattle.board_laws.specs.Steps.{improved, finished_by, given_back, halted, first_board}
 use Rattle.board_laws.specs.Taking.{after_take}
@@ -46,6 +48,14 @@ pub record IsFirstGood (dp : Dp) (settings : Settings) : Type 0 where
 
 abbrev pub FirstBoardsAreGood : Dp → Type 0
 FirstBoardsAreGood dp = (settings : Settings) → AreSettings settings → IsFirstGood dp settings
+
+-- a restored board keeps what every board keeps, and is good where the list is sound
+pub record RestoredKeeps (dp : Dp) (settings : Settings) (best : Option Solution) (os : List Ticketed) (next : ℕ) : Type 0 where
+  pub board : IsBoard dp (restored_board settings best os next)
+  pub good : (finished : ℕ) → IsListSound dp settings.within finished best os next → IsGood dp (restored_board settings best os next)
+
+abbrev pub RestoredBoardsKeep : Dp → Type 0
+RestoredBoardsKeep dp = (settings : Settings) (best : Option Solution) (os : List Ticketed) (next : ℕ) → AreSettings settings → MayRestore dp best os next → RestoredKeeps dp settings best os next
 
 -- what one step keeps: the board, and each slot but the worker's own
 pub record StepKeeps (dp : Dp) (b : BoardState) (step : Step) : Type 0 where

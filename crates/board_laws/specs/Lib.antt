@@ -11,5 +11,6 @@ pub mod Bound
 pub mod Runs
 -- what boards keep
 pub mod GoodBoard
+pub mod Restoring
 -- the laws
 pub mod Laws

@@ -84,16 +84,20 @@ first_incumbent dp = cond (nat_eq dp.vars 0) (Some (record { decisions = []; val
 abbrev pub first_open : Dp → List Ticketed
 first_open dp = cond (nat_eq dp.vars 0) [] (root_opened (root_subproblem dp))
 
--- the board at the start of a search: the table is empty, and the root is not put into it
-abbrev pub first_board : Dp → Settings → BoardState
-first_board dp settings = record {
-  incumbent = first_incumbent dp;
-  open_ones = first_open dp;
+-- a board of which nothing is out: nothing was taken or finished, the table is empty, and no cause is held
+abbrev pub fresh_board : Settings → Option Solution → List Ticketed → ℕ → BoardState
+fresh_board settings best os next = record {
+  incumbent = best;
+  open_ones = os;
   slots = empty_slots settings.workers;
   entries = [];
   settings = settings;
   taken = 0;
   finished = 0;
-  next_ticket = length (first_open dp);
+  next_ticket = next;
   cause = None;
 }
+
+-- the board at the start of a search: the root is not put into the table
+abbrev pub first_board : Dp → Settings → BoardState
+first_board dp settings = fresh_board settings (first_incumbent dp) (first_open dp) (length (first_open dp))

@@ -29,6 +29,7 @@ pub use pushes::{pushes_are_fates, puts_are_entries};
 pub use runs::{runs_keep, steps_keep};
 pub use settings::Settings;
 pub use steps::{
-    finish_keeps, first_boards_are_good, give_back_keeps, halt_keeps, improve_keeps, take_keeps,
+    finish_keeps, first_boards_are_good, give_back_keeps, halt_keeps, improve_keeps,
+    restored_boards_keep, take_keeps,
 };
 pub use taken::Taken;

@@ -2,11 +2,16 @@
 
 ghost use Rattle.dp_model.specs.Dp.{Dp};
 ghost use Rattle.dp_model.specs.Laws.{IsLawful};
-ghost use Rattle.board_laws.specs.Laws.{FinishKeeps, FirstBoardsAreGood, GiveBackKeeps, HaltKeeps, ImproveKeeps, TakeKeeps};
+ghost use Rattle.board_laws.specs.Laws.{FinishKeeps, FirstBoardsAreGood, GiveBackKeeps, HaltKeeps, ImproveKeeps, RestoredBoardsKeep, TakeKeeps};
 
 /// The board at the start of a search keeps what every board keeps, and is good.
 pub fn first_boards_are_good()
     ensures { (dp : Dp) → IsLawful dp → FirstBoardsAreGood dp }
+{}
+
+/// A restored board keeps what every board keeps, and is good where what it is restored from is a sound list.
+pub fn restored_boards_keep()
+    ensures { (dp : Dp) → IsLawful dp → RestoredBoardsKeep dp }
 {}
 
 /// Take keeps what every board keeps, and a good board.
