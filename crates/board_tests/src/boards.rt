@@ -1,10 +1,13 @@
 //! Steps of one worker on a board over the knapsack.
 
 ghost use Rattle.std.specs.Prelude.{◌≡◌, ◌<◌, ◌^◌, ◌≤ℤ◌, pos, List, ℕ, [], length, slice_get, Some, None, IsTrue, IsSome, IfOk};
-ghost use Rattle.dp_model.specs.Numbers.{AtMost};
+ghost use Rattle.dp_model.specs.Numbers.{AtMost, IsFar};
 ghost use Rattle.dp_model.specs.Prefixes.{IsSolution, value_of};
 ghost use Rattle.board_laws.specs.Board.{incumbent_value, slot_at};
+ghost use Rattle.board_laws.specs.GoodBoard.{IsGood};
+ghost use Rattle.board_laws.specs.Restoring.{MayRestore};
 ghost use Rattle.board_laws.specs.Steps.{finished_by};
+ghost use Rattle.search_core.specs.Opened.{ticketed};
 
 use dp_model::{DpModel, OutOfMemory, Sub};
 use knapsack::Knapsack;
@@ -40,6 +43,7 @@ fn first_board<M: DpModel>(
     ensures workers { IfOk result (λ b. length b.board.slots ≡ 1) }
     ensures empty { IfOk result (λ b. slice_get b.board.slots 0 ≡ Some None) }
     ensures numbers { IfOk result (λ b. b.numbers ≡ M.numbers model) }
+    ensures good { IfOk result (λ b. IsGood (M.meaning b.numbers) b.first) }
 {
     let settings = Settings {
         workers: 1,
@@ -55,6 +59,7 @@ fn first_board<M: DpModel>(
 /// That board once the worker has asked for the root.
 fn root_taken<M: DpModel>(alloc: Global, model: M) -> Result<Board<M>, OutOfMemory>
     ensures workers { IfOk result (λ b. length b.board.slots ≡ 1) }
+    ensures good { IfOk result (λ b. IsGood (M.meaning b.numbers) b.first) }
 {
     let mut into = Sub::blank(alloc, model.vars(), model.words())?;
     let mut board = first_board(alloc, model, 1, 0)?;
@@ -77,6 +82,7 @@ fn is_halted<M: DpModel>(board: &Board<M>) -> bool
 
 /// Whether the bound of the board is its incumbent's value, so that no feasible solution is worth more.
 fn is_closed<M: DpModel>(board: &Board<M>) -> bool
+    requires { IsGood (M.meaning board.now.numbers) board.now.first }
     ensures { IsTrue result → (x : List ℕ) → IsSolution (M.meaning board.now.numbers) x → AtMost (value_of (M.meaning board.now.numbers) x) (incumbent_value board.now.board) }
 {
     board.bound() == board.incumbent_value()
@@ -92,6 +98,60 @@ fn finish_childless<M: DpModel>(alloc: Global, board: &mut Board<M>)
     let _ = board.incumbent_value();
     let mut subs = Vec::new(alloc);
     board.finish(0, None, &mut subs, &[]);
+}
+
+/// The root as the only subproblem of a list, with ticket 0 and a bound.
+fn listed_root<M: DpModel>(
+    alloc: Global,
+    model: &M,
+    bound: i64,
+) -> Result<Vec<(u64, Sub)>, OutOfMemory>
+    requires some { 0 < (M.meaning (M.numbers model.now)).vars }
+    requires far { IsFar bound }
+    ensures { IfOk result (λ listed. (next : ℕ) → 0 < next → MayRestore (M.meaning (M.numbers model.now)) None (ticketed listed.items) next) }
+{
+    let mut root = Sub::blank(alloc, model.vars(), model.words())?;
+    model.root(root.row.as_mut_slice());
+    root.value = model.root_value();
+    root.bound = bound;
+    let mut listed = Vec::with_capacity(alloc, 1)?;
+    listed.push_reserved((0, root));
+    Ok(listed)
+}
+
+/// The board that is restored from the root alone, when every ticket but the last was given out.
+fn restored_at_the_end<M: DpModel>(
+    alloc: Global,
+    model: M,
+    bound: i64,
+) -> Result<Board<M>, OutOfMemory>
+    requires some { 0 < (M.meaning (M.numbers model)).vars }
+    requires far { IsFar bound }
+    ensures empty { IfOk result (λ b. slice_get b.board.slots 0 ≡ Some None) }
+    ensures numbers { IfOk result (λ b. b.numbers ≡ M.numbers model) }
+{
+    let settings = Settings {
+        workers: 1,
+        budget: 5,
+        table_limit: 4,
+        width: 1,
+        within: 0,
+    };
+    let listed = listed_root(alloc, &model, bound)?;
+    let model = Arc::new(alloc, model)?;
+    Board::restore(alloc, model, settings, None, listed, u64::MAX)
+}
+
+#[test]
+fn takes_nothing_where_tickets_come_to_their_end(rt: HostRuntime) -> Result<(), Fail> {
+    let model = items(&rt, rt.alloc(), THREE_ITEMS);
+    assert!(rt; model.vars() > 0);
+    let mut into = Sub::blank(rt.alloc(), model.vars(), model.words())?;
+    let mut board = restored_at_the_end(rt.alloc(), model, 121)?;
+    assert_eq!(rt; board.bound(), Some(121));
+    assert_eq!(rt; board.take(0, &mut into), Taken::Halted(Cause::Budget));
+    assert_eq!(rt; board.taken(), 0);
+    Ok(())
 }
 
 #[test]

@@ -16,7 +16,7 @@ use Rattle.shared_fringe.specs.Pushing.{pushed_beside, after_push}
 use Rattle.shared_fringe.specs.Tickets.{Ticketed, by_ticket, without}
 use Rattle.shared_fringe.proofs.Tickets.{each-by_ticket}
 
-each-push : (P : Ticketed → Type 0) (o : Ticketed) (os : List Ticketed) → P o → Each P os → Each P (after_push o os)
+pub each-push : (P : Ticketed → Type 0) (o : Ticketed) (os : List Ticketed) → P o → Each P os → Each P (after_push o os)
 each-push P o os one h =
     elim (same_open o.subproblem os) as (λ s. Each P (pushed_beside o os s)) [
       | None ↦ each-by_ticket P o os one h

@@ -30,7 +30,7 @@ use Rattle.board_laws.specs.GoodBoard.{IncumbentHolds, IsBoard, IsGood, IsEntry}
 use Rattle.board_laws.specs.Improving.{after_offer}
 use Rattle.board_laws.specs.Laws.{KeepsBoard}
 use Rattle.board_laws.specs.Pushes.{AreThreaded, push_by, put_each}
-use Rattle.board_laws.specs.Steps.{improved, finished_by, given_back_from, given_back, back_among, empty_slots, first_incumbent, first_open, first_board}
+use Rattle.board_laws.specs.Steps.{improved, finished_by, given_back_from, given_back, back_among, empty_slots, fresh_board}
 use Rattle.board_laws.specs.Taking.{take_gives, checked_out, after_answer, after_take}
 use Rattle.board_laws.specs.declared.fate.Fate.{Fate}
 use Rattle.board_laws.specs.declared.fate.Fate.TheVariants.{Below, Kept, Dominated, Replaced, Entered}
@@ -39,7 +39,6 @@ use Rattle.board_laws.specs.declared.settings.Settings.{Settings}
 use Rattle.board_laws.specs.declared.taken.Taken.TheVariants.{Sub}
 use Rattle.board_laws.proofs.Fates.{fates-many, fates-hold, kids-hold, FatesHold}
 use Rattle.board_laws.proofs.FinishingBoard.{finish-keeps}
-use Rattle.board_laws.proofs.First.{first-is-good, full-none}
 use Rattle.shared_fringe.proofs.Takings.{first_taken-is}
 use Rattle.board_laws.proofs.Frontier.{tickets-flip}
 use Rattle.board_laws.proofs.GivingBack.{give-back-keeps}
@@ -54,12 +53,12 @@ use Rattle.search_core.specs.Kept.{best_of, HasRows, IsBoardInMemory}
 use Rattle.search_core.proofs.Rows.{puts_keep, rows_fewer}
 
 -- after a step that keeps a board, with room in the fringe and the table
-pub kept-by : (dp : Dp) (b later : BoardState) (fringe fringe2 : FringeView) (table table2 : TableView) (room room2 for_best for_best2 cells spare_cells : ℕ) → IsBoardInMemory dp b fringe table room for_best cells spare_cells
+pub kept-by : (dp : Dp) (made b later : BoardState) (fringe fringe2 : FringeView) (table table2 : TableView) (room room2 for_best for_best2 cells spare_cells : ℕ) → IsBoardInMemory dp made b fringe table room for_best cells spare_cells
     → KeepsBoard dp b later → later.settings ≡ b.settings → fringe2.words ≡ fringe.words → table2.words ≡ table.words → table2.limit ≡ table.limit
-    → room2 + length (full_slots later.slots) ≤ fringe2.spare → HasRows room2 table2 → for_best ≤ for_best2 → IsBoardInMemory dp later fringe2 table2 room2 for_best2 cells spare_cells
-kept-by dp b later fringe fringe2 table table2 room room2 for_best for_best2 cells spare_cells k keeps settings words table_words limit fits rows more = record {
+    → room2 + length (full_slots later.slots) ≤ fringe2.spare → HasRows room2 table2 → for_best ≤ for_best2 → IsBoardInMemory dp made later fringe2 table2 room2 for_best2 cells spare_cells
+kept-by dp made b later fringe fringe2 table table2 room room2 for_best for_best2 cells spare_cells k keeps settings words table_words limit fits rows more = record {
   board = keeps.board k.board;
-  good = keeps.good k.board k.good;
+  good = λ h. keeps.good k.board (k.good h);
   has_room = record {
     fringe_words = words ∙ k.has_room.fringe_words;
     table_words = table_words ∙ k.has_room.table_words;
@@ -80,14 +79,14 @@ pub take-step : (b : BoardState) (who : ℕ) (o : Ticketed) (os : List Ticketed)
 take-step b who o os may first popped =
     ap (handed b who o) (popped ∙ ap (λ f. taken_out f b.open_ones) (sym first)) ∙ (ap (checked_out b who) first ∙ ap (after_answer b who) (sym may))
 
-pub take-kept : (dp : Dp) (b : BoardState) (who : ℕ) (o : Ticketed) (fringe fringe2 : FringeView) (table : TableView) (room for_best cells spare_cells : ℕ) → IsBoardInMemory dp b fringe table room for_best cells spare_cells
+pub take-kept : (dp : Dp) (made b : BoardState) (who : ℕ) (o : Ticketed) (fringe fringe2 : FringeView) (table : TableView) (room for_best cells spare_cells : ℕ) → IsBoardInMemory dp made b fringe table room for_best cells spare_cells
     → take_gives b ≡ Sub → slice_get b.slots who ≡ Some None → Some o ≡ first_taken b.open_ones → fringe2.open_ones ≡ after_pop b.open_ones → fringe2.words ≡ fringe.words → fringe.spare + 1 ≤ fringe2.spare
-    → IsBoardInMemory dp (handed b who o fringe2.open_ones) fringe2 table room for_best cells spare_cells
-take-kept dp b who o fringe fringe2 table room for_best cells spare_cells k may empty first popped words more =
+    → IsBoardInMemory dp made (handed b who o fringe2.open_ones) fringe2 table room for_best cells spare_cells
+take-kept dp made b who o fringe fringe2 table room for_best cells spare_cells k may empty first popped words more =
     let step = take-step b who o fringe2.open_ones may first popped in
     let out = length-with o (full_slots b.slots) (full_slots (set b.slots who (Some o))) (filled b.slots who o empty) in
     let fits = k.has_room.open_room in
-    kept-by dp b (handed b who o fringe2.open_ones) fringe fringe2 table table room room for_best for_best cells spare_cells k
+    kept-by dp made b (handed b who o fringe2.open_ones) fringe fringe2 table table room room for_best for_best cells spare_cells k
     (subst (KeepsBoard dp b) (sym step) (take-keeps dp b who empty)) refl words refl refl (omega arith) k.has_room.table_room (omega arith)
 
 -- the first open one is a prefix of its own, which fits a caller's subproblem
@@ -95,7 +94,7 @@ pub record Copies (dp : Dp) (o : Ticketed) : Type 0 where
   pub few : length o.subproblem.decisions ≤ dp.vars
   pub cells : length o.subproblem.row ≡ dp.words
 
-own-cells : (dp : Dp) → IsLawful dp → (c : Subproblem) → IsOwn dp c → length c.row ≡ dp.words
+pub own-cells : (dp : Dp) → IsLawful dp → (c : Subproblem) → IsOwn dp c → length c.row ≡ dp.words
 own-cells dp laws c own = ap length own.row ∙ laws.sizes.cells (length c.decisions) (state_of dp c.decisions) (state_of-state dp laws.states c.decisions own.prefix)
 
 own-state : (dp : Dp) → IsLawful dp → (c : Subproblem) → IsOwn dp c → IsStateOf dp (length c.decisions) c.row
@@ -121,7 +120,7 @@ reach-fits dp laws settings are x value worth =
     let low = size.low in let high = size.high in
     record { low = omega (arith, ints); high = omega (arith, ints) }
 
-held-by : (dp : Dp) → IsLawful dp → (settings : Settings) → AreSettings settings → (held : Option Solution) → IncumbentHolds dp held → (value : ℤ) → value_held held ≡ Some value → IsFar (value +ℤ settings.within)
+pub held-by : (dp : Dp) → IsLawful dp → (settings : Settings) → AreSettings settings → (held : Option Solution) → IncumbentHolds dp held → (value : ℤ) → value_held held ≡ Some value → IsFar (value +ℤ settings.within)
 held-by dp laws settings are None h value is = absurd (cc)
 held-by dp laws settings are (Some best) h value is = (let same : best.value ≡ value = cc in subst (λ v. IsFar (v +ℤ settings.within)) same (reach-fits dp laws settings are best.decisions best.value h))
 
@@ -139,15 +138,15 @@ improve-step dp b x value os g is left =
     ap (λ l. record b { incumbent = Some (record { decisions = x; value = value }); open_ones = l }) left ∙ ap (λ v. improved b (record { decisions = x; value = v })) is
 
 -- the fields after a better solution
-pub improve-kept : (dp : Dp) (b : BoardState) (x : List ℕ) (value : ℤ) (os : List Ticketed) (fringe fringe2 : FringeView) (table : TableView) (room for_best for_best2 cells spare_cells : ℕ) → IsBoardInMemory dp b fringe table room for_best cells spare_cells
+pub improve-kept : (dp : Dp) (made b : BoardState) (x : List ℕ) (value : ℤ) (os : List Ticketed) (fringe fringe2 : FringeView) (table : TableView) (room for_best for_best2 cells spare_cells : ℕ) → IsBoardInMemory dp made b fringe table room for_best cells spare_cells
     → IsSolutionWith dp x value → is_above (incumbent_value b) value ≡ true → os ≡ (improved b (record { decisions = x; value = value })).open_ones → fringe2.words ≡ fringe.words → fringe.spare ≤ fringe2.spare → for_best ≤ for_best2
-    → IsBoardInMemory dp (record b { incumbent = Some (record { decisions = x; value = value }); open_ones = os }) fringe2 table room for_best2 cells spare_cells
-improve-kept dp b x value os fringe fringe2 table room for_best for_best2 cells spare_cells k worth up left words spare more =
+    → IsBoardInMemory dp made (record b { incumbent = Some (record { decisions = x; value = value }); open_ones = os }) fringe2 table room for_best2 cells spare_cells
+improve-kept dp made b x value os fringe fringe2 table room for_best for_best2 cells spare_cells k worth up left words spare more =
     let best : Solution = record { decisions = x; value = value } in
     let later = record b { incumbent = Some best; open_ones = os } in
     let fits = k.has_room.open_room in
     let step : improved b best ≡ later = ap (λ l. record b { incumbent = Some best; open_ones = l }) (sym left) in
-    kept-by dp b later fringe fringe2 table table room room for_best for_best2 cells spare_cells k
+    kept-by dp made b later fringe fringe2 table table room room for_best for_best2 cells spare_cells k
     (subst (KeepsBoard dp b) step (improve-keeps dp b best worth up)) refl words refl refl (omega arith) k.has_room.table_room more
 
 -- Finish.
@@ -224,12 +223,12 @@ children-few dp b cs = (kids-hold dp (reach b) b.open_ones b.entries b.next_tick
 slot-less : (b : BoardState) (who : ℕ) (o : Ticketed) → slot_at b who ≡ Some o → length (full_slots b.slots) ≡ length (full_slots (set b.slots who None)) + 1
 slot-less b who o full = length-with o (full_slots (set b.slots who None)) (full_slots b.slots) (emptied b.slots who o (slot-full (slice_get b.slots who) o full))
 
-pub finish-kept : (dp : Dp) → IsLawful dp → (b : BoardState) (who : ℕ) (threshold : Option ℤ) (cs : List Subproblem) (fs : List Fate) (fringe fringe2 : FringeView) (table table2 : TableView) (next room room2 for_best cells spare_cells : ℕ)
-    → IsBoardInMemory dp b fringe table room for_best cells spare_cells → MayFinish dp b who threshold cs fs
+pub finish-kept : (dp : Dp) → IsLawful dp → (made b : BoardState) (who : ℕ) (threshold : Option ℤ) (cs : List Subproblem) (fs : List Fate) (fringe fringe2 : FringeView) (table table2 : TableView) (next room room2 for_best cells spare_cells : ℕ)
+    → IsBoardInMemory dp made b fringe table room for_best cells spare_cells → MayFinish dp b who threshold cs fs
     → table.entries ≡ b.entries → fringe2.open_ones ≡ push_by cs fs b.open_ones → table2 ≡ put_each table (map (entry_of dp) (entering cs fs)) → next ≡ tickets_after b.next_ticket fs
     → fringe2.words ≡ fringe.words → fringe.spare ≤ fringe2.spare + length cs → room2 + length cs ≤ room
-    → IsBoardInMemory dp (done b who fringe2.open_ones table2.entries next) fringe2 table2 room2 for_best cells spare_cells
-finish-kept dp laws b who threshold cs fs fringe fringe2 table table2 next room room2 for_best cells spare_cells k m same pushed noted is words spare fewer =
+    → IsBoardInMemory dp made (done b who fringe2.open_ones table2.entries next) fringe2 table2 room2 for_best cells spare_cells
+finish-kept dp laws made b who threshold cs fs fringe fringe2 table table2 next room room2 for_best cells spare_cells k m same pushed noted is words spare fewer =
     let step = finish-step dp b who threshold cs fs fringe2.open_ones table table2 next k.board m same k.has_room.limit pushed noted is in
     let less = slot-less b who m.parent m.full in
     let fits = k.has_room.open_room in
@@ -239,7 +238,7 @@ finish-kept dp laws b who threshold cs fs fringe fringe2 table table2 next room 
     let most : length table.entries ≤ table.limit = (let limited = k.board.limited in let limit = k.has_room.limit in let long = ap length same in omega arith) in
     let puts : table2 ≡ put_each table new = noted ∙ ap (λ f. put_each table (map (entry_of dp) (entering cs f))) m.fates in
     let kept = puts_keep table new most in
-    kept-by dp b (done b who fringe2.open_ones table2.entries next) fringe fringe2 table table2 room room2 for_best for_best cells spare_cells k
+    kept-by dp made b (done b who fringe2.open_ones table2.entries next) fringe fringe2 table table2 room room2 for_best for_best cells spare_cells k
     (subst (KeepsBoard dp b) (sym step) (finish-keeps dp laws b who threshold cs fs m)) refl words
     (ap (λ (t : TableView). t.words) puts ∙ kept.words) (ap (λ (t : TableView). t.limit) puts ∙ kept.limit) (omega arith)
     (subst (HasRows room2) (sym puts) (kept.rows room2 (rows_fewer (room2 + length new) room table (omega arith) k.has_room.table_room))) (omega arith)
@@ -286,9 +285,9 @@ pub record GoesBack (dp : Dp) (b : BoardState) (o : Ticketed) (spare : ℕ) : Ty
   pub cells : length o.subproblem.row ≡ dp.words
   pub new : Each (λ x. x.ticket ≢ o.ticket) b.open_ones
 
-pub goes-back : (dp : Dp) → IsLawful dp → (b : BoardState) (who : ℕ) (o : Ticketed) (fringe : FringeView) (table : TableView) (room for_best cells spare_cells : ℕ) → IsBoardInMemory dp b fringe table room for_best cells spare_cells
+pub goes-back : (dp : Dp) → IsLawful dp → (made b : BoardState) (who : ℕ) (o : Ticketed) (fringe : FringeView) (table : TableView) (room for_best cells spare_cells : ℕ) → IsBoardInMemory dp made b fringe table room for_best cells spare_cells
     → slice_get b.slots who ≡ Some (Some o) → GoesBack dp b o fringe.spare
-goes-back dp laws b who o fringe table room for_best cells spare_cells k at =
+goes-back dp laws made b who o fringe table room for_best cells spare_cells k at =
     let rest = full_slots (set b.slots who None) in
     let empty = emptied b.slots who o at in
     let out = with-right o rest (full_slots b.slots) b.open_ones empty in
@@ -302,21 +301,21 @@ goes-back dp laws b who o fringe table room for_best cells spare_cells k at =
       new = Each-then (λ (x : Ticketed). o.ticket ≢ x.ticket) (λ x. x.ticket ≢ o.ticket) b.open_ones (λ x h. tickets-flip o x h) (each-back (λ (x : Ticketed). o.ticket ≢ x.ticket) rest b.open_ones differ);
     }
 
-pub back-kept : (dp : Dp) → IsLawful dp → (b : BoardState) (who : ℕ) (o : Ticketed) (fringe fringe2 : FringeView) (table : TableView) (room for_best cells spare_cells : ℕ) → IsBoardInMemory dp b fringe table room for_best cells spare_cells
+pub back-kept : (dp : Dp) → IsLawful dp → (made b : BoardState) (who : ℕ) (o : Ticketed) (fringe fringe2 : FringeView) (table : TableView) (room for_best cells spare_cells : ℕ) → IsBoardInMemory dp made b fringe table room for_best cells spare_cells
     → slice_get b.slots who ≡ Some (Some o) → IsTrue (is_some b.cause) → fringe2.open_ones ≡ back_among (reach b) o b.open_ones → fringe2.words ≡ fringe.words → fringe.spare ≤ fringe2.spare + 1
-    → IsBoardInMemory dp (back b who fringe2.open_ones) fringe2 table room for_best cells spare_cells
-back-kept dp laws b who o fringe fringe2 table room for_best cells spare_cells k at held put words spare =
+    → IsBoardInMemory dp made (back b who fringe2.open_ones) fringe2 table room for_best cells spare_cells
+back-kept dp laws made b who o fringe fringe2 table room for_best cells spare_cells k at held put words spare =
     let step = back-step b who o fringe2.open_ones at put in
     let less = length-with o (full_slots (set b.slots who None)) (full_slots b.slots) (emptied b.slots who o at) in
     let fits = k.has_room.open_room in
     let keeps : KeepsBoard dp b (given_back b who) = (let h = give-back-keeps dp laws in record { board = h.board b who; good = h.good b who held }) in
-    kept-by dp b (back b who fringe2.open_ones) fringe fringe2 table table room room for_best for_best cells spare_cells k
+    kept-by dp made b (back b who fringe2.open_ones) fringe fringe2 table table room room for_best for_best cells spare_cells k
     (subst (KeepsBoard dp b) (sym step) keeps) refl words refl refl (omega arith) k.has_room.table_room (omega arith)
 
--- Begin.
+-- A board of which nothing is out.
 
-abbrev pub begun : Option Solution → List Ticketed → List (Option Ticketed) → List TableEntry → Settings → ℕ → BoardState
-begun incumbent os slots es settings next = record {
+abbrev pub unused : Option Solution → List Ticketed → List (Option Ticketed) → List TableEntry → Settings → ℕ → BoardState
+unused incumbent os slots es settings next = record {
   incumbent = incumbent;
   open_ones = os;
   slots = slots;
@@ -328,28 +327,24 @@ begun incumbent os slots es settings next = record {
   cause = None;
 }
 
-pub begin-step : (dp : Dp) (best : Option Solution) (os : List Ticketed) (slots : List (Option Ticketed)) (es : List TableEntry) (settings : Settings) (next : ℕ) → best ≡ first_incumbent dp → os ≡ first_open dp → slots ≡ empty_slots settings.workers → es ≡ []
-    → next ≡ length os → begun best os slots es settings next ≡ first_board dp settings
-begin-step dp best os slots es settings next best_is open_is slots_is es_is next_is =
-    ap (λ x. begun x os slots es settings next) best_is
-    ∙ (ap (λ x. begun (first_incumbent dp) x slots es settings next) open_is
-    ∙ (ap (λ x. begun (first_incumbent dp) (first_open dp) x es settings next) slots_is
-    ∙ (ap (λ x. begun (first_incumbent dp) (first_open dp) (empty_slots settings.workers) x settings next) es_is
-    ∙ ap (λ x. begun (first_incumbent dp) (first_open dp) (empty_slots settings.workers) [] settings x) (next_is ∙ ap length open_is))))
+-- that is such a board
+pub fresh-step : (best : Option Solution) (os : List Ticketed) (slots : List (Option Ticketed)) (es : List TableEntry) (settings : Settings) (next : ℕ) → slots ≡ empty_slots settings.workers → es ≡ []
+    → unused best os slots es settings next ≡ fresh_board settings best os next
+fresh-step best os slots es settings next slots_is es_is =
+    ap (λ x. unused best os x es settings next) slots_is ∙ ap (λ x. unused best os (empty_slots settings.workers) x settings next) es_is
 
-pub begin-kept : (dp : Dp) → IsLawful dp → (b : BoardState) (settings : Settings) (fringe : FringeView) (table : TableView) (for_best cells spare_cells : ℕ) → AreSettings settings → b ≡ first_board dp settings
-    → fringe.words ≡ dp.words → table ≡ record { entries = []; words = dp.words; limit = settings.table_limit; spare = 0 } → dp.vars ≤ for_best → cells ≡ dp.words → spare_cells ≡ dp.words
-    → IsBoardInMemory dp b fringe table 0 for_best cells spare_cells
-begin-kept dp laws b settings fringe table for_best cells spare_cells are is words table_is best row spare =
-    let first = first-is-good dp laws settings are in
-    let none : length (full_slots b.slots) ≡ 0 = ap (λ (x : BoardState). length (full_slots x.slots)) is ∙ ap length (full-none settings.workers) in
+pub fresh-kept : (dp : Dp) (made b : BoardState) (settings : Settings) (fringe : FringeView) (table : TableView) (for_best cells spare_cells : ℕ) → IsBoard dp made → b ≡ made → made.settings ≡ settings
+    → length (full_slots made.slots) ≡ 0 → fringe.words ≡ dp.words → table ≡ record { entries = []; words = dp.words; limit = settings.table_limit; spare = 0 } → dp.vars ≤ for_best → cells ≡ dp.words → spare_cells ≡ dp.words
+    → IsBoardInMemory dp made b fringe table 0 for_best cells spare_cells
+fresh-kept dp made b settings fringe table for_best cells spare_cells g is settings_is none words table_is best row spare =
+    let out : length (full_slots b.slots) ≡ 0 = ap (λ (x : BoardState). length (full_slots x.slots)) is ∙ none in
     record {
-      board = subst (IsBoard dp) (sym is) first.board;
-      good = subst (IsGood dp) (sym is) first.good;
+      board = subst (IsBoard dp) (sym is) g;
+      good = subst (IsGood dp) (sym is);
       has_room = record {
         fringe_words = words;
         table_words = ap (λ (t : TableView). t.words) table_is;
-        limit = ap (λ (t : TableView). t.limit) table_is ∙ ap (λ (x : BoardState). x.settings.table_limit) (sym is);
+        limit = ap (λ (t : TableView). t.limit) table_is ∙ ap (λ (x : Settings). x.table_limit) (sym (ap (λ (x : BoardState). x.settings) is ∙ settings_is));
         open_room = omega arith;
         table_room = inl (omega arith);
       };

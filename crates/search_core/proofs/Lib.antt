@@ -5,3 +5,5 @@ mod Bounds
 mod Sums
 mod Roots
 mod Keeping
+mod Listed
+mod Starts

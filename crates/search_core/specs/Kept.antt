@@ -29,9 +29,9 @@ pub record HasBuffers (dp : Dp) (for_best cells spare_cells : ℕ) : Type 0 wher
   pub row : cells ≡ dp.words
   pub spare : spare_cells ≡ dp.words
 
--- a good board with its room
-pub record IsBoardInMemory (dp : Dp) (b : BoardState) (fringe : FringeView) (table : TableView) (room for_best cells spare_cells : ℕ) : Type 0 where
+-- a board with its room, which is good where the first one was
+pub record IsBoardInMemory (dp : Dp) (first b : BoardState) (fringe : FringeView) (table : TableView) (room for_best cells spare_cells : ℕ) : Type 0 where
   pub board : IsBoard dp b
-  pub good : IsGood dp b
+  pub good : IsGood dp first → IsGood dp b
   pub has_room : HasRoomForChildren dp b fringe table room
   pub buffers : HasBuffers dp for_best cells spare_cells

@@ -1,5 +1,7 @@
 pub mod View
 pub mod Contents
+pub mod Opened
 pub mod Kept
+pub mod Starting
 pub mod Laws
 pub mod Moves

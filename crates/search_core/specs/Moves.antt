@@ -34,7 +34,8 @@ pub record IsStepOf (dp : Dp) (who : ℕ) (b later : BoardState) : Type 0 where
   pub may : May dp b step
   pub is : later ≡ after dp b step
 
--- a move makes such a step, or none; the instance stays, and the room is free
+-- a move makes such a step, or none; the instance and the first board stay, and the room is free
 pub record IsMove (meaning : List ℤ → Dp) (before now : BoardView) (who : ℕ) : Type 0 where
   pub numbers : now.numbers ≡ before.numbers
+  pub first : now.first ≡ before.first
   pub step : (now.board ≡ before.board) ⊎ IsStepOf (meaning before.numbers) who before.board now.board

@@ -2,6 +2,7 @@ ghost use Rattle.std.specs.Prelude.{◌≡◌, ℕ, ◌+◌, ◌-◌, ◌^◌, �
 ghost use Rattle.std.specs.Arc.{arc_value};
 ghost use Rattle.dp_model.specs.Best.{IsBest};
 ghost use Rattle.dp_model.specs.Counts.{tree};
+ghost use Rattle.dp_model.specs.Laws.{IsLawful};
 ghost use Rattle.dp_model.specs.Lists.{Each};
 ghost use Rattle.dp_model.specs.Numbers.{AtMost};
 ghost use Rattle.dp_model.specs.Prefixes.{IsSolution, value_of};
@@ -11,18 +12,24 @@ ghost use Rattle.board_laws.specs.Bound.{board_bound, IsGreatestBound};
 ghost use Rattle.board_laws.specs.Fates.{fates_on};
 ghost use Rattle.board_laws.specs.Finishing.{MayFinish};
 ghost use Rattle.board_laws.specs.GoodBoard.{IsBoard, IsGood};
-ghost use Rattle.board_laws.specs.Improving.{ImproveGives, after_offer};
+ghost use Rattle.board_laws.specs.Improving.{BetterGives, ImproveGives, after_offer};
+ghost use Rattle.board_laws.specs.Restoring.{MayRestore, restored_board};
 ghost use Rattle.board_laws.specs.Steps.{first_board, finished_by, given_back, halted};
 ghost use Rattle.board_laws.specs.Taking.{take_gives, after_take, handed_out, HasFirst};
 ghost use Rattle.search_core.specs.Contents.{contents};
+ghost use Rattle.search_core.specs.Opened.{solution_in, ticketed};
+ghost use Rattle.search_core.specs.Starting.{IsStart, board_of};
 ghost use Rattle.search_core.specs.View.{tag_of};
 
 use crate::checked_out::CheckedOut;
 use crate::deciding::{decide_all, is_above};
 use crate::entering::{enter_all, put_back, reserve_rows};
+use crate::first::FirstBoard;
 use crate::full::{count_full, raised_by_fringe, raised_by_slots};
+use crate::restoring::{reach_of, restored_start};
 use crate::solving::{copy_decisions, solution_value};
-use crate::starting::{empty_slots, first_open, first_value};
+use crate::start::Start;
+use crate::starting::{empty_slots, first_start};
 use board_laws::{Cause, Fate, Improved, Settings, Taken};
 use dominance_table::Table;
 use dp_model::{DpModel, Found, OutOfMemory, Sub};
@@ -49,6 +56,7 @@ pub struct Board<M: DpModel> {
     finished: u64,
     next_ticket: u64,
     cause: Option<Cause>,
+    first: FirstBoard,
     row: Vec<i64>,
     spare: Vec<i64>,
 }
@@ -74,10 +82,11 @@ impl<M: DpModel> Model for Board<M> {
         next_ticket = b.next_ticket;
         cause = b.cause;
       };
+      first = b.first;
       room = b.room;
     } };
 
-    ghost invariant = { λ b. IsBoardInMemory (M.meaning (M.numbers (arc_value b.model)))
+    ghost invariant = { λ b. IsBoardInMemory (M.meaning (M.numbers (arc_value b.model))) b.first
         (record {
           incumbent = best_of b.best.items b.best_value;
           open_ones = b.fringe.open_ones;
@@ -95,20 +104,67 @@ impl<M: DpModel> Model for Board<M> {
 impl<M: DpModel> Board<M> {
     /// The board at the start of a search: the root is open with ticket 0, unless it is known to have no completion; without
     /// variables the empty solution is the incumbent instead. There are from 1 to 16 workers, the width is at least 1, and the
-    /// distance is from 0 to 2^50. Fails only for want of memory.
+    /// distance is from 0 to 2^50. It is a good board. Fails only for want of memory.
     pub fn begin(alloc: Global, model: Arc<M>, settings: Settings) -> Result<Board<M>, OutOfMemory>
         requires { AreSettings settings }
         ensures numbers { IfOk result (λ b. b.numbers ≡ M.numbers (arc_value model)) }
         ensures board { IfOk result (λ b. b.board ≡ first_board (M.meaning (M.numbers (arc_value model))) settings) }
+        ensures first { IfOk result (λ b. b.first ≡ b.board) }
+        ensures good { IfOk result (λ b. IsGood (M.meaning b.numbers) b.first) }
+    {
+        let start = first_start(alloc, &*model)?;
+        Board::fresh(alloc, model, settings, start)
+    }
+
+    /// A board that goes on from an incumbent and from subproblems with their tickets: what is above the reach is open, of those
+    /// of one depth and state that with the greatest value and of equal ones the earliest. Nothing is out or counted, and the
+    /// table is empty. There are from 1 to 16 workers, the width is at least 1, and the distance is from 0 to 2^50. Fails only
+    /// for want of memory.
+    ///
+    /// The incumbent is a feasible solution. Each subproblem is a prefix of its own with its state and value that is shorter than
+    /// a solution, and its bound is at most 2^62 in size. Their tickets rise, and are less than the next one.
+    pub fn restore(
+        alloc: Global,
+        model: Arc<M>,
+        settings: Settings,
+        incumbent: Option<&[u32]>,
+        opened: Vec<(u64, Sub)>,
+        next: u64,
+    ) -> Result<Board<M>, OutOfMemory>
+        requires settings { AreSettings settings }
+        requires may { MayRestore (M.meaning (M.numbers (arc_value model))) (solution_in (M.meaning (M.numbers (arc_value model))) incumbent) (ticketed opened.items) next }
+        ensures numbers { IfOk result (λ b. b.numbers ≡ M.numbers (arc_value model)) }
+        ensures board { IfOk result (λ b. b.board ≡ restored_board settings (solution_in (M.meaning (M.numbers (arc_value model))) incumbent.entry) (ticketed opened.items) next) }
+        ensures first { IfOk result (λ b. b.first ≡ b.board) }
+    {
+        let start = restored_start(alloc, &*model, &settings, incumbent, opened, next)?;
+        Board::fresh(alloc, model, settings, start)
+    }
+
+    /// The board with this start, of which nothing is out.
+    fn fresh(
+        alloc: Global,
+        model: Arc<M>,
+        settings: Settings,
+        start: Start,
+    ) -> Result<Board<M>, OutOfMemory>
+        requires of { IsStart (M.meaning (M.numbers (arc_value model))) start }
+        requires board { IsBoard (M.meaning (M.numbers (arc_value model))) (board_of settings start) }
+        ensures numbers { IfOk result (λ b. b.numbers ≡ M.numbers (arc_value model)) }
+        ensures board { IfOk result (λ b. b.board ≡ board_of settings start) }
+        ensures first { IfOk result (λ b. b.first ≡ b.board) }
     {
         let row = vec![in alloc; 0i64; model.words()]?;
         let spare = vec![in alloc; 0i64; model.words()]?;
-        let best = Vec::with_capacity(alloc, model.vars())?;
         let slots = empty_slots(alloc, settings.workers)?;
-        let fringe = first_open(alloc, &*model)?;
         let table = Table::new(alloc, model.words(), settings.table_limit);
-        let next_ticket = fringe.len() as u64;
-        let best_value = first_value(&*model);
+        let first = FirstBoard::of(&start, &settings);
+        let Start {
+            best,
+            best_value,
+            fringe,
+            next_ticket,
+        } = start;
         Ok(Board {
             model,
             settings,
@@ -122,6 +178,7 @@ impl<M: DpModel> Board<M> {
             finished: 0,
             next_ticket,
             cause: None,
+            first,
             row,
             spare,
         })
@@ -222,6 +279,25 @@ impl<M: DpModel> Board<M> {
         Improved::Yes
     }
 
+    /// The value of a solution that `improve` would take, or `None` exactly where it would not: the decisions are no feasible
+    /// solution, or their value is at most the incumbent's. It takes no memory.
+    pub fn better_value(&mut self, decisions: &[u32]) -> Option<i64>
+        ensures better { BetterGives (M.meaning self.old.numbers) self.old.board decisions.now result }
+        ensures same { self.new ≡ self.old }
+    {
+        let value = solution_value(
+            &*self.model,
+            decisions,
+            self.row.as_mut_slice(),
+            self.spare.as_mut_slice(),
+        )?;
+        if is_above(self.best_value, value) {
+            Some(value)
+        } else {
+            None
+        }
+    }
+
     /// Makes `room` at least `count`: so many children have room in the fringe and in the table beside all that is out. It fails
     /// only where that room was missing, and a refusal changes nothing.
     pub fn reserve_for(&mut self, count: usize) -> Result<(), OutOfMemory>
@@ -249,10 +325,7 @@ impl<M: DpModel> Board<M> {
     fn reach(&self) -> Option<i64>
         ensures { result ≡ reach self.now.board }
     {
-        match self.best_value {
-            Some(value) => Some(value + self.settings.within),
-            None => None,
-        }
+        reach_of(self.settings.within, self.best_value)
     }
 
     /// Decides the fates of children, all on the board as it is. It takes no memory.
@@ -381,41 +454,44 @@ impl<M: DpModel> Board<M> {
         }
     }
 
-    /// The value of the best solution found, or `None` exactly where there is none yet.
+    /// The value of the best solution found, or `None` exactly where there is none yet. Where the first board was a good one,
+    /// the board is.
     pub fn incumbent_value(&self) -> Option<i64>
         ensures value { result ≡ incumbent_value self.now.board }
+        ensures lawful { IsLawful (M.meaning self.now.numbers) }
         ensures kept { IsBoard (M.meaning self.now.numbers) self.now.board }
-        ensures good { IsGood (M.meaning self.now.numbers) self.now.board }
+        ensures good { IsGood (M.meaning self.now.numbers) self.now.first → IsGood (M.meaning self.now.numbers) self.now.board }
     {
         self.best_value
     }
 
-    /// The greatest of the reach and the bounds of all that is open or out, which no feasible solution exceeds. `None` exactly
-    /// where there is no incumbent and nothing is open or out.
+    /// The greatest of the reach and the bounds of all that is open or out, which no feasible solution exceeds where the first
+    /// board was a good one. `None` exactly where there is no incumbent and nothing is open or out.
     pub fn bound(&self) -> Option<i64>
         ensures bound { result ≡ board_bound self.now.board }
         ensures greatest { IsGreatestBound self.now.board result }
-        ensures holds { (x : List ℕ) → IsSolution (M.meaning self.now.numbers) x → AtMost (value_of (M.meaning self.now.numbers) x) result }
+        ensures holds { IsGood (M.meaning self.now.numbers) self.now.first → (x : List ℕ) → IsSolution (M.meaning self.now.numbers) x → AtMost (value_of (M.meaning self.now.numbers) x) result }
     {
         let most = raised_by_slots(self.reach(), self.slots.as_slice());
         raised_by_fringe(most, &self.fringe)
     }
 
-    /// How many subproblems were taken: no more than the budget. Where something is open and no cause is held, there are more
-    /// prefixes than that.
+    /// How many subproblems were taken: no more than the budget. Where the first board was a good one, something is open and no
+    /// cause is held, there are more prefixes than that.
     pub fn taken(&self) -> u64
         ensures taken { result ≡ self.now.board.taken }
         ensures budget { result ≤ self.now.board.settings.budget }
-        ensures fewer { self.now.board.cause ≡ None → self.now.board.open_ones ≢ [] → result < tree (M.meaning self.now.numbers) }
+        ensures fewer { IsGood (M.meaning self.now.numbers) self.now.first → self.now.board.cause ≡ None → self.now.board.open_ones ≢ [] → result < tree (M.meaning self.now.numbers) }
     {
         self.taken
     }
 
-    /// How many of them were finished: no more than there are prefixes shorter than a solution.
+    /// How many of them were finished: where the first board was a good one, no more than there are prefixes shorter than a
+    /// solution.
     pub fn finished(&self) -> u64
         ensures finished { result ≡ self.now.board.finished }
         ensures counts { result ≤ self.now.board.taken }
-        ensures fewer { result ≤ tree (M.meaning self.now.numbers) }
+        ensures fewer { IsGood (M.meaning self.now.numbers) self.now.first → result ≤ tree (M.meaning self.now.numbers) }
     {
         self.finished
     }
@@ -427,12 +503,12 @@ impl<M: DpModel> Board<M> {
         self.cause
     }
 
-    /// Whether nothing is open or out. Then each feasible solution is at most the reach; without a distance the incumbent is best,
-    /// or there is no feasible solution.
+    /// Whether nothing is open or out. Where the first board was a good one, each feasible solution is then at most the reach;
+    /// without a distance the incumbent is best, or there is no feasible solution.
     pub fn is_explored(&self) -> bool
         ensures explored { result ≡ is_explored self.now.board }
-        ensures within { IsTrue result → (x : List ℕ) → IsSolution (M.meaning self.now.numbers) x → AtMost (value_of (M.meaning self.now.numbers) x) (reach self.now.board) }
-        ensures best { IsTrue result → self.now.board.settings.within ≡ pos 0 → IsBest (M.meaning self.now.numbers) (incumbent_value self.now.board) }
+        ensures within { IsGood (M.meaning self.now.numbers) self.now.first → IsTrue result → (x : List ℕ) → IsSolution (M.meaning self.now.numbers) x → AtMost (value_of (M.meaning self.now.numbers) x) (reach self.now.board) }
+        ensures best { IsGood (M.meaning self.now.numbers) self.now.first → IsTrue result → self.now.board.settings.within ≡ pos 0 → IsBest (M.meaning self.now.numbers) (incumbent_value self.now.board) }
     {
         self.fringe.is_empty() && count_full(self.slots.as_slice()) == 0
     }

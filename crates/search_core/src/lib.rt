@@ -14,12 +14,17 @@ mod board;
 mod checked_out;
 mod deciding;
 mod entering;
+mod first;
 mod full;
+mod restoring;
 mod solving;
+mod start;
 mod starting;
 mod tag;
 mod turned;
 
 pub use board::Board;
 pub use board_laws::{Cause, Fate, Improved, Settings, Taken};
+pub use first::FirstBoard;
+pub use starting::root_sub;
 pub use tag::BoardTag;

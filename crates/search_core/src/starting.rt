@@ -1,10 +1,12 @@
 //! What a board begins with.
 
-ghost use Rattle.std.specs.Prelude.{◌≡◌, [], IfOk, option_map, vec_len};
+ghost use Rattle.std.specs.Prelude.{◌≡◌, [], IfOk, length, option_map, vec_len};
 ghost use Rattle.board_laws.specs.Steps.{empty_slots, root_bound, root_subproblem, first_incumbent, first_open};
 ghost use Rattle.search_core.specs.Kept.{best_of};
+ghost use Rattle.search_core.specs.Starting.{IsStart, start_best};
 
 use crate::checked_out::CheckedOut;
+use crate::start::Start;
 use dp_model::{DpModel, OutOfMemory, Sub};
 use shared_fringe::Fringe;
 use std::alloc::Global;
@@ -21,7 +23,7 @@ pub fn empty_slots(alloc: Global, workers: u32) -> Result<Vec<Option<CheckedOut>
 }
 
 /// The value of the empty solution, where there are no variables.
-pub fn first_value<M: DpModel>(model: &M) -> Option<i64>
+fn first_value<M: DpModel>(model: &M) -> Option<i64>
     ensures { best_of [] result ≡ first_incumbent (M.meaning (M.numbers model.now)) }
 {
     if model.vars() == 0 {
@@ -51,7 +53,7 @@ fn root_bound<M: DpModel>(model: &M, row: &[i64]) -> Option<i64>
 }
 
 /// The root as a subproblem, or `None` where it is known to have no completion.
-fn root_sub<M: DpModel>(alloc: Global, model: &M) -> Result<Option<Sub>, OutOfMemory>
+pub fn root_sub<M: DpModel>(alloc: Global, model: &M) -> Result<Option<Sub>, OutOfMemory>
     ensures root { IfOk result (λ root. option_map (λ s. s.subproblem) root ≡ root_subproblem (M.meaning (M.numbers model.now))) }
 {
     let mut sub = Sub::blank(alloc, model.vars(), model.words())?;
@@ -65,7 +67,7 @@ fn root_sub<M: DpModel>(alloc: Global, model: &M) -> Result<Option<Sub>, OutOfMe
 }
 
 /// The fringe with the root, where there are variables and the root has a bound.
-pub fn first_open<M: DpModel>(alloc: Global, model: &M) -> Result<Fringe, OutOfMemory>
+fn first_open<M: DpModel>(alloc: Global, model: &M) -> Result<Fringe, OutOfMemory>
     ensures open { IfOk result (λ fringe. fringe.open_ones ≡ first_open (M.meaning (M.numbers model.now))) }
     ensures words { IfOk result (λ fringe. fringe.words ≡ (M.meaning (M.numbers model.now)).words) }
 {
@@ -79,4 +81,22 @@ pub fn first_open<M: DpModel>(alloc: Global, model: &M) -> Result<Fringe, OutOfM
     fringe.reserve(1)?;
     fringe.push(0, root);
     Ok(fringe)
+}
+
+/// What the first board starts with: the root is open, or the empty solution is the incumbent.
+pub fn first_start<M: DpModel>(alloc: Global, model: &M) -> Result<Start, OutOfMemory>
+    ensures best { IfOk result (λ s. start_best s ≡ first_incumbent (M.meaning (M.numbers model.now))) }
+    ensures open { IfOk result (λ s. s.fringe.open_ones ≡ first_open (M.meaning (M.numbers model.now))) }
+    ensures next { IfOk result (λ s. s.next_ticket ≡ length (first_open (M.meaning (M.numbers model.now)))) }
+    ensures of { IfOk result (IsStart (M.meaning (M.numbers model.now))) }
+{
+    let best = Vec::with_capacity(alloc, model.vars())?;
+    let fringe = first_open(alloc, model)?;
+    let next_ticket = fringe.len() as u64;
+    Ok(Start {
+        best,
+        best_value: first_value(model),
+        fringe,
+        next_ticket,
+    })
 }

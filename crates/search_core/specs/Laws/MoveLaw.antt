@@ -48,8 +48,8 @@ keeps-step dp who b later s =
           (ap (λ o. option_map (λ o. o.subproblem.decisions) o) (step-others dp b s.step other (other-worker who other (worker_of s.step) s.of differ)));
     }
 
-tags : (now before : BoardView) → now.numbers ≡ before.numbers → now.board.settings ≡ before.board.settings → tag_of now ≡ tag_of before
-tags now before e f = λ i. record { numbers = e i; settings = f i }
+tags : (now before : BoardView) → now.numbers ≡ before.numbers → now.board.settings ≡ before.board.settings → now.first ≡ before.first → tag_of now ≡ tag_of before
+tags now before e f h = λ i. record { numbers = e i; settings = f i; first = h i }
 
 pub keeps-move : (meaning : List ℤ → Dp) (before now : BoardView) (who : ℕ) → IsMove meaning before now who → KeepsMove before now who
 keeps-move meaning before now who m =
@@ -57,4 +57,4 @@ keeps-move meaning before now who m =
     (λ same. subst (KeepsStep who before.board) (sym same) (keeps-none who before.board))
     (λ step. keeps-step (meaning before.numbers) who before.board now.board step)
     m.step in
-    (tags now before m.numbers k.settings, k.better, k.others)
+    (tags now before m.numbers k.settings m.first, k.better, k.others)

@@ -1,5 +1,5 @@
 use Rattle.std.proofs.Common.{◌∷◌, ◌++◌, [], None, ◌∙◌, ap, arith}
-use Rattle.board_laws.proofs.First.{slots-more}
+use Rattle.board_laws.proofs.Fresh.{slots-more}
 use Rattle.search_core.proofs.starting.empty_slots.Goals as goal
 
 pub loop-made-preserved : goal.loop-made-preserved

@@ -3,6 +3,7 @@ use Rattle.dp_model.specs.Numbers.{AtMost}
 use Rattle.dp_model.specs.Prefixes.{IsSolution, value_of}
 use Rattle.board_laws.specs.Board.{full_slots, reach}
 use Rattle.board_laws.specs.Bound.{raised_by, board_bound, IsGreatestBound}
+use Rattle.board_laws.specs.GoodBoard.{IsGood}
 use Rattle.board_laws.proofs.Reading.{raised-append, bound-greatest, bound-holds}
 use Rattle.search_core.specs.View.{BoardView}
 use Rattle.search_core.proofs.board.Board.bound.Goals as goal
@@ -24,6 +25,6 @@ returns-clause-greatest g c =
 pub returns-clause-holds : goal.returns-clause-holds
 returns-clause-holds g c =
     let is = returns-clause-bound g c in
-    subst (λ m. (x : List ℕ) → IsSolution (g.M.DpModel.meaning c.args.self.now.numbers) x → AtMost (value_of (g.M.DpModel.meaning c.args.self.now.numbers) x) m) (sym is)
-    (subst (λ (v : BoardView). (x : List ℕ) → IsSolution (g.M.DpModel.meaning v.numbers) x → AtMost (value_of (g.M.DpModel.meaning v.numbers) x) (board_bound v.board)) c.self.view_is
-    (bound-holds _ _ c.self.invariant.good))
+    subst (λ m. IsGood (g.M.DpModel.meaning c.args.self.now.numbers) c.args.self.now.first → (x : List ℕ) → IsSolution (g.M.DpModel.meaning c.args.self.now.numbers) x → AtMost (value_of (g.M.DpModel.meaning c.args.self.now.numbers) x) m) (sym is)
+    (subst (λ (v : BoardView). IsGood (g.M.DpModel.meaning v.numbers) v.first → (x : List ℕ) → IsSolution (g.M.DpModel.meaning v.numbers) x → AtMost (value_of (g.M.DpModel.meaning v.numbers) x) (board_bound v.board)) c.self.view_is
+    (λ first. bound-holds _ _ (c.self.invariant.good first)))

@@ -41,7 +41,7 @@ pub invariant_of-self : goal.invariant_of-self
 invariant_of-self g c =
     let may = subst (λ (v : BoardView). take_gives v.board ≡ Sub) (sym c.self.view_is) c.requires.may in
     let empty = subst (λ (v : BoardView). slice_get v.board.slots c.args.who ≡ Some None) (sym c.self.view_is) c.requires.empty in
-    take-kept _ _ c.args.who _ c.self.inside.fringe c.pop_best.new.self _ _ _ _ _ c.self.invariant may empty c.in-Some.ensures.best c.pop_best.ensures.step c.pop_best.ensures.words c.in-Some.ensures.more
+    take-kept _ _ _ c.args.who _ c.self.inside.fringe c.pop_best.new.self _ _ _ _ _ c.self.invariant may empty c.in-Some.ensures.best c.pop_best.ensures.step c.pop_best.ensures.words c.in-Some.ensures.more
 
 pub returns-clause-first : goal.returns-clause-first
 returns-clause-first g c =

@@ -65,7 +65,7 @@ invariant_of-self g c =
     let noted = subst (λ m. c.enter_all-self-inside.new.table ≡ put_each c.self.inside.table (map (entry_of (g.M.DpModel.meaning (g.M.DpModel.numbers m))) (entering (contents c.args.subs.now.items) c.args.fates.now))) c.deref.ensures c.enter_all-self-inside.ensures.noted in
     let spare = c.enter_all-self-inside.ensures.spare in
     let count = c.len-count.ensures in
-    finish-kept dp (laws_of g (arc_value c.self.inside.model)) _ c.args.who c.args.threshold (contents c.args.subs.now.items) c.args.fates.now c.self.inside.fringe c.enter_all-self-inside.new.fringe c.self.inside.table c.enter_all-self-inside.new.table
+    finish-kept dp (laws_of g (arc_value c.self.inside.model)) _ _ c.args.who c.args.threshold (contents c.args.subs.now.items) c.args.fates.now c.self.inside.fringe c.enter_all-self-inside.new.fringe c.self.inside.table c.enter_all-self-inside.new.table
     c.enter_all-self-inside.result c.self.inside.room _ _ _ _ c.self.invariant may refl c.enter_all-self-inside.ensures.«open» noted c.enter_all-self-inside.ensures.next c.enter_all-self-inside.ensures.words (omega arith) (omega arith)
 
 pub returns-clause-step : goal.returns-clause-step

@@ -16,19 +16,19 @@ pub put_back-requires-clause-room : goal.put_back-requires-clause-room
 put_back-requires-clause-room g c =
     let full = subst (λ (v : BoardView). IsSome (slot_at v.board c.args.who)) (sym c.self.view_is) c.requires.full in
     let at = back-at c.self.inside.slots.items c.args.who c.index_mut.result.now c.in-Some.one full c.index_mut.ensures.value (sym c.in-Some.ensures.value) in
-    (goes-back _ (laws_of g (arc_value c.self.inside.model)) _ c.args.who c.in-Some.one _ _ _ _ _ _ c.self.invariant at).room
+    (goes-back _ (laws_of g (arc_value c.self.inside.model)) _ _ c.args.who c.in-Some.one _ _ _ _ _ _ c.self.invariant at).room
 
 pub put_back-requires-clause-cells : goal.put_back-requires-clause-cells
 put_back-requires-clause-cells g c =
     let full = subst (λ (v : BoardView). IsSome (slot_at v.board c.args.who)) (sym c.self.view_is) c.requires.full in
     let at = back-at c.self.inside.slots.items c.args.who c.index_mut.result.now c.in-Some.one full c.index_mut.ensures.value (sym c.in-Some.ensures.value) in
-    (goes-back _ (laws_of g (arc_value c.self.inside.model)) _ c.args.who c.in-Some.one _ _ _ _ _ _ c.self.invariant at).cells ∙ sym c.self.invariant.has_room.fringe_words
+    (goes-back _ (laws_of g (arc_value c.self.inside.model)) _ _ c.args.who c.in-Some.one _ _ _ _ _ _ c.self.invariant at).cells ∙ sym c.self.invariant.has_room.fringe_words
 
 pub put_back-requires-clause-new : goal.put_back-requires-clause-new
 put_back-requires-clause-new g c =
     let full = subst (λ (v : BoardView). IsSome (slot_at v.board c.args.who)) (sym c.self.view_is) c.requires.full in
     let at = back-at c.self.inside.slots.items c.args.who c.index_mut.result.now c.in-Some.one full c.index_mut.ensures.value (sym c.in-Some.ensures.value) in
-    (goes-back _ (laws_of g (arc_value c.self.inside.model)) _ c.args.who c.in-Some.one _ _ _ _ _ _ c.self.invariant at).new
+    (goes-back _ (laws_of g (arc_value c.self.inside.model)) _ _ c.args.who c.in-Some.one _ _ _ _ _ _ c.self.invariant at).new
 
 pub invariant_of-self : goal.invariant_of-self
 invariant_of-self g c =
@@ -37,7 +37,7 @@ invariant_of-self g c =
     let at = back-at c.self.inside.slots.items c.args.who c.index_mut.result.now c.in-Some.one full c.index_mut.ensures.value (sym c.in-Some.ensures.value) in
     let put = c.put_back.ensures.put ∙ ap (λ r. back_among r c.in-Some.one c.self.inside.fringe.open_ones) (c.reach-reach.ensures ∙ ap (λ (v : BoardView). reach v.board) (sym c.self.view_is)) in
     rw c.replace-slot.ensures.after
-    (back-kept _ (laws_of g (arc_value c.self.inside.model)) _ c.args.who c.in-Some.one c.self.inside.fringe c.put_back.new.fringe _ _ _ _ _ c.self.invariant at halted put c.put_back.ensures.words c.put_back.ensures.spare)
+    (back-kept _ (laws_of g (arc_value c.self.inside.model)) _ _ c.args.who c.in-Some.one c.self.inside.fringe c.put_back.new.fringe _ _ _ _ _ c.self.invariant at halted put c.put_back.ensures.words c.put_back.ensures.spare)
 
 pub returns-clause-step : goal.returns-clause-step
 returns-clause-step g c =

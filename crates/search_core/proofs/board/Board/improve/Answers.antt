@@ -36,7 +36,7 @@ invariant_of-self-2 g c =
     let best = held-value c.self.inside.best.items c.self.inside.best_value in
     let left = c.drop_up_to.ensures.step ∙ (ap (λ z. above_value z c.self.inside.fringe.open_ones) sum.is ∙ ap (λ v. above_value (v +ℤ c.self.inside.settings.within) c.self.inside.fringe.open_ones) (sym is)) in
     rw c.copy_decisions.ensures.copied
-    (improve-kept _ _ c.args.decisions.now (to_z w64 (of_z w64 c.in-Some.value)) c.drop_up_to.new.self.open_ones c.self.inside.fringe c.drop_up_to.new.self _ _ _ _ _ _ c.self.invariant
+    (improve-kept _ _ _ c.args.decisions.now (to_z w64 (of_z w64 c.in-Some.value)) c.drop_up_to.new.self.open_ones c.self.inside.fringe c.drop_up_to.new.self _ _ _ _ _ _ c.self.invariant
     (record { solution = worth.solution; value = is ∙ worth.value }) (ap (λ b. is_above b (to_z w64 (of_z w64 c.in-Some.value))) best ∙ up) left c.drop_up_to.ensures.words c.drop_up_to.ensures.spare c.copy_decisions.ensures.capacity)
 
 pub returns-clause-step : goal.returns-clause-step
