@@ -19,6 +19,11 @@ pub data RecordView : Type 0 where
   Improve : ℤ → List ℕ → RecordView
   Finish : ℕ → List ChildView → RecordView
 
+-- the records of a journal behind its head, the oldest first, and the offset of the first one's gate
+pub record RecordsView : Type 0 where
+  pub first : ℕ
+  pub records : List RecordView
+
 abbrev pub number_at : Width → List ℕ → Option (ℕ × List ℕ)
 number_at w bytes = if nat_lt (length bytes) (byte_len w) then None else Some (from_be_bytes w (take (byte_len w) bytes), drop (byte_len w) bytes)
 

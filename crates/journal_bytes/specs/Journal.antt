@@ -10,7 +10,7 @@ use Rattle.problem_names.specs.declared.ModelName.TheVariants.{Knapsack, MaxCut,
 use Rattle.journal_bytes.specs.declared.head.Head.{Head}
 use Rattle.journal_bytes.specs.declared.tail.Tail.{Tail}
 use Rattle.journal_bytes.specs.Frames.{Frame, Reading, reading_of}
-use Rattle.journal_bytes.specs.Bodies.{RecordView, number_at, record_of}
+use Rattle.journal_bytes.specs.Bodies.{RecordView, RecordsView, number_at, record_of}
 
 infixl 10 ◌>>=◌
 abbrev pub ◌>>=◌ : {A B : Type 0} → Result A Refusal → (A → Result B Refusal) → Result B Refusal
@@ -69,8 +69,13 @@ HasRecords head records file = (tail : Tail) × (journal_of file ≡ Ok (record 
 abbrev pub head_view : Head → HeadView
 head_view h = record { model = h.model; text = h.text.items }
 
-abbrev pub journal_view : Head × List RecordView × Tail → JournalView
-journal_view j = record { head = head_view j.0; records = j.1; tail = j.2 }
+abbrev pub journal_view : Head × RecordsView × Tail → JournalView
+journal_view j = record { head = head_view j.0; records = j.1.records; tail = j.2 }
+
+-- the offset of the gate behind the first frame, that of the head
+abbrev pub behind_head : List Frame → ℕ
+behind_head [] = 0
+behind_head (f ∷ fs) = 38 + length f.body
 
 -- what a reader gives is what stands there, unless memory ran out
 abbrev pub Refuses : {Y : Type 0} → Refusal → Result Y Refusal → Type 0

@@ -3,7 +3,7 @@ ghost use Rattle.journal_bytes.specs.Frames.{frames_of};
 ghost use Rattle.journal_bytes.specs.Found.{found, frame};
 ghost use Rattle.journal_bytes.specs.Ends.{EndsAt};
 ghost use Rattle.journal_bytes.specs.Views.{record_view};
-ghost use Rattle.journal_bytes.specs.Journal.{placed_at, head_of, head_view, model_at, text_of, or_malformed, records_from, journal_in, journal_of, journal_view, Gives};
+ghost use Rattle.journal_bytes.specs.Journal.{behind_head, placed_at, head_of, head_view, model_at, text_of, or_malformed, records_from, journal_in, journal_of, journal_view, Gives};
 
 use crate::body::{BodyError, record_of, u32_at};
 use crate::frames::{Found, Frame, read_frames};
@@ -98,6 +98,7 @@ fn records_in(alloc: Global, start: u64, frames: &[Frame]) -> Result<Vec<Record>
 fn journal_from(alloc: Global, read: Found) -> Result<(Head, Records, Tail), Refusal>
     ensures exact { Gives journal_view result (journal_in (found read)) }
     ensures tail { IfOk result (λ r. (r.2.end ≡ read.end) × (r.2.digest ≡ read.digest) × IsTrue read.is_whole) }
+    ensures first { IfOk result (λ r. r.1.first ≡ behind_head (found read).frames) }
 {
     let Found {
         frames,
@@ -112,7 +113,8 @@ fn journal_from(alloc: Global, read: Found) -> Result<(Head, Records, Tail), Ref
         return Err(Refusal::Damaged { offset: end as u64 });
     };
     let head = head_in(alloc, first)?;
-    let records = records_in(alloc, 38 + first.body.len() as u64, rest)?;
+    let start = 38 + first.body.len() as u64;
+    let records = records_in(alloc, start, rest)?;
     if !is_whole {
         return Err(Refusal::Damaged { offset: end as u64 });
     }
@@ -120,7 +122,7 @@ fn journal_from(alloc: Global, read: Found) -> Result<(Head, Records, Tail), Ref
         end: end as u64,
         digest,
     };
-    Ok((head, Records::new(records), tail))
+    Ok((head, Records::new(start, records), tail))
 }
 
 /// The journal that a file's bytes spell, up to the first closed gate, or the first cause for which they are refused.
@@ -133,6 +135,9 @@ pub fn read_journal(alloc: Global, file: &[u8]) -> Result<(Head, Records, Tail),
 
     // What was read is spelled so, and the tail is at its closed gate.
     ensures ends { IfOk result (λ r. EndsAt file.now r.2 (frames_of file.now)) }
+
+    // The first record stands behind the head.
+    ensures first { IfOk result (λ r. r.1.first ≡ behind_head (frames_of file.now)) }
 {
     if file.len() <= 1 {
         return Err(Refusal::NotBegun);

@@ -3,17 +3,17 @@ use Rattle.std.proofs.Common.{◌≡◌, ℕ, List, Ok, sym, ap, subst, ◌∙�
 use Rattle.dd_disk.specs.Disk.{Only}
 use Rattle.journal_bytes.specs.declared.head.Head.{Head}
 use Rattle.journal_bytes.specs.declared.tail.Tail.{Tail}
-use Rattle.journal_bytes.specs.Bodies.{RecordView}
+use Rattle.journal_bytes.specs.Bodies.{RecordsView}
 use Rattle.journal_bytes.specs.Ends.{EndsAt}
 use Rattle.journal_bytes.specs.Frames.{frames_of}
 use Rattle.journal_bytes.specs.Journal.{journal_of, head_view, journal_view}
 use Rattle.journal_file.specs.Settled.{IsOpen}
 
 -- it may be gone on with
-pub opened : (file bytes : List ℕ) (may_leave : List ℕ → Type 0) (j : Head × List RecordView × Tail) → bytes ≡ file → journal_of bytes ≡ Ok (journal_view j) → EndsAt bytes j.2 (frames_of bytes) → Only file may_leave → IsOpen file may_leave j.2
+pub opened : (file bytes : List ℕ) (may_leave : List ℕ → Type 0) (j : Head × RecordsView × Tail) → bytes ≡ file → journal_of bytes ≡ Ok (journal_view j) → EndsAt bytes j.2 (frames_of bytes) → Only file may_leave → IsOpen file may_leave j.2
 opened file bytes may_leave j same reads ends only = record {
   settled = record { ends = subst (λ (l : List ℕ). EndsAt l j.2 (frames_of l)) same ends; durable = only };
   head = head_view j.0;
-  records = j.1;
+  records = j.1.records;
   reads = (j.2, sym (ap journal_of same) ∙ reads);
 }

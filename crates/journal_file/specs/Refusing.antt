@@ -1,10 +1,10 @@
 -- Why a journal is not opened.
-use Rattle.std.specs.Prelude.{◌≡◌, List, Result, Ok, Err}
+use Rattle.std.specs.Prelude.{◌≡◌, Result, Ok, Err}
 use Rattle.journal_bytes.specs.declared.head.Head.{Head}
 use Rattle.journal_bytes.specs.declared.refusal.Refusal.{Refusal}
 use Rattle.journal_bytes.specs.declared.refusal.Refusal.TheVariants as bytes
 use Rattle.journal_bytes.specs.declared.tail.Tail.{Tail}
-use Rattle.journal_bytes.specs.Bodies.{RecordView}
+use Rattle.journal_bytes.specs.Bodies.{RecordsView}
 use Rattle.journal_bytes.specs.Journal.{JournalView, journal_view}
 use Rattle.journal_file.specs.declared.append_error.AppendError.{AppendError}
 use Rattle.journal_file.specs.declared.append_error.AppendError.TheVariants as appending
@@ -36,7 +36,7 @@ IsCause (errors.NoSolution offset) read = ⊥
 IsCause errors.OutOfMemory read = Unit {0}
 
 -- a journal that was opened is what the bytes read as, and each error their first cause
-abbrev pub Opens : Result (Head × List RecordView × Tail) JournalError → Result JournalView Refusal → Type 0
+abbrev pub Opens : Result (Head × RecordsView × Tail) JournalError → Result JournalView Refusal → Type 0
 Opens (Ok journal) read = read ≡ Ok (journal_view journal)
 Opens (Err e) read = IsCause e read
 

@@ -1,7 +1,8 @@
 ghost use Rattle.std.specs.Prelude.{◌≡◌, ◌⊎◌, ◌≤◌, None, IsSome, IfSome, IsTrue, IfOk, OnOk, IsErrOf};
 ghost use Rattle.dd_disk.specs.Counts.{Rose};
 ghost use Rattle.dd_disk.specs.Disk.{Only, Keeps, LeavesOnly};
-ghost use Rattle.journal_bytes.specs.Journal.{journal_of};
+ghost use Rattle.journal_bytes.specs.Frames.{frames_of};
+ghost use Rattle.journal_bytes.specs.Journal.{behind_head, journal_of};
 ghost use Rattle.journal_file.specs.Beginning.{BeganAt};
 ghost use Rattle.journal_file.specs.Refusing.{Opens};
 ghost use Rattle.journal_file.specs.Settled.{IsOpen};
@@ -23,6 +24,9 @@ pub fn reopen<D: Disk>(alloc: Global, disk: &mut D) -> Result<(Head, Records, Ta
 
     // What is read, or the first cause for which it is refused.
     ensures exact { IsTrue (D.tells disk.old) → Opens result (journal_of (D.seen disk.old)) }
+
+    // The first record stands behind the head.
+    ensures first { IfOk result (λ r. IsTrue (D.tells disk.old) → r.1.first ≡ behind_head (frames_of (D.seen disk.old))) }
 
     // A record may be added.
     ensures ready { IfOk result (λ r. IsTrue (D.tells disk.old) →
