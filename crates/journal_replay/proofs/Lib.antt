@@ -1,0 +1,17 @@
+-- lists
+pub mod Tickets
+mod Added
+mod Places
+mod Adding
+mod Begins
+-- what accepted records are restored to
+pub mod Restored
+pub mod Beside
+-- the record of a finished subproblem
+mod Entered
+mod Kids
+mod Finishing
+-- the steps
+mod Sounding
+pub mod Steps
+pub mod Joined

@@ -1,0 +1,64 @@
+-- What replay keeps, and how a board keeps up with its records.
+use Rattle.std.specs.Prelude.{◌≡◌, ℕ, ℤ, List, ◌++◌, IfSome}
+use Rattle.dp_model.specs.Dp.{Dp}
+use Rattle.dp_model.specs.Numbers.{OptionAtMost}
+use Rattle.board_laws.specs.declared.settings.Settings.{Settings}
+use Rattle.board_laws.specs.Board.{AreSettings, BoardState, value_held}
+use Rattle.board_laws.specs.GoodBoard.{IsBoard, IsGood}
+use Rattle.board_laws.specs.Runs.{Step, May, after}
+use Rattle.board_laws.specs.Steps.{first_board}
+use Rattle.journal_bytes.specs.Bodies.{RecordView}
+use Rattle.journal_replay.specs.Replay.{Replayed, replay_start, after_record, after_records, replay_of, MayRestoreFrom, restored_from}
+use Rattle.journal_replay.specs.Accepting.{MayFollow, MayFollowAll, AreAccepted}
+use Rattle.journal_replay.specs.Sound.{IsSoundState, AreSoundFrom, AreSound, finished_after, finished_after_all}
+use Rattle.journal_replay.specs.Following.{IsReplayOf, record_of_step, after_recorded}
+
+-- a search may be restored from accepted records
+abbrev pub AcceptedRestore : Dp → Type 0
+AcceptedRestore dp = (rs : List RecordView) → AreAccepted dp rs → MayRestoreFrom dp (replay_of dp rs)
+
+-- accepted and sound records are restored to a good board
+abbrev pub SoundRestoreGood : Dp → Type 0
+SoundRestoreGood dp = (settings : Settings) (rs : List RecordView) → AreSettings settings → AreAccepted dp rs → AreSound dp settings.within rs → IsGood dp (restored_from settings (replay_of dp rs))
+
+-- the first board stands beside no records, which are sound
+pub record FirstBoardFollows (dp : Dp) (settings : Settings) : Type 0 where
+  pub beside : IsReplayOf dp (replay_start dp) (first_board dp settings)
+  pub sound : IsSoundState dp settings.within 0 (replay_start dp)
+
+abbrev pub FirstBoardsFollow : Dp → Type 0
+FirstBoardsFollow dp = (settings : Settings) → AreSettings settings → FirstBoardFollows dp settings
+
+-- a restored board stands beside what it was restored from
+abbrev pub RestoredBoardsFollow : Dp → Type 0
+RestoredBoardsFollow dp = (settings : Settings) (s : Replayed) → MayRestoreFrom dp s → IsReplayOf dp s (restored_from settings s)
+
+-- the record of a step, where it has one, may follow, and the board after the step stands beside it; on a good board what is sound
+-- stays so
+pub record StepIsRecorded (dp : Dp) (s : Replayed) (b : BoardState) (step : Step) : Type 0 where
+  pub may : IfSome (record_of_step dp b step) (MayFollow dp s)
+  pub beside : IsReplayOf dp (after_recorded dp s (record_of_step dp b step)) (after dp b step)
+  pub sound : (n : ℕ) → IsGood dp b → IsSoundState dp b.settings.within n s →
+      IfSome (record_of_step dp b step) (λ r. IsSoundState dp b.settings.within (finished_after n r) (after_record dp s r))
+
+abbrev pub StepsAreRecorded : Dp → Type 0
+StepsAreRecorded dp = (s : Replayed) (b : BoardState) (step : Step) → IsBoard dp b → IsReplayOf dp s b → May dp b step → StepIsRecorded dp s b step
+
+-- the incumbent after more records is no worse
+abbrev pub RecordsDoNotWorsen : Dp → Type 0
+RecordsDoNotWorsen dp = (s : Replayed) (rs : List RecordView) → MayFollowAll dp s rs → OptionAtMost (value_held s.incumbent) (value_held (after_records dp s rs).incumbent)
+
+-- records behind records: what is made of them, and that both are accepted and sound exactly where each part is
+pub record AreJoined (dp : Dp) (s : Replayed) (rs more : List RecordView) : Type 0 where
+  pub after : after_records dp s (rs ++ more) ≡ after_records dp (after_records dp s rs) more
+  pub finished : (n : ℕ) → finished_after_all n (rs ++ more) ≡ finished_after_all (finished_after_all n rs) more
+  pub accepted : MayFollowAll dp s rs → MayFollowAll dp (after_records dp s rs) more → MayFollowAll dp s (rs ++ more)
+  pub accepted_front : MayFollowAll dp s (rs ++ more) → MayFollowAll dp s rs
+  pub accepted_back : MayFollowAll dp s (rs ++ more) → MayFollowAll dp (after_records dp s rs) more
+  pub last : (within : ℤ) (n : ℕ) → AreSoundFrom dp within n s rs → IsSoundState dp within (finished_after_all n rs) (after_records dp s rs)
+  pub sound : (within : ℤ) (n : ℕ) → AreSoundFrom dp within n s rs → AreSoundFrom dp within (finished_after_all n rs) (after_records dp s rs) more
+      → AreSoundFrom dp within n s (rs ++ more)
+  pub sound_front : (within : ℤ) (n : ℕ) → AreSoundFrom dp within n s (rs ++ more) → AreSoundFrom dp within n s rs
+
+abbrev pub RecordsJoin : Dp → Type 0
+RecordsJoin dp = (s : Replayed) (rs more : List RecordView) → AreJoined dp s rs more

@@ -1,0 +1,11 @@
+-- what records make of a search, and which may follow
+pub mod Replay
+pub mod Accepting
+-- what replay keeps in memory
+pub mod Places
+-- what makes a journal sound
+pub mod Sound
+-- the board beside its records
+pub mod Following
+-- the laws
+pub mod Laws

@@ -1,0 +1,290 @@
+//! Journals that are replayed, and such as are refused.
+
+use dp_model::{DpModel, OutOfMemory};
+use journal_bytes::{Records, Refusal, read_journal, seal};
+use journal_file::JournalError;
+use journal_replay::replay;
+use knapsack::Knapsack;
+use search_core::Settings;
+use std::alloc::{AllocError, Global};
+use std::process::Abort;
+use std::sync::Arc;
+use std::test::Fail;
+
+/// Three items in a room of 10, the root of which has the bound 121.
+const ITEMS: &[u8] = b"3 10\n60 5\n50 4\n70 6\n";
+
+/// The kinds of records.
+const HEAD: u8 = 1;
+
+const IMPROVE: u8 = 2;
+
+const FINISH: u8 = 3;
+
+/// The head's body: version 1, the knapsack, and the text of 20 bytes.
+const HEAD_BODY: &[u8] = b"\x00\x00\x00\x01\x01\x00\x00\x00\x143 10\n60 5\n50 4\n70 6\n";
+
+/// The solution 1 1 0, which is worth 110.
+const IMPROVE_110: (u8, &[u8]) = (
+    IMPROVE,
+    b"\x00\x00\x00\x00\x00\x00\x00\x6e\x00\x00\x00\x03\x00\x00\x00\x01\x00\x00\x00\x01\x00\x00\x00\x00",
+);
+
+/// The solution 0 1 1, which is worth 120.
+const IMPROVE_120: (u8, &[u8]) = (
+    IMPROVE,
+    b"\x00\x00\x00\x00\x00\x00\x00\x78\x00\x00\x00\x03\x00\x00\x00\x00\x00\x00\x00\x01\x00\x00\x00\x01",
+);
+
+/// The solution 1 1 0 with the value 111.
+const IMPROVE_111: (u8, &[u8]) = (
+    IMPROVE,
+    b"\x00\x00\x00\x00\x00\x00\x00\x6f\x00\x00\x00\x03\x00\x00\x00\x01\x00\x00\x00\x01\x00\x00\x00\x00",
+);
+
+/// The decisions 1 1 1, which weigh more than the room.
+const ALL_ITEMS: (u8, &[u8]) = (
+    IMPROVE,
+    b"\x00\x00\x00\x00\x00\x00\x00\xb4\x00\x00\x00\x03\x00\x00\x00\x01\x00\x00\x00\x01\x00\x00\x00\x01",
+);
+
+/// The decisions 1 1, which leave the last item open.
+const SHORT: (u8, &[u8]) = (
+    IMPROVE,
+    b"\x00\x00\x00\x00\x00\x00\x00\x6e\x00\x00\x00\x02\x00\x00\x00\x01\x00\x00\x00\x01",
+);
+
+/// The root is finished, with the children 1 of bound 121 and 0 of bound 120.
+const ROOT: (u8, &[u8]) = (
+    FINISH,
+    b"\x00\x00\x00\x00\x00\x00\x00\x00\x00\x00\x00\x02\xff\xff\xff\xff\xff\xff\xff\xff\x00\x00\x00\x00\x00\x00\x00\x79\x00\x00\x00\x01\x00\x00\x00\x01\xff\xff\xff\xff\xff\xff\xff\xff\x00\x00\x00\x00\x00\x00\x00\x78\x00\x00\x00\x01\x00\x00\x00\x00",
+);
+
+/// The root is finished, with the child 0 of bound 120.
+const ROOT_LOW: (u8, &[u8]) = (
+    FINISH,
+    b"\x00\x00\x00\x00\x00\x00\x00\x00\x00\x00\x00\x01\xff\xff\xff\xff\xff\xff\xff\xff\x00\x00\x00\x00\x00\x00\x00\x78\x00\x00\x00\x01\x00\x00\x00\x00",
+);
+
+/// The root is finished, without children.
+const ROOT_ALONE: (u8, &[u8]) = (FINISH, b"\x00\x00\x00\x00\x00\x00\x00\x00\x00\x00\x00\x00");
+
+/// The root is finished, with the child 1 and the child 1 again, which replaces the first.
+const ROOT_TWICE: (u8, &[u8]) = (
+    FINISH,
+    b"\x00\x00\x00\x00\x00\x00\x00\x00\x00\x00\x00\x02\xff\xff\xff\xff\xff\xff\xff\xff\x00\x00\x00\x00\x00\x00\x00\x79\x00\x00\x00\x01\x00\x00\x00\x01\x00\x00\x00\x00\x00\x00\x00\x01\x00\x00\x00\x00\x00\x00\x00\x79\x00\x00\x00\x01\x00\x00\x00\x01",
+);
+
+/// The root is finished, with a child that decides all items.
+const ROOT_WHOLE: (u8, &[u8]) = (
+    FINISH,
+    b"\x00\x00\x00\x00\x00\x00\x00\x00\x00\x00\x00\x01\xff\xff\xff\xff\xff\xff\xff\xff\x00\x00\x00\x00\x00\x00\x00\x79\x00\x00\x00\x03\x00\x00\x00\x01\x00\x00\x00\x01\x00\x00\x00\x00",
+);
+
+/// The root is finished, with a child that takes two copies of an item.
+const ROOT_NO_PREFIX: (u8, &[u8]) = (
+    FINISH,
+    b"\x00\x00\x00\x00\x00\x00\x00\x00\x00\x00\x00\x01\xff\xff\xff\xff\xff\xff\xff\xff\x00\x00\x00\x00\x00\x00\x00\x79\x00\x00\x00\x01\x00\x00\x00\x02",
+);
+
+/// The root is finished, with a child whose bound is 2^62 + 1.
+const ROOT_FAR: (u8, &[u8]) = (
+    FINISH,
+    b"\x00\x00\x00\x00\x00\x00\x00\x00\x00\x00\x00\x01\xff\xff\xff\xff\xff\xff\xff\xff\x40\x00\x00\x00\x00\x00\x00\x01\x00\x00\x00\x01\x00\x00\x00\x01",
+);
+
+/// The root is finished, with a child whose bound is -2^62 - 1.
+const ROOT_FAR_BELOW: (u8, &[u8]) = (
+    FINISH,
+    b"\x00\x00\x00\x00\x00\x00\x00\x00\x00\x00\x00\x01\xff\xff\xff\xff\xff\xff\xff\xff\xbf\xff\xff\xff\xff\xff\xff\xff\x00\x00\x00\x01\x00\x00\x00\x01",
+);
+
+/// The root is finished, with a child whose bound is 2^62.
+const ROOT_FARTHEST: (u8, &[u8]) = (
+    FINISH,
+    b"\x00\x00\x00\x00\x00\x00\x00\x00\x00\x00\x00\x01\xff\xff\xff\xff\xff\xff\xff\xff\x40\x00\x00\x00\x00\x00\x00\x00\x00\x00\x00\x01\x00\x00\x00\x01",
+);
+
+/// The root is finished, with a child that replaces the root.
+const ROOT_REPLACES_ITSELF: (u8, &[u8]) = (
+    FINISH,
+    b"\x00\x00\x00\x00\x00\x00\x00\x00\x00\x00\x00\x01\x00\x00\x00\x00\x00\x00\x00\x00\x00\x00\x00\x00\x00\x00\x00\x79\x00\x00\x00\x01\x00\x00\x00\x01",
+);
+
+/// Ticket 1 is finished.
+const FIRST: (u8, &[u8]) = (FINISH, b"\x00\x00\x00\x00\x00\x00\x00\x01\x00\x00\x00\x00");
+
+/// Ticket 2 is finished.
+const SECOND: (u8, &[u8]) = (FINISH, b"\x00\x00\x00\x00\x00\x00\x00\x02\x00\x00\x00\x00");
+
+/// Ticket 1 is finished, with its own prefix as a child.
+const FIRST_SAME: (u8, &[u8]) = (
+    FINISH,
+    b"\x00\x00\x00\x00\x00\x00\x00\x01\x00\x00\x00\x01\xff\xff\xff\xff\xff\xff\xff\xff\x00\x00\x00\x00\x00\x00\x00\x79\x00\x00\x00\x01\x00\x00\x00\x01",
+);
+
+/// Ticket 1 is finished, with a child of another prefix.
+const FIRST_OTHER: (u8, &[u8]) = (
+    FINISH,
+    b"\x00\x00\x00\x00\x00\x00\x00\x01\x00\x00\x00\x01\xff\xff\xff\xff\xff\xff\xff\xff\x00\x00\x00\x00\x00\x00\x00\x78\x00\x00\x00\x02\x00\x00\x00\x00\x00\x00\x00\x01",
+);
+
+/// Ticket 1 is finished, with a child that replaces ticket 2, which stands higher.
+const FIRST_REPLACES_OTHER: (u8, &[u8]) = (
+    FINISH,
+    b"\x00\x00\x00\x00\x00\x00\x00\x01\x00\x00\x00\x01\x00\x00\x00\x00\x00\x00\x00\x02\x00\x00\x00\x00\x00\x00\x00\x79\x00\x00\x00\x02\x00\x00\x00\x01\x00\x00\x00\x00",
+);
+
+/// What is known of a board that is restored: the incumbent's value, the bound, and whether nothing is open.
+type Restored = (Option<i64>, Option<i64>, bool);
+
+/// The items as a problem.
+fn items(rt: &impl Abort, alloc: Global) -> Knapsack {
+    let model = knapsack::read(alloc, ITEMS);
+    assert!(rt; model.is_ok(), "the items");
+    model.expect(rt, "the items")
+}
+
+/// A file of a head and of these records, with right digests.
+fn file_of(alloc: Global, records: &[(u8, &[u8])]) -> Result<Vec<u8>, AllocError> {
+    let mut file = Vec::new(alloc);
+    let sealed = seal(alloc, &[0; 32], HEAD, HEAD_BODY)?;
+    let (bytes, mut digest) = sealed;
+    file.push(1)?;
+    file.extend_from_slice(&bytes)?;
+    for (kind, body) in records {
+        if body.len() < 100 {
+            let sealed = seal(alloc, &digest, *kind, body)?;
+            let (bytes, next) = sealed;
+            let _ = file.pop();
+            file.push(1)?;
+            file.extend_from_slice(&bytes)?;
+            digest = next;
+        }
+    }
+    Ok(file)
+}
+
+/// The problem, to be shared.
+fn shared<M: DpModel>(alloc: Global, model: M) -> Result<Arc<M>, OutOfMemory> {
+    Ok(Arc::new(alloc, model)?)
+}
+
+/// The board of records, or why they are refused.
+fn restored<M: DpModel>(
+    alloc: Global,
+    model: M,
+    records: &Records,
+) -> Result<Restored, JournalError> {
+    let settings = Settings {
+        workers: 1,
+        budget: 100,
+        table_limit: 4,
+        width: 1,
+        within: 0,
+    };
+    let model = shared(alloc, model)?;
+    let board = replay(alloc, records, model, settings)?;
+    Ok((board.incumbent_value(), board.bound(), board.is_explored()))
+}
+
+/// The records of a file.
+fn records_of(alloc: Global, file: &[u8]) -> Result<Records, Refusal> {
+    let (_, records, _) = read_journal(alloc, file)?;
+    Ok(records)
+}
+
+/// The board of a file's records over the items, or why they are refused.
+fn answer(
+    rt: &impl Abort,
+    alloc: Global,
+    records: &[(u8, &[u8])],
+) -> Result<Restored, JournalError> {
+    let file = file_of(alloc, records)?;
+    let records = records_of(alloc, &file)?;
+    restored(alloc, items(rt, alloc), &records)
+}
+
+#[test]
+fn records_are_replayed_or_refused(rt: HostRuntime) -> Result<(), Fail> {
+    let alloc = rt.alloc();
+    for (records, wanted) in [
+        ([].as_slice(), Ok((None, Some(121), false))),
+        (&[IMPROVE_110], Ok((Some(110), Some(121), false))),
+        (&[IMPROVE_110, ROOT], Ok((Some(110), Some(121), false))),
+        (
+            &[IMPROVE_110, ROOT, FIRST],
+            Ok((Some(110), Some(120), false)),
+        ),
+        (
+            &[IMPROVE_110, ROOT, FIRST, IMPROVE_120, SECOND],
+            Ok((Some(120), Some(120), true)),
+        ),
+        (&[IMPROVE_120, ROOT_LOW], Ok((Some(120), Some(120), true))),
+        (&[ROOT_ALONE], Ok((None, None, true))),
+        (&[ROOT_TWICE], Ok((None, Some(121), false))),
+        (&[ROOT_TWICE, SECOND], Ok((None, None, true))),
+        (
+            &[ROOT_FARTHEST],
+            Ok((None, Some(0x4000_0000_0000_0000), false)),
+        ),
+        (&[ALL_ITEMS], Err(JournalError::NoSolution { offset: 67 })),
+        (&[SHORT], Err(JournalError::NoSolution { offset: 67 })),
+        (
+            &[ROOT, SHORT],
+            Err(JournalError::NoSolution { offset: 165 }),
+        ),
+        (&[IMPROVE_111], Err(JournalError::Malformed { offset: 67 })),
+        (
+            &[IMPROVE_110, IMPROVE_110],
+            Err(JournalError::Malformed { offset: 129 }),
+        ),
+        (
+            &[IMPROVE_120, IMPROVE_110],
+            Err(JournalError::Malformed { offset: 129 }),
+        ),
+        (&[FIRST], Err(JournalError::Malformed { offset: 67 })),
+        (
+            &[ROOT_ALONE, ROOT_ALONE],
+            Err(JournalError::Malformed { offset: 117 }),
+        ),
+        (
+            &[ROOT_TWICE, FIRST],
+            Err(JournalError::Malformed { offset: 165 }),
+        ),
+        (&[ROOT_WHOLE], Err(JournalError::Malformed { offset: 67 })),
+        (
+            &[ROOT_NO_PREFIX],
+            Err(JournalError::Malformed { offset: 67 }),
+        ),
+        (&[ROOT_FAR], Err(JournalError::Malformed { offset: 67 })),
+        (
+            &[ROOT_FAR_BELOW],
+            Err(JournalError::Malformed { offset: 67 }),
+        ),
+        (
+            &[ROOT_REPLACES_ITSELF],
+            Err(JournalError::Malformed { offset: 67 }),
+        ),
+        (
+            &[ROOT, FIRST_SAME],
+            Err(JournalError::Malformed { offset: 165 }),
+        ),
+        (
+            &[ROOT, FIRST_OTHER],
+            Err(JournalError::Malformed { offset: 165 }),
+        ),
+        (
+            &[ROOT, FIRST_REPLACES_OTHER],
+            Err(JournalError::Malformed { offset: 165 }),
+        ),
+    ] {
+        assert_eq!(rt;
+            answer(&rt, alloc, records),
+            wanted,
+            "of {} records",
+            records.len()
+        );
+    }
+    Ok(())
+}
