@@ -1,0 +1,7 @@
+mod Spelled
+mod Stepped
+mod Growing
+mod Keeping
+mod Moving
+mod Recorded
+mod Histories

@@ -1,0 +1,2 @@
+-- What an `impl` cites and no clause.
+pub mod MoveLaw
