@@ -99,7 +99,7 @@ seen-kept d width words vars wide room places rows paths found decisions c row n
 
 -- Room.
 
-depths-most : (vars : ℕ) (cs : List Child) → Each (λ (c : Child). c.depth ≤ vars) cs → depths_of cs ≤ length cs * vars
+pub depths-most : (vars : ℕ) (cs : List Child) → Each (λ (c : Child). c.depth ≤ vars) cs → depths_of cs ≤ length cs * vars
 depths-most vars [] h = omega arith
 depths-most vars (c ∷ cs) h = let ih = depths-most vars cs h.1 in let one = h.0 in let s = suc-mul (length cs) vars in let same : length (c ∷ cs) * vars ≡ suc (length cs) * vars = refl in omega arith
 
@@ -135,6 +135,8 @@ has-one-more words vars room places_room rows_room paths_room places rows paths 
     let all = depths-last places c in
     record {
       few = omega arith;
+      room_most = h.room_most;
+      vars_most = h.vars_most;
       places_hold = omega arith;
       rows_hold = omega arith;
       paths_hold = omega arith;

@@ -11,3 +11,4 @@ pub mod Freeing
 pub mod Looked
 pub mod Walkable
 pub mod Enough
+pub mod Sized

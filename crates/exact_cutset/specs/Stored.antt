@@ -1,5 +1,5 @@
 -- How children lie in memory.
-use Rattle.std.specs.Prelude.{◌≡◌, ℕ, ◌+◌, ◌*◌, ◌≤◌, ℤ, List, [], ◌∷◌, length, take, drop, Option, option_map}
+use Rattle.std.specs.Prelude.{◌≡◌, ℕ, ◌+◌, ◌*◌, ◌^◌, ◌≤◌, ℤ, List, [], ◌∷◌, length, take, drop, Option, option_map}
 use Rattle.dp_model.specs.Lists.{Each}
 use Rattle.dp_model.specs.Solution.{Solution}
 use Rattle.dp_model.specs.Subproblem.{Subproblem}
@@ -30,6 +30,8 @@ shown_solution value decisions = option_map (λ v. record { decisions = decision
 -- there is room for so many children, and those that are there have their rows and their decisions
 pub record HasChildren (words vars room : ℕ) (places : List Child) (places_room : ℕ) (rows : List ℤ) (rows_room : ℕ) (paths : List ℕ) (paths_room : ℕ) (decisions path : List ℕ) : Type 0 where
   pub few : length places ≤ room
+  pub room_most : room ≤ 2 ^ 34
+  pub vars_most : vars ≤ 1024
   pub places_hold : room ≤ places_room
   pub rows_hold : room * words ≤ rows_room
   pub paths_hold : room * vars ≤ paths_room

@@ -1,4 +1,5 @@
 ghost use Rattle.std.specs.Prelude.{◌≡◌, ◌<◌, ◌≤◌, Some, length, option_map, slice_get, IfOk};
+ghost use Rattle.dp_laws.specs.Children.{children_size};
 ghost use Rattle.dp_laws.specs.Diagrams.Cutsets.{children_at, children_of, found_in};
 ghost use Rattle.relaxed_dd.specs.Shown.{layers_of, width_of, IsDiagramOf};
 ghost use Rattle.exact_cutset.specs.Prepared.{IsListPreparedFor};
@@ -57,6 +58,13 @@ impl Children {
         ensures { result ≡ length self.now.places }
     {
         self.list.len()
+    }
+
+    /// The bytes of a record that names all children: 12 for itself, and for each child 20 and 4 for each of its decisions.
+    pub fn size(&self) -> u64
+        ensures { result ≡ children_size self.now.subs }
+    {
+        self.list.size()
     }
 
     /// The depth and the place of a child's node in the diagram.

@@ -1,4 +1,5 @@
 ghost use Rattle.std.specs.Prelude.{◌≡◌, ◌<◌, ◌≤◌, [], None, Some, length, option_map, slice_get, IfOk};
+ghost use Rattle.dp_laws.specs.Children.{children_size};
 ghost use Rattle.dp_laws.specs.Diagrams.Nodes.{node_at};
 ghost use Rattle.relaxed_dd.specs.Shown.{layers_of, last_of};
 ghost use Rattle.exact_cutset.specs.Seen.{ShowsSolution, MayKeep, IsExactNode, with_child, with_solution, subproblems};
@@ -92,6 +93,13 @@ impl Listed {
         ensures { result ≡ length self.now.places }
     {
         self.places.len()
+    }
+
+    /// The bytes of a record that names all children.
+    pub(crate) fn size(&self) -> u64
+        ensures { result ≡ children_size self.now.subs }
+    {
+        12 + 20 * self.places.len() as u64 + 4 * self.paths.len() as u64
     }
 
     /// The depth and the place of a child's node in the diagram.

@@ -141,7 +141,7 @@ pub fn children<M: DpModel>(model: &M, diagram: &Diagram, kind: CutKind, out: &m
     ensures places { out.new.places ≡ children_at (M.meaning (M.numbers model.now)) (layers_of diagram.now) kind }
     ensures subs { out.new.subs ≡ children_of (M.meaning (M.numbers model.now)) (layers_of diagram.now) kind }
     ensures found { out.new.found ≡ found_in (M.meaning (M.numbers model.now)) (layers_of diagram.now) }
-    ensures prepared { IsListPreparedFor (M.meaning (M.numbers model.now)) (width_of diagram.now) kind out.new }
+    ensures prepared { (other : CutKind) → IsListPreparedFor (M.meaning (M.numbers model.now)) (width_of diagram.now) other out.old → IsListPreparedFor (M.meaning (M.numbers model.now)) (width_of diagram.now) other out.new }
 {
     out.fill(model, diagram, kind);
 }

@@ -30,8 +30,8 @@ fn two_seats(rt: HostRuntime) -> Result<(), Fail> {
         return Err(Fail::from("not an instance"));
     };
     let (turn, mut seats) = open_board(rt.alloc(), model)?;
-    let found = meet_over_board(&rt, &turn, seats.as_mut_slice(), &[1, 1, 0]);
-    let board = worker_gate::close(turn, seats);
+    let found = meet_over_board(&rt, rt.alloc(), &turn, seats.as_mut_slice(), &[1, 1, 0]);
+    let (board, _) = worker_gate::close(turn, seats).into_parts();
     let left = (found, board.incumbent_value());
     assert!(rt; left == (Some((Some(110), Some(Some(110)))), Some(110)));
     Ok(())

@@ -1,6 +1,7 @@
 -- What diagrams leave of a subproblem.
 use Rattle.std.proofs.Common.{◌≡◌, ℕ, ℤ, List, [], false, Option, Some, None, option_map, ◌⊎◌, inl, inr, refl, sym, ◌∙◌, ap, subst, arith}
-use Rattle.std.specs.Prelude.{is_some}
+use Rattle.std.proofs.lemmas.Bool.{ltb-true, lt-ltb, le-ltb}
+use Rattle.std.specs.Prelude.{is_some, nat_lt, cond, true, ◌<◌, ◌≤◌, ◌^◌}
 use Rattle.dp_model.specs.Dp.{Dp}
 use Rattle.dp_model.specs.Laws.{IsLawful, IsChained}
 use Rattle.dp_model.specs.Numbers.{AtMost, OptionAtMost}
@@ -9,10 +10,13 @@ use Rattle.dp_model.specs.Reached.{Reached, reached}
 use Rattle.dp_model.specs.Solution.{Solution}
 use Rattle.dp_model.specs.Subproblem.{Subproblem, IsOwn}
 use Rattle.dp_model.specs.declared.cut_kind.CutKind.{CutKind}
-use Rattle.dp_model.specs.declared.cut_kind.CutKind.TheVariants.{LastExactLayer}
+use Rattle.dp_model.specs.declared.cut_kind.CutKind.TheVariants.{LastExactLayer, Frontier}
 use Rattle.dp_model.specs.declared.found.Found.{Found}
-use Rattle.dp_laws.specs.Children.{StandDeep, FoundCompletes, found_value}
+use Rattle.dp_laws.specs.Children.{StandDeep, FoundCompletes, found_value, children_size}
 use Rattle.dp_laws.specs.Diagrams.Cutsets.{children_of, found_in}
+use Rattle.dp_laws.specs.Diagrams.Nodes.{DdLayers}
+use Rattle.dp_laws.specs.Diagrams.Placed.{ChildrenFit}
+use Rattle.dp_laws.specs.Width.{FitsWidth}
 use Rattle.dp_laws.specs.Restricted.Beams.{beam, wide}
 use Rattle.dp_laws.specs.Rules.Compiling.{relaxed}
 use Rattle.dp_laws.proofs.Diagrams.Fits.{children-fit}
@@ -28,6 +32,7 @@ use Rattle.restricted_dd.specs.Beams.{ShowsBeam}
 use Rattle.exact_cutset.specs.Seen.{ShowsSolution}
 use Rattle.worker_gate.specs.Branched.{AreBranched, IsBranched}
 use Rattle.worker_gate.specs.Offered.{found_solution}
+use Rattle.worker_gate.specs.Taken.{kind_taken, taken_from}
 
 abbrev solution : List ℕ → ℤ → Solution
 solution x v = record { decisions = x; value = v }
@@ -85,6 +90,7 @@ whole-branched-for dp laws v most p w t found prefix whole shows low best =
         ];
       };
       deep = none-deep (wide dp p v t);
+      size = omega arith;
     }
 
 pub whole-branched : (dp : Dp) → IsLawful dp → (b : BoardState) (p : List ℕ) (w : ℕ) (t : Option ℤ) (found : Option Found) → IsPrefix dp p → false ≡ is_some (wide dp p w t) → ShowsBeam (beam dp p w t) found
@@ -112,22 +118,41 @@ relaxed-held dp laws chained c w t own fits =
     let is = compiled-is-diagram dp laws chained p w t own.prefix own.shorter fits.positive in
     found-completes dp p (found_in dp d) (children-sound dp laws p w t d LastExactLayer is own.shorter).solution
 
+-- a record that names all of the children is not too large
+taken-size : (dp : Dp) (w : ℕ) (d : DdLayers) → ChildrenFit dp w d → FitsWidth dp w → (kind : CutKind) → children_size (taken_from dp d kind) < 2 ^ 32
+taken-size dp w d fit fits LastExactLayer = let most = fit.size fits in omega arith
+taken-size dp w d fit fits Frontier =
+    let size = children_size (children_of dp d Frontier) in
+    elim (nat_lt size (2 ^ 32)) as (λ b. nat_lt size (2 ^ 32) ≡ b → children_size (children_of dp d (cond b Frontier LastExactLayer)) < 2 ^ 32) [
+      | true ↦ λ e. ltb-true size (2 ^ 32) e
+      | false ↦ λ _. let most = fit.size fits in omega arith
+    ] refl
+
+-- which of the two kinds is taken
+pub taken-whole : (dp : Dp) (d : DdLayers) → children_size (children_of dp d Frontier) < 2 ^ 32 → taken_from dp d Frontier ≡ children_of dp d Frontier
+taken-whole dp d small = ap (λ b. children_of dp d (cond b Frontier LastExactLayer)) (lt-ltb (children_size (children_of dp d Frontier)) (2 ^ 32) small)
+
+pub taken-last : (dp : Dp) (d : DdLayers) → 2 ^ 32 ≤ children_size (children_of dp d Frontier) → taken_from dp d Frontier ≡ children_of dp d LastExactLayer
+taken-last dp d large = ap (λ b. children_of dp d (cond b Frontier LastExactLayer)) (le-ltb (children_size (children_of dp d Frontier)) (2 ^ 32) large)
+
 -- once that was offered, its children may take the place of the subproblem
 pub relaxed-branched-for : (dp : Dp) → IsLawful dp → IsChained dp → (v : ℕ) (most : Option ℤ) (c : Subproblem) (w : ℕ) (t : Option ℤ) (kind : CutKind) → IsOwn dp c → IsWidth dp w → w ≡ v
     → OptionAtMost t most → OptionAtMost (found_value (found_in dp (relaxed dp (reached dp c.decisions) w t))) most
-    → AreBranched dp v most c.decisions t (children_of dp (relaxed dp (reached dp c.decisions) w t) kind)
+    → AreBranched dp v most c.decisions t (taken_from dp (relaxed dp (reached dp c.decisions) w t) kind)
 relaxed-branched-for dp laws chained v most c w t kind own fits same low best =
     let p = c.decisions in
     let d = relaxed dp (reached dp p) w t in
+    let k = kind_taken dp d kind in
     let is = compiled-is-diagram dp laws chained p w t own.prefix own.shorter fits.positive in
     let fit = children-fit dp laws p w t d own.shorter is in
     record {
       below = low;
-      children = sound-follow dp most t (found_in dp d) p (children_of dp d kind) low best (fit.few kind fits.fits) (fit.far kind) (children-sound dp laws p w t d kind is own.shorter);
-      deep = subst (λ v. StandDeep (wide dp p v t) (children_of dp d kind)) same (subst (λ depth. StandDeep depth (children_of dp d kind)) is.first_reduced (children-deep dp laws p w t d kind is own.shorter));
+      children = sound-follow dp most t (found_in dp d) p (children_of dp d k) low best (fit.few k fits.fits) (fit.far k) (children-sound dp laws p w t d k is own.shorter);
+      deep = subst (λ v. StandDeep (wide dp p v t) (children_of dp d k)) same (subst (λ depth. StandDeep depth (children_of dp d k)) is.first_reduced (children-deep dp laws p w t d k is own.shorter));
+      size = taken-size dp w d fit fits.fits kind;
     }
 
 pub relaxed-branched : (dp : Dp) → IsLawful dp → IsChained dp → (b : BoardState) (c : Subproblem) (w : ℕ) (t : Option ℤ) (kind : CutKind) → IsOwn dp c → IsWidth dp w → w ≡ b.settings.width
     → OptionAtMost t (reach b) → OptionAtMost (found_value (found_in dp (relaxed dp (reached dp c.decisions) w t))) (reach b)
-    → IsBranched dp b c.decisions t (children_of dp (relaxed dp (reached dp c.decisions) w t) kind)
+    → IsBranched dp b c.decisions t (taken_from dp (relaxed dp (reached dp c.decisions) w t) kind)
 relaxed-branched dp laws chained b c w t kind own fits same low best = relaxed-branched-for dp laws chained b.settings.width (reach b) c w t kind own fits same low best

@@ -24,8 +24,6 @@ use Rattle.board_laws.specs.Runs.Step.{Improve}
 use Rattle.board_laws.specs.declared.improved.Improved.{Improved}
 use Rattle.board_laws.specs.declared.improved.Improved.TheVariants.{Yes, NotBetter, NoSolution}
 use Rattle.search_core.specs.Moves.{out_at}
-use Rattle.search_core.specs.View.{BoardView, tag_of}
-use Rattle.search_core.specs.declared.tag.BoardTag.{BoardTag}
 use Rattle.worker_gate.specs.FinishLater.{MayFinishLater}
 use Rattle.worker_gate.proofs.Slots.{full_of, some_full}
 
@@ -39,28 +37,11 @@ no-less-of None b h = tt
 no-less-of (Some z) None h = h
 no-less-of (Some z) (Some y) h = h
 
--- an offer leaves an incumbent that is no less, and so no less than what was seen
-pub offer-no-less : (dp : Dp) (b : BoardState) (x : List ℕ) (answer : Improved) (seen : Option ℤ) → ImproveGives dp b x answer → NoLess seen (incumbent_value b)
-    → NoLess seen (incumbent_value (after_offer dp answer b x))
-offer-no-less dp b x Yes seen gives less =
-    no-less-of seen (incumbent_value (after_offer dp Yes b x))
-    (option-then seen (incumbent_value b) (incumbent_value (after_offer dp Yes b x)) (at-most-of seen (incumbent_value b) less)
-    (subst (λ (later : BoardState). OptionAtMost (incumbent_value b) (incumbent_value later)) (sym (better-offered dp b x gives.1)) (step-follows dp b (Improve x)).better))
-offer-no-less dp b x NotBetter seen gives less = less
-offer-no-less dp b x NoSolution seen gives less = less
-
 -- an offer leaves an incumbent that is no less than the solution
-offer-reaches : (dp : Dp) (b : BoardState) (x : List ℕ) (answer : Improved) → ImproveGives dp b x answer → IsSolution dp x → AtMost (value_of dp x) (incumbent_value (after_offer dp answer b x))
+pub offer-reaches : (dp : Dp) (b : BoardState) (x : List ℕ) (answer : Improved) → ImproveGives dp b x answer → IsSolution dp x → AtMost (value_of dp x) (incumbent_value (after_offer dp answer b x))
 offer-reaches dp b x Yes gives is = ≤ℤ_refl (value_of dp x)
 offer-reaches dp b x NotBetter gives is = gives.1
 offer-reaches dp b x NoSolution gives is = absurd (gives is)
-
--- and so no less is what a seat has seen then
-pub offer-seen : (meaning : List ℤ → Dp) (numbers first : List ℤ) (b : BoardState) (x : List ℕ) (answer : Improved) (seen : Option ℤ) → ImproveGives (meaning numbers) b x answer → numbers ≡ first
-    → seen ≡ incumbent_value (after_offer (meaning numbers) answer b x) → IsSolution (meaning first) x → AtMost (value_of (meaning first) x) seen
-offer-seen meaning numbers first b x answer seen gives same is solution =
-    subst (λ (ns : List ℤ). AtMost (value_of (meaning ns) x) seen) same
-    (subst (AtMost (value_of (meaning numbers) x)) (sym is) (offer-reaches (meaning numbers) b x answer gives (subst (λ (ns : List ℤ). IsSolution (meaning ns) x) (sym same) solution)))
 
 -- what was seen is at most the reach of a board whose incumbent is no less
 seen-below : (dp : Dp) (b : BoardState) (seen : Option ℤ) → IsBoard dp b → NoLess seen (incumbent_value b) → OptionAtMost seen (reach b)
@@ -96,20 +77,13 @@ may-finish dp b who width out seen threshold cs fs m kept wide_is at less fates 
       fates = fates;
     }
 
--- the same on a board with the tag of the first one
-pub may-finish-at : (meaning : List ℤ → Dp) (first v : BoardView) (who number : ℕ) (out : Option (List ℕ)) (seen threshold : Option ℤ) (cs : List Subproblem) (fs : List Fate)
-    → MayFinishLater (meaning first.numbers) first.board.settings.width out seen threshold cs → tag_of v ≡ tag_of first → IsBoard (meaning v.numbers) v.board → out_at v.board number ≡ out
-    → NoLess seen (incumbent_value v.board) → who ≡ number → fs ≡ fates_on (meaning v.numbers) v.board cs → MayFinish (meaning v.numbers) v.board who threshold cs fs
-may-finish-at meaning first v who number out seen threshold cs fs m tag kept at less is fates =
-    let numbers : v.numbers ≡ first.numbers = ap (λ (t : BoardTag). t.numbers) tag in
-    may-finish (meaning v.numbers) v.board who first.board.settings.width out seen threshold cs fs
-    (subst (λ ns. MayFinishLater (meaning ns) first.board.settings.width out seen threshold cs) (sym numbers) m) kept
-    (ap (λ (t : BoardTag). t.settings.width) tag) (ap (λ (k : ℕ). out_at v.board k) is ∙ at) less fates
-
--- the slot of the worker is full
-pub full-later : (dp : Dp) (b : BoardState) (who width : ℕ) (out : Option (List ℕ)) (seen threshold : Option ℤ) (cs : List Subproblem) → MayFinishLater dp width out seen threshold cs
-    → out_at b who ≡ out → 1 ≤ length (full_slots b.slots)
-full-later dp b who width out seen threshold cs m at = let f = full_of _ m.decisions (at ∙ m.out_is) in some_full b.slots who f.parent f.full
-
-pub own-later : (dp : Dp) (width : ℕ) (out : Option (List ℕ)) (seen threshold : Option ℤ) (cs : List Subproblem) → MayFinishLater dp width out seen threshold cs → Each (IsOwn dp) cs
-own-later dp width out seen threshold cs m = Each-then (IsChild dp m.decisions) (IsOwn dp) cs (λ c h. h.own) m.branched.children.own
+-- the same against a value that is no less
+pub later-seen : (dp : Dp) (width : ℕ) (out : Option (List ℕ)) (seen now threshold : Option ℤ) (cs : List Subproblem) → NoLess seen now → MayFinishLater dp width out seen threshold cs → MayFinishLater dp width out now threshold cs
+later-seen dp width out seen now threshold cs less m =
+    let below = at-most-of seen now less in
+    let h = m.branched in
+    record {
+      decisions = m.decisions;
+      out_is = m.out_is;
+      branched = record { below = option-then threshold seen now h.below below; children = children-later dp seen now m.decisions cs below h.children; deep = h.deep; size = h.size };
+    }

@@ -1,5 +1,5 @@
 -- The history of a board under a turn is a run.
-use Rattle.std.proofs.Common.{◌≡◌, ℕ, ℤ, List, [], ◌∷◌, Option, Some, None, refl, sym, ap, subst, ⊎_elim, ◌∙◌, length, set, length-set}
+use Rattle.std.proofs.Common.{◌≡◌, ℕ, ℤ, List, [], ◌∷◌, Option, Some, None, refl, sym, ap, subst, inr, ⊎_elim, ◌∙◌, length, set, length-set}
 use Rattle.board_lock.specs.History.{Moved, HasMoved}
 use Rattle.dp_model.specs.Dp.{Dp}
 use Rattle.board_laws.specs.declared.cause.Cause.{Cause}
@@ -9,35 +9,24 @@ use Rattle.board_laws.specs.declared.taken.Taken.TheVariants.{Sub, WaitForOthers
 use Rattle.board_laws.specs.Board.{BoardState, slot_at}
 use Rattle.board_laws.specs.Runs.Step.{Take, Improve, Finish, GiveBack, Halt}
 use Rattle.board_laws.specs.Runs.{Step, May, after, IsRun}
-use Rattle.board_laws.specs.Steps.{cause_after, given_back_from}
+use Rattle.board_laws.specs.Steps.{given_back_from, halted}
 use Rattle.board_laws.specs.Taking.{take_gives, checked_out, after_answer}
 use Rattle.board_laws.proofs.Running.{run-then, run-one, offered-is}
 use Rattle.shared_fringe.specs.Firsts.{first_taken}
 use Rattle.shared_fringe.specs.Tickets.{Ticketed}
-use Rattle.search_core.specs.Moves.{NeedsNoJournal, IsStepOf, IsMove}
-use Rattle.search_core.specs.View.{BoardView}
+use Rattle.dd_disk.specs.declared.disk.Disk.{Ghosts}
+use Rattle.frontier_journal.specs.Moves.{Stays, Steps, Fails, IsMove}
+use Rattle.frontier_journal.specs.View.{KeptView}
+use Rattle.search_core.specs.Moves.{NeedsNoJournal, IsStepOf}
 use Rattle.worker_gate.specs.Later.{IsCauseAfter, IsLater}
+use Rattle.worker_gate.proofs.Causes.{cause-same, cause-then, cause-halted}
 
--- a run after which only want of memory may be a new cause, and there are as many slots
+-- a run after which a new cause is want of memory or the journal's, and there are as many slots
 pub record HasRun (dp : Dp) (b later : BoardState) : Type 0 where
   pub steps : List Step
   pub run : IsRun dp b steps later
   pub cause : IsCauseAfter b.cause later.cause
   pub long : length later.slots ≡ length b.slots
-
-cause-same : (cause later : Option Cause) → later ≡ cause → IsCauseAfter cause later
-cause-same None None e = tt
-cause-same None (Some c) e = absurd (cc)
-cause-same (Some c) later e = e
-
-pub cause-then : (a b c : Option Cause) → IsCauseAfter a b → IsCauseAfter b c → IsCauseAfter a c
-cause-then (Some x) b c h k = subst (λ o. IsCauseAfter o c → c ≡ Some x) (sym h) (λ e. e) k
-cause-then None None c h k = k
-cause-then None (Some x) c h k = subst (IsCauseAfter None) (sym k) h
-
-cause-halted : (held : Option Cause) → IsCauseAfter held (cause_after held Memory)
-cause-halted None = refl
-cause-halted (Some c) = refl
 
 out-cause : (b : BoardState) (who : ℕ) (first : Option Ticketed) → (checked_out b who first).cause ≡ b.cause
 out-cause b who None = refl
@@ -96,17 +85,27 @@ one-run dp who b later s =
 runs-then : (dp : Dp) (a b c : BoardState) → HasRun dp a b → HasRun dp b c → HasRun dp a c
 runs-then dp a b c h k = record { steps = _; run = run-then dp a b c h.steps k.steps h.run k.run; cause = cause-then a.cause b.cause c.cause h.cause k.cause; long = k.long ∙ h.long }
 
-move-runs : (meaning : List ℤ → Dp) (before now : BoardView) (who : ℕ) → IsMove meaning before now who → HasRun (meaning before.numbers) before.board now.board
-move-runs meaning before now who m = ⊎_elim (λ same. no-run (meaning before.numbers) before.board now.board same) (λ s. one-run (meaning before.numbers) who before.board now.board s) m.step
+-- a halt for the journal
+halt-run : (dp : Dp) (b later : BoardState) → later ≡ halted b Journal → HasRun dp b later
+halt-run dp b later is =
+    record { steps = Halt Journal ∷ []; run = run-one dp b (Halt Journal) later tt is; cause = inr (ap (λ (x : BoardState). x.cause) is); long = ap (λ (x : BoardState). length x.slots) is }
 
-moved-runs : (meaning : List ℤ → Dp) (first : BoardView) (line : List (ℕ × BoardView)) (last : BoardView) → Moved (IsMove meaning) first line last → HasRun (meaning first.numbers) first.board last.board
-moved-runs meaning first [] last h = no-run (meaning first.numbers) first.board last.board (ap (λ (v : BoardView). v.board) (sym h))
-moved-runs meaning first (m ∷ line) last h =
-    runs-then (meaning first.numbers) first.board m.1.board last.board (move-runs meaning first m.1 m.0 h.0)
-    (subst (λ ns. HasRun (meaning ns) m.1.board last.board) h.0.numbers (moved-runs meaning m.1 line last h.1))
+module _ {D : Type 0} (on : Ghosts D) (meaning : List ℤ → Dp) where
+  move-runs : (before now : KeptView D) (who : ℕ) → IsMove on meaning before now who → HasRun (meaning before.board.numbers) before.board.board now.board.board
+  move-runs before now who m =
+      let dp = meaning before.board.numbers in
+      let b = before.board.board in
+      ⊎_elim (λ (s : Stays on before now). no-run dp b now.board.board s.board)
+      (λ rest. ⊎_elim (λ (s : Steps on dp who before now). one-run dp who b now.board.board s.made) (λ (f : Fails on dp who before now). halt-run dp b now.board.board f.halts) rest) m.step
 
-pub history-runs : (meaning : List ℤ → Dp) (first last : BoardView) → HasMoved (IsMove meaning) first last → HasRun (meaning first.numbers) first.board last.board
-history-runs meaning first last h = moved-runs meaning first h.line last h.moved
+  moved-runs : (first : KeptView D) (line : List (ℕ × KeptView D)) (last : KeptView D) → Moved (IsMove on meaning) first line last → HasRun (meaning first.board.numbers) first.board.board last.board.board
+  moved-runs first [] last h = no-run (meaning first.board.numbers) first.board.board last.board.board (ap (λ (v : KeptView D). v.board.board) (sym h))
+  moved-runs first (m ∷ line) last h =
+      runs-then (meaning first.board.numbers) first.board.board m.1.board.board last.board.board (move-runs first m.1 m.0 h.0)
+      (subst (λ ns. HasRun (meaning ns) m.1.board.board last.board.board) h.0.numbers (moved-runs m.1 line last h.1))
+
+  pub history-runs : (first last : KeptView D) → HasMoved (IsMove on meaning) first last → HasRun (meaning first.board.numbers) first.board.board last.board.board
+  history-runs first last h = moved-runs first h.line last h.moved
 
 -- what is later than a later board is later
 pub later-then : (dp : Dp) (a b c : BoardState) → IsLater dp a b → IsLater dp b c → IsLater dp a c

@@ -9,7 +9,8 @@ use Rattle.dp_model.specs.Dp.{Dp}
 use Rattle.shared_fringe.specs.Tickets.{Ticketed}
 use Rattle.board_laws.specs.Board.{BoardState, slot_content, full_slots}
 use Rattle.search_core.specs.Moves.{out_at}
-use Rattle.search_core.specs.View.{BoardView, Tag}
+use Rattle.frontier_journal.specs.View.{KeptView}
+use Rattle.frontier_journal.specs.declared.tag.KeptTag.{KeptTag}
 use Rattle.worker_gate.specs.Later.{IsLater}
 use Rattle.worker_gate.specs.Ready.{IsReadySeat}
 use Rattle.worker_gate.proofs.Histories.{HasRun}
@@ -59,7 +60,7 @@ pub idle-later : (dp : Dp) (b later : BoardState) → HasRun dp b later → full
 idle-later dp b later h idle none = record { steps = h.steps; run = h.run; slots = same_idle later.slots b.slots h.long none idle; cause = h.cause }
 
 -- seats that nobody took the turn by yet are ready
-pub ready : (turn : Turn BoardView Tag) (items : List (Seat BoardView)) (n : ℕ) → All (IsFresh turn) items → map number_of items ≡ range_with_len 0 n → (first_of turn).board.settings.workers ≡ n → All (IsReadySeat turn) items
+pub ready : {D : Type 0} (turn : Turn (KeptView D) (KeptTag D)) (items : List (Seat (KeptView D))) (n : ℕ) → All (IsFresh turn) items → map number_of items ≡ range_with_len 0 n → (first_of turn).board.board.settings.workers ≡ n → All (IsReadySeat turn) items
 ready turn items n fresh numbers wide k d lt =
     let f = fresh k d lt in
     record { worker = record { own = f.own; within = let w = all_within items n numbers k d lt in omega arith }; nothing_out = f.nothing_out }

@@ -1,5 +1,5 @@
 -- Rounds on a board, one after another.
-use Rattle.std.proofs.Common.{◌≡◌, ℕ, ◌+◌, ◌-◌, ◌^◌, ◌<◌, ◌≤◌, List, [], ◌∷◌, ◌++◌, length, slice_get, slice_set, Bool, true, false, ◌||◌, nat_eq, nat_lt, Option, Some, None, option_map, IsTrue, refl, sym, ◌∙◌, ap, subst, arith}
+use Rattle.std.proofs.Common.{◌≡◌, ℕ, ◌+◌, ◌-◌, ◌^◌, ◌<◌, ◌≤◌, List, [], ◌∷◌, ◌++◌, length, slice_get, slice_set, Bool, true, false, ◌||◌, nat_eq, nat_lt, Option, Some, None, option_map, IsTrue, ◌⊎◌, inl, inr, refl, sym, ◌∙◌, ap, subst, arith}
 use Rattle.std.specs.Prelude.{IsSome}
 use Rattle.dp_model.specs.Counts.{tree}
 use Rattle.dp_model.specs.Dp.{Dp}
@@ -7,35 +7,30 @@ use Rattle.dp_model.specs.Subproblem.{Subproblem}
 use Rattle.shared_fringe.specs.Tickets.{Ticketed}
 use Rattle.board_laws.specs.Board.{BoardState, full_slots, slot_content, slot_at, is_explored}
 use Rattle.board_laws.specs.GoodBoard.{IsGood}
-use Rattle.board_laws.specs.Runs.{Step, IsRun, MayGiveBack}
+use Rattle.board_laws.specs.Runs.{MayHalt, MayGiveBack}
 use Rattle.board_laws.specs.Runs.Step.{GiveBack, Halt}
-use Rattle.board_laws.specs.Steps.{finished_by, given_back, given_back_from, cause_after, halted}
+use Rattle.board_laws.specs.Steps.{given_back, given_back_from, cause_after, halted}
 use Rattle.board_laws.specs.declared.cause.Cause.{Cause}
-use Rattle.board_laws.specs.declared.cause.Cause.TheVariants.{Memory}
+use Rattle.board_laws.specs.declared.cause.Cause.TheVariants.{Memory, Journal as of_journal}
+use Rattle.frontier_journal.specs.declared.error.KeptError.{KeptError}
+use Rattle.frontier_journal.specs.declared.error.KeptError.TheVariants.{Journal, OutOfMemory}
 use Rattle.board_laws.proofs.Running.{run-then}
 use Rattle.worker_gate.specs.Later.{IsCauseAfter, IsLater, NoRoundFollows, IsComplete}
 use Rattle.worker_gate.specs.Offered.{IsOffered}
-use Rattle.worker_gate.specs.UnderWay.{IsRoundUnderWay}
+use Rattle.worker_gate.specs.Stopped.{IsRefused}
+use Rattle.worker_gate.specs.UnderWay.{IsRoundUnderWay, HasFinished, handed_back}
+use Rattle.worker_gate.proofs.Causes.{cause-same, cause-then}
 use Rattle.worker_gate.proofs.Taking.{set_back, slot_set}
 
-cause_after-refl : (cause : Option Cause) → IsCauseAfter cause cause
-cause_after-refl None = tt
-cause_after-refl (Some cause) = refl
-
-cause_after-trans : (a b c : Option Cause) → IsCauseAfter a b → IsCauseAfter b c → IsCauseAfter a c
-cause_after-trans None None c first then = then
-cause_after-trans None (Some cause) c first then = subst (IsCauseAfter None) (sym then) first
-cause_after-trans (Some cause) b c first then = subst (λ o. IsCauseAfter o c) first then
-
 pub later_refl : (dp : Dp) (b : BoardState) → IsLater dp b b
-later_refl dp b = record { steps = []; run = refl; slots = refl; cause = cause_after-refl b.cause }
+later_refl dp b = record { steps = []; run = refl; slots = refl; cause = cause-same b.cause b.cause refl }
 
 pub later_trans : (dp : Dp) (a b c : BoardState) → IsLater dp a b → IsLater dp b c → IsLater dp a c
 later_trans dp a b c first then = record {
   steps = first.steps ++ then.steps;
   run = run-then dp a b c first.steps then.steps first.run then.run;
   slots = then.slots ∙ first.slots;
-  cause = cause_after-trans a.cause b.cause c.cause first.cause then.cause;
+  cause = cause-then a.cause b.cause c.cause first.cause then.cause;
 }
 
 -- what is under way stays so while solutions are offered
@@ -60,28 +55,36 @@ pub way_out_is : (dp : Dp) (b now : BoardState) (c : Subproblem) → IsRoundUnde
 way_out_is dp b now c way empty = ap (option_map (λ (o : Ticketed). o.subproblem)) (way_out dp b now c way empty) ∙ ap Some way.same
 
 -- a round that finishes
-pub finished_later : (dp : Dp) (b now after : BoardState) (c : Subproblem) (cs : List Subproblem) (steps : List Step) → IsRoundUnderWay dp b now c → slice_get b.slots 0 ≡ Some None → IsRun dp now steps after → after ≡ finished_by dp now 0 cs → IsLater dp b after
-finished_later dp b now after c cs steps way empty run step = record {
-  steps = way.steps ++ steps;
-  run = run-then dp b now after way.steps steps way.run run;
-  slots = ap (λ l. l.slots) step ∙ (ap (λ s. slice_set s 0 None) way.slots ∙ set_back b.slots (Some way.out) empty);
-  cause = subst (λ o. IsCauseAfter o after.cause) (sym way.began_without) (subst (IsCauseAfter None) (sym (ap (λ l. l.cause) step ∙ way.without_cause)) tt);
+pub finished_later : (dp : Dp) (b now after : BoardState) (c : Subproblem) → IsRoundUnderWay dp b now c → slice_get b.slots 0 ≡ Some None → HasFinished dp now after → IsLater dp b after
+finished_later dp b now after c way empty f = record {
+  steps = way.steps ++ f.steps;
+  run = run-then dp b now after way.steps f.steps way.run f.run;
+  slots = f.slots ∙ (ap (λ s. slice_set s 0 None) way.slots ∙ set_back b.slots (Some way.out) empty);
+  cause = subst (λ o. IsCauseAfter o after.cause) (sym way.began_without) (cause-same None after.cause (f.cause ∙ way.without_cause));
 }
 
--- a round that gives up
-pub given_up_later : (dp : Dp) (b now after : BoardState) (c : Subproblem) → IsRoundUnderWay dp b now c → slice_get b.slots 0 ≡ Some None → after ≡ given_back (halted now Memory) 0 → IsLater dp b after
-given_up_later dp b now after c way empty step =
-    let halt = halted now Memory in
+-- a round that gives up, once the search is halted for this cause
+given_up_later : (dp : Dp) (b now after : BoardState) (c : Subproblem) (cause : Cause) → MayHalt cause → cause_after None cause ≡ Some cause → IsCauseAfter None (Some cause) → IsRoundUnderWay dp b now c → slice_get b.slots 0 ≡ Some None
+    → after ≡ given_back (halted now cause) 0 → IsLater dp b after
+given_up_later dp b now after c cause can new as_cause way empty step =
+    let halt = halted now cause in
     let full : slot_at halt 0 ≡ Some way.out = way_out dp b now c way empty in
-    let held : halt.cause ≡ Some Memory = ap (λ o. cause_after o Memory) way.without_cause in
+    let held : halt.cause ≡ Some cause = ap (λ o. cause_after o cause) way.without_cause ∙ new in
     let is : after ≡ given_back_from halt 0 (Some way.out) = step ∙ ap (given_back_from halt 0) full in
     let may : MayGiveBack halt 0 = record { full = subst (λ s. IsSome s) (sym full) refl; halted = subst (λ o. IsSome o) (sym held) refl } in
     record {
-      steps = way.steps ++ Halt Memory ∷ GiveBack 0 ∷ [];
-      run = run-then dp b now after way.steps (Halt Memory ∷ GiveBack 0 ∷ []) way.run (tt, (may, sym step));
+      steps = way.steps ++ Halt cause ∷ GiveBack 0 ∷ [];
+      run = run-then dp b now after way.steps (Halt cause ∷ GiveBack 0 ∷ []) way.run (can, (may, sym step));
       slots = ap (λ l. l.slots) is ∙ (ap (λ s. slice_set s 0 None) way.slots ∙ set_back b.slots (Some way.out) empty);
-      cause = subst (λ o. IsCauseAfter o after.cause) (sym way.began_without) (subst (IsCauseAfter None) (sym (ap (λ l. l.cause) is ∙ held)) refl);
+      cause = subst (λ o. IsCauseAfter o after.cause) (sym way.began_without) (subst (IsCauseAfter None) (sym (ap (λ l. l.cause) is ∙ held)) as_cause);
     }
+
+-- a round of which a step was refused
+pub refused_later : (dp : Dp) (b now last after : BoardState) (c : Subproblem) (error : KeptError) → IsRoundUnderWay dp b now c → slice_get b.slots 0 ≡ Some None → IsRefused dp now error last → after ≡ handed_back error last → IsLater dp b after
+refused_later dp b now last after c OutOfMemory way empty r step =
+    given_up_later dp b r.last after c Memory tt refl (inl refl) (still_under_way dp b now r.last c way r.offered) empty (step ∙ ap (λ l. given_back (halted l Memory) 0) r.is)
+refused_later dp b now last after c Journal way empty r step =
+    given_up_later dp b r.last after c of_journal tt refl (inr refl) (still_under_way dp b now r.last c way r.offered) empty (step ∙ ap (λ l. given_back l 0) r.is)
 
 -- The end.
 

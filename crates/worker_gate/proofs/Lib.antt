@@ -1,12 +1,17 @@
 mod Branches
 mod Calls
+mod Causes
 mod Finishing
 mod FinishLater
 pub mod Histories
 mod Idle
 mod LaterBoards
+mod LaterKept
 mod Moves
 mod Offers
+mod Refusing
+mod Sent
+mod Sizing
 mod Slots
 mod TakenOut
 mod Taking

@@ -1,37 +1,47 @@
--- Steps of one holding as moves.
-use Rattle.std.proofs.Common.{◌≡◌, ℕ, ℤ, List, ◌⊎◌, inl, inr, sym, subst, ◌∙◌}
+-- Moves of a kept board: one behind the other, and that of one holding.
+use Rattle.std.specs.Int.Signed.{≤ℤ_refl}
+use Rattle.std.proofs.Common.{◌≡◌, ℕ, ℤ, List, [], ◌∷◌, ◌++◌, Option, Some, None, ◌⊎◌, ⊎_elim, inr, sym, subst}
+use Rattle.board_lock.specs.History.{Moved, HasMoved}
+use Rattle.board_lock.specs.Order.{NoLess}
+use Rattle.board_lock.proofs.History.{not_moved, moved_once}
+use Rattle.dd_disk.specs.declared.disk.Disk.{Ghosts}
 use Rattle.dp_model.specs.Dp.{Dp}
-use Rattle.board_laws.proofs.Running.{better-offered}
-use Rattle.board_laws.specs.Improving.{ImproveGives, after_offer}
-use Rattle.board_laws.specs.Runs.Step.{Improve}
-use Rattle.board_laws.specs.Runs.{Step, May, after, worker_of}
-use Rattle.board_laws.specs.declared.improved.Improved.{Improved}
-use Rattle.board_laws.specs.declared.improved.Improved.TheVariants.{Yes, NotBetter, NoSolution}
-use Rattle.search_core.specs.Moves.{IsOf, NeedsNoJournal, IsMove}
-use Rattle.search_core.specs.View.{BoardView}
+use Rattle.board_laws.specs.Board.{incumbent_value}
+use Rattle.board_laws.proofs.Running.{option-then}
+use Rattle.frontier_journal.specs.Laws.MoveLaw.{keeps-kept-move}
+use Rattle.frontier_journal.specs.Moves.{IsMove}
+use Rattle.frontier_journal.specs.View.{KeptView}
+use Rattle.worker_gate.proofs.FinishLater.{at-most-of, no-less-of}
 
--- what a guard's value may be when its holder leaves
-abbrev pub MayLeave : (List ℤ → Dp) → BoardView → BoardView → ℕ → Type 0
-MayLeave meaning found now who = (now ≡ found) ⊎ IsMove meaning found now who
+module _ {V : Type 0} (moves : V → V → ℕ → Type 0) where
+  pub moved_by : (first next : V) (number : ℕ) → moves first next number → HasMoved moves first next
+  moved_by first next number one = moved_once moves first first next number (not_moved moves first) (inr one)
 
--- no step was made
-pub no-step : (meaning : List ℤ → Dp) (found now : BoardView) (who : ℕ) → now.numbers ≡ found.numbers → now.board ≡ found.board → MayLeave meaning found now who
-no-step meaning found now who numbers same = inr (record { numbers = numbers; step = inl same })
+  moved-behind : (first : V) (line : List (ℕ × V)) (middle : V) (more : List (ℕ × V)) (last : V) → Moved moves first line middle → Moved moves middle more last → Moved moves first (line ++ more) last
+  moved-behind first [] middle more last h k = subst (λ v. Moved moves v more last) (sym h) k
+  moved-behind first (m ∷ line) middle more last h k = (h.0, moved-behind m.1 line middle more last h.1 k)
 
--- one step was made
-pub one-step : (meaning : List ℤ → Dp) (found now : BoardView) (who : ℕ) (step : Step) → now.numbers ≡ found.numbers → IsOf who (worker_of step) → NeedsNoJournal step
-    → May (meaning found.numbers) found.board step → now.board ≡ after (meaning found.numbers) found.board step → MayLeave meaning found now who
-one-step meaning found now who step numbers of alone may is = inr (record { numbers = numbers; step = inr (record { step = step; of = of; alone = alone; may = may; is = is }) })
+  pub moved_then : (a b c : V) → HasMoved moves a b → HasMoved moves b c → HasMoved moves a c
+  moved_then a b c h k = record { line = h.line ++ k.line; moved = moved-behind a h.line b k.line c h.moved k.moved }
 
--- the same, where what was found is another name of the board
-pub one-step-at : (meaning : List ℤ → Dp) (found board now : BoardView) (who : ℕ) (step : Step) → found ≡ board → now.numbers ≡ board.numbers → IsOf who (worker_of step) → NeedsNoJournal step
-    → May (meaning board.numbers) board.board step → now.board ≡ after (meaning board.numbers) board.board step → MayLeave meaning found now who
-one-step-at meaning found board now who step same numbers of alone may is = subst (λ f. MayLeave meaning f now who) (sym same) (one-step meaning board now who step numbers of alone may is)
+pub no-less-same : (a : Option ℤ) → NoLess a a
+no-less-same None = tt
+no-less-same (Some z) = ≤ℤ_refl z
 
--- an offer is a step, where it is a solution
-pub offer-step : (meaning : List ℤ → Dp) (found board now : BoardView) (who : ℕ) (x : List ℕ) (answer : Improved) → found ≡ board → now.numbers ≡ board.numbers
-    → ImproveGives (meaning board.numbers) board.board x answer → now.board ≡ after_offer (meaning board.numbers) answer board.board x → MayLeave meaning found now who
-offer-step meaning found board now who x Yes same numbers gives is =
-    one-step-at meaning found board now who (Improve x) same numbers tt tt gives.0 (is ∙ better-offered (meaning board.numbers) board.board x gives.1)
-offer-step meaning found board now who x NotBetter same numbers gives is = subst (λ f. MayLeave meaning f now who) (sym same) (no-step meaning board now who numbers is)
-offer-step meaning found board now who x NoSolution same numbers gives is = subst (λ f. MayLeave meaning f now who) (sym same) (no-step meaning board now who numbers is)
+no-less-then : (a b c : Option ℤ) → NoLess a b → NoLess b c → NoLess a c
+no-less-then a b c h k = no-less-of a c (option-then a b c (at-most-of a b h) (at-most-of b c k))
+
+module _ {D : Type 0} (on : Ghosts D) (meaning : List ℤ → Dp) where
+  -- what a guard's value may be when its holder leaves
+  abbrev pub MayLeave : KeptView D → KeptView D → ℕ → Type 0
+  MayLeave found now who = (now ≡ found) ⊎ IsMove on meaning found now who
+
+  -- a move from what is another name of what was found
+  pub may_leave : (found before now : KeptView D) (number who : ℕ) → before ≡ found → who ≡ number → MayLeave before now who → MayLeave found now number
+  may_leave found before now number who same is m = subst (λ f. MayLeave f now number) same (subst (MayLeave before now) is m)
+
+  -- what was seen is no less after a move
+  pub still-no-less : (before now : KeptView D) (who : ℕ) (seen : Option ℤ) → NoLess seen (incumbent_value before.board.board) → MayLeave before now who → NoLess seen (incumbent_value now.board.board)
+  still-no-less before now who seen less m = ⊎_elim
+      (λ (same : now ≡ before). subst (λ (v : KeptView D). NoLess seen (incumbent_value v.board.board)) (sym same) less)
+      (λ (one : IsMove on meaning before now who). no-less-then seen (incumbent_value before.board.board) (incumbent_value now.board.board) less (keeps-kept-move on meaning before now who one).1) m

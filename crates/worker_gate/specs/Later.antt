@@ -1,20 +1,24 @@
 -- Rounds on a board.
-use Rattle.std.specs.Prelude.{◌≡◌, ◌^◌, ◌≤◌, false, List, Option, Some, None, IsTrue}
+use Rattle.std.specs.Prelude.{◌≡◌, ◌^◌, ◌≤◌, ◌⊎◌, false, List, Option, Some, None, IsTrue}
 use Rattle.dp_model.specs.Counts.{tree}
 use Rattle.dp_model.specs.Dp.{Dp}
 use Rattle.board_laws.specs.Board.{BoardState, is_explored}
 use Rattle.board_laws.specs.Runs.{Step, IsRun}
 use Rattle.board_laws.specs.Taking.{is_budget_up}
 use Rattle.board_laws.specs.declared.cause.Cause.{Cause}
-use Rattle.board_laws.specs.declared.cause.Cause.TheVariants.{Memory}
+use Rattle.board_laws.specs.declared.cause.Cause.TheVariants.{Memory, Journal}
 
 -- a cause that was held is held still, and where none was held, none is or want of memory
-abbrev pub IsCauseAfter : Option Cause → Option Cause → Type 0
-IsCauseAfter (Some cause) later = later ≡ Some cause
-IsCauseAfter None None = Unit {0}
-IsCauseAfter None (Some cause) = cause ≡ Memory
+abbrev pub IsCauseStill : Option Cause → Option Cause → Type 0
+IsCauseStill (Some cause) later = later ≡ Some cause
+IsCauseStill None None = Unit {0}
+IsCauseStill None (Some cause) = cause ≡ Memory
 
--- a board some rounds later, which are a run: the slots have what they had, and want of memory is the only new cause
+-- the same, unless the journal has failed
+abbrev pub IsCauseAfter : Option Cause → Option Cause → Type 0
+IsCauseAfter cause later = IsCauseStill cause later ⊎ (later ≡ Some Journal)
+
+-- a board some rounds later, which are a run: the slots have what they had, and a new cause is want of memory or the journal's
 pub record IsLater (dp : Dp) (b later : BoardState) : Type 0 where
   pub steps : List Step
   pub run : IsRun dp b steps later

@@ -7,15 +7,16 @@ use Rattle.dp_model.specs.Dp.{Dp}
 use Rattle.dp_model.specs.Subproblem.{Subproblem, IsOwn}
 use Rattle.board_laws.specs.declared.taken.Taken.{Taken}
 use Rattle.board_laws.specs.declared.taken.Taken.TheVariants.{Sub, WaitForOthers, Finished, Halted}
-use Rattle.search_core.specs.View.{BoardView, Tag}
+use Rattle.frontier_journal.specs.View.{KeptView}
+use Rattle.frontier_journal.specs.declared.tag.KeptTag.{KeptTag}
 
 -- the seat is one of the turn's, and its number is below the workers of the settings
-pub record IsWorker (turn : Turn BoardView Tag) (seat : Seat BoardView) : Type 0 where
+pub record IsWorker {D : Type 0} (turn : Turn (KeptView D) (KeptTag D)) (seat : Seat (KeptView D)) : Type 0 where
   pub own : IsSeatOf turn seat
-  pub within : seat.number < (first_of turn).board.settings.workers
+  pub within : seat.number < (first_of turn).board.board.settings.workers
 
 -- such a seat with nothing out
-pub record IsReadySeat (turn : Turn BoardView Tag) (seat : Seat BoardView) : Type 0 where
+pub record IsReadySeat {D : Type 0} (turn : Turn (KeptView D) (KeptTag D)) (seat : Seat (KeptView D)) : Type 0 where
   pub worker : IsWorker turn seat
   pub nothing_out : out_of seat ≡ None
 

@@ -21,6 +21,6 @@ pub use branched::Branched;
 pub use desk::Desk;
 pub use rounds::explore;
 pub use workers::{
-    Asked, Gate, NoGate, Step, close, explore_together, fan_out, finish_one, give_up, improve_one,
-    open, side_by_side, take_one, work,
+    Asked, Gate, NoGate, Step, Stopped, close, explore_together, fan_out, finish_one, give_up,
+    improve_one, open, side_by_side, take_one, work,
 };

@@ -1,23 +1,34 @@
 //! The diagrams of a round.
 
-ghost use Rattle.std.specs.Prelude.{◌≡◌, false, []};
+ghost use Rattle.std.specs.Prelude.{◌≡◌, false, [], None, IfOk, OnOk, IfErr};
 ghost use Rattle.dp_model.specs.Reached.{reached};
 ghost use Rattle.dp_model.specs.Subproblem.{IsOwn};
-ghost use Rattle.dp_laws.specs.Diagrams.Cutsets.{children_of, found_in};
+ghost use Rattle.dp_laws.specs.Diagrams.Cutsets.{found_in};
 ghost use Rattle.dp_laws.specs.Rules.Compiling.{relaxed};
+ghost use Rattle.board_lock.specs.History.{HasMoved};
+ghost use Rattle.exact_cutset.specs.Prepared.{IsListPreparedFor};
 ghost use Rattle.layer_build.specs.Layers.{IsPreparedFor};
-ghost use Rattle.search_core.specs.View.{tag_of};
+ghost use Rattle.frontier_journal.specs.Moves.{IsMove};
+ghost use Rattle.frontier_journal.specs.View.{tag_of};
+ghost use Rattle.relaxed_dd.specs.Shown.{layers_of, width_of, IsDiagramOf};
 ghost use Rattle.worker_gate.specs.Branched.{IsBranched};
 ghost use Rattle.worker_gate.specs.Offered.{IsOffered};
 ghost use Rattle.worker_gate.specs.Prepared.{HoldsChildren};
+ghost use Rattle.worker_gate.specs.Stopped.{IsRefused};
+ghost use Rattle.worker_gate.specs.Taken.{taken_from};
 
 use super::offering::offer;
+use dd_disk::Disk;
 use dp_model::{CutKind, DpModel, Sub};
 use exact_cutset::{Children, children};
+use frontier_journal::{Kept, KeptError};
 use layer_build::Workspace;
-use relaxed_dd::relaxed;
+use relaxed_dd::{Diagram, relaxed};
 use restricted_dd::compile;
-use search_core::Board;
+use std::alloc::Global;
+
+/// A record's body has fewer bytes: 2^32.
+const MOST_BYTES: u64 = 1 << 32;
 
 /// What the restricted diagram of a subproblem leaves.
 #[derive(Clone, Copy, Debug)]
@@ -29,62 +40,77 @@ pub struct Restricted {
 }
 
 /// Compiles the restricted diagram of a subproblem with the incumbent's value as threshold, and offers its beam. Where the width
-/// took nothing from it, the subproblem has no children. It takes no memory.
-pub fn restrict<M: DpModel>(
-    board: &mut Board<M>,
+/// took nothing from it, the subproblem has no children. No cause is held.
+///
+/// # Errors
+///
+/// As `offer` says.
+pub fn restrict<M: DpModel, D: Disk>(
+    alloc: Global,
+    kept: &mut Kept<M, D>,
     space: &mut Workspace,
     taken: &Sub,
     model: &M,
-) -> Restricted
-    requires numbers { board.old.numbers ≡ M.numbers model.now }
+) -> Result<Restricted, KeptError>
+    requires numbers { kept.old.board.numbers ≡ M.numbers model.now }
+    requires going { kept.old.board.board.cause ≡ None }
     requires own { IsOwn (M.meaning (M.numbers model.now)) taken.now.subproblem }
     requires prepared { IsPreparedFor (M.meaning (M.numbers model.now)) space.old }
-    requires width { space.old.width ≡ board.old.board.settings.width }
-    ensures whole { result.reduced ≡ false → IsBranched (M.meaning (M.numbers model.now)) board.new.board taken.now.subproblem.decisions result.threshold [] }
-    ensures offered { IsOffered (M.meaning (M.numbers model.now)) board.old.board board.new.board }
-    ensures tag { tag_of board.new ≡ tag_of board.old }
+    requires width { space.old.width ≡ kept.old.board.board.settings.width }
+    ensures whole { IfOk result (λ r. r.reduced ≡ false → IsBranched (M.meaning (M.numbers model.now)) kept.new.board.board taken.now.subproblem.decisions r.threshold []) }
+    ensures offered { OnOk result (IsOffered (M.meaning (M.numbers model.now)) kept.old.board.board kept.new.board.board) }
+    ensures refused { IfErr result (λ error. IsRefused (M.meaning (M.numbers model.now)) kept.old.board.board error kept.new.board.board) }
+    ensures tag { tag_of kept.new ≡ tag_of kept.old }
+    ensures moved { HasMoved (IsMove D.Disk M.meaning) kept.old kept.new }
     ensures prepared { IsPreparedFor (M.meaning (M.numbers model.now)) space.new }
     ensures width { space.new.width ≡ space.old.width }
 {
-    let threshold = board.incumbent_value();
+    let threshold = kept.board().incumbent_value();
     let compiled = compile(space, model, taken, threshold);
-    offer(board, compiled.found);
-    Restricted {
-        threshold,
-        reduced: compiled.reduced,
-    }
+    let reduced = compiled.reduced;
+    offer(alloc, kept, compiled.found)?;
+    Ok(Restricted { threshold, reduced })
 }
 
 /// Compiles the relaxed diagram of a subproblem with the incumbent's value as threshold, offers the solution that it finds, and
-/// fills `cutset` with its children of the kind. It takes no memory.
-pub fn relax<M: DpModel>(
-    board: &mut Board<M>,
+/// fills `cutset` with its children. Gives the threshold. No cause is held.
+///
+/// # Errors
+///
+/// As `offer` says.
+pub fn relax<M: DpModel, D: Disk>(
+    alloc: Global,
+    kept: &mut Kept<M, D>,
     space: &mut Workspace,
     cutset: &mut Children,
     taken: &Sub,
     kind: CutKind,
     model: &M,
-) -> Option<i64>
-    requires numbers { board.old.numbers ≡ M.numbers model.now }
+) -> Result<Option<i64>, KeptError>
+    requires numbers { kept.old.board.numbers ≡ M.numbers model.now }
+    requires going { kept.old.board.board.cause ≡ None }
     requires own { IsOwn (M.meaning (M.numbers model.now)) taken.now.subproblem }
     requires prepared { IsPreparedFor (M.meaning (M.numbers model.now)) space.old }
-    requires width { space.old.width ≡ board.old.board.settings.width }
+    requires width { space.old.width ≡ kept.old.board.board.settings.width }
     requires cutset { HoldsChildren (M.meaning (M.numbers model.now)) space.old.width kind cutset.old }
-    ensures branched { IsBranched (M.meaning (M.numbers model.now)) board.new.board taken.now.subproblem.decisions result cutset.new.subs }
-    ensures offered { IsOffered (M.meaning (M.numbers model.now)) board.old.board board.new.board }
-    ensures tag { tag_of board.new ≡ tag_of board.old }
+    ensures branched { IfOk result (λ threshold. IsBranched (M.meaning (M.numbers model.now)) kept.new.board.board taken.now.subproblem.decisions threshold cutset.new.subs) }
+    ensures offered { OnOk result (IsOffered (M.meaning (M.numbers model.now)) kept.old.board.board kept.new.board.board) }
+    ensures refused { IfErr result (λ error. IsRefused (M.meaning (M.numbers model.now)) kept.old.board.board error kept.new.board.board) }
+    ensures tag { tag_of kept.new ≡ tag_of kept.old }
+    ensures moved { HasMoved (IsMove D.Disk M.meaning) kept.old kept.new }
     ensures prepared { IsPreparedFor (M.meaning (M.numbers model.now)) space.new }
     ensures width { space.new.width ≡ space.old.width }
     ensures cutset { HoldsChildren (M.meaning (M.numbers model.now)) space.old.width kind cutset.new }
 {
-    let threshold = board.incumbent_value();
+    let threshold = kept.board().incumbent_value();
     fill(space, cutset, taken, threshold, kind, model);
-    offer(board, cutset.found());
-    threshold
+    offer(alloc, kept, cutset.found())?;
+    Ok(threshold)
 }
 
-/// Fills `cutset` from the relaxed diagram of a subproblem, with its children of the kind and the solution that it finds. It takes
-/// no memory.
+/// Fills `cutset` from the relaxed diagram of a subproblem, with its children of the kind and the solution that it finds. Where a
+/// record that names all children of the frontier would be too large, it takes those of the last exact layer instead. It takes no
+/// memory.
 pub fn fill<M: DpModel>(
     space: &mut Workspace,
     cutset: &mut Children,
@@ -96,12 +122,40 @@ pub fn fill<M: DpModel>(
     requires own { IsOwn (M.meaning (M.numbers model.now)) taken.now.subproblem }
     requires prepared { IsPreparedFor (M.meaning (M.numbers model.now)) space.old }
     requires cutset { HoldsChildren (M.meaning (M.numbers model.now)) space.old.width kind cutset.old }
-    ensures subs { cutset.new.subs ≡ children_of (M.meaning (M.numbers model.now)) (relaxed (M.meaning (M.numbers model.now)) (reached (M.meaning (M.numbers model.now)) taken.now.subproblem.decisions) space.old.width threshold) kind }
+    ensures subs { cutset.new.subs ≡ taken_from (M.meaning (M.numbers model.now)) (relaxed (M.meaning (M.numbers model.now)) (reached (M.meaning (M.numbers model.now)) taken.now.subproblem.decisions) space.old.width threshold) kind }
     ensures found { cutset.new.found ≡ found_in (M.meaning (M.numbers model.now)) (relaxed (M.meaning (M.numbers model.now)) (reached (M.meaning (M.numbers model.now)) taken.now.subproblem.decisions) space.old.width threshold) }
     ensures prepared { IsPreparedFor (M.meaning (M.numbers model.now)) space.new }
     ensures width { space.new.width ≡ space.old.width }
     ensures cutset { HoldsChildren (M.meaning (M.numbers model.now)) space.old.width kind cutset.new }
 {
     let diagram = relaxed(space, model, taken, threshold);
-    children(model, &diagram, kind, cutset);
+    take_children(model, &diagram, kind, cutset);
+}
+
+/// Fills `cutset` with the children of a diagram, and with the solution that it finds.
+fn take_children<M: DpModel>(model: &M, diagram: &Diagram, kind: CutKind, cutset: &mut Children)
+    requires diagram { IsDiagramOf (M.meaning (M.numbers model.now)) diagram.now }
+    requires prepared { IsListPreparedFor (M.meaning (M.numbers model.now)) (width_of diagram.now) kind cutset.old }
+    ensures subs { cutset.new.subs ≡ taken_from (M.meaning (M.numbers model.now)) (layers_of diagram.now) kind }
+    ensures found { cutset.new.found ≡ found_in (M.meaning (M.numbers model.now)) (layers_of diagram.now) }
+    ensures prepared { IsListPreparedFor (M.meaning (M.numbers model.now)) (width_of diagram.now) kind cutset.new }
+{
+    match kind {
+        CutKind::LastExactLayer => children(model, diagram, kind, cutset),
+        CutKind::Frontier => take_frontier(model, diagram, cutset),
+    }
+}
+
+/// The same for the kind of the frontier.
+fn take_frontier<M: DpModel>(model: &M, diagram: &Diagram, cutset: &mut Children)
+    requires diagram { IsDiagramOf (M.meaning (M.numbers model.now)) diagram.now }
+    requires prepared { IsListPreparedFor (M.meaning (M.numbers model.now)) (width_of diagram.now) CutKind.Frontier cutset.old }
+    ensures subs { cutset.new.subs ≡ taken_from (M.meaning (M.numbers model.now)) (layers_of diagram.now) CutKind.Frontier }
+    ensures found { cutset.new.found ≡ found_in (M.meaning (M.numbers model.now)) (layers_of diagram.now) }
+    ensures prepared { IsListPreparedFor (M.meaning (M.numbers model.now)) (width_of diagram.now) CutKind.Frontier cutset.new }
+{
+    children(model, diagram, CutKind::Frontier, cutset);
+    if cutset.size() >= MOST_BYTES {
+        children(model, diagram, CutKind::LastExactLayer, cutset);
+    }
 }

@@ -1,116 +1,166 @@
 //! Rounds, and the search that they make.
 
-ghost use Rattle.std.specs.Prelude.{◌≡◌, ◌+◌, ◌≤◌, true, false, [], ◌∷◌, length, IsSome, IfOk, option_map, Some, vec_capacity};
+ghost use Rattle.std.specs.Prelude.{◌≡◌, ◌+◌, ◌≤◌, true, false, [], None, Some, length, IsSome, OnOk, IfOk, IfErr, option_map};
 ghost use Rattle.dp_model.specs.Subproblem.{IsOwn};
+ghost use Rattle.board_lock.specs.History.{HasMoved};
 ghost use Rattle.board_laws.specs.Board.{full_slots, slot_at};
-ghost use Rattle.board_laws.specs.Runs.{IsRun};
-ghost use Rattle.board_laws.specs.Runs.Step.{Finish};
-ghost use Rattle.board_laws.specs.Steps.{finished_by, given_back, halted};
+ghost use Rattle.board_laws.specs.GoodBoard.{IsGood};
+ghost use Rattle.frontier_journal.specs.Moves.{IsMove};
+ghost use Rattle.frontier_journal.specs.View.{tag_of};
 ghost use Rattle.search_core.specs.Contents.{contents};
-ghost use Rattle.search_core.specs.View.{tag_of};
 ghost use Rattle.worker_gate.specs.Branched.{IsBranched};
 ghost use Rattle.worker_gate.specs.Later.{IsLater, NoRoundFollows, IsComplete};
 ghost use Rattle.worker_gate.specs.Offered.{IsOffered};
 ghost use Rattle.worker_gate.specs.Prepared.{IsPreparedDesk};
-ghost use Rattle.worker_gate.specs.UnderWay.{IsRoundUnderWay};
+ghost use Rattle.worker_gate.specs.Stopped.{refused_by, IsRefused};
+ghost use Rattle.worker_gate.specs.UnderWay.{IsRoundUnderWay, HasFinished, handed_back};
 
 use super::compiling::{relax, restrict};
 use crate::branched::Branched;
 use crate::desk::Desk;
-use dp_model::{DpModel, OutOfMemory};
-use search_core::{Board, Cause, Taken};
+use dd_disk::Disk;
+use dp_model::DpModel;
+use frontier_journal::{Kept, KeptError};
+use search_core::Taken;
 use std::alloc::Global;
 
 /// Does rounds until nothing is open, a cause is held or the budget is taken up. Board and model are of one instance, the
 /// board has a slot and nothing is out, and the desk was prepared for the model and the width of the board's settings.
 ///
-/// Where memory is refused, the search is halted for want of memory, and what was out is handed back, so that nothing is out
-/// at the end either. Where the budget and the tickets suffice for every prefix and no cause is held at the end, nothing is
-/// open then.
-pub fn explore<M: DpModel>(alloc: Global, board: &mut Board<M>, desk: &mut Desk, model: &M)
-    requires numbers { board.old.numbers ≡ M.numbers model.now }
-    requires some { 1 ≤ length board.old.board.slots }
-    requires idle { full_slots board.old.board.slots ≡ [] }
-    requires prepared { IsPreparedDesk (M.meaning (M.numbers model.now)) board.old.board.settings.width desk.old }
-    ensures tag { tag_of board.new ≡ tag_of board.old }
-    ensures later { IsLater (M.meaning (M.numbers model.now)) board.old.board board.new.board }
-    ensures ended { NoRoundFollows board.new.board }
-    ensures complete { IsComplete (M.meaning (M.numbers model.now)) board.new.board }
-    ensures prepared { IsPreparedDesk (M.meaning (M.numbers model.now)) board.old.board.settings.width desk.new }
+/// Where memory is refused, the search is halted for want of memory, and where a call of the disk fails, it is halted for the
+/// journal. Then what was out is handed back, so that nothing is out at the end either. Where the first board was a good one, the
+/// budget and the tickets suffice for every prefix and no cause is held at the end, nothing is open then.
+pub fn explore<M: DpModel, D: Disk>(
+    alloc: Global,
+    kept: &mut Kept<M, D>,
+    desk: &mut Desk,
+    model: &M,
+)
+    requires numbers { kept.old.board.numbers ≡ M.numbers model.now }
+    requires some { 1 ≤ length kept.old.board.board.slots }
+    requires idle { full_slots kept.old.board.board.slots ≡ [] }
+    requires prepared { IsPreparedDesk (M.meaning (M.numbers model.now)) kept.old.board.board.settings.width desk.old }
+    ensures tag { tag_of kept.new ≡ tag_of kept.old }
+    ensures moved { HasMoved (IsMove D.Disk M.meaning) kept.old kept.new }
+    ensures later { IsLater (M.meaning (M.numbers model.now)) kept.old.board.board kept.new.board.board }
+    ensures ended { NoRoundFollows kept.new.board.board }
+    ensures complete { IsGood (M.meaning (M.numbers model.now)) kept.old.board.first → IsComplete (M.meaning (M.numbers model.now)) kept.new.board.board }
+    ensures prepared { IsPreparedDesk (M.meaning (M.numbers model.now)) kept.old.board.board.settings.width desk.new }
 {
-    'rounds: while round(alloc, board, desk, model) {}
+    'rounds: while round(alloc, kept, desk, model) {}
     // What every board keeps of its counts and tickets.
-    let _ = board.taken();
-    let _ = board.incumbent_value();
+    let _ = kept.board().taken();
+    let _ = kept.board().incumbent_value();
 }
 
 /// A round of worker 0. Says whether it finished what it took; if not, no round can follow.
-fn round<M: DpModel>(alloc: Global, board: &mut Board<M>, desk: &mut Desk, model: &M) -> bool
-    requires numbers { board.old.numbers ≡ M.numbers model.now }
-    requires some { 1 ≤ length board.old.board.slots }
-    requires idle { full_slots board.old.board.slots ≡ [] }
-    requires prepared { IsPreparedDesk (M.meaning (M.numbers model.now)) board.old.board.settings.width desk.old }
-    ensures tag { tag_of board.new ≡ tag_of board.old }
-    ensures later { IsLater (M.meaning (M.numbers model.now)) board.old.board board.new.board }
-    ensures taken { result ≡ true → board.old.board.taken + 1 ≤ board.new.board.taken }
-    ensures budget { result ≡ true → board.new.board.taken ≤ board.new.board.settings.budget }
-    ensures ended { result ≡ false → NoRoundFollows board.new.board }
-    ensures prepared { IsPreparedDesk (M.meaning (M.numbers model.now)) board.old.board.settings.width desk.new }
+fn round<M: DpModel, D: Disk>(
+    alloc: Global,
+    kept: &mut Kept<M, D>,
+    desk: &mut Desk,
+    model: &M,
+) -> bool
+    requires numbers { kept.old.board.numbers ≡ M.numbers model.now }
+    requires some { 1 ≤ length kept.old.board.board.slots }
+    requires idle { full_slots kept.old.board.board.slots ≡ [] }
+    requires prepared { IsPreparedDesk (M.meaning (M.numbers model.now)) kept.old.board.board.settings.width desk.old }
+    ensures tag { tag_of kept.new ≡ tag_of kept.old }
+    ensures moved { HasMoved (IsMove D.Disk M.meaning) kept.old kept.new }
+    ensures later { IsLater (M.meaning (M.numbers model.now)) kept.old.board.board kept.new.board.board }
+    ensures taken { result ≡ true → kept.old.board.board.taken + 1 ≤ kept.new.board.board.taken }
+    ensures budget { result ≡ true → kept.new.board.board.taken ≤ kept.new.board.board.settings.budget }
+    ensures ended { result ≡ false → NoRoundFollows kept.new.board.board }
+    ensures prepared { IsPreparedDesk (M.meaning (M.numbers model.now)) kept.old.board.board.settings.width desk.new }
 {
-    if !take_one(board, desk, model) {
+    if !take_one(kept, desk, model) {
         return false;
     }
-    let Ok(branched) = branch(alloc, board, desk, model) else {
-        give_up(board);
-        return false;
-    };
-    finish_one(board, desk, branched);
-    // No more are taken than the budget: rounds come to an end.
-    let _ = board.taken();
-    true
+    match go_on(alloc, kept, desk, model) {
+        Ok(()) => {
+            // No more are taken than the budget: rounds come to an end.
+            let _ = kept.board().taken();
+            true
+        }
+        Err(error) => {
+            give_up(kept, error);
+            false
+        }
+    }
 }
 
 /// Worker 0 asks for a subproblem. Says whether it got one, which lies on the desk then.
-fn take_one<M: DpModel>(board: &mut Board<M>, desk: &mut Desk, model: &M) -> bool
-    requires numbers { board.old.numbers ≡ M.numbers model.now }
-    requires some { 1 ≤ length board.old.board.slots }
-    requires idle { full_slots board.old.board.slots ≡ [] }
-    requires prepared { IsPreparedDesk (M.meaning (M.numbers model.now)) board.old.board.settings.width desk.old }
-    ensures taken { result ≡ true → IsRoundUnderWay (M.meaning (M.numbers model.now)) board.old.board board.new.board desk.new.taken.subproblem }
-    ensures kept { result ≡ false → board.new.board ≡ board.old.board }
-    ensures ended { result ≡ false → NoRoundFollows board.old.board }
-    ensures tag { tag_of board.new ≡ tag_of board.old }
-    ensures prepared { IsPreparedDesk (M.meaning (M.numbers model.now)) board.old.board.settings.width desk.new }
+fn take_one<M: DpModel, D: Disk>(kept: &mut Kept<M, D>, desk: &mut Desk, model: &M) -> bool
+    requires numbers { kept.old.board.numbers ≡ M.numbers model.now }
+    requires some { 1 ≤ length kept.old.board.board.slots }
+    requires idle { full_slots kept.old.board.board.slots ≡ [] }
+    requires prepared { IsPreparedDesk (M.meaning (M.numbers model.now)) kept.old.board.board.settings.width desk.old }
+    ensures taken { result ≡ true → IsRoundUnderWay (M.meaning (M.numbers model.now)) kept.old.board.board kept.new.board.board desk.new.taken.subproblem }
+    ensures kept { result ≡ false → kept.new.board.board ≡ kept.old.board.board }
+    ensures ended { result ≡ false → NoRoundFollows kept.old.board.board }
+    ensures tag { tag_of kept.new ≡ tag_of kept.old }
+    ensures moved { HasMoved (IsMove D.Disk M.meaning) kept.old kept.new }
+    ensures prepared { IsPreparedDesk (M.meaning (M.numbers model.now)) kept.old.board.board.settings.width desk.new }
 {
-    let answer = board.take(0, &mut desk.taken);
+    let answer = kept.take(0, &mut desk.taken);
     // What every board keeps of what is out.
-    let _ = board.incumbent_value();
+    let _ = kept.board().incumbent_value();
     match answer {
         Taken::Sub => true,
         Taken::WaitForOthers | Taken::Finished | Taken::Halted(_) => false,
     }
 }
 
-/// Branches on the subproblem on the desk: the solutions that its diagrams find are offered, and its children are made, with room
-/// for them on the board.
-fn branch<M: DpModel>(
+/// Finishes the subproblem on the desk with the children that it is branched into. No cause is held.
+///
+/// # Errors
+///
+/// A step was refused, for want of memory, or by the disk; then the search is halted for the journal. The subproblem is out still.
+fn go_on<M: DpModel, D: Disk>(
     alloc: Global,
-    board: &mut Board<M>,
+    kept: &mut Kept<M, D>,
     desk: &mut Desk,
     model: &M,
-) -> Result<Branched, OutOfMemory>
-    requires numbers { board.old.numbers ≡ M.numbers model.now }
+) -> Result<(), KeptError>
+    requires numbers { kept.old.board.numbers ≡ M.numbers model.now }
+    requires out { option_map (λ o. o.subproblem) (slot_at kept.old.board.board 0) ≡ Some desk.old.taken.subproblem }
     requires own { IsOwn (M.meaning (M.numbers model.now)) desk.old.taken.subproblem }
-    requires prepared { IsPreparedDesk (M.meaning (M.numbers model.now)) board.old.board.settings.width desk.old }
-    ensures branched { IfOk result (λ b. IsBranched (M.meaning (M.numbers model.now)) board.new.board desk.old.taken.subproblem.decisions b.threshold (contents b.children.items)) }
-    ensures place { IfOk result (λ b. length b.children.items ≤ board.new.room) }
-    ensures fates { IfOk result (λ b. length b.children.items ≤ vec_capacity desk.new.fates) }
-    ensures offered { IsOffered (M.meaning (M.numbers model.now)) board.old.board board.new.board }
-    ensures tag { tag_of board.new ≡ tag_of board.old }
-    ensures taken { desk.new.taken.subproblem ≡ desk.old.taken.subproblem }
-    ensures prepared { IsPreparedDesk (M.meaning (M.numbers model.now)) board.old.board.settings.width desk.new }
+    requires going { kept.old.board.board.cause ≡ None }
+    requires prepared { IsPreparedDesk (M.meaning (M.numbers model.now)) kept.old.board.board.settings.width desk.old }
+    ensures finished { OnOk result (HasFinished (M.meaning (M.numbers model.now)) kept.old.board.board kept.new.board.board) }
+    ensures refused { IfErr result (λ error. IsRefused (M.meaning (M.numbers model.now)) kept.old.board.board error kept.new.board.board) }
+    ensures tag { tag_of kept.new ≡ tag_of kept.old }
+    ensures moved { HasMoved (IsMove D.Disk M.meaning) kept.old kept.new }
+    ensures prepared { IsPreparedDesk (M.meaning (M.numbers model.now)) kept.old.board.board.settings.width desk.new }
 {
-    let restricted = restrict(board, &mut desk.space, &desk.taken, model);
+    let branched = branch_on(alloc, kept, desk, model)?;
+    finish_one(alloc, kept, desk, branched)
+}
+
+/// Branches on the subproblem on the desk: the solutions that its diagrams find are offered, and its children are made. No cause is
+/// held.
+///
+/// # Errors
+///
+/// As `go_on` says.
+fn branch_on<M: DpModel, D: Disk>(
+    alloc: Global,
+    kept: &mut Kept<M, D>,
+    desk: &mut Desk,
+    model: &M,
+) -> Result<Branched, KeptError>
+    requires numbers { kept.old.board.numbers ≡ M.numbers model.now }
+    requires own { IsOwn (M.meaning (M.numbers model.now)) desk.old.taken.subproblem }
+    requires going { kept.old.board.board.cause ≡ None }
+    requires prepared { IsPreparedDesk (M.meaning (M.numbers model.now)) kept.old.board.board.settings.width desk.old }
+    ensures branched { IfOk result (λ b. IsBranched (M.meaning (M.numbers model.now)) kept.new.board.board desk.old.taken.subproblem.decisions b.threshold (contents b.children.items)) }
+    ensures offered { OnOk result (IsOffered (M.meaning (M.numbers model.now)) kept.old.board.board kept.new.board.board) }
+    ensures refused { IfErr result (λ error. IsRefused (M.meaning (M.numbers model.now)) kept.old.board.board error kept.new.board.board) }
+    ensures tag { tag_of kept.new ≡ tag_of kept.old }
+    ensures moved { HasMoved (IsMove D.Disk M.meaning) kept.old kept.new }
+    ensures taken { desk.new.taken.subproblem ≡ desk.old.taken.subproblem }
+    ensures prepared { IsPreparedDesk (M.meaning (M.numbers model.now)) kept.old.board.board.settings.width desk.new }
+{
+    let restricted = restrict(alloc, kept, &mut desk.space, &desk.taken, model)?;
     if !restricted.reduced {
         return Ok(Branched {
             threshold: restricted.threshold,
@@ -118,50 +168,67 @@ fn branch<M: DpModel>(
         });
     }
     let threshold = relax(
-        board,
+        alloc,
+        kept,
         &mut desk.space,
         &mut desk.cutset,
         &desk.taken,
         desk.kind,
         model,
-    );
+    )?;
     let children = desk.cutset.subs(alloc)?;
-    desk.fates.reserve(children.len())?;
-    board.reserve_for(children.len())?;
     Ok(Branched {
         threshold,
         children,
     })
 }
 
-/// Finishes the subproblem on the desk with the children that it was branched into.
-fn finish_one<M: DpModel>(board: &mut Board<M>, desk: &mut Desk, mut branched: Branched)
-    requires out { option_map (λ o. o.subproblem) (slot_at board.old.board 0) ≡ Some desk.old.taken.subproblem }
-    requires branched { IsBranched (M.meaning board.old.numbers) board.old.board desk.old.taken.subproblem.decisions branched.threshold (contents branched.children.items) }
-    requires place { length branched.children.items ≤ board.old.room }
-    requires fates { length branched.children.items ≤ vec_capacity desk.old.fates }
-    requires prepared { IsPreparedDesk (M.meaning board.old.numbers) board.old.board.settings.width desk.old }
-    ensures run { IsRun (M.meaning board.old.numbers) board.old.board (Finish 0 branched.threshold (contents branched.children.items) ∷ []) board.new.board }
-    ensures step { board.new.board ≡ finished_by (M.meaning board.old.numbers) board.old.board 0 (contents branched.children.items) }
-    ensures tag { tag_of board.new ≡ tag_of board.old }
-    ensures prepared { IsPreparedDesk (M.meaning board.old.numbers) board.old.board.settings.width desk.new }
+/// Finishes the subproblem on the desk with the children that it was branched into. No cause is held.
+///
+/// # Errors
+///
+/// As `go_on` says.
+fn finish_one<M: DpModel, D: Disk>(
+    alloc: Global,
+    kept: &mut Kept<M, D>,
+    desk: &mut Desk,
+    mut branched: Branched,
+) -> Result<(), KeptError>
+    requires out { option_map (λ o. o.subproblem) (slot_at kept.old.board.board 0) ≡ Some desk.old.taken.subproblem }
+    requires branched { IsBranched (M.meaning kept.old.board.numbers) kept.old.board.board desk.old.taken.subproblem.decisions branched.threshold (contents branched.children.items) }
+    requires going { kept.old.board.board.cause ≡ None }
+    requires prepared { IsPreparedDesk (M.meaning kept.old.board.numbers) kept.old.board.board.settings.width desk.old }
+    ensures finished { OnOk result (HasFinished (M.meaning kept.old.board.numbers) kept.old.board.board kept.new.board.board) }
+    ensures refused { IfErr result (λ error. kept.new.board.board ≡ refused_by error kept.old.board.board) }
+    ensures tag { tag_of kept.new ≡ tag_of kept.old }
+    ensures moved { HasMoved (IsMove D.Disk M.meaning) kept.old kept.new }
+    ensures prepared { IsPreparedDesk (M.meaning kept.old.board.numbers) kept.old.board.board.settings.width desk.new }
 {
-    board.fates(branched.children.as_slice(), &mut desk.fates);
-    board.finish(
+    let finished = kept.finish(
+        alloc,
         0,
         branched.threshold,
         &mut branched.children,
-        desk.fates.as_slice(),
+        &mut desk.fates,
     );
     desk.fates.clear();
+    finished
 }
 
-/// Halts the search for want of memory, and hands the subproblem of worker 0 back.
-fn give_up<M: DpModel>(board: &mut Board<M>)
-    requires full { IsSome (slot_at board.old.board 0) }
-    ensures step { board.new.board ≡ given_back (halted board.old.board Cause.Memory) 0 }
-    ensures tag { tag_of board.new ≡ tag_of board.old }
+/// Hands the subproblem of worker 0 back after a step was refused. For want of memory it halts the search first; where the disk failed
+/// the search is halted already.
+fn give_up<M: DpModel, D: Disk>(kept: &mut Kept<M, D>, error: KeptError)
+    requires full { IsSome (slot_at kept.old.board.board 0) }
+    requires halted { error ≡ KeptError.Journal → IsSome kept.old.board.board.cause }
+    ensures step { kept.new.board.board ≡ handed_back error kept.old.board.board }
+    ensures tag { tag_of kept.new ≡ tag_of kept.old }
+    ensures moved { HasMoved (IsMove D.Disk M.meaning) kept.old kept.new }
 {
-    board.halt(Cause::Memory);
-    board.give_back(0);
+    match error {
+        KeptError::OutOfMemory => {
+            kept.halt_memory();
+            kept.give_back(0);
+        }
+        KeptError::Journal => kept.give_back(0),
+    }
 }

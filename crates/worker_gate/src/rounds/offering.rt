@@ -1,28 +1,46 @@
 //! Solutions that diagrams find.
 
+ghost use Rattle.std.specs.Prelude.{◌≡◌, None, OnOk, IfErr};
 ghost use Rattle.dp_model.specs.Numbers.{OptionAtMost};
 ghost use Rattle.dp_laws.specs.Children.{found_value};
+ghost use Rattle.board_lock.specs.History.{HasMoved};
 ghost use Rattle.board_laws.specs.Board.{incumbent_value, reach};
 ghost use Rattle.board_laws.specs.GoodBoard.{IncumbentHolds};
-ghost use Rattle.search_core.specs.View.{tag_of};
+ghost use Rattle.frontier_journal.specs.Moves.{IsMove};
+ghost use Rattle.frontier_journal.specs.View.{tag_of};
 ghost use Rattle.worker_gate.specs.Offered.{IsOffered, found_solution};
-ghost use Rattle.std.specs.Prelude.{◌≡◌};
+ghost use Rattle.worker_gate.specs.Stopped.{IsRefused};
 
+use dd_disk::Disk;
 use dp_model::{DpModel, Found};
-use search_core::Board;
+use frontier_journal::{Kept, KeptError};
+use std::alloc::Global;
 
-/// Offers a feasible solution with its value, where there is one: neither it nor the incumbent is above the reach then. It takes no
-/// memory.
-pub fn offer<M: DpModel>(board: &mut Board<M>, found: Option<Found<'_>>)
-    requires { IncumbentHolds (M.meaning board.old.numbers) (found_solution found) }
-    ensures offered { IsOffered (M.meaning board.old.numbers) board.old.board board.new.board }
-    ensures found { OptionAtMost (found_value (found_solution found.entry)) (reach board.new.board) }
-    ensures before { OptionAtMost (incumbent_value board.old.board) (reach board.new.board) }
-    ensures tag { tag_of board.new ≡ tag_of board.old }
+/// Offers a feasible solution with its value, where there is one: neither it nor the incumbent is above the reach then. No cause is
+/// held.
+///
+/// # Errors
+///
+/// The record of a better solution was not added: for want of memory nothing has changed, and where the disk failed the search is
+/// halted for the journal.
+pub fn offer<M: DpModel, D: Disk>(
+    alloc: Global,
+    kept: &mut Kept<M, D>,
+    found: Option<Found<'_>>,
+) -> Result<(), KeptError>
+    requires held { IncumbentHolds (M.meaning kept.old.board.numbers) (found_solution found) }
+    requires going { kept.old.board.board.cause ≡ None }
+    ensures offered { OnOk result (IsOffered (M.meaning kept.old.board.numbers) kept.old.board.board kept.new.board.board) }
+    ensures found { OnOk result (OptionAtMost (found_value (found_solution found.entry)) (reach kept.new.board.board)) }
+    ensures before { OnOk result (OptionAtMost (incumbent_value kept.old.board.board) (reach kept.new.board.board)) }
+    ensures refused { IfErr result (λ error. IsRefused (M.meaning kept.old.board.numbers) kept.old.board.board error kept.new.board.board) }
+    ensures tag { tag_of kept.new ≡ tag_of kept.old }
+    ensures moved { HasMoved (IsMove D.Disk M.meaning) kept.old kept.new }
 {
     if let Some(found) = found {
-        let _ = board.improve(found.decisions);
+        let _ = kept.improve(alloc, found.decisions)?;
     }
     // What every board keeps of its distance.
-    let _ = board.incumbent_value();
+    let _ = kept.board().incumbent_value();
+    Ok(())
 }

@@ -1,50 +1,50 @@
 //! The holding in which a worker finishes.
 
-ghost use Rattle.std.specs.Prelude.{◌≡◌, ◌≤◌, [], None, OnOk, OnErr, vec_len, vec_capacity};
+ghost use Rattle.std.specs.Prelude.{◌≡◌, [], None, OnOk, IfErr};
 ghost use Rattle.board_lock.specs.Order.{NoLess};
 ghost use Rattle.board_lock.specs.Seats.{first_of, seen_of, out_of};
 ghost use Rattle.search_core.specs.Contents.{contents};
 ghost use Rattle.worker_gate.specs.FinishLater.{MayFinishLater};
 ghost use Rattle.worker_gate.specs.Ready.{IsWorker};
+ghost use Rattle.worker_gate.specs.Stopped.{IsLeftOut};
 
+use super::moving::finish;
+use super::stopped::Stopped;
 use board_lock::{Seat, Turn};
-use dp_model::{DpModel, OutOfMemory, Sub};
-use search_core::{Board, Fate};
+use dd_disk::Disk;
+use dp_model::{DpModel, Sub};
+use frontier_journal::Kept;
+use search_core::Fate;
+use std::alloc::Global;
 use std::sync::Wait;
 
-/// Holds, makes room on the board, finishes with these children, and leaves. Where there is no memory for the room it leaves the
-/// board as it was found, and the children stay.
+/// Holds, finishes with these children, and leaves. The children and the threshold of their diagram meet what Finish asks, on each
+/// board whose incumbent is no less than what the seat has seen.
 ///
-/// The children and the threshold of their diagram meet what Finish asks, on each board whose incumbent is no less than what the seat
-/// has seen; `fates` has room for a fate of each child.
-pub fn finish_one<M: DpModel, R: Wait>(
+/// # Errors
+///
+/// `GaveBack` where it found the search halted for the journal: what it had out was handed back in that holding. `Refused` where there
+/// was no memory, or the disk failed; then the search is halted for the journal. The children stay.
+pub fn finish_one<M: DpModel, D: Disk + Send, R: Wait>(
     rt: &R,
-    turn: &Turn<Board<M>>,
-    seat: &mut Seat<Board<M>>,
+    alloc: Global,
+    turn: &Turn<Kept<M, D>>,
+    seat: &mut Seat<Kept<M, D>>,
     threshold: Option<i64>,
     subs: &mut Vec<Sub>,
     fates: &mut Vec<Fate>,
-) -> Result<(), OutOfMemory>
+) -> Result<(), Stopped>
     requires worker { IsWorker turn.now seat.old }
-    requires may { MayFinishLater (M.meaning (first_of turn.now).numbers) (first_of turn.now).board.settings.width (out_of seat.old) (seen_of seat.old) threshold (contents subs.old.items) }
-    requires room { vec_len subs.old ≤ vec_capacity fates.old }
+    requires may { MayFinishLater (M.meaning (first_of turn.now).board.numbers) (first_of turn.now).board.board.settings.width (out_of seat.old) (seen_of seat.old) threshold (contents subs.old.items) }
     ensures worker { IsWorker turn.now seat.new }
     ensures number { seat.new.number ≡ seat.old.number }
     ensures no_less { NoLess (seen_of seat.old) (seen_of seat.new) }
     ensures ok { OnOk result ((out_of seat.new ≡ None) × (subs.new.items ≡ [])) }
-    ensures err { OnErr result ((out_of seat.new ≡ out_of seat.old) × (subs.new ≡ subs.old)) }
+    ensures stopped { IfErr result (λ stopped. IsLeftOut stopped (out_of seat.old) (out_of seat.new) × (subs.new ≡ subs.old)) }
 {
     let who = seat.number();
-    fates.clear();
     let mut guard = turn.hold(rt, seat);
-    // What every board keeps of its distance.
-    let _ = guard.value().incumbent_value();
-    if let Err(refused) = guard.value().reserve_for(subs.len()) {
-        guard.leave();
-        return Err(refused);
-    }
-    guard.value().fates(subs.as_slice(), fates);
-    guard.value().finish(who, threshold, subs, fates.as_slice());
+    let finished = finish(alloc, guard.value(), who, threshold, subs, fates);
     guard.leave();
-    Ok(())
+    finished
 }

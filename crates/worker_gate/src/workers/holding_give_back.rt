@@ -5,13 +5,19 @@ ghost use Rattle.board_lock.specs.Order.{NoLess};
 ghost use Rattle.board_lock.specs.Seats.{seen_of, out_of};
 ghost use Rattle.worker_gate.specs.Ready.{IsWorker, IsReadySeat};
 
+use super::moving::give_back;
 use board_lock::{Seat, Turn};
+use dd_disk::Disk;
 use dp_model::DpModel;
-use search_core::{Board, Cause};
+use frontier_journal::{Kept, KeptError};
 use std::sync::Wait;
 
 /// Holds, halts the search for want of memory, and leaves.
-fn halt_one<M: DpModel, R: Wait>(rt: &R, turn: &Turn<Board<M>>, seat: &mut Seat<Board<M>>)
+fn halt_one<M: DpModel, D: Disk + Send, R: Wait>(
+    rt: &R,
+    turn: &Turn<Kept<M, D>>,
+    seat: &mut Seat<Kept<M, D>>,
+)
     requires worker { IsWorker turn.now seat.old }
     ensures worker { IsWorker turn.now seat.new }
     ensures number { seat.new.number ≡ seat.old.number }
@@ -19,16 +25,16 @@ fn halt_one<M: DpModel, R: Wait>(rt: &R, turn: &Turn<Board<M>>, seat: &mut Seat<
     ensures out { out_of seat.new ≡ out_of seat.old }
 {
     let mut guard = turn.hold(rt, seat);
-    guard.value().halt(Cause::Memory);
+    guard.value().halt_memory();
     guard.leave();
 }
 
 /// Holds, and hands the subproblem back where a cause is held, else halts the search for want of memory; then it leaves. Says
 /// whether it handed back.
-fn give_back_one<M: DpModel, R: Wait>(
+fn give_back_one<M: DpModel, D: Disk + Send, R: Wait>(
     rt: &R,
-    turn: &Turn<Board<M>>,
-    seat: &mut Seat<Board<M>>,
+    turn: &Turn<Kept<M, D>>,
+    seat: &mut Seat<Kept<M, D>>,
 ) -> bool
     requires worker { IsWorker turn.now seat.old }
     requires full { IsSome (out_of seat.old) }
@@ -39,32 +45,53 @@ fn give_back_one<M: DpModel, R: Wait>(
 {
     let who = seat.number();
     let mut guard = turn.hold(rt, seat);
-    if guard.value().cause().is_some() {
-        guard.value().give_back(who);
-        guard.leave();
-        return true;
-    }
-    guard.value().halt(Cause::Memory);
+    let handed_back = give_back(guard.value(), who);
     guard.leave();
-    false
+    handed_back
 }
 
-/// Halts the search for want of memory, and hands the subproblem back.
+/// Hands the subproblem back.
 ///
 /// A seat does not know in its next holding that a cause is held. So each holding reads the cause: it hands back where one is held,
-/// and else halts anew.
-pub fn give_up<M: DpModel, R: Wait>(rt: &R, turn: &Turn<Board<M>>, seat: &mut Seat<Board<M>>)
+/// and else halts for want of memory.
+fn hand_back<M: DpModel, D: Disk + Send, R: Wait>(
+    rt: &R,
+    turn: &Turn<Kept<M, D>>,
+    seat: &mut Seat<Kept<M, D>>,
+)
     requires worker { IsWorker turn.now seat.old }
     requires full { IsSome (out_of seat.old) }
     ensures ready { IsReadySeat turn.now seat.new }
     ensures number { seat.new.number ≡ seat.old.number }
     ensures no_less { NoLess (seen_of seat.old) (seen_of seat.new) }
 {
-    halt_one(rt, turn, seat);
     for _ in rt.forever() {
         if give_back_one(rt, turn, seat) {
             return;
         }
     }
     unreachable!()
+}
+
+/// Hands the subproblem back after a step was refused. For want of memory it halts the search first; where the disk failed the search
+/// is halted already.
+pub fn give_up<M: DpModel, D: Disk + Send, R: Wait>(
+    rt: &R,
+    turn: &Turn<Kept<M, D>>,
+    seat: &mut Seat<Kept<M, D>>,
+    error: KeptError,
+)
+    requires worker { IsWorker turn.now seat.old }
+    requires full { IsSome (out_of seat.old) }
+    ensures ready { IsReadySeat turn.now seat.new }
+    ensures number { seat.new.number ≡ seat.old.number }
+    ensures no_less { NoLess (seen_of seat.old) (seen_of seat.new) }
+{
+    match error {
+        KeptError::OutOfMemory => {
+            halt_one(rt, turn, seat);
+            hand_back(rt, turn, seat);
+        }
+        KeptError::Journal => hand_back(rt, turn, seat),
+    }
 }

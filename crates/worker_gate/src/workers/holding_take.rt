@@ -6,28 +6,23 @@ ghost use Rattle.board_lock.specs.Seats.{first_of, seen_of, out_of};
 ghost use Rattle.worker_gate.specs.Prepared.{CanHold};
 ghost use Rattle.worker_gate.specs.Ready.{IsWorker, IsReadySeat, TakenOut};
 
+use super::moving::{Asked, take};
 use board_lock::{Seat, Turn};
+use dd_disk::Disk;
 use dp_model::{DpModel, Sub};
-use search_core::{Board, Taken};
+use frontier_journal::Kept;
 use std::sync::Wait;
-
-/// What a worker got that asked for a subproblem, and the incumbent's value as it was then.
-#[derive(Clone, Copy, Debug)]
-pub struct Asked {
-    pub taken: Taken,
-    pub seen: Option<i64>,
-}
 
 /// Holds, takes and leaves. What was taken is copied to `into`, and is a prefix of its own with its state and value. The seat has
 /// nothing out, `into` has room for a subproblem, and the turn's instance is the model's.
-pub fn take_one<M: DpModel, R: Wait>(
+pub fn take_one<M: DpModel, D: Disk + Send, R: Wait>(
     rt: &R,
-    turn: &Turn<Board<M>>,
-    seat: &mut Seat<Board<M>>,
+    turn: &Turn<Kept<M, D>>,
+    seat: &mut Seat<Kept<M, D>>,
     into: &mut Sub,
     model: &M,
 ) -> Asked
-    requires numbers { (first_of turn.now).numbers ≡ M.numbers model.now }
+    requires numbers { (first_of turn.now).board.numbers ≡ M.numbers model.now }
     requires ready { IsReadySeat turn.now seat.old }
     requires room { CanHold (M.meaning (M.numbers model.now)) into.old }
     ensures worker { IsWorker turn.now seat.new }
@@ -39,11 +34,7 @@ pub fn take_one<M: DpModel, R: Wait>(
 {
     let who = seat.number();
     let mut guard = turn.hold(rt, seat);
-    // What every board keeps of its slots.
-    let _ = guard.value().incumbent_value();
-    let taken = guard.value().take(who, into);
-    // What every board keeps of what is out.
-    let seen = guard.value().incumbent_value();
+    let asked = take(guard.value(), who, into, model);
     guard.leave();
-    Asked { taken, seen }
+    asked
 }

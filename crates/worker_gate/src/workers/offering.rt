@@ -1,6 +1,6 @@
 //! What a worker does with the solutions of its diagrams, and the children that are left.
 
-ghost use Rattle.std.specs.Prelude.{◌≡◌, false, []};
+ghost use Rattle.std.specs.Prelude.{◌≡◌, false, [], OnOk, IfOk, IfErr};
 ghost use Rattle.board_lock.specs.Order.{NoLess};
 ghost use Rattle.board_lock.specs.Seats.{first_of, seen_of, out_of};
 ghost use Rattle.dp_model.specs.Numbers.{OptionAtMost};
@@ -12,16 +12,20 @@ ghost use Rattle.worker_gate.specs.Branched.{AreBranched};
 ghost use Rattle.worker_gate.specs.Offered.{found_solution};
 ghost use Rattle.worker_gate.specs.Prepared.{HoldsChildren};
 ghost use Rattle.worker_gate.specs.Ready.{IsWorker};
+ghost use Rattle.worker_gate.specs.Stopped.{IsLeftOut};
 
 use super::gate::{Gate, Step};
 use super::holding_improve::improve_one;
+use super::stopped::Stopped;
 use crate::rounds::fill;
 use board_lock::{Seat, Turn};
+use dd_disk::Disk;
 use dp_model::{CutKind, DpModel, Found, Sub};
 use exact_cutset::Children;
+use frontier_journal::Kept;
 use layer_build::Workspace;
 use restricted_dd::compile;
-use search_core::Board;
+use std::alloc::Global;
 use std::sync::Wait;
 
 /// What the restricted diagram of a subproblem leaves.
@@ -35,69 +39,86 @@ pub struct Restricted {
 
 /// Offers a feasible solution with its value, where there is one, and then passes the gate. Gives the incumbent's value that the seat
 /// has seen by then, which is no less than that of the solution.
-fn offer_one<M: DpModel, G: Gate, R: Wait>(
+///
+/// # Errors
+///
+/// As `improve_one` says, and then it passes no gate.
+fn offer_one<M: DpModel, D: Disk + Send, G: Gate, R: Wait>(
     rt: &R,
-    turn: &Turn<Board<M>>,
-    seat: &mut Seat<Board<M>>,
+    alloc: Global,
+    turn: &Turn<Kept<M, D>>,
+    seat: &mut Seat<Kept<M, D>>,
     gate: &G,
     found: Option<Found<'_>>,
     seen: Option<i64>,
-) -> Option<i64>
+) -> Result<Option<i64>, Stopped>
     requires worker { IsWorker turn.now seat.old }
     requires seen { seen_of seat.old ≡ seen }
-    requires held { IncumbentHolds (M.meaning (first_of turn.now).numbers) (found_solution found) }
+    requires held { IncumbentHolds (M.meaning (first_of turn.now).board.numbers) (found_solution found) }
     ensures worker { IsWorker turn.now seat.new }
     ensures number { seat.new.number ≡ seat.old.number }
-    ensures out { out_of seat.new ≡ out_of seat.old }
-    ensures seen { seen_of seat.new ≡ result }
+    ensures out { OnOk result (out_of seat.new ≡ out_of seat.old) }
+    ensures seen { IfOk result (λ seen. seen_of seat.new ≡ seen) }
     ensures no_less { NoLess (seen_of seat.old) (seen_of seat.new) }
-    ensures found { OptionAtMost (found_value (found_solution found.entry)) (seen_of seat.new) }
+    ensures found { OnOk result (OptionAtMost (found_value (found_solution found.entry)) (seen_of seat.new)) }
+    ensures stopped { IfErr result (λ stopped. IsLeftOut stopped (out_of seat.old) (out_of seat.new)) }
 {
     let Some(found) = found else {
-        return seen;
+        return Ok(seen);
     };
-    let seen = improve_one(rt, turn, seat, found.decisions);
+    let seen = improve_one(rt, alloc, turn, seat, found.decisions)?;
     gate.pass(seat.number(), Step::Improved);
-    seen
+    Ok(seen)
 }
 
 /// Compiles the restricted diagram of a subproblem outside the turn, with the incumbent's value that the seat has seen as threshold,
 /// and offers its beam. Where the width took nothing from it, the subproblem has no children.
-pub fn restrict_one<M: DpModel, G: Gate, R: Wait>(
+///
+/// # Errors
+///
+/// As `improve_one` says.
+pub fn restrict_one<M: DpModel, D: Disk + Send, G: Gate, R: Wait>(
     rt: &R,
-    turn: &Turn<Board<M>>,
-    seat: &mut Seat<Board<M>>,
+    alloc: Global,
+    turn: &Turn<Kept<M, D>>,
+    seat: &mut Seat<Kept<M, D>>,
     gate: &G,
     space: &mut Workspace,
     taken: &Sub,
     model: &M,
     seen: Option<i64>,
-) -> Restricted
-    requires numbers { (first_of turn.now).numbers ≡ M.numbers model.now }
+) -> Result<Restricted, Stopped>
+    requires numbers { (first_of turn.now).board.numbers ≡ M.numbers model.now }
     requires worker { IsWorker turn.now seat.old }
     requires seen { seen_of seat.old ≡ seen }
     requires own { IsOwn (M.meaning (M.numbers model.now)) taken.now.subproblem }
     requires prepared { IsPreparedFor (M.meaning (M.numbers model.now)) space.old }
     ensures worker { IsWorker turn.now seat.new }
     ensures number { seat.new.number ≡ seat.old.number }
-    ensures out { out_of seat.new ≡ out_of seat.old }
-    ensures seen { seen_of seat.new ≡ result.seen }
-    ensures whole { result.reduced ≡ false → AreBranched (M.meaning (M.numbers model.now)) (first_of turn.now).board.settings.width (seen_of seat.new) taken.now.subproblem.decisions seen [] }
+    ensures out { OnOk result (out_of seat.new ≡ out_of seat.old) }
+    ensures seen { IfOk result (λ r. seen_of seat.new ≡ r.seen) }
+    ensures whole { IfOk result (λ r. r.reduced ≡ false → AreBranched (M.meaning (M.numbers model.now)) (first_of turn.now).board.board.settings.width (seen_of seat.new) taken.now.subproblem.decisions seen []) }
+    ensures stopped { IfErr result (λ stopped. IsLeftOut stopped (out_of seat.old) (out_of seat.new)) }
     ensures prepared { IsPreparedFor (M.meaning (M.numbers model.now)) space.new }
     ensures width { space.new.width ≡ space.old.width }
 {
     let compiled = compile(space, model, taken, seen);
     let reduced = compiled.reduced;
-    let seen = offer_one(rt, turn, seat, gate, compiled.found, seen);
-    Restricted { reduced, seen }
+    let seen = offer_one(rt, alloc, turn, seat, gate, compiled.found, seen)?;
+    Ok(Restricted { reduced, seen })
 }
 
 /// Compiles the relaxed diagram of a subproblem outside the turn, with the incumbent's value that the seat has seen as threshold,
-/// fills `cutset` with its children of the kind, and offers the solution that it finds.
-pub fn relax_one<M: DpModel, G: Gate, R: Wait>(
+/// fills `cutset` with its children, as `fill` does, and offers the solution that it finds.
+///
+/// # Errors
+///
+/// As `improve_one` says.
+pub fn relax_one<M: DpModel, D: Disk + Send, G: Gate, R: Wait>(
     rt: &R,
-    turn: &Turn<Board<M>>,
-    seat: &mut Seat<Board<M>>,
+    alloc: Global,
+    turn: &Turn<Kept<M, D>>,
+    seat: &mut Seat<Kept<M, D>>,
     gate: &G,
     space: &mut Workspace,
     cutset: &mut Children,
@@ -105,22 +126,24 @@ pub fn relax_one<M: DpModel, G: Gate, R: Wait>(
     kind: CutKind,
     model: &M,
     seen: Option<i64>,
-)
-    requires numbers { (first_of turn.now).numbers ≡ M.numbers model.now }
+) -> Result<(), Stopped>
+    requires numbers { (first_of turn.now).board.numbers ≡ M.numbers model.now }
     requires worker { IsWorker turn.now seat.old }
     requires seen { seen_of seat.old ≡ seen }
     requires own { IsOwn (M.meaning (M.numbers model.now)) taken.now.subproblem }
     requires prepared { IsPreparedFor (M.meaning (M.numbers model.now)) space.old }
-    requires width { space.old.width ≡ (first_of turn.now).board.settings.width }
+    requires width { space.old.width ≡ (first_of turn.now).board.board.settings.width }
     requires cutset { HoldsChildren (M.meaning (M.numbers model.now)) space.old.width kind cutset.old }
     ensures worker { IsWorker turn.now seat.new }
     ensures number { seat.new.number ≡ seat.old.number }
-    ensures out { out_of seat.new ≡ out_of seat.old }
-    ensures branched { AreBranched (M.meaning (M.numbers model.now)) (first_of turn.now).board.settings.width (seen_of seat.new) taken.now.subproblem.decisions seen cutset.new.subs }
+    ensures out { OnOk result (out_of seat.new ≡ out_of seat.old) }
+    ensures branched { OnOk result (AreBranched (M.meaning (M.numbers model.now)) (first_of turn.now).board.board.settings.width (seen_of seat.new) taken.now.subproblem.decisions seen cutset.new.subs) }
+    ensures stopped { IfErr result (λ stopped. IsLeftOut stopped (out_of seat.old) (out_of seat.new)) }
     ensures prepared { IsPreparedFor (M.meaning (M.numbers model.now)) space.new }
     ensures width { space.new.width ≡ space.old.width }
     ensures cutset { HoldsChildren (M.meaning (M.numbers model.now)) space.old.width kind cutset.new }
 {
     fill(space, cutset, taken, seen, kind, model);
-    let _ = offer_one(rt, turn, seat, gate, cutset.found(), seen);
+    let _ = offer_one(rt, alloc, turn, seat, gate, cutset.found(), seen)?;
+    Ok(())
 }

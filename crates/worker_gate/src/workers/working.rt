@@ -1,22 +1,26 @@
 //! What one worker does.
 
-ghost use Rattle.std.specs.Prelude.{◌≡◌, ◌≤◌, true, false, None, length, IfOk, IsSome, OnOk, OnErr, vec_capacity};
+ghost use Rattle.std.specs.Prelude.{◌≡◌, false, None, OnOk, IfOk, IfErr};
 ghost use Rattle.board_lock.specs.Seats.{first_of, seen_of, out_of};
 ghost use Rattle.search_core.specs.Contents.{contents};
 ghost use Rattle.worker_gate.specs.Prepared.{IsPreparedDesk};
 ghost use Rattle.worker_gate.specs.FinishLater.{MayFinishLater};
 ghost use Rattle.worker_gate.specs.Ready.{IsWorker, IsReadySeat, IsOut};
+ghost use Rattle.worker_gate.specs.Stopped.{IsLeftOut};
 
 use super::gate::{Gate, Step};
 use super::holding_finish::finish_one;
 use super::holding_give_back::give_up;
 use super::holding_take::take_one;
 use super::offering::{relax_one, restrict_one};
+use super::stopped::Stopped;
 use crate::branched::Branched;
 use crate::desk::Desk;
 use board_lock::{Seat, Turn};
-use dp_model::{DpModel, OutOfMemory};
-use search_core::{Board, Taken};
+use dd_disk::Disk;
+use dp_model::DpModel;
+use frontier_journal::{Kept, KeptError};
+use search_core::Taken;
 use std::alloc::Global;
 use std::sync::Wait;
 
@@ -25,21 +29,21 @@ use std::sync::Wait;
 ///
 /// The seat is one of the turn's with nothing out, its number is below the workers of the settings, the turn's instance is the model's,
 /// and the desk was prepared for the model and the width of the settings. It may wait for other workers.
-pub fn work<M: DpModel, G: Gate + Sync, R: Wait>(
+pub fn work<M: DpModel, D: Disk + Send, G: Gate + Sync, R: Wait>(
     rt: &R,
     alloc: Global,
-    turn: &Turn<Board<M>>,
-    seat: &mut Seat<Board<M>>,
+    turn: &Turn<Kept<M, D>>,
+    seat: &mut Seat<Kept<M, D>>,
     desk: &mut Desk,
     model: &M,
     gate: &G,
 )
-    requires numbers { (first_of turn.now).numbers ≡ M.numbers model.now }
+    requires numbers { (first_of turn.now).board.numbers ≡ M.numbers model.now }
     requires ready { IsReadySeat turn.now seat.old }
-    requires prepared { IsPreparedDesk (M.meaning (M.numbers model.now)) (first_of turn.now).board.settings.width desk.old }
+    requires prepared { IsPreparedDesk (M.meaning (M.numbers model.now)) (first_of turn.now).board.board.settings.width desk.old }
     ensures ready { IsReadySeat turn.now seat.new }
     ensures number { seat.new.number ≡ seat.old.number }
-    ensures prepared { IsPreparedDesk (M.meaning (M.numbers model.now)) (first_of turn.now).board.settings.width desk.new }
+    ensures prepared { IsPreparedDesk (M.meaning (M.numbers model.now)) (first_of turn.now).board.board.settings.width desk.new }
 {
     for _ in rt.forever() {
         if !round(rt, alloc, turn, seat, desk, model, gate) {
@@ -50,21 +54,21 @@ pub fn work<M: DpModel, G: Gate + Sync, R: Wait>(
 }
 
 /// A round. Says whether another one may follow.
-fn round<M: DpModel, G: Gate + Sync, R: Wait>(
+fn round<M: DpModel, D: Disk + Send, G: Gate + Sync, R: Wait>(
     rt: &R,
     alloc: Global,
-    turn: &Turn<Board<M>>,
-    seat: &mut Seat<Board<M>>,
+    turn: &Turn<Kept<M, D>>,
+    seat: &mut Seat<Kept<M, D>>,
     desk: &mut Desk,
     model: &M,
     gate: &G,
 ) -> bool
-    requires numbers { (first_of turn.now).numbers ≡ M.numbers model.now }
+    requires numbers { (first_of turn.now).board.numbers ≡ M.numbers model.now }
     requires ready { IsReadySeat turn.now seat.old }
-    requires prepared { IsPreparedDesk (M.meaning (M.numbers model.now)) (first_of turn.now).board.settings.width desk.old }
+    requires prepared { IsPreparedDesk (M.meaning (M.numbers model.now)) (first_of turn.now).board.board.settings.width desk.old }
     ensures ready { IsReadySeat turn.now seat.new }
     ensures number { seat.new.number ≡ seat.old.number }
-    ensures prepared { IsPreparedDesk (M.meaning (M.numbers model.now)) (first_of turn.now).board.settings.width desk.new }
+    ensures prepared { IsPreparedDesk (M.meaning (M.numbers model.now)) (first_of turn.now).board.board.settings.width desk.new }
 {
     let who = seat.number();
     let asked = take_one(rt, turn, seat, &mut desk.taken, model);
@@ -82,61 +86,74 @@ fn round<M: DpModel, G: Gate + Sync, R: Wait>(
     }
 }
 
-/// The rest of a round, once a subproblem was taken. Says whether it was finished; for want of memory it is given back.
-fn go_on<M: DpModel, G: Gate + Sync, R: Wait>(
+/// The rest of a round, once a subproblem was taken. Says whether it was finished; if not it was given back.
+fn go_on<M: DpModel, D: Disk + Send, G: Gate + Sync, R: Wait>(
     rt: &R,
     alloc: Global,
-    turn: &Turn<Board<M>>,
-    seat: &mut Seat<Board<M>>,
+    turn: &Turn<Kept<M, D>>,
+    seat: &mut Seat<Kept<M, D>>,
     desk: &mut Desk,
     model: &M,
     gate: &G,
     seen: Option<i64>,
 ) -> bool
-    requires numbers { (first_of turn.now).numbers ≡ M.numbers model.now }
+    requires numbers { (first_of turn.now).board.numbers ≡ M.numbers model.now }
     requires worker { IsWorker turn.now seat.old }
     requires seen { seen_of seat.old ≡ seen }
     requires out { IsOut (M.meaning (M.numbers model.now)) (out_of seat.old) desk.old.taken.subproblem }
-    requires prepared { IsPreparedDesk (M.meaning (M.numbers model.now)) (first_of turn.now).board.settings.width desk.old }
+    requires prepared { IsPreparedDesk (M.meaning (M.numbers model.now)) (first_of turn.now).board.board.settings.width desk.old }
     ensures ready { IsReadySeat turn.now seat.new }
     ensures number { seat.new.number ≡ seat.old.number }
-    ensures prepared { IsPreparedDesk (M.meaning (M.numbers model.now)) (first_of turn.now).board.settings.width desk.new }
+    ensures prepared { IsPreparedDesk (M.meaning (M.numbers model.now)) (first_of turn.now).board.board.settings.width desk.new }
 {
     let who = seat.number();
-    if expand(rt, alloc, turn, seat, desk, model, gate, seen).is_err() {
-        give_up(rt, turn, seat);
-        gate.pass(who, Step::GaveBack);
-        return false;
+    match expand(rt, alloc, turn, seat, desk, model, gate, seen) {
+        Ok(()) => {
+            gate.pass(who, Step::Finished);
+            true
+        }
+        Err(Stopped::GaveBack) => {
+            gate.pass(who, Step::GaveBack);
+            false
+        }
+        Err(Stopped::Refused(error)) => {
+            give_up(rt, turn, seat, error);
+            gate.pass(who, Step::GaveBack);
+            false
+        }
     }
-    gate.pass(who, Step::Finished);
-    true
 }
 
-/// Finishes what was taken with its children. For want of memory it stays out.
-fn expand<M: DpModel, G: Gate + Sync, R: Wait>(
+/// Finishes what was taken with its children.
+///
+/// # Errors
+///
+/// It was given back in a holding that found the search halted for the journal, or a step was refused and it is out still.
+fn expand<M: DpModel, D: Disk + Send, G: Gate + Sync, R: Wait>(
     rt: &R,
     alloc: Global,
-    turn: &Turn<Board<M>>,
-    seat: &mut Seat<Board<M>>,
+    turn: &Turn<Kept<M, D>>,
+    seat: &mut Seat<Kept<M, D>>,
     desk: &mut Desk,
     model: &M,
     gate: &G,
     seen: Option<i64>,
-) -> Result<(), OutOfMemory>
-    requires numbers { (first_of turn.now).numbers ≡ M.numbers model.now }
+) -> Result<(), Stopped>
+    requires numbers { (first_of turn.now).board.numbers ≡ M.numbers model.now }
     requires worker { IsWorker turn.now seat.old }
     requires seen { seen_of seat.old ≡ seen }
     requires out { IsOut (M.meaning (M.numbers model.now)) (out_of seat.old) desk.old.taken.subproblem }
-    requires prepared { IsPreparedDesk (M.meaning (M.numbers model.now)) (first_of turn.now).board.settings.width desk.old }
+    requires prepared { IsPreparedDesk (M.meaning (M.numbers model.now)) (first_of turn.now).board.board.settings.width desk.old }
     ensures worker { IsWorker turn.now seat.new }
     ensures number { seat.new.number ≡ seat.old.number }
     ensures ok { OnOk result (out_of seat.new ≡ None) }
-    ensures err { OnErr result (IsSome (out_of seat.new)) }
-    ensures prepared { IsPreparedDesk (M.meaning (M.numbers model.now)) (first_of turn.now).board.settings.width desk.new }
+    ensures stopped { IfErr result (λ stopped. IsLeftOut stopped (out_of seat.old) (out_of seat.new)) }
+    ensures prepared { IsPreparedDesk (M.meaning (M.numbers model.now)) (first_of turn.now).board.board.settings.width desk.new }
 {
     let mut branched = branch(rt, alloc, turn, seat, desk, model, gate, seen)?;
     let finished = finish_one(
         rt,
+        alloc,
         turn,
         seat,
         branched.threshold,
@@ -147,32 +164,36 @@ fn expand<M: DpModel, G: Gate + Sync, R: Wait>(
     finished
 }
 
-/// Branches on what was taken, outside the turn: the solutions that its diagrams find are offered, and its children are made, with room
-/// for their fates.
-fn branch<M: DpModel, G: Gate + Sync, R: Wait>(
+/// Branches on what was taken, outside the turn: the solutions that its diagrams find are offered, and its children are made.
+///
+/// # Errors
+///
+/// As `expand` says.
+fn branch<M: DpModel, D: Disk + Send, G: Gate + Sync, R: Wait>(
     rt: &R,
     alloc: Global,
-    turn: &Turn<Board<M>>,
-    seat: &mut Seat<Board<M>>,
+    turn: &Turn<Kept<M, D>>,
+    seat: &mut Seat<Kept<M, D>>,
     desk: &mut Desk,
     model: &M,
     gate: &G,
     seen: Option<i64>,
-) -> Result<Branched, OutOfMemory>
-    requires numbers { (first_of turn.now).numbers ≡ M.numbers model.now }
+) -> Result<Branched, Stopped>
+    requires numbers { (first_of turn.now).board.numbers ≡ M.numbers model.now }
     requires worker { IsWorker turn.now seat.old }
     requires seen { seen_of seat.old ≡ seen }
     requires out { IsOut (M.meaning (M.numbers model.now)) (out_of seat.old) desk.old.taken.subproblem }
-    requires prepared { IsPreparedDesk (M.meaning (M.numbers model.now)) (first_of turn.now).board.settings.width desk.old }
+    requires prepared { IsPreparedDesk (M.meaning (M.numbers model.now)) (first_of turn.now).board.board.settings.width desk.old }
     ensures worker { IsWorker turn.now seat.new }
     ensures number { seat.new.number ≡ seat.old.number }
-    ensures out { out_of seat.new ≡ out_of seat.old }
-    ensures branched { IfOk result (λ b. MayFinishLater (M.meaning (M.numbers model.now)) (first_of turn.now).board.settings.width (out_of seat.new) (seen_of seat.new) b.threshold (contents b.children.items)) }
-    ensures fates { IfOk result (λ b. length b.children.items ≤ vec_capacity desk.new.fates) }
-    ensures prepared { IsPreparedDesk (M.meaning (M.numbers model.now)) (first_of turn.now).board.settings.width desk.new }
+    ensures out { OnOk result (out_of seat.new ≡ out_of seat.old) }
+    ensures branched { IfOk result (λ b. MayFinishLater (M.meaning (M.numbers model.now)) (first_of turn.now).board.board.settings.width (out_of seat.new) (seen_of seat.new) b.threshold (contents b.children.items)) }
+    ensures stopped { IfErr result (λ stopped. IsLeftOut stopped (out_of seat.old) (out_of seat.new)) }
+    ensures prepared { IsPreparedDesk (M.meaning (M.numbers model.now)) (first_of turn.now).board.board.settings.width desk.new }
 {
     let restricted = restrict_one(
         rt,
+        alloc,
         turn,
         seat,
         gate,
@@ -180,7 +201,7 @@ fn branch<M: DpModel, G: Gate + Sync, R: Wait>(
         &desk.taken,
         model,
         seen,
-    );
+    )?;
     if !restricted.reduced {
         return Ok(Branched {
             threshold: seen,
@@ -189,6 +210,7 @@ fn branch<M: DpModel, G: Gate + Sync, R: Wait>(
     }
     relax_one(
         rt,
+        alloc,
         turn,
         seat,
         gate,
@@ -198,11 +220,12 @@ fn branch<M: DpModel, G: Gate + Sync, R: Wait>(
         desk.kind,
         model,
         restricted.seen,
-    );
-    let children = desk.cutset.subs(alloc)?;
-    desk.fates.reserve(children.len())?;
-    Ok(Branched {
-        threshold: restricted.seen,
-        children,
-    })
+    )?;
+    match desk.cutset.subs(alloc) {
+        Ok(children) => Ok(Branched {
+            threshold: restricted.seen,
+            children,
+        }),
+        Err(_) => Err(Stopped::Refused(KeptError::OutOfMemory)),
+    }
 }

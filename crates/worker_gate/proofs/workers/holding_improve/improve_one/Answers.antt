@@ -1,25 +1,38 @@
-use Rattle.std.proofs.Common.{rules, subst}
+use denote.Param.Send.{sendable}
+use Rattle.std.proofs.Crossing.{crosses}
+use Rattle.worker_gate.proofs.Sent.{kept_send}
+use Rattle.std.proofs.Common.{rules, subst, sym}
 use Rattle.board_lock.specs.Order.{NoLess}
-use Rattle.board_lock.specs.Seats.{first_of, seen_of}
+use Rattle.board_lock.specs.Seats.{seen_of}
 use Rattle.board_laws.specs.Board.{incumbent_value}
-use Rattle.board_laws.specs.Improving.{after_offer}
-use Rattle.worker_gate.proofs.FinishLater.{offer-no-less, offer-seen}
-use Rattle.worker_gate.proofs.Moves.{offer-step}
+use Rattle.frontier_journal.specs.View.{KeptView}
+use Rattle.worker_gate.proofs.Moves.{still-no-less}
 use Rattle.worker_gate.proofs.workers.holding_improve.improve_one.Goals as goal
-
-pub leave-requires-clause-moves : goal.leave-requires-clause-moves
-leave-requires-clause-moves g c κs within =
-    offer-step g.M.DpModel.meaning c.hold-guard.result.found.value c.value.result.now c.value-2.result.now c.hold-guard.result.seat.now.number c.args.decisions.now c.improve.result
-    (search rules) (search rules) c.improve.ensures.answer (search rules)
 
 pub returns-clause-no_less : goal.returns-clause-no_less
 returns-clause-no_less g c =
-    let b = c.value.result.now.board in
-    let dp = g.M.DpModel.meaning c.value.result.now.numbers in
-    let later = after_offer dp c.improve.result b c.args.decisions.now in
-    let less : NoLess (seen_of c.args.seat.now) (incumbent_value b) = search rules in
-    subst (NoLess (seen_of c.args.seat.now)) (search rules) (offer-no-less dp b c.args.decisions.now c.improve.result (seen_of c.args.seat.now) c.improve.ensures.answer less)
+    let seen = seen_of c.args.seat.now in
+    let before = c.value.result.now in
+    let less = subst (λ (v : KeptView g.row.D.Denot). NoLess seen (incumbent_value v.board.board)) (sym c.value.ensures.now) c.hold-guard.ensures.seen in
+    subst (NoLess seen) (search rules) (still-no-less g.D.Disk g.M.DpModel.meaning before c.improve-seen.new.kept c.number-who.result seen less c.improve-seen.ensures.moves)
 
-pub returns-clause-better : goal.returns-clause-better
-returns-clause-better g c =
-    offer-seen g.M.DpModel.meaning c.value.result.now.numbers (first_of c.args.turn.now).numbers c.value.result.now.board c.args.decisions.now c.improve.result _ c.improve.ensures.answer (search rules) (search rules)
+pub hold-guard-requires-send-V : goal.hold-guard-requires-send-V
+hold-guard-requires-send-V g c κs within =
+    let m = c.type_bounds.send-M in
+    let y = c.type_bounds.sync-M in
+    let d = c.type_bounds.send-D in
+    search (sendable, crosses, kept_send) depth 40 fits 4000
+
+pub value-requires-send-V : goal.value-requires-send-V
+value-requires-send-V g c κs within =
+    let m = c.type_bounds.send-M in
+    let y = c.type_bounds.sync-M in
+    let d = c.type_bounds.send-D in
+    search (sendable, crosses, kept_send) depth 40 fits 4000
+
+pub leave-requires-send-V : goal.leave-requires-send-V
+leave-requires-send-V g c κs within =
+    let m = c.type_bounds.send-M in
+    let y = c.type_bounds.sync-M in
+    let d = c.type_bounds.send-D in
+    search (sendable, crosses, kept_send) depth 40 fits 4000

@@ -30,11 +30,11 @@ offer_one-requires-clause-held g c κs within =
 pub returns-clause-branched : goal.returns-clause-branched
 returns-clause-branched g c =
     let dp = g.M.DpModel.meaning (g.M.DpModel.numbers c.args.model.now) in
-    let width = (first_of c.args.turn.now).board.settings.width in
+    let width = (first_of c.args.turn.now).board.board.settings.width in
     let seen = seen_of c.offer_one.new.seat in
     let found = shown-solution _ _ c.found.ensures ∙ c.fill.ensures.found in
     subst (λ (cs : List Subproblem). AreBranched dp width seen c.args.taken.now.subproblem.decisions c.args.seen cs) (sym c.fill.ensures.subs)
     (relaxed-branched-for dp (laws_of g c.args.model.now) (chain_of g c.args.model.now) width seen c.args.taken.now.subproblem c.args.space.now.width c.args.seen c.args.kind c.requires.own
     c.requires.prepared.width c.requires.width
     (subst (λ v. OptionAtMost v seen) c.requires.seen (at-most-of (seen_of c.args.seat.now) seen c.offer_one.ensures.no_less))
-    (subst (λ (f : Option Solution). OptionAtMost (found_value f) seen) found c.offer_one.ensures.found))
+    (subst (λ (f : Option Solution). OptionAtMost (found_value f) seen) found c.in_ok-offer_one.ensures.found))

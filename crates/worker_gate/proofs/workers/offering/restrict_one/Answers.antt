@@ -12,13 +12,13 @@ use Rattle.worker_gate.proofs.workers.offering.restrict_one.Goals as goal
 laws_of : (g : given.Over) (m : g.row.M.Denot) → IsLawful (g.M.DpModel.meaning (g.M.DpModel.numbers m))
 laws_of g m = (g.met.M.DpModel g.world.𝓛 g.world.𝓜 g.world.𝓡 ((λ s x. x), (λ x. x), (λ x. x), λ x. x)).lawful m
 
-pub offer_one-seen-requires-clause-held : goal.offer_one-seen-requires-clause-held
-offer_one-seen-requires-clause-held g c κs within =
+pub offer_one-requires-clause-held : goal.offer_one-requires-clause-held
+offer_one-requires-clause-held g c κs within =
     subst (λ ns. IncumbentHolds (g.M.DpModel.meaning ns) (found_solution c.compile-compiled.result.found)) (sym c.requires.numbers)
     (beam-held _ _ _ _ _ c.requires.own.prefix _ refl c.compile-compiled.ensures.beam)
 
 pub returns-clause-whole : goal.returns-clause-whole
 returns-clause-whole g c = λ whole.
-    let seen = seen_of c.offer_one-seen.new.seat in
-    whole-branched-for _ (laws_of g c.args.model.now) (first_of c.args.turn.now).board.settings.width seen _ _ _ _ c.requires.own.prefix (sym whole ∙ c.compile-compiled.ensures.reduced)
-    c.compile-compiled.ensures.beam (subst (λ v. OptionAtMost v seen) c.requires.seen (at-most-of (seen_of c.args.seat.now) seen c.offer_one-seen.ensures.no_less)) c.offer_one-seen.ensures.found
+    let seen = seen_of c.offer_one.new.seat in
+    whole-branched-for _ (laws_of g c.args.model.now) (first_of c.args.turn.now).board.board.settings.width seen _ _ _ _ c.requires.own.prefix (sym whole ∙ c.compile-compiled.ensures.reduced)
+    c.compile-compiled.ensures.beam (subst (λ v. OptionAtMost v seen) c.requires.seen (at-most-of (seen_of c.args.seat.now) seen c.offer_one.ensures.no_less)) c.in_ok-seen.ensures.found

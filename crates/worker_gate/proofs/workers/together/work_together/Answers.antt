@@ -1,7 +1,7 @@
-use Rattle.std.proofs.Common.{arith, subst, slice_index_or}
+use Rattle.std.proofs.Common.{arith, sym, subst, slice_index_or}
 use Rattle.board_lock.specs.Seats.{seats_of}
 use Rattle.board_lock.proofs.Numbers.{length_is}
-use Rattle.search_core.specs.View.{BoardView}
+use Rattle.frontier_journal.specs.View.{KeptView}
 use Rattle.worker_gate.specs.Prepared.{IsPreparedDesk}
 use Rattle.worker_gate.proofs.workers.together.work_together.Goals as goal
 
@@ -11,4 +11,8 @@ fan_all-requires-clause-lengths g c κs within =
 
 pub returns-in-Ok-clause-prepared : goal.returns-in-Ok-clause-prepared
 returns-in-Ok-clause-prepared g c k d less =
-    subst (λ (v : BoardView). IsPreparedDesk (g.M.DpModel.meaning (g.M.DpModel.numbers c.args.model.now)) v.board.settings.width (slice_index_or c.fan_all.new.desks.items k d)) c.in-Ok.ensures.first (c.fan_all.ensures.prepared k d less)
+    subst (λ (v : KeptView g.row.D.Denot). IsPreparedDesk (g.M.DpModel.meaning (g.M.DpModel.numbers c.args.model.now)) v.board.board.settings.width (slice_index_or c.fan_all.new.desks.items k d)) c.in-Ok.ensures.first (c.fan_all.ensures.prepared k d less)
+
+pub fan_all-requires-clause-prepared : goal.fan_all-requires-clause-prepared
+fan_all-requires-clause-prepared g c κs within k d less =
+    subst (λ (v : KeptView g.row.D.Denot). IsPreparedDesk (g.M.DpModel.meaning (g.M.DpModel.numbers c.args.model.now)) v.board.board.settings.width (slice_index_or c.args.desks.now.items k d)) (sym c.in-Ok.ensures.first) (c.requires.prepared k d less)

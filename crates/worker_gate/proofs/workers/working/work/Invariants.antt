@@ -7,4 +7,4 @@ use Rattle.worker_gate.proofs.workers.working.work.Given as goal
 abbrev pub invariant-loop : goal.invariant-loop
 invariant-loop g l =
     IsReadySeat l.turn l.seat × (l.seat.number ≡ l.fn.seat.number)
-    × IsPreparedDesk (g.M.DpModel.meaning (g.M.DpModel.numbers l.model)) (first_of l.turn).board.settings.width l.desk
+    × IsPreparedDesk (g.M.DpModel.meaning (g.M.DpModel.numbers l.model)) (first_of l.turn).board.board.settings.width l.desk
