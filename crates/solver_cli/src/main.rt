@@ -12,6 +12,7 @@ mod answering;
 mod drawing;
 mod replying;
 mod run;
+mod searching;
 mod solving;
 #[cfg(test)]
 mod tests;

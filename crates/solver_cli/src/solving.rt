@@ -8,6 +8,7 @@ ghost use Rattle.solver_jobs.specs.Covers.{IsCovered};
 ghost use Rattle.solver_cli.specs.Desks.{AreAllDesks};
 ghost use Rattle.solver_jobs.specs.Widths.{IsAskedWidth, IsSearchWidth};
 
+use crate::searching::explore_alone;
 use dp_model::{CutKind, DpModel, OutOfMemory};
 use layer_build::{PrepareError, greatest_width};
 use problem_names::ModelName;
@@ -18,7 +19,7 @@ use solver_report::{Answer, Counts, Outcome};
 use std::alloc::Global;
 use std::sync::{Arc, Wait};
 use std::thread::Threads;
-use worker_gate::{Desk, Gate, explore_together};
+use worker_gate::{Desk, Gate};
 
 /// How many entries the dominance table holds at most.
 const TABLE_LIMIT: u32 = 4096;
@@ -133,6 +134,6 @@ fn searched<P: Problem, G: Gate + Sync, R: Threads + Wait + Sync>(
         within: 0,
     };
     let board = Board::begin(alloc, shared, settings)?;
-    let board = explore_together(rt, alloc, board, &mut desks, &**model, gate)?;
+    let board = explore_alone(rt, alloc, board, &mut desks, &**model, gate)?;
     conclude(alloc, &board, &**model, search)
 }

@@ -11,7 +11,8 @@ use search_core::Board;
 use solver_report::{Counts, Outcome, Solution, Stop};
 use std::alloc::Global;
 
-/// How a search that is over ended, with its counts where they are asked for. Fails only for want of memory.
+/// How a search that is over ended, with its counts where they are asked for. The first board was a good one. Fails only for
+/// want of memory.
 pub fn conclude<P: Problem>(
     alloc: Global,
     board: &Board<P>,
@@ -19,6 +20,7 @@ pub fn conclude<P: Problem>(
     search: Search,
 ) -> Result<(Outcome, Option<Counts>), OutOfMemory>
     requires numbers { board.now.numbers ≡ P.numbers model.now }
+    requires good { IsGood (P.meaning board.now.numbers) board.now.first }
     requires over { IsOver (P.meaning (P.numbers model.now)) search board.now.board }
     ensures { IfOk result (λ told. HasSearched (P.meaning (P.numbers model.now)) (P.theory.own_value (P.numbers model.now)) search told.0 told.1) }
 {
@@ -43,6 +45,7 @@ fn held_solution<M: DpModel>(
 
 /// The counts of a search, where they are asked for.
 fn counts_of<M: DpModel>(board: &Board<M>, stats: bool) -> Option<Counts>
+    requires { IsGood (M.meaning board.now.numbers) board.now.first }
     ensures counts { IsCounted (M.meaning board.now.numbers) board.now.board stats result }
     ensures kept { IsBoard (M.meaning board.now.numbers) board.now.board }
     ensures good { IsGood (M.meaning board.now.numbers) board.now.board }
@@ -66,6 +69,7 @@ fn outcome_of<P: Problem>(
     search: Search,
 ) -> Outcome
     requires numbers { board.now.numbers ≡ P.numbers model.now }
+    requires good { IsGood (P.meaning board.now.numbers) board.now.first }
     requires over { IsOver (P.meaning (P.numbers model.now)) search board.now.board }
     requires copied { found ≡ board.now.board.incumbent }
     ensures { IsOutcomeOf (P.meaning (P.numbers model.now)) (P.theory.own_value (P.numbers model.now)) search.budget board.now.board result }
@@ -79,6 +83,7 @@ fn outcome_of<P: Problem>(
 /// How a search with nothing open or out ended: the incumbent is best, or there is no feasible solution.
 fn explored<P: Problem>(board: &Board<P>, model: &P, found: Option<Solution>) -> Outcome
     requires numbers { board.now.numbers ≡ P.numbers model.now }
+    requires good { IsGood (P.meaning board.now.numbers) board.now.first }
     requires nothing_left { is_explored board.now.board ≡ true }
     requires exact { board.now.board.settings.within ≡ pos 0 }
     requires copied { found ≡ board.now.board.incumbent }
@@ -101,6 +106,7 @@ fn stopped<P: Problem>(
     search: Search,
 ) -> Outcome
     requires numbers { board.now.numbers ≡ P.numbers model.now }
+    requires good { IsGood (P.meaning board.now.numbers) board.now.first }
     requires over { IsOver (P.meaning (P.numbers model.now)) search board.now.board }
     requires left { is_explored board.now.board ≡ false }
     requires copied { found ≡ board.now.board.incumbent }

@@ -15,12 +15,12 @@ returns-in-Some g c = λ _.
     let numbers = c.requires.numbers in
     let b = c.args.board.now.board in
     let kept = subst (λ n. IsBoard (g.P.DpModel.meaning n) b) numbers c.incumbent_value.ensures.kept in
-    let is = subst (λ n. IsBest (g.P.DpModel.meaning n) (incumbent_value b)) numbers (c.is_explored.ensures.best (c.is_explored.ensures.explored ∙ c.requires.nothing_left) c.requires.exact) in
+    let is = subst (λ n. IsBest (g.P.DpModel.meaning n) (incumbent_value b)) numbers (c.is_explored.ensures.best c.requires.good (c.is_explored.ensures.explored ∙ c.requires.nothing_left) c.requires.exact) in
     proved _ _ (agrees_of g c.args.model.now) b.incumbent c.in-Some.best (sym c.in-Some.is ∙ c.requires.copied) kept.incumbent is
 
 pub returns-in-None : goal.returns-in-None
 returns-in-None g c = λ _.
     let numbers = c.requires.numbers in
     let b = c.args.board.now.board in
-    let is = subst (λ n. IsBest (g.P.DpModel.meaning n) (incumbent_value b)) numbers (c.is_explored.ensures.best (c.is_explored.ensures.explored ∙ c.requires.nothing_left) c.requires.exact) in
+    let is = subst (λ n. IsBest (g.P.DpModel.meaning n) (incumbent_value b)) numbers (c.is_explored.ensures.best c.requires.good (c.is_explored.ensures.explored ∙ c.requires.nothing_left) c.requires.exact) in
     infeasible _ _ (agrees_of g c.args.model.now) b.incumbent (sym c.in-None.is ∙ c.requires.copied) is

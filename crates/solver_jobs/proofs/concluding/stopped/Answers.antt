@@ -24,7 +24,7 @@ returns-in-Some-cause g c =
     let kept = subst (λ n. IsBoard (g.P.DpModel.meaning n) b) numbers c.incumbent_value.ensures.kept in
     let most : (x : List ℕ) → IsSolution dp x → AtMost (value_of dp x) (Some c.in-Some.bound) =
     subst (λ (o : Option ℤ). (x : List ℕ) → IsSolution dp x → AtMost (value_of dp x) o) c.in-Some.is
-    (subst (λ n. (x : List ℕ) → IsSolution (g.P.DpModel.meaning n) x → AtMost (value_of (g.P.DpModel.meaning n) x) c.bound.result) numbers c.bound.ensures.holds) in
+    (subst (λ n. (x : List ℕ) → IsSolution (g.P.DpModel.meaning n) x → AtMost (value_of (g.P.DpModel.meaning n) x) c.bound.result) numbers (c.bound.ensures.holds c.requires.good)) in
     let held = memory_held b.cause c.in-Some-cause.field-0 c.requires.over.cause (sym c.cause.ensures ∙ c.in-Some-cause.is) in
     let base : IsStopped dp own c.args.search.budget b Memory c.args.found c.in-Some.bound =
     is_stopped dp own (agrees_of g c.args.model.now) c.args.search b Memory c.args.found c.in-Some.bound kept c.requires.over c.requires.left c.requires.copied (sym c.bound.ensures.bound ∙ c.in-Some.is) most held (λ e. absurd (cc)) in
@@ -40,7 +40,7 @@ returns-in-None g c =
     let kept = subst (λ n. IsBoard (g.P.DpModel.meaning n) b) numbers c.incumbent_value.ensures.kept in
     let most : (x : List ℕ) → IsSolution dp x → AtMost (value_of dp x) (Some c.in-Some.bound) =
     subst (λ (o : Option ℤ). (x : List ℕ) → IsSolution dp x → AtMost (value_of dp x) o) c.in-Some.is
-    (subst (λ n. (x : List ℕ) → IsSolution (g.P.DpModel.meaning n) x → AtMost (value_of (g.P.DpModel.meaning n) x) c.bound.result) numbers c.bound.ensures.holds) in
+    (subst (λ n. (x : List ℕ) → IsSolution (g.P.DpModel.meaning n) x → AtMost (value_of (g.P.DpModel.meaning n) x) c.bound.result) numbers (c.bound.ensures.holds c.requires.good)) in
     let none = sym c.cause.ensures ∙ c.in-None.is in
     let base : IsStopped dp own c.args.search.budget b Budget c.args.found c.in-Some.bound =
     is_stopped dp own (agrees_of g c.args.model.now) c.args.search b Budget c.args.found c.in-Some.bound kept c.requires.over c.requires.left c.requires.copied (sym c.bound.ensures.bound ∙ c.in-Some.is) most
