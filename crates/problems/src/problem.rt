@@ -20,9 +20,10 @@ pub trait Problem: DpModel {
         requires { length bytes.now < 2 ^ 32 - 1 }
         ensures { Reads Self.numbers result (theory.spelled bytes.now) };
 
-    /// The canonical text of the instance, which spells it. Fails only for want of memory.
+    /// The canonical text of the instance, of at most 2^30 bytes, which spells it. Fails only for want of memory.
     fn print(alloc: Global, model: &Self) -> Result<Vec<u8>, OutOfMemory>
         ensures text { IfOk result (λ text. text.items ≡ theory.canonical (Self.numbers model.now)) }
+        ensures short { IfOk result (λ text. length text.items ≤ 2 ^ 30) }
         ensures reads_back { IfOk result (λ text. theory.spelled text.items ≡ Ok (Self.numbers model.now)) };
 
     /// The value of the decisions in the problem's own words, and `None` exactly where they are no solution.

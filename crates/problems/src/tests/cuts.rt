@@ -1,9 +1,8 @@
 use super::{Pair, Program, Refusal, Sample, is_program, refuses, spells};
 use crate::MaxCut;
 use dd_text::InstanceFault;
-use std::test::Fail;
 
-const SAMPLES: [Sample; 7] = [
+const SAMPLES: &[Sample] = &[
     Sample {
         text: b"3 3\n1 2 3\n2 3 1\n1 3 2\n",
         canonical: b"3 3\n1 2 3\n1 3 2\n2 3 1\n",
@@ -61,7 +60,7 @@ const SAMPLES: [Sample; 7] = [
     },
 ];
 
-const REFUSALS: [Refusal; 12] = [
+const REFUSALS: &[Refusal] = &[
     (b"2 1\n1 3 5\n", InstanceFault::Vertex, 2, 3),
     (b"", InstanceFault::EndOfText, 1, 1),
     (b"1025 0", InstanceFault::OutOfRange, 1, 1),
@@ -106,8 +105,8 @@ const PROGRAM: Program = Program {
 };
 
 #[test]
-fn worked_texts(rt: HostRuntime) -> Result<(), Fail> {
-    spells::<MaxCut>(&rt, rt.alloc(), &SAMPLES)?;
-    refuses::<MaxCut>(&rt, rt.alloc(), &REFUSALS);
-    is_program::<MaxCut>(&rt, rt.alloc(), &PROGRAM)
+fn worked_texts(rt: HostRuntime) {
+    spells::<MaxCut>(&rt, rt.alloc(), SAMPLES);
+    refuses::<MaxCut>(&rt, rt.alloc(), REFUSALS);
+    is_program::<MaxCut>(&rt, rt.alloc(), &PROGRAM);
 }
