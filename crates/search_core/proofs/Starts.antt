@@ -1,5 +1,5 @@
 -- The boards that have the starts of a search.
-use Rattle.std.proofs.Common.{◌≡◌, ℕ, ℤ, List, [], length, Option, Result, Ok, Err, IfOk, ◌∙◌, sym, ap, subst}
+use Rattle.std.proofs.Common.{◌≡◌, ℕ, ℤ, List, [], length, Option, ◌∙◌, sym, ap, subst}
 use Rattle.dp_model.specs.Dp.{Dp}
 use Rattle.dp_model.specs.Laws.{IsLawful}
 use Rattle.dp_model.specs.Solution.{Solution}
@@ -49,7 +49,5 @@ pub restored-start-board : (dp : Dp) → IsLawful dp → (settings : Settings) (
 restored-start-board dp laws settings best os next s are may is = subst (IsBoard dp) (sym (restored-start-is settings best os next s is)) (restored-boards-keep dp laws settings best os next are may).board
 
 -- what was made of a good start has a good first board
-pub made-good : (meaning : List ℤ → Dp) (ns : List ℤ) (x : BoardState) {E : Type 0} (r : Result BoardView E) → IfOk r (λ b. b.numbers ≡ ns) → IfOk r (λ b. b.board ≡ x) → IfOk r (λ b. b.first ≡ b.board) → IsGood (meaning ns) x
-    → IfOk r (λ b. IsGood (meaning b.numbers) b.first)
-made-good meaning ns x (Ok b) numbers board first good = subst (λ n. IsGood (meaning n) b.first) (sym numbers) (subst (IsGood (meaning ns)) (sym (first ∙ board)) good)
-made-good meaning ns x (Err e) numbers board first good = tt
+pub made-good : (meaning : List ℤ → Dp) (ns : List ℤ) (x : BoardState) (b : BoardView) → b.numbers ≡ ns → b.board ≡ x → b.first ≡ b.board → IsGood (meaning ns) x → IsGood (meaning b.numbers) b.first
+made-good meaning ns x b numbers board first good = subst (λ n. IsGood (meaning n) b.first) (sym numbers) (subst (IsGood (meaning ns)) (sym (first ∙ board)) good)

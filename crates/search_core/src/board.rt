@@ -1,4 +1,4 @@
-ghost use Rattle.std.specs.Prelude.{◌≡◌, ℕ, ◌+◌, ◌-◌, ◌^◌, ◌<◌, ◌≤◌, ◌≢◌, pos, List, [], length, slice_get, Option, Some, None, option_map, IsTrue, IfOk, OnOk, OnErr, IsSome, vec_capacity};
+ghost use Rattle.std.specs.Prelude.{◌≡◌, ℕ, ◌+◌, ◌-◌, ◌^◌, ◌<◌, ◌≤◌, ◌≢◌, pos, List, [], length, slice_get, Option, Some, None, option_map, IsTrue, IfOk, OnOk, OnErr, IsSome, vec_capacity, vec_len};
 ghost use Rattle.std.specs.Arc.{arc_value};
 ghost use Rattle.dp_model.specs.Best.{IsBest};
 ghost use Rattle.dp_model.specs.Counts.{tree};
@@ -14,22 +14,24 @@ ghost use Rattle.board_laws.specs.Finishing.{MayFinish};
 ghost use Rattle.board_laws.specs.GoodBoard.{IsBoard, IsGood};
 ghost use Rattle.board_laws.specs.Improving.{BetterGives, ImproveGives, after_offer};
 ghost use Rattle.board_laws.specs.Restoring.{MayRestore, restored_board};
-ghost use Rattle.board_laws.specs.Steps.{first_board, finished_by, given_back, halted};
+ghost use Rattle.board_laws.specs.Steps.{empty_slots, first_board, finished_by, given_back, halted};
 ghost use Rattle.board_laws.specs.Taking.{take_gives, after_take, handed_out, HasFirst};
 ghost use Rattle.search_core.specs.Contents.{contents};
 ghost use Rattle.search_core.specs.Opened.{solution_in, ticketed};
 ghost use Rattle.search_core.specs.Starting.{IsStart, board_of};
 ghost use Rattle.search_core.specs.View.{tag_of};
 
+use crate::blank::Blank;
 use crate::checked_out::CheckedOut;
 use crate::deciding::{decide_all, is_above};
 use crate::entering::{enter_all, put_back, reserve_rows};
 use crate::first::FirstBoard;
 use crate::full::{count_full, raised_by_fringe, raised_by_slots};
+use crate::halting::cause_after;
 use crate::restoring::{reach_of, restored_start};
 use crate::solving::{copy_decisions, solution_value};
 use crate::start::Start;
-use crate::starting::{empty_slots, first_start};
+use crate::starting::first_start;
 use board_laws::{Cause, Fate, Improved, Settings, Taken};
 use dominance_table::Table;
 use dp_model::{DpModel, Found, OutOfMemory, Sub};
@@ -112,8 +114,9 @@ impl<M: DpModel> Board<M> {
         ensures first { IfOk result (λ b. b.first ≡ b.board) }
         ensures good { IfOk result (λ b. IsGood (M.meaning b.numbers) b.first) }
     {
+        let blank = Blank::new(alloc, model.words(), settings.workers)?;
         let start = first_start(alloc, &*model)?;
-        Board::fresh(alloc, model, settings, start)
+        Ok(Board::fresh(alloc, model, settings, start, blank))
     }
 
     /// A board that goes on from an incumbent and from subproblems with their tickets: what is above the reach is open, of those
@@ -137,8 +140,9 @@ impl<M: DpModel> Board<M> {
         ensures board { IfOk result (λ b. b.board ≡ restored_board settings (solution_in (M.meaning (M.numbers (arc_value model))) incumbent.entry) (ticketed opened.items) next) }
         ensures first { IfOk result (λ b. b.first ≡ b.board) }
     {
+        let blank = Blank::new(alloc, model.words(), settings.workers)?;
         let start = restored_start(alloc, &*model, &settings, incumbent, opened, next)?;
-        Board::fresh(alloc, model, settings, start)
+        Ok(Board::fresh(alloc, model, settings, start, blank))
     }
 
     /// The board with this start, of which nothing is out.
@@ -147,16 +151,18 @@ impl<M: DpModel> Board<M> {
         model: Arc<M>,
         settings: Settings,
         start: Start,
-    ) -> Result<Board<M>, OutOfMemory>
+        blank: Blank,
+    ) -> Board<M>
         requires of { IsStart (M.meaning (M.numbers (arc_value model))) start }
         requires board { IsBoard (M.meaning (M.numbers (arc_value model))) (board_of settings start) }
-        ensures numbers { IfOk result (λ b. b.numbers ≡ M.numbers (arc_value model)) }
-        ensures board { IfOk result (λ b. b.board ≡ board_of settings start) }
-        ensures first { IfOk result (λ b. b.first ≡ b.board) }
+        requires row { vec_len blank.row ≡ (M.meaning (M.numbers (arc_value model))).words }
+        requires spare { vec_len blank.spare ≡ (M.meaning (M.numbers (arc_value model))).words }
+        requires slots { blank.slots.items ≡ empty_slots settings.workers }
+        ensures numbers { result.numbers ≡ M.numbers (arc_value model) }
+        ensures board { result.board ≡ board_of settings start }
+        ensures first { result.first ≡ result.board }
     {
-        let row = vec![in alloc; 0i64; model.words()]?;
-        let spare = vec![in alloc; 0i64; model.words()]?;
-        let slots = empty_slots(alloc, settings.workers)?;
+        let Blank { row, spare, slots } = blank;
         let table = Table::new(alloc, model.words(), settings.table_limit);
         let first = FirstBoard::of(&start, &settings);
         let Start {
@@ -165,7 +171,7 @@ impl<M: DpModel> Board<M> {
             fringe,
             next_ticket,
         } = start;
-        Ok(Board {
+        Board {
             model,
             settings,
             best,
@@ -181,7 +187,7 @@ impl<M: DpModel> Board<M> {
             first,
             row,
             spare,
-        })
+        }
     }
 
     /// The worker asks for a subproblem. The first rule that applies decides: nothing is open or out (`Finished`); a cause is
@@ -412,11 +418,7 @@ impl<M: DpModel> Board<M> {
         ensures tag { tag_of self.new ≡ tag_of self.old }
         ensures room { self.new.room ≡ self.old.room }
     {
-        match (self.cause, cause) {
-            (None, Cause::Memory) => self.cause = Some(Cause::Memory),
-            (_, Cause::Journal) => self.cause = Some(Cause::Journal),
-            _ => {}
-        }
+        self.cause = cause_after(self.cause, cause);
     }
 
     /// What the worker has out, or `None` exactly where its slot is empty.

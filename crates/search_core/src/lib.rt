@@ -10,12 +10,14 @@
 //! there are. So where nothing is open or out, no feasible solution is above the reach.
 #![tactic(auto)]
 
+mod blank;
 mod board;
 mod checked_out;
 mod deciding;
 mod entering;
 mod first;
 mod full;
+mod halting;
 mod restoring;
 mod solving;
 mod start;

@@ -17,6 +17,7 @@ use crate::checked_out::CheckedOut;
 use crate::entering::put_back;
 use crate::solving::{copy_decisions, solution_value};
 use crate::start::Start;
+use crate::starting::fringe_for;
 use board_laws::Settings;
 use dp_model::{DpModel, OutOfMemory, Sub};
 use shared_fringe::Fringe;
@@ -99,8 +100,7 @@ pub fn restored_start<M: DpModel>(
     let mut best = Vec::with_capacity(alloc, model.vars())?;
     let best_value = copy_incumbent(alloc, model, incumbent, &mut best)?;
     let reach = reach_of(settings.within, best_value);
-    let mut fringe = Fringe::new(alloc, model.words());
-    fringe.reserve(opened.len())?;
+    let mut fringe = fringe_for(alloc, model.words(), opened.len())?;
     push_above(&mut fringe, reach, opened);
     Ok(Start {
         best,

@@ -1,6 +1,6 @@
 //! What a board begins with.
 
-ghost use Rattle.std.specs.Prelude.{◌≡◌, [], IfOk, length, option_map, vec_len};
+ghost use Rattle.std.specs.Prelude.{◌≡◌, ◌≤◌, [], IfOk, length, option_map, vec_len};
 ghost use Rattle.board_laws.specs.Steps.{empty_slots, root_bound, root_subproblem, first_incumbent, first_open};
 ghost use Rattle.search_core.specs.Kept.{best_of};
 ghost use Rattle.search_core.specs.Starting.{IsStart, start_best};
@@ -66,19 +66,30 @@ pub fn root_sub<M: DpModel>(alloc: Global, model: &M) -> Result<Option<Sub>, Out
     Ok(Some(sub))
 }
 
+/// An empty fringe with room for so many subproblems.
+pub fn fringe_for(alloc: Global, words: usize, count: usize) -> Result<Fringe, OutOfMemory>
+    requires { 1 ≤ words }
+    ensures open { IfOk result (λ fringe. fringe.open_ones ≡ []) }
+    ensures words { IfOk result (λ fringe. fringe.words ≡ words) }
+    ensures room { IfOk result (λ fringe. count ≤ fringe.spare) }
+{
+    let mut fringe = Fringe::new(alloc, words);
+    fringe.reserve(count)?;
+    Ok(fringe)
+}
+
 /// The fringe with the root, where there are variables and the root has a bound.
 fn first_open<M: DpModel>(alloc: Global, model: &M) -> Result<Fringe, OutOfMemory>
     ensures open { IfOk result (λ fringe. fringe.open_ones ≡ first_open (M.meaning (M.numbers model.now))) }
     ensures words { IfOk result (λ fringe. fringe.words ≡ (M.meaning (M.numbers model.now)).words) }
 {
-    let mut fringe = Fringe::new(alloc, model.words());
     if model.vars() == 0 {
-        return Ok(fringe);
+        return Ok(Fringe::new(alloc, model.words()));
     }
     let Some(root) = root_sub(alloc, model)? else {
-        return Ok(fringe);
+        return Ok(Fringe::new(alloc, model.words()));
     };
-    fringe.reserve(1)?;
+    let mut fringe = fringe_for(alloc, model.words(), 1)?;
     fringe.push(0, root);
     Ok(fringe)
 }

@@ -1,9 +1,10 @@
-use Rattle.std.proofs.Common.{◌+ℤ◌, FitsSigned, w64, sym, ◌∙◌, ap, subst, arith}
+use Rattle.std.proofs.Common.{◌+ℤ◌, [], FitsSigned, w64, sym, ◌∙◌, ap, subst, arith}
 use Rattle.std.proofs.lemmas.Int.{ints, to_z-of_z}
 use Rattle.dp_model.specs.Laws.{IsLawful}
 use Rattle.dp_model.specs.Numbers.{IsFar}
-use Rattle.shared_fringe.specs.Fringe.{FringeView}
+use Rattle.board_laws.specs.Board.{reach_of}
 use Rattle.board_laws.specs.GoodBoard.{IncumbentHolds}
+use Rattle.board_laws.specs.Restoring.{pushed_above}
 use Rattle.search_core.specs.Kept.{best_of}
 use Rattle.search_core.specs.Opened.{ticketed}
 use Rattle.search_core.proofs.Keeping.{held-by, held-value}
@@ -28,5 +29,14 @@ reach_of-reach-requires g c v is =
 
 pub push_above-requires-clause-cells : goal.push_above-requires-clause-cells
 push_above-requires-clause-cells g c =
-    let words = ap (λ (f : FringeView). f.words) (c.in_ok-reserve.ensures.kept ∙ ap (λ (f : FringeView). record f { spare = c.reserve.new.self.spare }) c.new-fringe.ensures) ∙ c.words.ensures in
-    listed-cells _ (laws_of g c.args.model.now) (ticketed c.args.opened.items) c.reserve.new.self.words words c.requires.may.own
+    listed-cells _ (laws_of g c.args.model.now) (ticketed c.args.opened.items) c.in_ok-fringe.fringe.words (c.in_ok-fringe.ensures.words ∙ c.words.ensures) c.requires.may.own
+
+pub returns-clause-open : goal.returns-clause-open
+returns-clause-open g c =
+    let settings = c.args.settings.now in
+    let value = c.in_ok-best_value.best_value in
+    let least = c.requires.settings.within_least in
+    let most = c.requires.settings.within_most in
+    let fits : FitsSigned w64 settings.within = omega (arith, ints) in
+    c.push_above.ensures.pushed ∙ ap (λ r. pushed_above r [] (ticketed c.args.opened.items))
+    (c.reach_of-reach.ensures ∙ (ap (λ z. reach_of z value) (to_z-of_z w64 settings.within fits) ∙ ap (reach_of settings.within) (sym (held-value c.copy_incumbent.new.best.items value))))

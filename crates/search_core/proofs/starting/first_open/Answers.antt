@@ -3,7 +3,6 @@ use Rattle.std.specs.Prelude.{option_map}
 use Rattle.dp_model.specs.Laws.{IsLawful}
 use Rattle.dp_model.specs.Subproblem.{SubView}
 use Rattle.board_laws.specs.Steps.{root_subproblem}
-use Rattle.shared_fringe.specs.Fringe.{FringeView}
 use Rattle.search_core.proofs.Roots.{root-cells}
 use Rattle.search_core.proofs.starting.first_open.Given as given
 use Rattle.search_core.proofs.starting.first_open.Goals as goal
@@ -15,5 +14,4 @@ pub push-requires-clause-cells : goal.push-requires-clause-cells
 push-requires-clause-cells g c =
     let dp = g.M.DpModel.meaning (g.M.DpModel.numbers c.args.model.now) in
     let root : Some c.in-Some.root.subproblem ≡ root_subproblem dp = ap (option_map (λ (r : SubView). r.subproblem)) (sym c.in-Some.is) ∙ c.in_ok-root.ensures.root in
-    let words = ap (λ (f : FringeView). f.words) (c.in_ok-reserve.ensures.kept ∙ ap (λ (f : FringeView). record f { spare = c.reserve.new.self.spare }) c.new-fringe.ensures) in
-    root-cells dp (laws_of g c.args.model.now) c.in-Some.root.subproblem root ∙ sym (words ∙ c.words.ensures)
+    root-cells dp (laws_of g c.args.model.now) c.in-Some.root.subproblem root ∙ sym (c.in_ok-fringe.ensures.words ∙ c.words-2.ensures)

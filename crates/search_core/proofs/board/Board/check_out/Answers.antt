@@ -1,21 +1,26 @@
-use Rattle.std.proofs.Common.{◌≡◌, Some, None, sym, ◌∙◌, ap, subst, arith}
+use Rattle.std.proofs.Common.{◌≡◌, ℕ, List, Some, None, sym, ◌∙◌, ap, subst, arith}
 use Rattle.std.proofs.lemmas.Option.{slice_get_within}
 use Rattle.std.specs.Arc.{arc_value}
 use Rattle.std.specs.List.{slice_get}
 use Rattle.std.specs.Prelude.{option_map}
 use Rattle.dp_model.specs.Laws.{IsLawful}
-use Rattle.shared_fringe.specs.Firsts.{IsFirstTaken}
+use Rattle.shared_fringe.specs.Firsts.{first_taken, IsFirstTaken}
+use Rattle.shared_fringe.specs.Popping.{after_pop}
 use Rattle.shared_fringe.specs.Tickets.{Ticketed}
-use Rattle.board_laws.specs.Taking.{take_gives, HasFirst}
+use Rattle.board_laws.specs.Taking.{after_take, copy_of, take_gives, HasFirst}
 use Rattle.board_laws.specs.declared.taken.Taken.TheVariants.{Sub}
 use Rattle.shared_fringe.proofs.Takings.{first_taken-is}
-use Rattle.search_core.specs.View.{BoardView}
-use Rattle.search_core.proofs.Keeping.{take-kept, take-copies, slot-set}
+use Rattle.search_core.specs.View.{BoardView, tag_of}
+use Rattle.search_core.proofs.Keeping.{handed, take-kept, take-step, take-copies, slot-set}
 use Rattle.search_core.proofs.board.Board.check_out.Given as given
 use Rattle.search_core.proofs.board.Board.check_out.Goals as goal
 
 laws_of : (g : given.Over) (m : g.row.M.Denot) → IsLawful (g.M.DpModel.meaning (g.M.DpModel.numbers m))
 laws_of g m = (g.met.M.DpModel g.world.𝓛 g.world.𝓜 g.world.𝓡 ((λ s x. x), (λ x. x), (λ x. x), λ x. x)).lawful m
+
+-- the step, on the board as the caller sees it
+taken-at : (v w : BoardView) (who : ℕ) (o : Ticketed) (os : List Ticketed) → v ≡ w → take_gives w.board ≡ Sub → Some o ≡ first_taken v.board.open_ones → os ≡ after_pop v.board.open_ones → handed v.board who o os ≡ after_take w.board who
+taken-at v w who o os same may best popped = subst (λ (w : BoardView). take_gives w.board ≡ Sub → handed v.board who o os ≡ after_take w.board who) same (λ may. take-step v.board who o os may best popped) may
 
 pub copy_from-requires-clause-room : goal.copy_from-requires-clause-room
 copy_from-requires-clause-room g c =
@@ -57,3 +62,16 @@ returns-clause-out g c =
     let empty = subst (λ (v : BoardView). slice_get v.board.slots c.args.who ≡ Some None) (sym c.self.view_is) c.requires.empty in
     let within = slice_get_within c.self.inside.slots.items c.args.who None empty in
     ap (option_map (λ (o : Ticketed). o.subproblem)) (slot-set c.self.inside.slots.items c.args.who o within) ∙ ap (λ p. Some p) (sym c.copy_from.ensures.copied)
+
+pub returns-clause-step : goal.returns-clause-step
+returns-clause-step g c = taken-at _ _ c.args.who _ _ c.self.view_is c.requires.may c.in-Some.ensures.best c.pop_best.ensures.step
+
+pub returns-clause-copied : goal.returns-clause-copied
+returns-clause-copied g c =
+    c.copy_from.ensures.copied ∙ ap (copy_of c.args.into.now.subproblem) (c.in-Some.ensures.best ∙ ap (λ (v : BoardView). first_taken v.board.open_ones) c.self.view_is)
+
+pub returns-clause-tag : goal.returns-clause-tag
+returns-clause-tag g c = ap tag_of c.self.view_is
+
+pub returns-clause-room : goal.returns-clause-room
+returns-clause-room g c = ap (λ (v : BoardView). v.room) c.self.view_is

@@ -9,7 +9,7 @@ use Rattle.board_laws.specs.Finishing.{MayFinish}
 use Rattle.board_laws.specs.Pushes.{put_each}
 use Rattle.board_laws.specs.Steps.{finished_by}
 use Rattle.search_core.specs.Contents.{contents}
-use Rattle.search_core.specs.View.{BoardView}
+use Rattle.search_core.specs.View.{BoardView, tag_of}
 use Rattle.search_core.proofs.Keeping.{contents-many, children-cells, children-states, children-own, fates-threaded, fates-long, open-given, finish-step, finish-kept, finish-fits}
 use Rattle.search_core.proofs.board.Board.finish.Given as given
 use Rattle.search_core.proofs.board.Board.finish.Goals as goal
@@ -76,3 +76,6 @@ returns-clause-step g c =
     finish-step dp _ c.args.who c.args.threshold (contents c.args.subs.now.items) c.args.fates.now c.enter_all-self-inside.new.fringe.open_ones c.self.inside.table c.enter_all-self-inside.new.table c.enter_all-self-inside.result
     c.self.invariant.board may refl c.self.invariant.has_room.limit c.enter_all-self-inside.ensures.«open» noted c.enter_all-self-inside.ensures.next
     ∙ ap (λ (v : BoardView). finished_by (g.M.DpModel.meaning v.numbers) v.board c.args.who (contents c.args.subs.now.items)) c.self.view_is
+
+pub returns-clause-tag : goal.returns-clause-tag
+returns-clause-tag g c = ap tag_of c.self.view_is

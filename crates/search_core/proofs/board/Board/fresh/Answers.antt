@@ -10,12 +10,10 @@ use Rattle.search_core.proofs.board.Board.fresh.Goals as goal
 pub invariant_of-result : goal.invariant_of-result
 invariant_of-result g c =
     let dp = g.M.DpModel.meaning (g.M.DpModel.numbers (arc_value c.args.model)) in
-    let words = subst (λ m. c.words.result ≡ (g.M.DpModel.meaning (g.M.DpModel.numbers m)).words) c.deref.ensures c.words.ensures in
-    let spare = subst (λ m. c.words-2.result ≡ (g.M.DpModel.meaning (g.M.DpModel.numbers m)).words) c.deref-2.ensures c.words-2.ensures in
-    let cells = subst (λ m. c.words-3.result ≡ (g.M.DpModel.meaning (g.M.DpModel.numbers m)).words) c.deref-3.ensures c.words-3.ensures in
+    let cells = subst (λ m. c.words.result ≡ (g.M.DpModel.meaning (g.M.DpModel.numbers m)).words) c.deref.ensures c.words.ensures in
     let table : c.new-table.result ≡ record { entries = []; words = dp.words; limit = c.args.settings.table_limit; spare = 0 } = c.new-table.ensures ∙ ap (λ n. record { entries = []; words = n; limit = c.args.settings.table_limit; spare = 0 }) cells in
     let first = c.of-first.ensures in
     fresh-kept dp c.of-first.result _ c.args.settings c.args.start.fringe c.new-table.result _ _ _ (subst (IsBoard dp) (sym first) c.requires.board)
-    (fresh-step _ _ _ _ c.args.settings _ c.in_ok-slots.ensures (ap (λ (t : TableView). t.entries) table) ∙ sym first)
+    (fresh-step _ _ _ _ c.args.settings _ c.requires.slots (ap (λ (t : TableView). t.entries) table) ∙ sym first)
     (ap (λ (b : BoardState). b.settings) first) (ap (λ (b : BoardState). length (full_slots b.slots)) first ∙ ap length (full-none c.args.settings.workers))
-    c.requires.of.words table c.requires.of.best (c.in_ok-row.ensures.len ∙ words) (c.in_ok-spare.ensures.len ∙ spare)
+    c.requires.of.words table c.requires.of.best c.requires.row c.requires.spare

@@ -4,7 +4,7 @@ use Rattle.std.specs.Prelude.{IsSome}
 use Rattle.dp_model.specs.Laws.{IsLawful}
 use Rattle.board_laws.specs.Board.{reach, slot_at}
 use Rattle.board_laws.specs.Steps.{back_among, given_back}
-use Rattle.search_core.specs.View.{BoardView}
+use Rattle.search_core.specs.View.{BoardView, tag_of}
 use Rattle.search_core.proofs.Keeping.{back-at, back-kept, back-step, goes-back}
 use Rattle.search_core.proofs.board.Board.give_back.Given as given
 use Rattle.search_core.proofs.board.Board.give_back.Goals as goal
@@ -46,3 +46,9 @@ returns-clause-step g c =
     let put = c.put_back.ensures.put ∙ ap (λ r. back_among r c.in-Some.one c.self.inside.fringe.open_ones) (c.reach-reach.ensures ∙ ap (λ (v : BoardView). reach v.board) (sym c.self.view_is)) in
     rw c.replace-slot.ensures.after
     (back-step _ c.args.who c.in-Some.one c.put_back.new.fringe.open_ones at put ∙ ap (λ (v : BoardView). given_back v.board c.args.who) c.self.view_is)
+
+pub returns-clause-tag : goal.returns-clause-tag
+returns-clause-tag g c = ap tag_of c.self.view_is
+
+pub returns-clause-room : goal.returns-clause-room
+returns-clause-room g c = ap (λ (v : BoardView). v.room) c.self.view_is

@@ -7,7 +7,7 @@ use Rattle.dp_model.specs.Solution.{IsSolutionWith}
 use Rattle.shared_fringe.specs.Tickets.{above_value}
 use Rattle.board_laws.specs.Improving.{after_offer}
 use Rattle.board_laws.specs.declared.improved.Improved.TheVariants.{Yes}
-use Rattle.search_core.specs.View.{BoardView}
+use Rattle.search_core.specs.View.{BoardView, tag_of}
 use Rattle.search_core.proofs.Keeping.{improve-kept, improve-step, reach-fits, held-value}
 use Rattle.search_core.proofs.Sums.{far-sum}
 use Rattle.search_core.proofs.board.Board.improve.Given as given
@@ -51,3 +51,27 @@ returns-clause-step g c =
     rw c.copy_decisions.ensures.copied
     (improve-step _ _ c.args.decisions.now (to_z w64 (of_z w64 c.in-Some.value)) c.drop_up_to.new.self.open_ones c.self.invariant.board (is ∙ worth.value) left
     ∙ ap (λ (v : BoardView). after_offer (g.M.DpModel.meaning v.numbers) Yes v.board c.args.decisions.now) c.self.view_is)
+
+pub returns-clause-tag : goal.returns-clause-tag
+returns-clause-tag g c = ap tag_of c.self.view_is
+
+pub returns-clause-room : goal.returns-clause-room
+returns-clause-room g c = ap (λ (v : BoardView). v.room) c.self.view_is
+
+pub returns-in_default-clause-tag : goal.returns-in_default-clause-tag
+returns-in_default-clause-tag g c = ap tag_of c.self.view_is
+
+pub returns-in_default-clause-room : goal.returns-in_default-clause-room
+returns-in_default-clause-room g c = ap (λ (v : BoardView). v.room) c.self.view_is
+
+pub returns-in_default-clause-step : goal.returns-in_default-clause-step
+returns-in_default-clause-step g c = ap (λ (v : BoardView). v.board) c.self.view_is
+
+pub returns-then-not-is_above-clause-tag : goal.returns-then-not-is_above-clause-tag
+returns-then-not-is_above-clause-tag g c = ap tag_of c.self.view_is
+
+pub returns-then-not-is_above-clause-room : goal.returns-then-not-is_above-clause-room
+returns-then-not-is_above-clause-room g c = ap (λ (v : BoardView). v.room) c.self.view_is
+
+pub returns-then-not-is_above-clause-step : goal.returns-then-not-is_above-clause-step
+returns-then-not-is_above-clause-step g c = ap (λ (v : BoardView). v.board) c.self.view_is
