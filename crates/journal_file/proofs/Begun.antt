@@ -2,15 +2,14 @@
 use Rattle.std.proofs.Common.{◌≡◌, ◌≢◌, inl, inr, ⊎_elim, ℕ, suc, ◌-◌, ◌^◌, ◌<◌, ◌≤◌, Bool, true, false, List, [], ◌∷◌, ◌++◌, length, get_or, Option, Some, None, Err, refl, sym, ◌∙◌, ap, subst, arith}
 use Rattle.std.specs.Prelude.{IsSome, IfSome}
 use Rattle.std.proofs.lemmas.Bool.{cases_lt}
-use Rattle.std.proofs.lemmas.List.{drop_all}
-use Rattle.dd_disk.specs.Disk.{FirstSync, Holds, Torn, Only, LeavesOnly}
+use Rattle.dd_disk.specs.Disk.{FirstSync, Torn, Only, LeavesOnly}
 use Rattle.journal_bytes.specs.declared.refusal.Refusal.TheVariants.{NotBegun}
 use Rattle.journal_bytes.specs.declared.tail.Tail.{Tail}
 use Rattle.journal_bytes.specs.Frames.{Frame, no_digest, frames_of, ReadsAs, IsBeforeOrAfter}
 use Rattle.journal_file.specs.Settled.{IsSettled, IsOpen}
 use Rattle.journal_bytes.specs.Journal.{HeadView, journal_in, journal_of, HasRecords}
 use Rattle.journal_bytes.specs.Spelling.{head_frame}
-use Rattle.journal_file.specs.Beginning.{IsProbed, BeganAt, MayBegin, IsBegun}
+use Rattle.journal_file.specs.Beginning.{IsProbed, BeganAt, LeavesSince, MayBegin, IsBegun}
 use Rattle.dd_disk.proofs.Runs.{then, weaker}
 use Rattle.journal_bytes.proofs.Found.{reading_shut}
 use Rattle.journal_bytes.proofs.Journals.{only_head}
@@ -77,14 +76,21 @@ module _ {D : Type 0} (moment : D → ℕ) (left_since : D → ℕ → List ℕ 
   module _ (file : List ℕ) where
     -- since the first sync
     abbrev pub Begun : D → FirstSync → Type 0
-    Begun disk s = MayBegin s.content → (c : List ℕ) → left_since disk s.moment c → IsBegun h c
+    Begun disk s = (s.content ≡ file) × (MayBegin s.content → LeavesSince moment left_since s disk (IsBegun h))
 
     pub at_probe : (mid : D) (s : FirstSync) → BeganAt moment left_since s mid file → Begun mid s
-    at_probe mid s b may c left = inl (ap journal_of (b.only c left) ∙ begins file (subst MayBegin b.content may))
+    at_probe mid s b =
+        (b.content, λ may. record { earlier = b.leaves.earlier; each = λ c left. inl (ap journal_of (b.leaves.each c left) ∙ begins file (subst MayBegin b.content may)) })
 
     -- and after more calls
     pub after : (mid new : D) (s : FirstSync) → LeavesOnly moment left_since mid new (IsBegun h) → BeganAt moment left_since s mid file → Begun new s
-    after mid new s run b may c left = ⊎_elim (λ before. at_probe mid s b may c before) (λ now. now) (run.before s.moment c b.earlier left)
+    after mid new s run b = (
+      b.content,
+      λ may. record {
+        earlier = omega (arith, b.leaves.earlier, run.later);
+        each = λ c left. ⊎_elim (λ before. ((at_probe mid s b).1 may).each c before) (λ now. now) (run.before s.moment c b.leaves.earlier left);
+      },
+    )
 
 -- the head was added
 pub head_open : (file : List ℕ) (may_leave : List ℕ → Type 0) (tail : Tail) (h : HeadView) (g : Frame) (fs : List Frame) → length h.text < 2 ^ 32 → g ≡ head_frame h → fs ≡ [] → IsSettled file may_leave tail (frames_of file) × (frames_of file ≡ fs ++ g ∷ []) → IsOpen file may_leave tail × HasRecords h [] file

@@ -3,3 +3,4 @@ mod Begun
 mod Images
 mod Opened
 mod Recording
+mod Texts

@@ -1,5 +1,5 @@
 -- What was read of a journal.
-use Rattle.std.proofs.Common.{◌≡◌, ℕ, List, Ok, sym, ap, subst, ◌∙◌}
+use Rattle.std.proofs.Common.{◌≡◌, ◌⊎◌, inl, inr, ℕ, List, Bool, Result, Ok, Err, refl, sym, ap, subst, ◌∙◌}
 use Rattle.dd_disk.specs.Disk.{Only}
 use Rattle.journal_bytes.specs.declared.head.Head.{Head}
 use Rattle.journal_bytes.specs.declared.tail.Tail.{Tail}
@@ -7,6 +7,9 @@ use Rattle.journal_bytes.specs.Bodies.{RecordsView}
 use Rattle.journal_bytes.specs.Ends.{EndsAt}
 use Rattle.journal_bytes.specs.Frames.{frames_of}
 use Rattle.journal_bytes.specs.Journal.{journal_of, head_view, journal_view}
+use Rattle.journal_file.specs.declared.error.JournalError.{JournalError}
+use Rattle.journal_file.specs.declared.error.JournalError.TheVariants.{Disk, OutOfMemory}
+use Rattle.journal_file.specs.Refusing.{WasOpened}
 use Rattle.journal_file.specs.Settled.{IsOpen}
 
 -- it may be gone on with
@@ -17,3 +20,8 @@ opened file bytes may_leave j same reads ends only = record {
   records = j.1.records;
   reads = (j.2, sym (ap journal_of same) ∙ reads);
 }
+
+-- nothing was read
+pub not_read : (tells : Bool) (seen : List ℕ) (result : Result (Head × RecordsView × Tail) JournalError) (e : JournalError) → result ≡ Err e → (e ≡ Disk) ⊎ (e ≡ OutOfMemory) → WasOpened tells seen result
+not_read tells seen result e is (inl disk) = subst (WasOpened tells seen) (sym (is ∙ ap (λ (x : JournalError). Err x) disk)) (record { file = seen; is_file = λ _. refl; opens = tt; first = tt })
+not_read tells seen result e is (inr memory) = subst (WasOpened tells seen) (sym (is ∙ ap (λ (x : JournalError). Err x) memory)) (record { file = seen; is_file = λ _. refl; opens = tt; first = tt })

@@ -9,11 +9,15 @@ abbrev pub IsProbed : Bool → List ℕ → Type 0
 IsProbed true file = (2 ≤ length file) × (get_or file 0 0 ≡ 0)
 IsProbed false file = length file ≤ 1
 
--- since its first sync a crash leaves this file alone
+-- since that sync a crash at any moment leaves a file that has P
+pub record LeavesSince {D : Type 0} (moment : D → ℕ) (left_since : D → ℕ → List ℕ → Type 0) (s : FirstSync) (disk : D) (P : List ℕ → Type 0) : Type 0 where
+  pub earlier : s.moment ≤ moment disk
+  pub each : (c : List ℕ) → left_since disk s.moment c → P c
+
+-- that sync put this file on the disk, and since then a crash leaves it alone
 pub record BeganAt {D : Type 0} (moment : D → ℕ) (left_since : D → ℕ → List ℕ → Type 0) (s : FirstSync) (disk : D) (file : List ℕ) : Type 0 where
   pub content : s.content ≡ file
-  pub earlier : s.moment ≤ moment disk
-  pub only : (c : List ℕ) → left_since disk s.moment c → c ≡ file
+  pub leaves : LeavesSince moment left_since s disk (λ c. c ≡ file)
 
 -- a file in which a journal may begin
 abbrev pub MayBegin : List ℕ → Type 0

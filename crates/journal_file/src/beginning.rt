@@ -1,10 +1,10 @@
-ghost use Rattle.std.specs.Prelude.{◌≡◌, ◌≤◌, ◌<◌, ◌^◌, [], ℕ, List, length, Some, None, Err, get_or, is_err, IsTrue, IfSome, IfOk, OnOk, IfErr, IsErrOf};
+ghost use Rattle.std.specs.Prelude.{◌≡◌, ◌≤◌, ◌<◌, ◌^◌, [], ℕ, List, length, Some, None, Err, get_or, is_err, IsTrue, IsSome, IfSome, IfOk, OnOk, IfErr, IsErrOf};
 ghost use Rattle.dd_disk.specs.Counts.{Rose, Counts};
 ghost use Rattle.dd_disk.specs.Disk.{FirstSync, Only, Keeps, LeavesOnly};
 ghost use Rattle.journal_bytes.specs.Journal.{journal_of, head_view, HasRecords};
 ghost use Rattle.journal_bytes.specs.declared.refusal.Refusal.TheVariants.{NotBegun};
 ghost use Rattle.journal_file.specs.Settled.{IsOpen};
-ghost use Rattle.journal_file.specs.Beginning.{IsProbed, MayBegin, IsBegun};
+ghost use Rattle.journal_file.specs.Beginning.{IsProbed, BeganAt, LeavesSince, MayBegin, IsBegun};
 ghost use Rattle.journal_file.specs.Refusing.{KeepsFromBeginning};
 
 use crate::adding::append_frame;
@@ -77,12 +77,18 @@ pub fn begin<D: Disk>(alloc: Global, disk: &mut D, head: &Head) -> Result<Tail, 
     ensures ready { IfOk result (λ tail. IsTrue (D.tells disk.old) →
         IsOpen (D.seen disk.new) (D.may_leave disk.new) tail × HasRecords (head_view head.now) [] (D.seen disk.new)) }
 
-    // From its sync on a crash at any moment leaves no journal, or this head alone.
+    // Its sync finds the file as it was, and from then on a crash at any moment leaves no journal, or this head alone.
     ensures since { IsTrue (D.tells disk.old) → D.start disk.old ≡ None →
-        IfSome (D.start disk.new) (λ s. MayBegin s.content →
-        (c : List ℕ) → D.left_since disk.new s.moment c → IsBegun (head_view head.now) c) }
+        IfSome (D.start disk.new) (λ s. (s.content ≡ D.seen disk.old) × (MayBegin s.content →
+        LeavesSince D.moment D.left_since s disk.new (IsBegun (head_view head.now)))) }
+    ensures began { OnOk result (D.start disk.old ≡ None → IsSome (D.start disk.new)) }
+
+    // Where the file has something else, it is left as it was.
     ensures exists { IsErrOf result JournalError.Exists → IsTrue (D.tells disk.old) →
         (2 ≤ length (D.seen disk.old)) × ¬ (get_or (D.seen disk.old) 0 0 ≡ 0) × (D.seen disk.new ≡ D.seen disk.old) }
+    ensures untouched { IsErrOf result JournalError.Exists → IsTrue (D.tells disk.old) → D.start disk.old ≡ None →
+        IfSome (D.start disk.new) (λ s. BeganAt D.moment D.left_since s disk.new (D.seen disk.old)) }
+    ensures began_exists { IsErrOf result JournalError.Exists → D.start disk.old ≡ None → IsSome (D.start disk.new) }
     ensures begins { OnOk result (IsTrue (D.tells disk.old) → MayBegin (D.seen disk.old)) }
     ensures disk { IsErrOf result JournalError.Disk → Rose (D.faults disk.old) (D.faults disk.new) }
     ensures errors { IfErr result KeepsFromBeginning }

@@ -13,8 +13,6 @@ mod beginning;
 mod error;
 mod opening;
 mod steps;
-#[cfg(test)]
-mod tests;
 
 pub use adding::append;
 pub use append_error::AppendError;

@@ -1,10 +1,8 @@
-ghost use Rattle.std.specs.Prelude.{◌≡◌, ◌⊎◌, ◌≤◌, None, IsSome, IfSome, IsTrue, IfOk, OnOk, IsErrOf};
+ghost use Rattle.std.specs.Prelude.{◌≡◌, ◌⊎◌, ◌≤◌, ◌<◌, ◌-◌, ◌^◌, length, None, IsSome, IfSome, IsTrue, IfOk, OnOk, IfErr, IsErrOf};
 ghost use Rattle.dd_disk.specs.Counts.{Rose};
 ghost use Rattle.dd_disk.specs.Disk.{Only, Keeps, LeavesOnly};
-ghost use Rattle.journal_bytes.specs.Frames.{frames_of};
-ghost use Rattle.journal_bytes.specs.Journal.{behind_head, journal_of};
 ghost use Rattle.journal_file.specs.Beginning.{BeganAt};
-ghost use Rattle.journal_file.specs.Refusing.{Opens};
+ghost use Rattle.journal_file.specs.Refusing.{WasOpened, IsRefusal};
 ghost use Rattle.journal_file.specs.Settled.{IsOpen};
 
 use crate::JournalError;
@@ -22,11 +20,9 @@ use std::alloc::Global;
 pub fn reopen<D: Disk>(alloc: Global, disk: &mut D) -> Result<(Head, Records, Tail), JournalError>
     requires { IsTrue (D.attached disk.old) }
 
-    // What is read, or the first cause for which it is refused.
-    ensures exact { IsTrue (D.tells disk.old) → Opens result (journal_of (D.seen disk.old)) }
-
-    // The first record stands behind the head.
-    ensures first { IfOk result (λ r. IsTrue (D.tells disk.old) → r.1.first ≡ behind_head (frames_of (D.seen disk.old))) }
+    // What is read, or the first cause for which it is refused. A text is as short as a reader of instances wants it.
+    ensures exact { WasOpened (D.tells disk.old) (D.seen disk.old) result }
+    ensures text { IfOk result (λ r. length r.0.text.items < 2 ^ 32 - 1) }
 
     // A record may be added.
     ensures ready { IfOk result (λ r. IsTrue (D.tells disk.old) →
@@ -38,10 +34,11 @@ pub fn reopen<D: Disk>(alloc: Global, disk: &mut D) -> Result<(Head, Records, Ta
     ensures any_moment { IsTrue (D.tells disk.old) → LeavesOnly D.moment D.left_since disk.old disk.new
         (λ c. D.may_leave disk.old c ⊎ (c ≡ D.seen disk.old)) }
 
-    // From its sync on a crash leaves what was read.
+    // From its sync on a crash leaves what was read. Where bytes were read, accepted or refused, the sync was done.
     ensures start { IsTrue (D.tells disk.old) → D.start disk.old ≡ None →
         IfSome (D.start disk.new) (λ s. BeganAt D.moment D.left_since s disk.new (D.seen disk.old)) }
     ensures began { OnOk result (D.start disk.old ≡ None → IsSome (D.start disk.new)) }
+    ensures began_refused { IfErr result (λ e. IsRefusal e → D.start disk.old ≡ None → IsSome (D.start disk.new)) }
     ensures disk { IsErrOf result JournalError.Disk → Rose (D.faults disk.old) (D.faults disk.new) }
     ensures faults { D.faults disk.old ≤ D.faults disk.new }
     ensures keeps { Keeps D.attached D.tells disk.old disk.new }

@@ -57,6 +57,7 @@ pub(crate) fn probe<D: Disk>(disk: &mut D) -> Result<bool, JournalError>
     ensures any_moment { IsTrue (D.tells disk.old) → LeavesOnly D.moment D.left_since disk.old disk.new (λ c. D.may_leave disk.old c ⊎ (c ≡ D.seen disk.old)) }
     ensures start { IsTrue (D.tells disk.old) → D.start disk.old ≡ None → IfSome (D.start disk.new) (λ s. BeganAt D.moment D.left_since s disk.new (D.seen disk.old)) }
     ensures began { OnOk result (D.start disk.old ≡ None → IsSome (D.start disk.new)) }
+    ensures began_exists { IsErrOf result JournalError.Exists → D.start disk.old ≡ None → IsSome (D.start disk.new) }
     ensures keeps { Keeps D.attached D.tells disk.old disk.new }
     ensures faults { D.faults disk.old ≤ D.faults disk.new }
     ensures disk { IsErrOf result JournalError.Disk → Rose (D.faults disk.old) (D.faults disk.new) }
