@@ -1,5 +1,5 @@
 -- What a history of moves leaves on the disk, from its first move on.
-use Rattle.std.proofs.Common.{◌≡◌, ◌≢◌, ◌⊎◌, inl, inr, ⊎_elim, ℕ, ℤ, ◌≤◌, List, [], ◌∷◌, ◌++◌, Option, Some, None, refl, sym, ◌∙◌, ap, subst, append-nil, arith, IsTrue, IsSome, is_some}
+use Rattle.std.proofs.Common.{◌≡◌, ◌≢◌, ◌⊎◌, inl, inr, ⊎_elim, ℕ, ℤ, List, [], ◌∷◌, ◌++◌, Option, Some, None, refl, sym, ◌∙◌, ap, subst, append-nil, arith, IsTrue, IsSome, is_some}
 use Rattle.dd_disk.specs.declared.disk.Disk.{Ghosts}
 use Rattle.dd_disk.specs.Disk.{Only}
 use Rattle.dp_model.specs.Dp.{Dp}
@@ -14,7 +14,7 @@ use Rattle.journal_bytes.specs.Bodies.{RecordView}
 use Rattle.journal_bytes.specs.Journal.{HeadView, HasRecords}
 use Rattle.journal_replay.specs.Following.{record_of_step}
 use Rattle.search_core.specs.Moves.{IsStepOf}
-use Rattle.frontier_journal.proofs.Keeping.{regrouped, fronts-longer, goes-on, stays-stopped}
+use Rattle.frontier_journal.proofs.Keeping.{regrouped, fronts-begun, fronts-longer, goes-on, stays-stopped}
 use Rattle.frontier_journal.specs.Adding.{HasAtMost}
 use Rattle.frontier_journal.specs.Histories.{record_beside, records_of, StartsFrom, HasLeft, IsTimed, HistoriesLeave}
 use Rattle.frontier_journal.specs.Kept.{LeftFronts}
@@ -52,7 +52,6 @@ module _ {D : Type 0} (on : Ghosts D) (timed : IsTimed on) (dp : Dp) (head : Hea
     pub steps : List Step
     pub run : IsRun dp first.board.board steps now.board.board
     pub has : IsSome now.tail
-    pub later : on.moment first.disk ≤ on.moment now.disk
     pub state : IsWhole steps now.board.board now.disk ⊎ IsCut steps now.board.board now.disk
 
   at-first : StartsFrom on head old first → IsAt first
@@ -60,13 +59,12 @@ module _ {D : Type 0} (on : Ghosts D) (timed : IsTimed on) (dp : Dp) (head : Hea
     steps = [];
     run = refl;
     has = s.has;
-    later = omega arith;
     state = inl (record {
       going = s.going;
       tells = s.tells;
       reads = subst (λ rs. HasRecords head rs (on.seen first.disk)) (sym (append-nil old)) s.reads;
       durable = s.durable;
-      since = λ c left. record { front = []; others = []; parts = refl; reads = subst (λ rs. HasRecords head rs c) (sym (append-nil old)) (subst (HasRecords head old) (sym (s.durable c (timed.only_now first.disk c left))) s.reads) };
+      since = fronts-begun on first.disk head old (timed.only_now first.disk) s.durable s.reads;
     });
   }
 
@@ -85,7 +83,6 @@ module _ {D : Type 0} (on : Ghosts D) (timed : IsTimed on) (dp : Dp) (head : Hea
     steps = at.steps;
     run = subst (IsRun dp first.board.board at.steps) (sym s.board) at.run;
     has = has-still now.tail next.tail has at.has;
-    later = subst (λ d. on.moment first.disk ≤ on.moment d) (sym s.disk) at.later;
     state = subst (λ d. IsWhole at.steps next.board.board d ⊎ IsCut at.steps next.board.board d) (sym s.disk)
         (subst (λ b. IsWhole at.steps b now.disk ⊎ IsCut at.steps b now.disk) (sym s.board) at.state);
   }
@@ -101,7 +98,6 @@ module _ {D : Type 0} (on : Ghosts D) (timed : IsTimed on) (dp : Dp) (head : Hea
         steps = all;
         run = run-then dp first.board.board b next.board.board at.steps (s.step ∷ []) at.run (run-one dp b s.step next.board.board s.may s.is);
         has = has-still now.tail next.tail has at.has;
-        later = subst (λ d. on.moment first.disk ≤ on.moment d) (sym disk) at.later;
         state = subst (λ d. IsWhole all next.board.board d ⊎ IsCut all next.board.board d) (sym disk)
             (subst (λ x. IsWhole all x now.disk ⊎ IsCut all x now.disk) (sym s.is)
             (⊎_elim
@@ -132,18 +128,16 @@ module _ {D : Type 0} (on : Ghosts D) (timed : IsTimed on) (dp : Dp) (head : Hea
       let rs = records_of dp first.board.board at.steps in
       let more = one-more at.steps s.step b r at.run is in
       let w = whole-of at.steps b now.disk added.going at.state in
-      let run = added.any_moment w.tells head (old ++ rs) w.reads in
       record {
         steps = all;
         run = run-then dp first.board.board b next.board.board at.steps (s.step ∷ []) at.run (run-one dp b s.step next.board.board s.may s.is);
         has = has-still now.tail next.tail has at.has;
-        later = omega (arith, at.later, run.later);
         state = inl (subst (λ x. IsWhole all x next.disk) (sym s.is) (record {
           going = goes-on dp b s.step s.alone w.going;
           tells = subst IsTrue (sym added.still_tells) w.tells;
           reads = subst (λ xs. HasRecords head (old ++ xs) (on.seen next.disk)) (sym more) (regrouped head old rs r (on.seen next.disk) (added.acknowledged w.tells head (old ++ rs) w.reads));
           durable = added.durable w.tells;
-          since = subst (LeftFronts on first.disk next.disk head old) (sym more) (fronts-longer on first.disk now.disk next.disk r head old rs w.tells w.reads at.later w.since added.any_moment);
+          since = subst (LeftFronts on first.disk next.disk head old) (sym more) (fronts-longer on first.disk now.disk next.disk r head old rs w.tells w.reads w.since added.any_moment);
         }));
       }
 
@@ -159,11 +153,10 @@ module _ {D : Type 0} (on : Ghosts D) (timed : IsTimed on) (dp : Dp) (head : Hea
         steps = all;
         run = run-then dp first.board.board b next.board.board at.steps (Halt Journal ∷ []) at.run (run-one dp b (Halt Journal) next.board.board tt f.halts);
         has = has-still now.tail next.tail has at.has;
-        later = omega (arith, at.later, run.later);
         state = inr (subst (λ x. IsCut all x next.disk) (sym f.halts) (record {
           stopped = refl;
           last = f.last;
-          since = subst (λ xs. LeftFronts on first.disk next.disk head old (xs ++ f.last ∷ [])) (sym same) (fronts-longer on first.disk now.disk next.disk f.last head old rs w.tells w.reads at.later w.since f.any_moment);
+          since = subst (λ xs. LeftFronts on first.disk next.disk head old (xs ++ f.last ∷ [])) (sym same) (fronts-longer on first.disk now.disk next.disk f.last head old rs w.tells w.reads w.since f.any_moment);
           left = subst (λ xs. (c : List ℕ) → on.may_leave next.disk c → HasAtMost head (old ++ xs) f.last c) (sym same) (λ c left. run.each c (timed.counts_now next.disk (on.moment now.disk) c run.later left));
         }));
       }

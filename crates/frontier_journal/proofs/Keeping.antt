@@ -3,7 +3,8 @@ use Rattle.std.proofs.Common.{◌≡◌, ◌≢◌, inl, inr, ⊎_elim, ℕ, ◌
 use Rattle.std.proofs.lemmas.List.{append_assoc}
 use Rattle.dd_disk.specs.declared.disk.Disk.{Ghosts}
 use Rattle.dd_disk.specs.Counts.{Rose}
-use Rattle.dd_disk.specs.Disk.{Keeps}
+use Rattle.dd_disk.specs.Disk.{FirstSync, Keeps, Only}
+use Rattle.dd_disk.proofs.Runs.{started, then}
 use Rattle.dp_model.specs.Dp.{Dp}
 use Rattle.dp_model.specs.Laws.{IsLawful}
 use Rattle.shared_fringe.specs.Tickets.{Ticketed}
@@ -93,13 +94,19 @@ module _ (head : HeadView) (old new : List RecordView) (r : RecordView) (file : 
       (λ after. record { front = new ++ r ∷ []; others = []; parts = sym (append-nil (new ++ r ∷ [])); reads = regrouped after })
       has
 
--- a front of the records is left at each moment, and after one more a front of these and the new one
-pub fronts-longer : {D : Type 0} (on : Ghosts D) (made disk next : D) (r : RecordView) (head : HeadView) (old new : List RecordView) → IsTrue (on.tells disk) → HasRecords head (old ++ new) (on.seen disk) → on.moment made ≤ on.moment disk
-    → LeftFronts on made disk head old new → LeavesAtMost on disk next r → LeftFronts on made next head old (new ++ r ∷ [])
-fronts-longer on made disk next r head old new tells reads later since leaves c left = ⊎_elim
-    (λ before. front-longer head old new r c (since c before))
-    (λ has. whole-front head old new r c has)
-    ((leaves tells head (old ++ new) reads).before (on.moment made) c later left)
+module _ {D : Type 0} (on : Ghosts D) where
+  -- at first there are no new records
+  pub fronts-begun : (disk : D) (head : HeadView) (old : List RecordView) → ((c : List ℕ) → on.left_since disk (on.moment disk) c → on.may_leave disk c) → Only (on.seen disk) (on.may_leave disk) → HasRecords head old (on.seen disk)
+      → LeftFronts on disk disk head old []
+  fronts-begun disk head old only_now durable reads = started on.moment on.left_since disk (HasFront head old [])
+      (λ c left. record { front = []; others = []; parts = refl; reads = subst (λ rs. HasRecords head rs c) (sym (append-nil old)) (subst (HasRecords head old) (sym (durable c (only_now c left))) reads) })
+
+  -- a front of the records is left at each moment, and after one more a front of these and the new one
+  pub fronts-longer : (made disk next : D) (r : RecordView) (head : HeadView) (old new : List RecordView) → IsTrue (on.tells disk) → HasRecords head (old ++ new) (on.seen disk) → LeftFronts on made disk head old new → LeavesAtMost on disk next r
+      → LeftFronts on made next head old (new ++ r ∷ [])
+  fronts-longer made disk next r head old new tells reads since leaves =
+      then on.moment on.left_since made disk next (HasFront head old new) (HasAtMost head (old ++ new) r) (HasFront head old (new ++ r ∷ [])) since (leaves tells head (old ++ new) reads)
+      (λ c has. front-longer head old new r c has) (λ c has. whole-front head old new r c has)
 
 module _ {D : Type 0} (on : Ghosts D) (dp : Dp) (laws : IsLawful dp) where
   -- ---- a step without a record
@@ -113,7 +120,6 @@ module _ {D : Type 0} (on : Ghosts D) (dp : Dp) (laws : IsLawful dp) where
     is_open = cur.is_open;
     reads = cur.reads;
     keep_up = without-record dp laws cur.old cur.new b step cur.keep_up may is;
-    later = cur.later;
     since = cur.since;
   }
 
@@ -128,16 +134,16 @@ module _ {D : Type 0} (on : Ghosts D) (dp : Dp) (laws : IsLawful dp) where
         from = broken.from;
         keep_up = keep_up;
         added = subst (λ s. AreAdded dp s.within broken.old (broken.new ++ broken.last ∷ [])) (sym (step-follows dp b step).settings) broken.added;
-        later = broken.later;
         since = broken.since;
         left = broken.left;
       }
 
   pub stays-kept : (b : BoardState) (step : Step) (made disk : D) (tail : Option Tail) → May dp b step → NeedsNoJournal step → record_of_step dp b step ≡ None → KeepsJournal on dp b made disk tail → KeepsJournal on dp (after dp b step) made disk tail
-  stays-kept b step made disk None may alone is differ = goes-on dp b step alone differ
+  stays-kept b step made disk None may alone is k = (goes-on dp b step alone k.0, k.1)
   stays-kept b step made disk (Some tail) may alone is k = record {
     faults = k.faults;
     still_tells = k.still_tells;
+    start = k.start;
     state = ⊎_elim
         (λ goes. inl (record { cause = goes-on dp b step alone goes.cause; is_attached = goes.is_attached; current = λ tells. stays-current b step made disk tail may is (goes.current tells) }))
         (λ stopped. inr (record { cause = stays-stopped dp b step stopped.cause; rose = stopped.rose; broken = λ tells. stays-broken b step made disk may is (stopped.broken tells) }))
@@ -157,7 +163,7 @@ module _ {D : Type 0} (on : Ghosts D) (dp : Dp) (laws : IsLawful dp) where
 
   -- ---- a step with its record
 
-  module _ (b : BoardState) (step : Step) (r : RecordView) (made disk next : D) (may : May dp b step) (is : record_of_step dp b step ≡ Some r) (keeps : Keeps on.attached on.tells disk next) (faults : on.faults disk ≤ on.faults next) where
+  module _ (b : BoardState) (step : Step) (r : RecordView) (made disk next : D) (may : May dp b step) (is : record_of_step dp b step ≡ Some r) (keeps : Keeps on.attached on.tells disk next) (faults : on.faults disk ≤ on.faults next) (start : (s : FirstSync) → on.start disk ≡ Some s → on.start next ≡ Some s) where
     now-current : (tail next_tail : Tail) → IsCurrent on dp b made disk tail → IsTrue (on.tells disk) → IsTrue (on.tells next) → IsReady on.attached on.tells on.seen on.may_leave next next_tail → Acknowledges on disk next r → LeavesAtMost on disk next r
         → IsCurrent on dp (after dp b step) made next next_tail
     now-current tail next_tail cur tells tells_next ready acknowledged leaves = record {
@@ -168,8 +174,7 @@ module _ {D : Type 0} (on : Ghosts D) (dp : Dp) (laws : IsLawful dp) where
       is_open = ready.is_open tells_next;
       reads = regrouped cur.head cur.old cur.new r (on.seen next) (acknowledged tells cur.head (cur.old ++ cur.new) cur.reads);
       keep_up = with-record dp laws cur.old cur.new b step cur.keep_up may r is;
-      later = omega (arith, cur.later, (leaves tells cur.head (cur.old ++ cur.new) cur.reads).later);
-      since = fronts-longer on made disk next r cur.head cur.old cur.new tells cur.reads cur.later cur.since leaves;
+      since = fronts-longer on made disk next r cur.head cur.old cur.new tells cur.reads cur.since leaves;
     }
 
     now-broken : ((t : ℕ) (c : List ℕ) → t ≤ on.moment next → on.may_leave next c → on.left_since next t c) → (tail : Tail) → IsCurrent on dp b made disk tail → IsTrue (on.tells disk) → LeavesAtMost on disk next r → IsBroken on dp (halted b Journal) made next
@@ -183,21 +188,21 @@ module _ {D : Type 0} (on : Ghosts D) (dp : Dp) (laws : IsLawful dp) where
           from = cur.from;
           keep_up = without-record dp laws cur.old cur.new b (Halt Journal) cur.keep_up tt refl;
           added = added-record dp laws cur.old cur.new b step cur.keep_up may r is;
-          later = omega (arith, cur.later, run.later);
-          since = fronts-longer on made disk next r cur.head cur.old cur.new tells cur.reads cur.later cur.since leaves;
+          since = fronts-longer on made disk next r cur.head cur.old cur.new tells cur.reads cur.since leaves;
           left = λ c left. ⊎_elim (λ before. inl before) (λ after. inr (regrouped cur.head cur.old cur.new r c after)) (run.each c (counts_now (on.moment disk) c run.later left));
         }
 
     pub steps-kept : (tail next_tail : Option Tail) → NeedsNoJournal step → (IsSome tail → b.cause ≢ Some Journal) → KeepsJournal on dp b made disk tail → is_some next_tail ≡ is_some tail → MayAddTo on next next_tail
-        → (IsSome tail → Acknowledges on disk next r) → (IsSome tail → LeavesAtMost on disk next r) → KeepsJournal on dp (after dp b step) made next next_tail
-    steps-kept None None alone differ k same ready acknowledged leaves = goes-on dp b step alone k
-    steps-kept None (Some next_tail) alone differ k same ready acknowledged leaves = absurd (cc)
-    steps-kept (Some tail) None alone differ k same ready acknowledged leaves = absurd (cc)
-    steps-kept (Some tail) (Some next_tail) alone differ k same ready acknowledged leaves =
+        → (tail ≡ None → next ≡ disk) → (IsSome tail → Acknowledges on disk next r) → (IsSome tail → LeavesAtMost on disk next r) → KeepsJournal on dp (after dp b step) made next next_tail
+    steps-kept None None alone differ k same ready none acknowledged leaves = (goes-on dp b step alone k.0, none refl ∙ k.1)
+    steps-kept None (Some next_tail) alone differ k same ready none acknowledged leaves = absurd (cc)
+    steps-kept (Some tail) None alone differ k same ready none acknowledged leaves = absurd (cc)
+    steps-kept (Some tail) (Some next_tail) alone differ k same ready none acknowledged leaves =
         let goes = going b made disk tail (differ refl) k in
         record {
           faults = omega (arith, k.faults, faults);
           still_tells = keeps.still_tells ∙ k.still_tells;
+          start = λ s is. start s (k.start s is);
           state = inl (record {
             cause = goes-on dp b step alone goes.cause;
             is_attached = ready.is_attached;
@@ -213,6 +218,7 @@ module _ {D : Type 0} (on : Ghosts D) (dp : Dp) (laws : IsLawful dp) where
         record {
           faults = omega (arith, k.faults, faults);
           still_tells = keeps.still_tells ∙ k.still_tells;
+          start = λ s is. start s (k.start s is);
           state = inr (record {
             cause = refl;
             rose = omega (arith, k.faults, rose);
@@ -223,10 +229,11 @@ module _ {D : Type 0} (on : Ghosts D) (dp : Dp) (laws : IsLawful dp) where
   -- ---- at the making
 
   pub first-kept : (b : BoardState) (disk : D) (tail : Option Tail) → ((c : List ℕ) → on.left_since disk (on.moment disk) c → on.may_leave disk c) → b.cause ≡ None → IsBoard dp b → MayKeep on dp b disk tail → KeepsJournal on dp b disk disk tail
-  first-kept b disk None only_now cause board may = λ is. cc
+  first-kept b disk None only_now cause board may = ((λ is. cc), refl)
   first-kept b disk (Some tail) only_now cause board may = record {
     faults = omega arith;
     still_tells = refl;
+    start = λ s is. is;
     state = inl (record {
       cause = λ is. cc;
       is_attached = may.0;
@@ -238,13 +245,7 @@ module _ {D : Type 0} (on : Ghosts D) (dp : Dp) (laws : IsLawful dp) where
         is_open = j.is_open;
         reads = subst (λ rs. HasRecords j.head rs (on.seen disk)) (sym (append-nil j.records)) j.reads;
         keep_up = no-new-records dp laws j.records b board j.made;
-        later = omega arith;
-        since = λ c left. record {
-          front = [];
-          others = [];
-          parts = refl;
-          reads = subst (λ rs. HasRecords j.head rs c) (sym (append-nil j.records)) (subst (HasRecords j.head j.records) (sym (j.is_open.settled.durable c (only_now c left))) j.reads);
-        };
+        since = fronts-begun on disk j.head j.records only_now j.is_open.settled.durable j.reads;
       };
     });
   }
@@ -270,16 +271,16 @@ module _ {D : Type 0} (on : Ghosts D) (meaning : List ℤ → Dp) (old new : Boa
   same-kept made disk tail is k = seen-kept old.board made disk tail is k.lawful k.journal
 
   pub step-kept : (step : Step) (r : RecordView) (made disk next : D) (tail next_tail : Option Tail) → May (meaning old.numbers) old.board step → NeedsNoJournal step → record_of_step (meaning old.numbers) old.board step ≡ Some r → new.board ≡ after (meaning old.numbers) old.board step
-      → IsKept on (meaning old.numbers) old.board made disk tail → (IsSome tail → old.board.cause ≢ Some Journal) → is_some next_tail ≡ is_some tail → Keeps on.attached on.tells disk next → on.faults disk ≤ on.faults next → MayAddTo on next next_tail
-      → (IsSome tail → Acknowledges on disk next r) → (IsSome tail → LeavesAtMost on disk next r) → IsKept on (meaning new.numbers) new.board made next next_tail
-  step-kept step r made disk next tail next_tail may alone recorded is k differ same keeps faults ready acknowledged leaves =
+      → IsKept on (meaning old.numbers) old.board made disk tail → (IsSome tail → old.board.cause ≢ Some Journal) → is_some next_tail ≡ is_some tail → Keeps on.attached on.tells disk next → on.faults disk ≤ on.faults next → ((s : FirstSync) → on.start disk ≡ Some s → on.start next ≡ Some s) → MayAddTo on next next_tail
+      → (tail ≡ None → next ≡ disk) → (IsSome tail → Acknowledges on disk next r) → (IsSome tail → LeavesAtMost on disk next r) → IsKept on (meaning new.numbers) new.board made next next_tail
+  step-kept step r made disk next tail next_tail may alone recorded is k differ same keeps faults start ready none acknowledged leaves =
       seen-kept (after (meaning old.numbers) old.board step) made next next_tail is k.lawful
-      (steps-kept on (meaning old.numbers) k.lawful old.board step r made disk next may recorded keeps faults tail next_tail alone differ k.journal same ready acknowledged leaves)
+      (steps-kept on (meaning old.numbers) k.lawful old.board step r made disk next may recorded keeps faults start tail next_tail alone differ k.journal same ready none acknowledged leaves)
 
   pub fail-kept : ((t : ℕ) (c : List ℕ) → (disk : D) → t ≤ on.moment disk → on.may_leave disk c → on.left_since disk t c) → (step : Step) (r : RecordView) (made disk next : D) (tail next_tail : Option Tail) → May (meaning old.numbers) old.board step
       → record_of_step (meaning old.numbers) old.board step ≡ Some r → new.board ≡ halted old.board Journal
-      → IsKept on (meaning old.numbers) old.board made disk tail → (IsSome tail → old.board.cause ≢ Some Journal) → next_tail ≡ tail → IsSome tail → Rose (on.faults disk) (on.faults next) → Keeps on.attached on.tells disk next → on.faults disk ≤ on.faults next
+      → IsKept on (meaning old.numbers) old.board made disk tail → (IsSome tail → old.board.cause ≢ Some Journal) → next_tail ≡ tail → IsSome tail → Rose (on.faults disk) (on.faults next) → Keeps on.attached on.tells disk next → on.faults disk ≤ on.faults next → ((s : FirstSync) → on.start disk ≡ Some s → on.start next ≡ Some s)
       → (IsSome tail → LeavesAtMost on disk next r) → IsKept on (meaning new.numbers) new.board made next next_tail
-  fail-kept counts_now step r made disk next tail next_tail may recorded is k differ same some rose keeps faults leaves =
+  fail-kept counts_now step r made disk next tail next_tail may recorded is k differ same some rose keeps faults start leaves =
       seen-kept (halted old.board Journal) made next next_tail is k.lawful
-      (fails-kept on (meaning old.numbers) k.lawful old.board step r made disk next may recorded keeps faults tail next_tail (λ t c. counts_now t c next) differ k.journal same some rose leaves)
+      (fails-kept on (meaning old.numbers) k.lawful old.board step r made disk next may recorded keeps faults start tail next_tail (λ t c. counts_now t c next) differ k.journal same some rose leaves)

@@ -5,3 +5,4 @@ mod Keeping
 mod Moving
 mod Recorded
 mod Histories
+pub mod Sent

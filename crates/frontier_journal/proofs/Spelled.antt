@@ -3,6 +3,7 @@ use Rattle.std.proofs.Common.{◌≡◌, ℕ, ◌+◌, ◌-◌, ◌*◌, ◌^◌
 use Rattle.std.proofs.lemmas.List.Elements.{All-nil, All-cons}
 use Rattle.std.proofs.lemmas.List.Sums.{sum_by-cons}
 use Rattle.std.specs.Prelude.{All, OnOk, Result, Ok, Err}
+use Rattle.dp_laws.specs.Children.{children_size}
 use Rattle.dp_model.specs.Dp.{Dp}
 use Rattle.dp_model.specs.Subproblem.{Subproblem}
 use Rattle.dp_model.proofs.Members.{Has, each-has, Has-append-right}
@@ -18,7 +19,6 @@ use Rattle.board_laws.proofs.With.{length-with}
 use Rattle.journal_bytes.specs.Bodies.{ChildView, RecordView, Finish}
 use Rattle.journal_bytes.specs.Spelling.{child_size, IsTicket, HasSpelling}
 use Rattle.journal_replay.specs.Following.{child_recorded, recorded_beside, recorded_children, finish_record}
-use Rattle.frontier_journal.specs.Sizes.{children_size}
 
 -- a slot is full
 pub full-one : (b : BoardState) (who : ℕ) (o : Ticketed) → slot_at b who ≡ Some o → 1 ≤ length (full_slots b.slots)

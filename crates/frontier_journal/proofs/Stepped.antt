@@ -3,6 +3,7 @@ use Rattle.std.proofs.Common.{◌≡◌, ℕ, ℤ, true, cond, List, Option, Som
 use Rattle.std.proofs.lemmas.Int.{ints}
 use Rattle.dp_model.specs.Dp.{Dp}
 use Rattle.dp_model.specs.Numbers.{AtMost, is_above}
+use Rattle.dp_model.specs.Prefixes.{value_of}
 use Rattle.dp_model.specs.Subproblem.{Subproblem}
 use Rattle.shared_fringe.specs.Tickets.{Ticketed}
 use Rattle.board_laws.specs.declared.improved.Improved.{Improved}
@@ -40,6 +41,10 @@ offer-recorded dp b x v w better same =
     subst (λ z. record_of_step dp b (StepImprove x) ≡ Some (Improve z x)) (sym same)
     (subst (λ z. cond (is_above (incumbent_value b) z) (Some (Improve z x)) None ≡ Some (Improve v x)) better.solution.value
     (ap (λ up. cond up (Some (Improve v x)) None) better.above))
+
+-- which is that of the solution
+pub offer-record : (dp : Dp) (b : BoardState) (x : List ℕ) (v w : ℤ) → IsBetter dp b x v → w ≡ v → Improve w x ≡ Improve (value_of dp x) x
+offer-record dp b x v w better same = ap (λ z. Improve z x) (same ∙ better.solution.value)
 
 -- a Finish has one
 pub finish-recorded : (dp : Dp) (b : BoardState) (who : ℕ) (o : Ticketed) (threshold : Option ℤ) (cs : List Subproblem) → slot_at b who ≡ Some o → record_of_step dp b (StepFinish who threshold cs) ≡ Some (Finish o.ticket (recorded_children cs (fates_on dp b cs)))

@@ -33,8 +33,9 @@ module _ {D : Type 0} (on : Ghosts D) where
     pub reads : HasRecords head old (on.seen k.disk)
     pub durable : Only (on.seen k.disk) (on.may_leave k.disk)
 
-  -- The moves are a run. At each moment a crash has left the old records and a front of those of the run, with one more at most, at
-  -- which the disk has failed; and at the end it leaves all of those of the run.
+  -- The moves are a run. At each moment of it a crash has left the old records and a front of those of the run, with one more at
+  -- most, at which the disk has failed; since an earlier moment it has left that, or what it might have left before; and at the end
+  -- it leaves all of those of the run.
   pub record HasLeft (dp : Dp) (head : HeadView) (old : List RecordView) (first last : KeptView D) : Type 0 where
     pub steps : List Step
     pub run : IsRun dp first.board.board steps last.board.board

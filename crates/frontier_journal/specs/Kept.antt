@@ -2,6 +2,7 @@
 use Rattle.std.specs.Prelude.{◌≡◌, ◌≢◌, ◌⊎◌, ℕ, ◌≤◌, List, [], ◌∷◌, ◌++◌, Option, Some, None, IsTrue}
 use Rattle.dd_disk.specs.declared.disk.Disk.{Ghosts}
 use Rattle.dd_disk.specs.Counts.{Rose}
+use Rattle.dd_disk.specs.Disk.{FirstSync, LeavesOnly}
 use Rattle.dp_model.specs.Dp.{Dp}
 use Rattle.dp_model.specs.Laws.{IsLawful}
 use Rattle.board_laws.specs.Board.{BoardState}
@@ -33,9 +34,10 @@ module _ {D : Type 0} (on : Ghosts D) where
   MayKeep dp b disk None = Unit {0}
   MayKeep dp b disk (Some tail) = IsTrue (on.attached disk) × (IsTrue (on.tells disk) → IsJournalOf dp b (on.seen disk) (on.may_leave disk) tail)
 
-  -- A crash at any moment since the making has left the records from then and a front of the new ones.
+  -- A crash at any moment since the making has left the records from then and a front of the new ones; and one since an earlier
+  -- moment has left that, or what it might have left before the making.
   abbrev pub LeftFronts : D → D → HeadView → List RecordView → List RecordView → Type 0
-  LeftFronts made disk head old new = (c : List ℕ) → on.left_since disk (on.moment made) c → HasFront head old new c
+  LeftFronts made disk head old new = LeavesOnly on.moment on.left_since made disk (HasFront head old new)
 
   -- The journal keeps up with the board: it has the records from the making and new ones, all on the disk.
   pub record IsCurrent (dp : Dp) (b : BoardState) (made disk : D) (tail : Tail) : Type 0 where
@@ -46,7 +48,6 @@ module _ {D : Type 0} (on : Ghosts D) where
     pub is_open : IsOpen (on.seen disk) (on.may_leave disk) tail
     pub reads : HasRecords head (old ++ new) (on.seen disk)
     pub keep_up : KeepUp dp old new b
-    pub later : on.moment made ≤ on.moment disk
     pub since : LeftFronts made disk head old new
 
   -- The journal has failed at the last of the records: those before it keep up with the board, and a crash leaves them and the
@@ -59,7 +60,6 @@ module _ {D : Type 0} (on : Ghosts D) where
     pub from : HasRecords head old (on.seen made)
     pub keep_up : KeepUp dp old new b
     pub added : AreAdded dp b.settings.within old (new ++ last ∷ [])
-    pub later : on.moment made ≤ on.moment disk
     pub since : LeftFronts made disk head old (new ++ last ∷ [])
     pub left : (c : List ℕ) → on.may_leave disk c → HasRecords head (old ++ new) c ⊎ HasRecords head (old ++ (new ++ last ∷ [])) c
 
@@ -78,11 +78,12 @@ module _ {D : Type 0} (on : Ghosts D) where
   pub record HasJournal (dp : Dp) (b : BoardState) (made disk : D) (tail : Tail) : Type 0 where
     pub faults : on.faults made ≤ on.faults disk
     pub still_tells : on.tells disk ≡ on.tells made
+    pub start : (s : FirstSync) → on.start made ≡ Some s → on.start disk ≡ Some s
     pub state : Goes dp b made disk tail ⊎ HasStopped dp b made disk
 
-  -- without a journal the board is not halted for one
+  -- without a journal the board is not halted for one, and the disk is as it was at the making
   abbrev pub KeepsJournal : Dp → BoardState → D → D → Option Tail → Type 0
-  KeepsJournal dp b made disk None = b.cause ≢ Some Journal
+  KeepsJournal dp b made disk None = (b.cause ≢ Some Journal) × (disk ≡ made)
   KeepsJournal dp b made disk (Some tail) = HasJournal dp b made disk tail
 
   -- what a kept board keeps: the laws of its instance, and its journal

@@ -5,7 +5,6 @@ pub mod Records
 pub mod Kept
 pub mod Adding
 pub mod Failing
-pub mod Sizes
 -- its moves under a turn, and what they leave
 pub mod Moves
 pub mod Histories

@@ -4,13 +4,13 @@ ghost use Rattle.std.specs.Prelude.{◌≡◌, ℕ, ◌≤◌, ◌<◌, ◌^◌,
 ghost use Rattle.board_laws.specs.Fates.{fates_on};
 ghost use Rattle.board_laws.specs.Finishing.{MayFinish};
 ghost use Rattle.dd_disk.specs.Counts.{Rose};
-ghost use Rattle.dd_disk.specs.Disk.{Keeps};
+ghost use Rattle.dd_disk.specs.Disk.{FirstSync, Keeps};
+ghost use Rattle.dp_laws.specs.Children.{children_size};
 ghost use Rattle.journal_bytes.specs.Bodies.{RecordView};
 ghost use Rattle.journal_replay.specs.Following.{finish_record};
 ghost use Rattle.search_core.specs.Contents.{contents};
 ghost use Rattle.search_core.specs.View.{tag_of};
 ghost use Rattle.frontier_journal.specs.Adding.{MayAddTo, LeavesAtMost, Acknowledges};
-ghost use Rattle.frontier_journal.specs.Sizes.{children_size};
 
 use crate::error::KeptError;
 use crate::recording::record_finish;
@@ -66,6 +66,7 @@ pub fn write_finish<M: DpModel, D: Disk>(
     ensures journal { IsErrOf result KeptError.Journal → IsSome tail.old × Rose (D.faults disk.old) (D.faults disk.new) }
     ensures memory { IsErrOf result KeptError.OutOfMemory → disk.new ≡ disk.old }
     ensures faults { D.faults disk.old ≤ D.faults disk.new }
+    ensures start { (s : FirstSync) → D.start disk.old ≡ Some s → D.start disk.new ≡ Some s }
     ensures keeps { Keeps D.attached D.tells disk.old disk.new }
 {
     // What every board keeps.

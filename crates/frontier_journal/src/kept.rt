@@ -1,4 +1,4 @@
-ghost use Rattle.std.specs.Prelude.{◌≡◌, ◌≢◌, ℕ, ◌^◌, ◌<◌, ◌≤◌, [], length, slice_get, Some, None, option_map, IsSome, IfOk, OnOk, OnErr, IsErrOf};
+ghost use Rattle.std.specs.Prelude.{◌≡◌, ◌≢◌, ℕ, ◌^◌, ◌<◌, ◌≤◌, [], length, slice_get, Some, None, option_map, IsSome, IfOk, OnOk, OnErr, IsErrOf, Ok};
 ghost use Rattle.dd_disk.specs.Counts.{Rose};
 ghost use Rattle.board_laws.specs.Board.{full_slots, slot_at};
 ghost use Rattle.board_laws.specs.Fates.{fates_on};
@@ -7,10 +7,14 @@ ghost use Rattle.board_laws.specs.Improving.{ImproveGives, after_offer};
 ghost use Rattle.board_laws.specs.Steps.{finished_by, given_back, halted};
 ghost use Rattle.board_laws.specs.Taking.{take_gives, after_take, handed_out, HasFirst};
 ghost use Rattle.board_laws.specs.declared.cause.Cause.TheVariants.{Journal, Memory};
+ghost use Rattle.dp_laws.specs.Children.{children_size};
+ghost use Rattle.dp_model.specs.Prefixes.{value_of};
+ghost use Rattle.journal_bytes.specs.Bodies.{RecordView, Improve};
+ghost use Rattle.journal_replay.specs.Following.{finish_record};
 ghost use Rattle.search_core.specs.Contents.{contents};
+ghost use Rattle.frontier_journal.specs.Adding.{LeavesAtMost, Acknowledges};
 ghost use Rattle.frontier_journal.specs.Kept.{MayKeep, IsKept};
 ghost use Rattle.frontier_journal.specs.Moves.{IsMove};
-ghost use Rattle.frontier_journal.specs.Sizes.{children_size};
 ghost use Rattle.frontier_journal.specs.View.{tag_of};
 
 use crate::error::KeptError;
@@ -149,6 +153,11 @@ impl<M: DpModel, D: Disk> Kept<M, D> {
         ensures memory { IsErrOf result KeptError.OutOfMemory → self.new ≡ self.old }
         ensures tag { tag_of self.new ≡ tag_of self.old }
         ensures moves { (who : ℕ) → IsMove D.Disk M.meaning self.old self.new who }
+
+        // Where there is a journal: at Yes the record of the solution is on the disk, and a crash at any moment of the call leaves the
+        // records from before it, or these and that one.
+        ensures acknowledged { result ≡ Ok Improved.Yes → IsSome self.old.tail → Acknowledges D.Disk self.old.disk self.new.disk (Improve (value_of (M.meaning self.old.board.numbers) decisions.now) decisions.now) }
+        ensures any_moment { IsSome self.old.tail → LeavesAtMost D.Disk self.old.disk self.new.disk (Improve (value_of (M.meaning self.old.board.numbers) decisions.now) decisions.now) }
     {
         let Some(value) = self.board.better_value(decisions) else {
             return Ok(self.board.improve(decisions));
@@ -193,6 +202,11 @@ impl<M: DpModel, D: Disk> Kept<M, D> {
         ensures memory { IsErrOf result KeptError.OutOfMemory → (self.new.board.board ≡ self.old.board.board) × (self.new.disk ≡ self.old.disk) }
         ensures tag { tag_of self.new ≡ tag_of self.old }
         ensures moves { IsMove D.Disk M.meaning self.old self.new who }
+
+        // Where there is a journal: at Ok the record of the Finish is on the disk; and a crash at any moment of the call leaves the
+        // records from before it, or these and that one.
+        ensures acknowledged { OnOk result (IsSome self.old.tail → (r : RecordView) → finish_record (M.meaning self.old.board.numbers) self.old.board.board who (contents subs.old.items) ≡ Some r → Acknowledges D.Disk self.old.disk self.new.disk r) }
+        ensures any_moment { IsSome self.old.tail → (r : RecordView) → finish_record (M.meaning self.old.board.numbers) self.old.board.board who (contents subs.old.items) ≡ Some r → LeavesAtMost D.Disk self.old.disk self.new.disk r }
     {
         match write_finish(
             alloc,

@@ -1,8 +1,8 @@
 //! The records of a kept board's steps, added where there is a journal.
 
-ghost use Rattle.std.specs.Prelude.{◌≡◌, ◌≤◌, ◌<◌, ◌^◌, None, IsSome, is_some, IsOk, OnOk, OnErr, IsErrOf, length};
+ghost use Rattle.std.specs.Prelude.{◌≡◌, ◌≤◌, ◌<◌, ◌^◌, None, Some, IsSome, is_some, IsOk, OnOk, OnErr, IsErrOf, length};
 ghost use Rattle.dd_disk.specs.Counts.{Rose};
-ghost use Rattle.dd_disk.specs.Disk.{Keeps};
+ghost use Rattle.dd_disk.specs.Disk.{FirstSync, Keeps};
 ghost use Rattle.journal_bytes.specs.Bodies.{Improve, Finish};
 ghost use Rattle.journal_bytes.specs.Spelling.{HasSpelling};
 ghost use Rattle.journal_replay.specs.Following.{recorded_children};
@@ -36,6 +36,7 @@ pub fn record_improve<D: Disk>(
     ensures journal { IsErrOf result KeptError.Journal → IsSome tail.old × Rose (D.faults disk.old) (D.faults disk.new) }
     ensures memory { IsErrOf result KeptError.OutOfMemory → disk.new ≡ disk.old }
     ensures faults { D.faults disk.old ≤ D.faults disk.new }
+    ensures start { (s : FirstSync) → D.start disk.old ≡ Some s → D.start disk.new ≡ Some s }
     ensures keeps { Keeps D.attached D.tells disk.old disk.new }
 {
     let Some(end) = tail else {
@@ -66,6 +67,7 @@ pub fn record_finish<D: Disk>(
     ensures journal { IsErrOf result KeptError.Journal → IsSome tail.old × Rose (D.faults disk.old) (D.faults disk.new) }
     ensures memory { IsErrOf result KeptError.OutOfMemory → disk.new ≡ disk.old }
     ensures faults { D.faults disk.old ≤ D.faults disk.new }
+    ensures start { (s : FirstSync) → D.start disk.old ≡ Some s → D.start disk.new ≡ Some s }
     ensures keeps { Keeps D.attached D.tells disk.old disk.new }
 {
     let Some(end) = tail else {

@@ -1,8 +1,12 @@
-//! Tests of what a journal's records make of a search, over a real problem.
+//! Tests of journals in files, of what their records make of a search, and of a board that is kept in a journal, over a real problem.
 //!
 //! It stands on the crates that it tests and on the knapsack. They stay without tests of their own, so that each of their
 //! functions is proved once.
 #![tactic(auto)]
 
+#[cfg(test)]
+mod files;
+#[cfg(test)]
+mod keeping;
 #[cfg(test)]
 mod replaying;

@@ -12,7 +12,7 @@ use std::sync::Arc;
 use std::test::Fail;
 
 /// Three items in a room of 10, the root of which has the bound 121.
-const ITEMS: &[u8] = b"3 10\n60 5\n50 4\n70 6\n";
+pub(crate) const ITEMS: &[u8] = b"3 10\n60 5\n50 4\n70 6\n";
 
 /// The kinds of records.
 const HEAD: u8 = 1;
@@ -139,7 +139,7 @@ const FIRST_REPLACES_OTHER: (u8, &[u8]) = (
 type Restored = (Option<i64>, Option<i64>, bool);
 
 /// The items as a problem.
-fn items(rt: &impl Abort, alloc: Global) -> Knapsack {
+pub(crate) fn items(rt: &impl Abort, alloc: Global) -> Knapsack {
     let model = knapsack::read(alloc, ITEMS);
     assert!(rt; model.is_ok(), "the items");
     model.expect(rt, "the items")
@@ -166,7 +166,7 @@ fn file_of(alloc: Global, records: &[(u8, &[u8])]) -> Result<Vec<u8>, AllocError
 }
 
 /// The problem, to be shared.
-fn shared<M: DpModel>(alloc: Global, model: M) -> Result<Arc<M>, OutOfMemory> {
+pub(crate) fn shared<M: DpModel>(alloc: Global, model: M) -> Result<Arc<M>, OutOfMemory> {
     Ok(Arc::new(alloc, model)?)
 }
 

@@ -1,5 +1,5 @@
 -- The cause that is held some steps later.
-use Rattle.std.proofs.Common.{◌≡◌, Option, Some, None, ◌⊎◌, ⊎_elim, inl, inr, refl, subst, sym}
+use Rattle.std.proofs.Common.{◌≡◌, Option, Some, None, ⊎_elim, inl, inr, refl, subst, sym}
 use Rattle.board_laws.specs.declared.cause.Cause.{Cause}
 use Rattle.board_laws.specs.declared.cause.Cause.TheVariants.{Memory, Journal}
 use Rattle.board_laws.specs.Steps.{cause_after}

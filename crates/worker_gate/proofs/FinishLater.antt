@@ -1,31 +1,29 @@
 -- What was enough for the value that a seat saw is enough for each board whose incumbent is no less.
-use Rattle.std.proofs.Common.{◌≡◌, ℕ, ℤ, ◌≤◌, List, length, Option, Some, None, ⊎_elim, inl, inr, sym, ap, subst, ◌∙◌}
+use Rattle.std.proofs.Common.{◌≡◌, ℕ, ℤ, List, Option, Some, None, ⊎_elim, inl, inr, sym, subst, ◌∙◌}
 use Rattle.std.specs.Int.Signed.{≤ℤ_refl}
 use Rattle.board_lock.specs.Order.{NoLess}
 use Rattle.dp_model.specs.Cover.{IsHeld}
 use Rattle.dp_model.specs.Dp.{Dp}
-use Rattle.dp_model.specs.Lists.{Each}
 use Rattle.dp_model.specs.Numbers.{AtMost, OptionAtMost}
 use Rattle.dp_model.specs.Prefixes.{IsSolution, value_of}
-use Rattle.dp_model.specs.Subproblem.{Subproblem, IsOwn, IsChild}
+use Rattle.dp_model.specs.Subproblem.{Subproblem}
 use Rattle.dp_model.proofs.Members.{Each-then}
 use Rattle.dp_laws.specs.Children.{AreChildren, StandDeep}
 use Rattle.dp_laws.specs.Restricted.Beams.{wide}
 use Rattle.dp_laws.proofs.Reaches.{at-most-raised}
 use Rattle.board_laws.specs.declared.fate.Fate.{Fate}
-use Rattle.board_laws.specs.Board.{BoardState, incumbent_value, reach, full_slots}
+use Rattle.board_laws.specs.Board.{BoardState, incumbent_value, reach}
 use Rattle.board_laws.specs.Fates.{fates_on}
 use Rattle.board_laws.specs.Finishing.{MayFinish}
 use Rattle.board_laws.specs.GoodBoard.{IsBoard}
 use Rattle.board_laws.proofs.Carrying.{reach-above}
-use Rattle.board_laws.proofs.Running.{option-then, better-offered, step-follows}
+use Rattle.board_laws.proofs.Running.{option-then}
 use Rattle.board_laws.specs.Improving.{ImproveGives, after_offer}
-use Rattle.board_laws.specs.Runs.Step.{Improve}
 use Rattle.board_laws.specs.declared.improved.Improved.{Improved}
 use Rattle.board_laws.specs.declared.improved.Improved.TheVariants.{Yes, NotBetter, NoSolution}
 use Rattle.search_core.specs.Moves.{out_at}
 use Rattle.worker_gate.specs.FinishLater.{MayFinishLater}
-use Rattle.worker_gate.proofs.Slots.{full_of, some_full}
+use Rattle.worker_gate.proofs.Slots.{full_of}
 
 pub at-most-of : (a b : Option ℤ) → NoLess a b → OptionAtMost a b
 at-most-of None b h = tt

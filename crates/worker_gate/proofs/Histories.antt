@@ -2,7 +2,6 @@
 use Rattle.std.proofs.Common.{◌≡◌, ℕ, ℤ, List, [], ◌∷◌, Option, Some, None, refl, sym, ap, subst, inr, ⊎_elim, ◌∙◌, length, set, length-set}
 use Rattle.board_lock.specs.History.{Moved, HasMoved}
 use Rattle.dp_model.specs.Dp.{Dp}
-use Rattle.board_laws.specs.declared.cause.Cause.{Cause}
 use Rattle.board_laws.specs.declared.cause.Cause.TheVariants.{Budget, Memory, Journal}
 use Rattle.board_laws.specs.declared.taken.Taken.{Taken}
 use Rattle.board_laws.specs.declared.taken.Taken.TheVariants.{Sub, WaitForOthers, Finished, Halted}

@@ -10,7 +10,7 @@ mod LaterKept
 mod Moves
 mod Offers
 mod Refusing
-mod Sent
+pub mod Sent
 mod Sizing
 mod Slots
 mod TakenOut

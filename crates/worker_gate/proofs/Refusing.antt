@@ -1,5 +1,5 @@
 -- Steps that are refused, and a step that finishes, after offers.
-use Rattle.std.proofs.Common.{◌≡◌, ℕ, ℤ, List, [], ◌∷◌, ◌++◌, slice_set, slice_get, Option, Some, None, option_map, refl, sym, ◌∙◌, ap, subst}
+use Rattle.std.proofs.Common.{◌≡◌, ℤ, List, [], ◌∷◌, ◌++◌, slice_set, slice_get, Option, Some, None, option_map, refl, sym, ◌∙◌, ap, subst}
 use Rattle.std.specs.Prelude.{IsSome, Result, Ok, Err, OnOk, IfErr}
 use Rattle.std.specs.Result.{IsErrAnd}
 use Rattle.dp_model.specs.Dp.{Dp}

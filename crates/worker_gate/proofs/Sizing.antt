@@ -1,5 +1,5 @@
 -- A list with room for the frontier has room for the last exact layer.
-use Rattle.std.proofs.Common.{◌≡◌, ℕ, ◌*◌, ◌≤◌, arith, mul_comm, le-mul_of_pos_right}
+use Rattle.std.proofs.Common.{ℕ, ◌*◌, ◌≤◌, arith, mul_comm, le-mul_of_pos_right}
 use Rattle.dp_model.specs.Dp.{Dp}
 use Rattle.dp_model.specs.declared.cut_kind.CutKind.TheVariants.{LastExactLayer, Frontier}
 use Rattle.exact_cutset.specs.Prepared.{IsListPreparedFor}

@@ -1,5 +1,5 @@
 -- Which children a round takes of a diagram.
-use Rattle.std.specs.Prelude.{ℕ, cond, ◌^◌, nat_lt, List}
+use Rattle.std.specs.Prelude.{cond, ◌^◌, nat_lt, List}
 use Rattle.dp_model.specs.Dp.{Dp}
 use Rattle.dp_model.specs.Subproblem.{Subproblem}
 use Rattle.dp_model.specs.declared.cut_kind.CutKind.{CutKind}

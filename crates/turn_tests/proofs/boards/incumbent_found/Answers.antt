@@ -1,6 +1,6 @@
 use denote.Param.Send.{sendable}
 use Rattle.std.proofs.Crossing.{crosses}
-use Rattle.turn_tests.proofs.Sent.{kept_send}
+use Rattle.frontier_journal.proofs.Sent.{kept_send}
 use Rattle.turn_tests.proofs.boards.incumbent_found.Goals as goal
 
 pub hold-guard-requires-send-V : goal.hold-guard-requires-send-V

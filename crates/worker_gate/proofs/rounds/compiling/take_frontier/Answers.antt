@@ -1,5 +1,5 @@
 use Rattle.std.proofs.Common.{arith}
-use Rattle.dp_model.specs.declared.cut_kind.CutKind.TheVariants.{LastExactLayer, Frontier}
+use Rattle.dp_model.specs.declared.cut_kind.CutKind.TheVariants.{Frontier}
 use Rattle.worker_gate.proofs.Sizing.{last_prepared}
 use Rattle.worker_gate.proofs.rounds.compiling.take_frontier.Goals as goal
 

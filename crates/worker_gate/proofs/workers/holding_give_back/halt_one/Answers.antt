@@ -1,6 +1,6 @@
 use denote.Param.Send.{sendable}
 use Rattle.std.proofs.Crossing.{crosses}
-use Rattle.worker_gate.proofs.Sent.{kept_send}
+use Rattle.frontier_journal.proofs.Sent.{kept_send}
 use Rattle.std.proofs.Common.{rules, inr}
 use Rattle.worker_gate.proofs.Moves.{may_leave}
 use Rattle.worker_gate.proofs.workers.holding_give_back.halt_one.Goals as goal

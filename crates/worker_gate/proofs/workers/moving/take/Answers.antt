@@ -1,10 +1,9 @@
-use Rattle.std.proofs.Common.{sym, ap, subst, ◌∙◌}
+use Rattle.std.proofs.Common.{ap, subst, ◌∙◌}
 use Rattle.dp_model.specs.Laws.{IsLawful}
 use Rattle.board_laws.specs.GoodBoard.{IsBoard}
 use Rattle.frontier_journal.specs.declared.tag.KeptTag.{KeptTag}
 use Rattle.search_core.specs.Moves.{out_at}
 use Rattle.search_core.specs.View.{BoardView}
-use Rattle.worker_gate.specs.Ready.{TakenOut}
 use Rattle.worker_gate.proofs.TakenOut.{taken_out, can_hold}
 use Rattle.worker_gate.proofs.workers.moving.take.Given as given
 use Rattle.worker_gate.proofs.workers.moving.take.Goals as goal

@@ -1,6 +1,6 @@
 use denote.Param.Send.{sendable}
 use Rattle.std.proofs.Crossing.{crosses}
-use Rattle.worker_gate.proofs.Sent.{kept_send}
+use Rattle.frontier_journal.proofs.Sent.{kept_send}
 use Rattle.std.proofs.Common.{arith}
 use Rattle.board_lock.proofs.Numbers.{length_is, nothing_out}
 use Rattle.board_lock.specs.Seats.{first_of, seats_of}

@@ -1,6 +1,6 @@
 use denote.Param.Send.{sendable}
 use Rattle.std.proofs.Crossing.{crosses}
-use Rattle.worker_gate.proofs.Sent.{kept_send}
+use Rattle.frontier_journal.proofs.Sent.{kept_send}
 use Rattle.std.proofs.Common.{ap, ◌∙◌}
 use Rattle.frontier_journal.specs.View.{KeptView}
 use Rattle.worker_gate.proofs.Idle.{nothing_at, ready}

@@ -1,6 +1,7 @@
 use denote.Param.Send.{sendable}
 use Rattle.std.proofs.Crossing.{crosses}
-use Rattle.worker_gate.proofs.Sent.{kept_send, seat_send, turn_sync}
+use Rattle.frontier_journal.proofs.Sent.{kept_send}
+use Rattle.worker_gate.proofs.Sent.{seat_send, turn_sync}
 use Rattle.std.proofs.Common.{rules, ◌≡◌, subst, sym, ap, ◌∙◌}
 use Rattle.board_lock.specs.Seats.{first_of, number_of}
 use Rattle.board_lock.specs.declared.turn.Seat.{Seat}

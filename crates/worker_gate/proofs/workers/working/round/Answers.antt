@@ -1,6 +1,6 @@
 use denote.Param.Send.{sendable}
 use Rattle.std.proofs.Crossing.{crosses}
-use Rattle.worker_gate.proofs.Sent.{kept_send}
+use Rattle.frontier_journal.proofs.Sent.{kept_send}
 use Rattle.worker_gate.proofs.workers.working.round.Goals as goal
 
 pub wait_turn-requires-send-V : goal.wait_turn-requires-send-V

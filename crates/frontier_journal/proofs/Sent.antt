@@ -2,14 +2,14 @@
 use denote.RattleType.{RattleType}
 use denote.Param.Send.{IsSend, IsSync, sendable}
 use Rattle.std.proofs.Crossing.{crosses}
-use Rattle.dominance_table.specs.contracts.table.Table as Table
 use Rattle.dd_disk.specs.declared.disk.Disk as disks
+use Rattle.dominance_table.specs.contracts.table.Table as Table
 use Rattle.dp_model.specs.declared.model.DpModel as models
-use Rattle.frontier_journal.specs.contracts.kept.Kept as Kept
 use Rattle.search_core.specs.contracts.board.Board as Board
 use Rattle.search_core.specs.contracts.first.FirstBoard as First
 use Rattle.shared_fringe.specs.contracts.fringe.Fringe as Fringe
 use Rattle.shared_fringe.specs.contracts.index.Index as Index
+use Rattle.frontier_journal.specs.contracts.kept.Kept as Kept
 
 index_send : IsSend Index.the_row
 index_send = search (sendable, crosses) depth 40 fits 4000
