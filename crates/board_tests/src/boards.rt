@@ -23,6 +23,54 @@ const THREE_ITEMS: &[u8] = b"3 10\n60 5\n50 4\n70 6\n";
 /// Two items that fit together, with a profit of 110.
 const TWO_ITEMS: &[u8] = b"2 9\n60 5\n50 4\n";
 
+/// What the readers of a board for one worker show.
+#[derive(Clone, Copy, Debug, PartialEq)]
+struct Shown {
+    bound: Option<i64>,
+    incumbent: Option<i64>,
+    out: Option<u64>,
+    taken: u64,
+    finished: u64,
+    cause: Option<Cause>,
+    explored: bool,
+}
+
+/// The first board of the three items.
+const AT_FIRST: Shown = Shown {
+    bound: Some(121),
+    incumbent: None,
+    out: None,
+    taken: 0,
+    finished: 0,
+    cause: None,
+    explored: false,
+};
+
+/// What the board shows.
+fn seen<M: DpModel>(board: &Board<M>) -> Shown {
+    // Each board is for one worker at least.
+    let incumbent = board.incumbent_value();
+    Shown {
+        bound: board.bound(),
+        incumbent,
+        out: board.slot_ticket(0),
+        taken: board.taken(),
+        finished: board.finished(),
+        cause: board.cause(),
+        explored: board.is_explored(),
+    }
+}
+
+/// What the board shows at the end. Only here is a board dropped, which takes most of a proof's time.
+fn last_seen<M: DpModel>(board: Board<M>) -> Shown {
+    seen(&board)
+}
+
+/// Stops the test where a board does not show what is wanted.
+fn shows(rt: &impl Abort, found: Shown, wanted: Shown) {
+    assert_eq!(rt; found, wanted);
+}
+
 /// The items as a problem.
 fn items(rt: &impl Abort, alloc: Global, text: &[u8]) -> Knapsack {
     assert!(rt; text.len() < 100, "the items");
@@ -40,7 +88,6 @@ fn first_board<M: DpModel>(
 ) -> Result<Board<M>, OutOfMemory>
     requires least { pos 0 ≤ℤ within }
     requires most { within ≤ℤ pos (2 ^ 50) }
-    ensures workers { IfOk result (λ b. length b.board.slots ≡ 1) }
     ensures empty { IfOk result (λ b. slice_get b.board.slots 0 ≡ Some None) }
     ensures numbers { IfOk result (λ b. b.numbers ≡ M.numbers model) }
     ensures good { IfOk result (λ b. IsGood (M.meaning b.numbers) b.first) }
@@ -56,21 +103,25 @@ fn first_board<M: DpModel>(
     Board::begin(alloc, model, settings)
 }
 
-/// That board once the worker has asked for the root.
-fn root_taken<M: DpModel>(alloc: Global, model: M) -> Result<Board<M>, OutOfMemory>
-    ensures workers { IfOk result (λ b. length b.board.slots ≡ 1) }
-    ensures good { IfOk result (λ b. IsGood (M.meaning b.numbers) b.first) }
+/// That board once the worker has asked for the root, with the answer and the bound of what the worker got.
+fn root_taken<M: DpModel>(
+    alloc: Global,
+    model: M,
+    budget: u64,
+) -> Result<(Board<M>, Taken, i64), OutOfMemory>
+    ensures { IfOk result (λ r. IsGood (M.meaning r.0.numbers) r.0.first) }
 {
     let mut into = Sub::blank(alloc, model.vars(), model.words())?;
-    let mut board = first_board(alloc, model, 1, 0)?;
-    let _ = board.take(0, &mut into);
-    Ok(board)
+    let mut board = first_board(alloc, model, budget, 0)?;
+    let answer = board.take(0, &mut into);
+    Ok((board, answer, into.bound))
 }
 
 fn is_out<M: DpModel>(board: &Board<M>) -> bool
-    requires { 0 < length board.now.board.slots }
     ensures { IsTrue result → IsSome (slot_at board.now.board 0) }
 {
+    // Each board is for one worker at least.
+    let _ = board.incumbent_value();
     board.slot_ticket(0).is_some()
 }
 
@@ -98,6 +149,101 @@ fn finish_childless<M: DpModel>(alloc: Global, board: &mut Board<M>)
     let _ = board.incumbent_value();
     let mut subs = Vec::new(alloc);
     board.finish(0, None, &mut subs, &[]);
+}
+
+/// The board answers the offer so.
+fn answers<M: DpModel>(rt: &impl Abort, board: &mut Board<M>, decisions: &[u32], wanted: Improved)
+    ensures numbers { board.new.numbers ≡ board.old.numbers }
+    ensures first { board.new.first ≡ board.old.first }
+{
+    assert_eq!(rt; board.improve(decisions), wanted, "of {decisions:?}");
+}
+
+/// The board answers each offer so.
+fn answer_all<M: DpModel>(rt: &impl Abort, board: &mut Board<M>, offers: &[(&[u32], Improved)]) {
+    for (decisions, answer) in offers.iter().copied() {
+        answers(rt, board, decisions, answer);
+    }
+}
+
+/// These decisions are the incumbent's.
+fn is_incumbent<M: DpModel>(rt: &impl Abort, board: &Board<M>, best: &[u32]) {
+    let found = board.incumbent().map(|found| found.decisions);
+    assert_eq!(rt; found, Some(best));
+}
+
+/// What the first board shows.
+fn at_first<M: DpModel>(alloc: Global, model: M) -> Result<Shown, OutOfMemory> {
+    let board = first_board(alloc, model, 1, 0)?;
+    Ok(last_seen(board))
+}
+
+/// What the board shows once the worker has asked for the root, with the answer and the bound of what the worker got.
+fn after_asking<M: DpModel>(
+    alloc: Global,
+    model: M,
+    budget: u64,
+) -> Result<(Taken, i64, Shown), OutOfMemory> {
+    let (board, answer, bound) = root_taken(alloc, model, budget)?;
+    Ok((answer, bound, last_seen(board)))
+}
+
+/// What the board shows after the offers, by which these decisions are the incumbent's.
+fn after_offers<M: DpModel>(
+    rt: &impl Abort,
+    alloc: Global,
+    model: M,
+    within: u32,
+    offers: &[(&[u32], Improved)],
+    best: &[u32],
+) -> Result<Shown, OutOfMemory> {
+    let mut board = first_board(alloc, model, 1, i64::from(within))?;
+    answer_all(rt, &mut board, offers);
+    is_incumbent(rt, &board, best);
+    Ok(last_seen(board))
+}
+
+/// What the board shows once the worker with the root is halted, and after it is handed back.
+fn after_halt<M: DpModel>(
+    rt: &impl Abort,
+    alloc: Global,
+    model: M,
+) -> Result<(Shown, Shown), OutOfMemory> {
+    let (mut board, _answer, _bound) = root_taken(alloc, model, 1)?;
+    board.halt(Cause::Memory);
+    let halted = seen(&board);
+    assert!(rt; is_out(&board) && is_halted(&board));
+    board.give_back(0);
+    Ok((halted, last_seen(board)))
+}
+
+/// The worker offers the best solution, and finishes without children.
+fn finish_by<M: DpModel>(
+    rt: &impl Abort,
+    alloc: Global,
+    board: &mut Board<M>,
+    best: &[u32],
+) -> Result<(), OutOfMemory>
+    requires { IsGood (M.meaning board.old.numbers) board.old.first }
+{
+    answers(rt, board, best, Improved::Yes);
+    board.reserve_for(3)?;
+    assert!(rt; is_closed(board) && is_out(board));
+    finish_childless(alloc, board);
+    Ok(())
+}
+
+/// What the board shows once the root is finished by the best solution.
+fn after_finish<M: DpModel>(
+    rt: &impl Abort,
+    alloc: Global,
+    model: M,
+    best: &[u32],
+) -> Result<Shown, OutOfMemory> {
+    let (mut board, _answer, _bound) = root_taken(alloc, model, 1)?;
+    let ended = finish_by(rt, alloc, &mut board, best);
+    let found = last_seen(board);
+    ended.map(|()| found)
 }
 
 /// The root as the only subproblem of a list, with ticket 0 and a bound.
@@ -142,99 +288,118 @@ fn restored_at_the_end<M: DpModel>(
     Board::restore(alloc, model, settings, None, listed, u64::MAX)
 }
 
+/// What that board shows once the worker has asked, with the answer.
+fn after_the_end<M: DpModel>(
+    rt: &impl Abort,
+    alloc: Global,
+    model: M,
+) -> Result<(Taken, Shown), OutOfMemory> {
+    assert!(rt; model.vars() > 0);
+    let mut into = Sub::blank(alloc, model.vars(), model.words())?;
+    let mut board = restored_at_the_end(alloc, model, 121)?;
+    let answer = board.take(0, &mut into);
+    Ok((answer, last_seen(board)))
+}
+
 #[test]
 fn takes_nothing_where_tickets_come_to_their_end(rt: HostRuntime) -> Result<(), Fail> {
     let model = items(&rt, rt.alloc(), THREE_ITEMS);
-    assert!(rt; model.vars() > 0);
-    let mut into = Sub::blank(rt.alloc(), model.vars(), model.words())?;
-    let mut board = restored_at_the_end(rt.alloc(), model, 121)?;
-    assert_eq!(rt; board.bound(), Some(121));
-    assert_eq!(rt; board.take(0, &mut into), Taken::Halted(Cause::Budget));
-    assert_eq!(rt; board.taken(), 0);
+    let found = after_the_end(&rt, rt.alloc(), model)?;
+    assert_eq!(rt; found, (Taken::Halted(Cause::Budget), AT_FIRST));
+    Ok(())
+}
+
+#[test]
+fn begins_with_the_root(rt: HostRuntime) -> Result<(), Fail> {
+    let model = items(&rt, rt.alloc(), THREE_ITEMS);
+    shows(&rt, at_first(rt.alloc(), model)?, AT_FIRST);
     Ok(())
 }
 
 #[test]
 fn takes_the_root(rt: HostRuntime) -> Result<(), Fail> {
     let model = items(&rt, rt.alloc(), THREE_ITEMS);
-    let mut into = Sub::blank(rt.alloc(), model.vars(), model.words())?;
-    let mut board = first_board(rt.alloc(), model, 1, 0)?;
-    assert_eq!(rt; board.bound(), Some(121));
-    assert_eq!(rt; board.incumbent_value(), None);
-    assert_eq!(rt; board.take(0, &mut into), Taken::Sub);
-    assert_eq!(rt; into.bound, 121);
-    assert_eq!(rt; board.slot_ticket(0), Some(0));
-    assert_eq!(rt; board.taken(), 1);
-    assert_eq!(rt; board.finished(), 0);
-    assert!(rt; !board.is_explored());
+    let found = after_asking(rt.alloc(), model, 1)?;
+    let wanted = Shown {
+        out: Some(0),
+        taken: 1,
+        ..AT_FIRST
+    };
+    assert_eq!(rt; found, (Taken::Sub, 121, wanted));
     Ok(())
 }
 
 #[test]
 fn a_budget_of_none_is_taken_up(rt: HostRuntime) -> Result<(), Fail> {
     let model = items(&rt, rt.alloc(), THREE_ITEMS);
-    let mut into = Sub::blank(rt.alloc(), model.vars(), model.words())?;
-    let mut board = first_board(rt.alloc(), model, 0, 0)?;
-    assert_eq!(rt; board.take(0, &mut into), Taken::Halted(Cause::Budget));
+    let (answer, _bound, found) = after_asking(rt.alloc(), model, 0)?;
+    assert_eq!(rt; (answer, found), (Taken::Halted(Cause::Budget), AT_FIRST));
     Ok(())
 }
+
+const OFFERS: &[(&[u32], Improved)] = &[
+    (&[1, 0], Improved::Yes),
+    (&[0, 1], Improved::NotBetter),
+    (&[1], Improved::NoSolution),
+    (&[1, 2], Improved::NoSolution),
+    (&[1, 1], Improved::Yes),
+];
 
 #[test]
 fn offers(rt: HostRuntime) -> Result<(), Fail> {
     let model = items(&rt, rt.alloc(), TWO_ITEMS);
-    let mut board = first_board(rt.alloc(), model, 1, 0)?;
-    let cases = [
-        (&[1u32, 0][..], Improved::Yes),
-        (&[0, 1], Improved::NotBetter),
-        (&[1], Improved::NoSolution),
-        (&[1, 2], Improved::NoSolution),
-        (&[1, 1], Improved::Yes),
-    ];
-    for (decisions, answer) in cases {
-        assert_eq!(rt; board.improve(decisions), answer);
-    }
-    assert_eq!(rt; board.incumbent_value(), Some(110));
-    assert_eq!(rt; board.bound(), Some(110));
-    assert!(rt; board.is_explored());
-    let Some(found) = board.incumbent() else {
-        return Err(Fail::from("no incumbent"));
+    let found = after_offers(&rt, rt.alloc(), model, 0, OFFERS, &[1, 1])?;
+    let wanted = Shown {
+        bound: Some(110),
+        incumbent: Some(110),
+        explored: true,
+        ..AT_FIRST
     };
-    assert_eq!(rt; found.decisions, [1u32, 1].as_slice());
+    shows(&rt, found, wanted);
     Ok(())
 }
 
 #[test]
 fn a_distance_ends_the_search_early(rt: HostRuntime) -> Result<(), Fail> {
     let model = items(&rt, rt.alloc(), THREE_ITEMS);
-    let mut board = first_board(rt.alloc(), model, 1, 1)?;
-    assert_eq!(rt; board.improve(&[0, 1, 1]), Improved::Yes);
-    assert_eq!(rt; board.incumbent_value(), Some(120));
-    assert_eq!(rt; board.bound(), Some(121));
-    assert!(rt; board.is_explored());
+    let best: &[u32] = &[0, 1, 1];
+    let found = after_offers(&rt, rt.alloc(), model, 1, &[(best, Improved::Yes)], best)?;
+    let wanted = Shown {
+        incumbent: Some(120),
+        explored: true,
+        ..AT_FIRST
+    };
+    shows(&rt, found, wanted);
     Ok(())
 }
 
 #[test]
 fn halts_and_gives_back(rt: HostRuntime) -> Result<(), Fail> {
-    let mut board = root_taken(rt.alloc(), items(&rt, rt.alloc(), THREE_ITEMS))?;
-    board.halt(Cause::Memory);
-    assert_eq!(rt; board.cause(), Some(Cause::Memory));
-    assert!(rt; is_out(&board) && is_halted(&board));
-    board.give_back(0);
-    assert!(rt; board.slot(0).is_none());
-    assert_eq!(rt; board.bound(), Some(121));
+    let model = items(&rt, rt.alloc(), THREE_ITEMS);
+    let (halted, given_back) = after_halt(&rt, rt.alloc(), model)?;
+    let wanted = Shown {
+        taken: 1,
+        cause: Some(Cause::Memory),
+        ..AT_FIRST
+    };
+    shows(&rt, given_back, wanted);
+    let out = Some(0);
+    shows(&rt, halted, Shown { out, ..wanted });
     Ok(())
 }
 
 #[test]
 fn finishes(rt: HostRuntime) -> Result<(), Fail> {
-    let mut board = root_taken(rt.alloc(), items(&rt, rt.alloc(), TWO_ITEMS))?;
-    assert_eq!(rt; board.improve(&[1, 1]), Improved::Yes);
-    board.reserve_for(3)?;
-    assert!(rt; is_closed(&board));
-    assert!(rt; is_out(&board));
-    finish_childless(rt.alloc(), &mut board);
-    assert_eq!(rt; board.finished(), 1);
-    assert!(rt; board.is_explored());
+    let model = items(&rt, rt.alloc(), TWO_ITEMS);
+    let found = after_finish(&rt, rt.alloc(), model, &[1, 1])?;
+    let wanted = Shown {
+        bound: Some(110),
+        incumbent: Some(110),
+        taken: 1,
+        finished: 1,
+        explored: true,
+        ..AT_FIRST
+    };
+    shows(&rt, found, wanted);
     Ok(())
 }

@@ -6,6 +6,7 @@ ghost use Rattle.dp_model.specs.Lists.{Each};
 use dp_model::Sub;
 use shared_fringe::{Fringe, FringeFate, Same};
 use std::alloc::{AllocError, Global};
+use std::process::Abort;
 use std::test::Fail;
 
 /// A subproblem of depth 1 with this state, value and bound.
@@ -32,21 +33,38 @@ fn push_later(fringe: &mut Fringe, ticket: u64, sub: Sub) -> Result<FringeFate, 
     Ok(fringe.push(ticket, sub))
 }
 
-/// Pushes subproblems of these states, values and bounds under the tickets from 0 on.
+/// A state, a value and a bound, and the fate of the subproblem that has them.
+type Push = (i64, i64, i64, FringeFate);
+
+/// Pushes the subproblems under the tickets from 0 on. They have their fates.
 fn push_all(
+    rt: &impl Abort,
     alloc: Global,
     fringe: &mut Fringe,
-    subs: &[(i64, i64, i64)],
-) -> Result<Vec<FringeFate>, AllocError>
+    pushes: &[Push],
+) -> Result<(), AllocError>
     requires { Each (λ o. o.ticket < 0) fringe.old.open_ones }
 {
-    let mut fates = Vec::new(alloc);
-    for place in 0..subs.len() {
-        let (state, value, bound) = subs[place];
+    for place in 0..pushes.len() {
+        let (state, value, bound, wanted) = pushes[place];
         let one = sub(alloc, state, value, bound)?;
-        fates.push(push_later(fringe, place as u64, one)?)?;
+        let fate = push_later(fringe, place as u64, one)?;
+        assert_eq!(rt; fate, wanted, "at {place}");
     }
-    Ok(fates)
+    Ok(())
+}
+
+/// Nothing is open, and there is no room.
+fn is_new(rt: &impl Abort, fringe: &Fringe) {
+    assert_eq!(rt; (fringe.spare(), fringe.best_bound()), (0, None));
+}
+
+/// A new fringe after these pushes.
+fn filled(rt: &impl Abort, alloc: Global, pushes: &[Push]) -> Result<Fringe, AllocError> {
+    let mut fringe = Fringe::new(alloc, 1);
+    is_new(rt, &fringe);
+    push_all(rt, alloc, &mut fringe, pushes)?;
+    Ok(fringe)
 }
 
 /// The ticket of what is popped.
@@ -55,31 +73,55 @@ fn popped(fringe: &mut Fringe) -> Option<u64> {
     Some(ticket)
 }
 
+/// These tickets are popped.
+fn pops(rt: &impl Abort, fringe: &mut Fringe, tickets: &[u64]) {
+    for ticket in tickets {
+        assert_eq!(rt; popped(fringe), Some(*ticket));
+    }
+}
+
+/// Whether nothing is left. Only here and where it can't be filled is a fringe dropped, which takes most of a proof's time.
+fn ends(mut fringe: Fringe) -> bool {
+    popped(&mut fringe).is_none() && fringe.is_empty()
+}
+
+/// These tickets are popped, and then nothing is left.
+fn empties(rt: &impl Abort, mut fringe: Fringe, tickets: &[u64]) {
+    pops(rt, &mut fringe, tickets);
+    assert!(rt; ends(fringe));
+}
+
+/// The open one of a depth and a state of one cell is this one.
+fn has_same(rt: &impl Abort, fringe: &Fringe, depth: usize, cell: i64, wanted: Option<Same>) {
+    assert!(rt; fringe.words() == 1);
+    assert_eq!(rt; fringe.same(depth, &[cell]), wanted);
+}
+
+/// How many are open, and the greatest bound.
+fn counts(rt: &impl Abort, fringe: &Fringe, wanted: (usize, Option<i64>)) {
+    assert_eq!(rt; (fringe.len(), fringe.best_bound()), wanted);
+}
+
+const OF_ONE_STATE: &[Push] = &[
+    (9, 0, 3, FringeFate::Entered),
+    (5, 60, 121, FringeFate::Entered),
+    (5, 50, 121, FringeFate::Kept { by: 1 }),
+    (5, 70, 121, FringeFate::Replaced { old: 1 }),
+];
+
+/// What is open of the state that was pushed again and again.
+const GREATEST: Same = Same {
+    ticket: 3,
+    value: 70,
+};
+
 #[test]
 fn pushes_of_one_state(rt: HostRuntime) -> Result<(), Fail> {
-    let mut fringe = Fringe::new(rt.alloc(), 1);
-    assert_eq!(rt; fringe.spare(), 0);
-    assert_eq!(rt; fringe.best_bound(), None);
-    let subs = [(9i64, 0i64, 3i64), (5, 60, 121), (5, 50, 121), (5, 70, 121)];
-    let fates = push_all(rt.alloc(), &mut fringe, subs.as_slice())?;
-    let expected = [
-        FringeFate::Entered,
-        FringeFate::Entered,
-        FringeFate::Kept { by: 1 },
-        FringeFate::Replaced { old: 1 },
-    ];
-    assert_eq!(rt; fates.as_slice(), expected.as_slice());
-    let same = Same {
-        ticket: 3,
-        value: 70,
-    };
-    assert!(rt; fringe.words() == 1);
-    assert_eq!(rt; fringe.same(1, &[5]), Some(same));
-    assert_eq!(rt; fringe.same(2, &[5]), None);
-    assert_eq!(rt; fringe.same(1, &[4]), None);
-    assert_eq!(rt; popped(&mut fringe), Some(3));
-    assert_eq!(rt; popped(&mut fringe), Some(0));
-    assert_eq!(rt; popped(&mut fringe), None);
+    let fringe = filled(&rt, rt.alloc(), OF_ONE_STATE)?;
+    has_same(&rt, &fringe, 1, 5, Some(GREATEST));
+    has_same(&rt, &fringe, 2, 5, None);
+    has_same(&rt, &fringe, 1, 4, None);
+    empties(&rt, fringe, &[3, 0]);
     Ok(())
 }
 
@@ -94,37 +136,49 @@ fn tickets_and_values(alloc: Global, fringe: &Fringe) -> Result<Vec<(u64, i64)>,
     Ok(pairs)
 }
 
-#[test]
-fn lists_by_ticket(rt: HostRuntime) -> Result<(), Fail> {
-    let mut fringe = Fringe::new(rt.alloc(), 1);
-    // the last one takes the place in memory of the first
-    let subs = [(5i64, 60i64, 121i64), (10, 0, 120), (5, 70, 121)];
-    let fates = push_all(rt.alloc(), &mut fringe, subs.as_slice())?;
-    assert!(rt; fates.last() == Some(&FringeFate::Replaced { old: 0 }));
-    let pairs = tickets_and_values(rt.alloc(), &fringe)?;
-    assert_eq!(rt; pairs.as_slice(), [(1, 0), (2, 70)].as_slice());
+/// The list by ticket has these tickets and values.
+fn lists(
+    rt: &impl Abort,
+    alloc: Global,
+    fringe: &Fringe,
+    wanted: &[(u64, i64)],
+) -> Result<(), AllocError> {
+    let pairs = tickets_and_values(alloc, fringe)?;
+    assert_eq!(rt; pairs.as_slice(), wanted);
     Ok(())
 }
 
+/// The last one takes the place in memory of the first.
+const IN_ONE_PLACE: &[Push] = &[
+    (5, 60, 121, FringeFate::Entered),
+    (10, 0, 120, FringeFate::Entered),
+    (5, 70, 121, FringeFate::Replaced { old: 0 }),
+];
+
+#[test]
+fn lists_by_ticket(rt: HostRuntime) -> Result<(), Fail> {
+    let fringe = filled(&rt, rt.alloc(), IN_ONE_PLACE)?;
+    let listed = lists(&rt, rt.alloc(), &fringe, &[(1, 0), (2, 70)]);
+    empties(&rt, fringe, &[2, 1]);
+    listed?;
+    Ok(())
+}
+
+const OF_MANY_BOUNDS: &[Push] = &[
+    (1, 5, 12, FringeFate::Entered),
+    (2, 5, 10, FringeFate::Entered),
+    (3, 5, 9, FringeFate::Entered),
+    (4, 7, 12, FringeFate::Entered),
+    (5, 5, 12, FringeFate::Entered),
+];
+
 #[test]
 fn pops_in_order(rt: HostRuntime) -> Result<(), Fail> {
-    let mut fringe = Fringe::new(rt.alloc(), 1);
-    let subs = [
-        (1i64, 5i64, 12i64),
-        (2, 5, 10),
-        (3, 5, 9),
-        (4, 7, 12),
-        (5, 5, 12),
-    ];
-    let fates = push_all(rt.alloc(), &mut fringe, subs.as_slice())?;
-    assert_eq!(rt; fates.as_slice(), [FringeFate::Entered; 5].as_slice());
-    assert_eq!(rt; fringe.len(), 5);
+    let mut fringe = filled(&rt, rt.alloc(), OF_MANY_BOUNDS)?;
+    counts(&rt, &fringe, (5, Some(12)));
     fringe.drop_up_to(9);
-    assert_eq!(rt; fringe.best_bound(), Some(12));
-    for ticket in [3u64, 0, 4, 1] {
-        assert_eq!(rt; popped(&mut fringe), Some(ticket));
-    }
-    assert!(rt; fringe.is_empty());
+    counts(&rt, &fringe, (4, Some(12)));
+    empties(&rt, fringe, &[3, 0, 4, 1]);
     Ok(())
 }
 
@@ -160,14 +214,19 @@ fn pop_many(fringe: &mut Fringe, count: u32) -> bool {
     true
 }
 
+/// Whether so many that are pushed all enter, have ranks, and are popped again.
+fn holds_many(alloc: Global, count: u32) -> Result<bool, AllocError> {
+    let mut fringe = Fringe::new(alloc, 1);
+    let entered = push_many(alloc, &mut fringe, count);
+    let ranked = fringe.ranks() >= fringe.len();
+    let popped = pop_many(&mut fringe, count);
+    let ended = ends(fringe);
+    Ok(entered? && ranked && popped && ended)
+}
+
 #[test]
 fn many_are_pushed_and_popped(rt: HostRuntime) -> Result<(), Fail> {
     // a list would need minutes for them
-    let many = 200_000;
-    let mut fringe = Fringe::new(rt.alloc(), 1);
-    assert!(rt; push_many(rt.alloc(), &mut fringe, many)?);
-    assert!(rt; fringe.ranks() >= fringe.len());
-    assert!(rt; pop_many(&mut fringe, many));
-    assert!(rt; fringe.is_empty());
+    assert!(rt; holds_many(rt.alloc(), 200_000)?);
     Ok(())
 }

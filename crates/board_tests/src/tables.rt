@@ -72,34 +72,70 @@ fn dominator_beside<M: DpModel>(
     Ok(table.dominator(model, depth, &row, value))
 }
 
-#[test]
-fn states_with_no_more_room_and_no_more_value_are_dominated(rt: HostRuntime) -> Result<(), Fail> {
-    let model = three_items(&rt, rt.alloc());
-    let cases: &[(Reached, Option<u64>)] = &[
-        ((1, 4, 60), Some(1)),
-        ((1, 5, 60), Some(1)),
-        ((1, 5, 61), None),
-        ((1, 6, 60), None),
-        ((2, 4, 60), None),
-    ];
-    for (sought, want) in cases.iter().copied() {
-        for ranked in [false, true] {
-            let by = dominator_beside(&rt, rt.alloc(), &model, (1, 5, 60), ranked, sought)?;
-            assert_eq!(rt; by, want, "at {sought:?} {ranked}");
-        }
+/// A state, and the ticket of what dominates it beside the state of depth 1 with a room of 5 and the value 60.
+const STATES: &[(Reached, Option<u64>)] = &[
+    ((1, 4, 60), Some(1)),
+    ((1, 5, 60), Some(1)),
+    ((1, 5, 61), None),
+    ((1, 6, 60), None),
+    ((2, 4, 60), None),
+];
+
+/// The state has this dominator.
+fn has_dominator<M: DpModel>(
+    rt: &impl Abort,
+    alloc: Global,
+    model: &M,
+    ranked: bool,
+    sought: Reached,
+    wanted: Option<u64>,
+) -> Result<(), OutOfMemory> {
+    let by = dominator_beside(rt, alloc, model, (1, 5, 60), ranked, sought)?;
+    assert_eq!(rt; by, wanted, "at {sought:?} {ranked}");
+    Ok(())
+}
+
+/// The states have their dominators.
+fn has_dominators<M: DpModel>(
+    rt: &impl Abort,
+    alloc: Global,
+    model: &M,
+    ranked: bool,
+) -> Result<(), OutOfMemory> {
+    for (sought, wanted) in STATES.iter().copied() {
+        has_dominator(rt, alloc, model, ranked, sought, wanted)?;
     }
     Ok(())
 }
 
 #[test]
+fn states_with_no_more_room_and_no_more_value_are_dominated(rt: HostRuntime) -> Result<(), Fail> {
+    let model = three_items(&rt, rt.alloc());
+    has_dominators(&rt, rt.alloc(), &model, false)?;
+    has_dominators(&rt, rt.alloc(), &model, true)?;
+    Ok(())
+}
+
+/// Puts an entry of depth 1 with this state, value and ticket, and answers so.
+fn puts(rt: &impl Abort, table: &mut Table, entry: (i64, i64, u64), wanted: (Put, usize)) {
+    let (cell, value, ticket) = entry;
+    assert!(rt; table.words() == 1);
+    assert!(rt; table.spare() > 0 || table.len() == table.limit() as usize);
+    let answer = table.put(1, 0, &[cell], value, ticket);
+    assert_eq!(rt; (answer, table.len()), wanted);
+}
+
+/// There is no room.
+fn is_new(rt: &impl Abort, table: &Table) {
+    assert_eq!(rt; (table.spare(), table.len()), (0, 0));
+}
+
+#[test]
 fn puts_up_to_the_limit(rt: HostRuntime) -> Result<(), Fail> {
     let mut table = Table::new(rt.alloc(), 1, 1);
-    assert_eq!(rt; table.spare(), 0);
+    is_new(&rt, &table);
     table.reserve(1)?;
-    assert!(rt; table.spare() > 0 && table.words() == 1);
-    assert_eq!(rt; table.put(1, 0, &[5], 60, 1), Put::Yes);
-    assert!(rt; table.len() == table.limit() as usize && table.words() == 1);
-    assert_eq!(rt; table.put(1, 0, &[10], 0, 2), Put::AtLimit);
-    assert_eq!(rt; table.len(), 1);
+    puts(&rt, &mut table, (5, 60, 1), (Put::Yes, 1));
+    puts(&rt, &mut table, (10, 0, 2), (Put::AtLimit, 1));
     Ok(())
 }

@@ -1,8 +1,8 @@
+use crate::checking::{has_layers, has_row, is_verdict, items, verdict_on};
 use bound_cover::{Checker, Cover, CoverArc, Verdict, Why};
-use dp_model::OutOfMemory;
-use knapsack::Knapsack;
+use dp_model::DpModel;
 use std::alloc::Global;
-use std::test::Fail;
+use std::process::Abort;
 
 /// A row of one word: its bound, its word, and its arcs where it has an arc part.
 type Row = (Option<i64>, i64, Option<&'static [CoverArc]>);
@@ -10,7 +10,7 @@ type Row = (Option<i64>, i64, Option<&'static [CoverArc]>);
 /// A row of the first layer and one of the last, the reported value with its assignment, and the verdict.
 type Case = (Row, Row, Option<i64>, &'static [u32], Verdict);
 
-const BOTH: &[CoverArc] = &[
+pub const BOTH: &[CoverArc] = &[
     CoverArc {
         decision: 0,
         target: Some(0),
@@ -59,6 +59,9 @@ const BY_ROUGH_BOUNDS: &[CoverArc] = &[
     },
 ];
 
+/// One item of profit 4 and weight 1 in a room of 1. A state is the room that is left.
+const ONE_ITEM: &[u8] = b"1 1\n4 1\n";
+
 const TOP: Row = (Some(4), 1, Some(BOTH));
 
 const END: Row = (Some(0), 1, None);
@@ -73,7 +76,6 @@ const ARC: Why = Why::Arc {
     decision: 1,
 };
 
-/// One item of profit 4 and weight 1 in a room of 1. A state is the room that is left.
 const CASES: &[Case] = &[
     (TOP, END, BEST, TAKEN, Verdict::Accepted),
     (
@@ -195,93 +197,79 @@ const CASES: &[Case] = &[
 ];
 
 /// A cover of two layers with one row each.
-fn cover_of(alloc: Global, above: Row, below: Row) -> Result<Cover, OutOfMemory> {
+fn cover_of(rt: &impl Abort, alloc: Global, above: Row, below: Row) -> Cover {
     let mut cover = Cover::new(alloc);
-    cover.add_layer()?;
-    cover.add_row(above.0, &[above.1], above.2)?;
-    cover.add_layer()?;
-    cover.add_row(below.0, &[below.1], below.2)?;
-    Ok(cover)
+    cover.add_layer().expect(rt, "a layer");
+    let added = cover.add_row(above.0, &[above.1], above.2);
+    added.expect(rt, "a row");
+    cover.add_layer().expect(rt, "a layer");
+    let added = cover.add_row(below.0, &[below.1], below.2);
+    added.expect(rt, "a row");
+    cover
 }
 
 /// What a new checker says of the case.
-fn verdict_of(alloc: Global, model: &Knapsack, case: &Case) -> Result<Verdict, OutOfMemory> {
-    let (above, below, best, assignment, _) = *case;
-    let cover = cover_of(alloc, above, below)?;
-    let mut checker = Checker::prepare(alloc, model)?;
-    Ok(checker.check(model, best, 0, assignment, &cover))
+fn has_case<M: DpModel>(rt: &impl Abort, alloc: Global, model: &M, case: &Case) {
+    let (above, below, best, assignment, wanted) = *case;
+    let cover = cover_of(rt, alloc, above, below);
+    let found = verdict_on(rt, alloc, model, &cover, best, 0, assignment);
+    is_verdict(rt, found, wanted);
 }
 
 #[test]
-fn the_first_failing_test_is_answered(rt: HostRuntime) -> Result<(), Fail> {
-    let read = knapsack::read(rt.alloc(), b"1 1\n4 1\n");
-    assert!(rt; read.is_ok());
-    let Ok(model) = read else { return Ok(()) };
+fn the_first_failing_test_is_answered(rt: HostRuntime) {
+    let model = items(&rt, rt.alloc(), ONE_ITEM);
     for case in CASES {
-        assert_eq!(rt; verdict_of(rt.alloc(), &model, case)?, case.4);
+        has_case(&rt, rt.alloc(), &model, case);
     }
-    Ok(())
 }
 
 #[test]
-fn a_cover_without_layers_is_refused(rt: HostRuntime) -> Result<(), Fail> {
-    let read = knapsack::read(rt.alloc(), b"1 1\n4 1\n");
-    assert!(rt; read.is_ok());
-    let Ok(model) = read else { return Ok(()) };
-    let mut checker = Checker::prepare(rt.alloc(), &model)?;
-    let verdict = checker.check(&model, BEST, 0, TAKEN, &Cover::new(rt.alloc()));
-    assert_eq!(rt; verdict, Verdict::Refused(Why::Layers));
-    Ok(())
+fn a_cover_without_layers_is_refused(rt: HostRuntime) {
+    let model = items(&rt, rt.alloc(), ONE_ITEM);
+    let cover = Cover::new(rt.alloc());
+    let found = verdict_on(&rt, rt.alloc(), &model, &cover, BEST, 0, TAKEN);
+    is_verdict(&rt, found, Verdict::Refused(Why::Layers));
 }
 
 #[test]
-fn a_distance_is_added_to_the_value(rt: HostRuntime) -> Result<(), Fail> {
-    let read = knapsack::read(rt.alloc(), b"1 1\n4 1\n");
-    assert!(rt; read.is_ok());
-    let Ok(model) = read else { return Ok(()) };
-    let mut checker = Checker::prepare(rt.alloc(), &model)?;
-    let above_by_two = cover_of(rt.alloc(), (Some(6), 1, Some(BOTH)), END)?;
-    assert_eq!(rt;
-        checker.check(&model, BEST, 2, TAKEN, &above_by_two),
-        Verdict::Accepted
-    );
-    let above_by_three = cover_of(rt.alloc(), (Some(7), 1, Some(BOTH)), END)?;
-    assert_eq!(rt;
-        checker.check(&model, BEST, 2, TAKEN, &above_by_three),
-        Verdict::Refused(Why::Root)
-    );
-    assert_eq!(rt;
-        checker.check(&model, Some(0), 4, &[0], &above_by_two),
-        Verdict::Refused(Why::Root)
-    );
-    Ok(())
+fn a_distance_is_added_to_the_value(rt: HostRuntime) {
+    let model = items(&rt, rt.alloc(), ONE_ITEM);
+    let by_two = cover_of(&rt, rt.alloc(), (Some(6), 1, Some(BOTH)), END);
+    let found = verdict_on(&rt, rt.alloc(), &model, &by_two, BEST, 2, TAKEN);
+    is_verdict(&rt, found, Verdict::Accepted);
+    let found = verdict_on(&rt, rt.alloc(), &model, &by_two, Some(0), 4, &[0]);
+    is_verdict(&rt, found, Verdict::Refused(Why::Root));
+    let by_three = cover_of(&rt, rt.alloc(), (Some(7), 1, Some(BOTH)), END);
+    let found = verdict_on(&rt, rt.alloc(), &model, &by_three, BEST, 2, TAKEN);
+    is_verdict(&rt, found, Verdict::Refused(Why::Root));
+}
+
+/// What a new checker says of the rows of a right cover, for the claim.
+fn has_rows_checked<M: DpModel>(
+    rt: &impl Abort,
+    alloc: Global,
+    model: &M,
+    claim: i64,
+    wanted: Option<Why>,
+) {
+    let cover = cover_of(rt, alloc, TOP, END);
+    let mut checker = Checker::prepare(alloc, model).expect(rt, "a checker");
+    assert_eq!(rt; checker.check_rows(model, Some(claim), &cover), wanted);
 }
 
 #[test]
-fn rows_are_checked_alone(rt: HostRuntime) -> Result<(), Fail> {
-    let read = knapsack::read(rt.alloc(), b"1 1\n4 1\n");
-    assert!(rt; read.is_ok());
-    let Ok(model) = read else { return Ok(()) };
-    let mut checker = Checker::prepare(rt.alloc(), &model)?;
-    let cover = cover_of(rt.alloc(), TOP, END)?;
-    assert_eq!(rt; checker.check_rows(&model, Some(4), &cover), None);
-    assert_eq!(rt; checker.check_rows(&model, Some(9), &cover), None);
-    assert_eq!(rt;
-        checker.check_rows(&model, Some(3), &cover),
-        Some(Why::Root)
-    );
-    Ok(())
+fn rows_are_checked_alone(rt: HostRuntime) {
+    let model = items(&rt, rt.alloc(), ONE_ITEM);
+    has_rows_checked(&rt, rt.alloc(), &model, 4, None);
+    has_rows_checked(&rt, rt.alloc(), &model, 9, None);
+    has_rows_checked(&rt, rt.alloc(), &model, 3, Some(Why::Root));
 }
 
 #[test]
-fn a_cover_is_read_back(rt: HostRuntime) -> Result<(), Fail> {
-    let cover = cover_of(rt.alloc(), TOP, END)?;
-    assert_eq!(rt; cover.layers(), 2);
-    assert_eq!(rt; cover.rows(0), 1);
-    assert_eq!(rt; cover.rows(1), 1);
-    assert_eq!(rt; cover.bound(0, 0), Some(4));
-    assert!(rt; cover.words(0, 0) == [1].as_slice());
-    assert!(rt; cover.arcs(0, 0) == Some(BOTH));
-    assert!(rt; cover.arcs(1, 0).is_none());
-    Ok(())
+fn a_cover_is_read_back(rt: HostRuntime) {
+    let cover = cover_of(&rt, rt.alloc(), TOP, END);
+    has_layers(&rt, &cover, &[1, 1]);
+    has_row(&rt, &cover, 0, 0, (Some(4), &[1], Some(BOTH)));
+    has_row(&rt, &cover, 1, 0, (Some(0), &[1], None));
 }

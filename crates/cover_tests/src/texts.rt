@@ -1,8 +1,12 @@
+use crate::checking::{has_layers, has_row, items};
+use crate::tests::BOTH;
 use bound_cover::CoverArc;
-use cover_text::{CoverError, push_cover, read_cover};
+use cover_text::{CoverError, CoverText, push_cover, read_cover};
 use dd_text::{Place, TextError};
+use dp_model::DpModel;
 use problem_names::ModelName;
-use std::test::Fail;
+use std::alloc::Global;
+use std::process::Abort;
 
 const TEXT: &[u8] =
     b"proved\nvalue 4\nassignment 1\ncover knapsack\ninstance 8\n1 1\n4 1\nlayer 0 1\n4 ; 1 ; 0 0 1 0\nlayer 1 1\n0 ; 1\nend\n";
@@ -212,117 +216,105 @@ const FAULTS: &[Faulty] = &[
     ),
 ];
 
+/// The fault of the text.
+fn has_fault(rt: &impl Abort, alloc: Global, faulty: &Faulty) {
+    let (what, text, fault) = *faulty;
+    assert!(rt; text.len() < 1_000);
+    let found = read_cover(alloc, text).err();
+    assert_eq!(rt; found, Some(fault), "at {what}");
+}
+
 #[test]
-fn the_first_fault_of_a_text_is_answered(rt: HostRuntime) -> Result<(), Fail> {
-    for (what, text, fault) in FAULTS {
-        assert!(rt; text.len() < 1_000);
-        match read_cover(rt.alloc(), text) {
-            Ok(_) => assert!(rt; false, "read in spite of {what}"),
-            Err(found) => assert_eq!(rt; found, *fault, "at {what}"),
-        }
+fn the_first_fault_of_a_text_is_answered(rt: HostRuntime) {
+    for faulty in FAULTS {
+        has_fault(&rt, rt.alloc(), faulty);
     }
-    Ok(())
+}
+
+/// The text of a cover.
+pub fn read(rt: &impl Abort, alloc: Global, text: &[u8]) -> CoverText {
+    assert!(rt; text.len() < 1_000);
+    read_cover(alloc, text).expect(rt, "a cover")
+}
+
+/// The problem, the reported value, the assignment and the instance.
+type Head = (ModelName, Option<i64>, &'static [u32], &'static [u8]);
+
+/// What stands before the rows.
+fn has_head(rt: &impl Abort, text: &CoverText, wanted: Head) {
+    let (assignment, instance) = (text.assignment.as_slice(), text.instance.as_slice());
+    assert_eq!(rt; (text.model, text.best, assignment, instance), wanted);
 }
 
 #[test]
-fn the_text_of_a_small_knapsack_is_read(rt: HostRuntime) -> Result<(), Fail> {
-    let read = read_cover(rt.alloc(), TEXT);
-    assert!(rt; read.is_ok());
-    let Ok(text) = read else { return Ok(()) };
-    assert_eq!(rt; text.model, ModelName::Knapsack);
-    assert_eq!(rt; text.best, Some(4));
-    assert_eq!(rt; text.assignment.as_slice(), [1].as_slice());
-    assert_eq!(rt; text.instance.as_slice(), b"1 1\n4 1\n".as_slice());
-    let cover = &text.cover;
-    assert_eq!(rt; cover.layers(), 2);
-    assert_eq!(rt; cover.rows(0), 1);
-    assert_eq!(rt; cover.rows(1), 1);
-    assert_eq!(rt; cover.bound(0, 0), Some(4));
-    assert_eq!(rt; cover.words(0, 0), [1].as_slice());
-    assert!(rt;
-        cover.arcs(0, 0)
-            == Some([
-                CoverArc {
-                    decision: 0,
-                    target: Some(0)
-                },
-                CoverArc {
-                    decision: 1,
-                    target: Some(0)
-                }
-            ]
-            .as_slice())
+fn the_text_of_a_small_knapsack_is_read(rt: HostRuntime) {
+    let text = read(&rt, rt.alloc(), TEXT);
+    has_head(
+        &rt,
+        &text,
+        (ModelName::Knapsack, Some(4), &[1], b"1 1\n4 1\n"),
     );
-    assert!(rt; cover.arcs(1, 0).is_none());
-    Ok(())
+    has_layers(&rt, &text.cover, &[1, 1]);
+    has_row(&rt, &text.cover, 0, 0, (Some(4), &[1], Some(BOTH)));
+    has_row(&rt, &text.cover, 1, 0, (Some(0), &[1], None));
+}
+
+const OTHER_FORMS: &[u8] =
+    b"infeasible\ntaken 3\nfinished 00000000000000000003\ncover tsptw\ninstance 5\nlayerlayer 0 2\nnone ; ;\n-4611686018427387904 ; -9223372036854775808 5 ; 0 r 4294967295 4294967295\nend";
+
+const TO_THE_LAST: &[CoverArc] = &[
+    CoverArc {
+        decision: 0,
+        target: None,
+    },
+    CoverArc {
+        decision: 4_294_967_295,
+        target: Some(4_294_967_295),
+    },
+];
+
+#[test]
+fn other_forms_of_lines_are_read(rt: HostRuntime) {
+    let text = read(&rt, rt.alloc(), OTHER_FORMS);
+    has_head(&rt, &text, (ModelName::TspWindows, None, &[], b"layer"));
+    has_layers(&rt, &text.cover, &[2]);
+    has_row(&rt, &text.cover, 0, 0, (None, &[], Some(&[])));
+    let bound = Some(-4_611_686_018_427_387_904);
+    has_row(
+        &rt,
+        &text.cover,
+        0,
+        1,
+        (bound, &[i64::MIN, 5], Some(TO_THE_LAST)),
+    );
+}
+
+/// A text that begins with the one and goes on with the other.
+pub fn joined(rt: &impl Abort, alloc: Global, head: &[u8], rest: &[u8]) -> Vec<u8> {
+    let mut text = head.to_vec(alloc).expect(rt, "a text");
+    text.extend_from_slice(rest).expect(rt, "a text");
+    text
+}
+
+/// The sections of a cover that is read are printed as they were.
+fn are_printed<M: DpModel>(rt: &impl Abort, alloc: Global, model: &M, sections: &[u8]) {
+    let head = b"infeasible cover knapsack instance 0\n";
+    let text = joined(rt, alloc, head, sections);
+    let text = read(rt, alloc, text.as_slice());
+    let mut out = Vec::new(alloc);
+    push_cover(&mut out, model, &text.cover).expect(rt, "a text");
+    assert_eq!(rt; out.as_slice(), sections);
 }
 
 #[test]
-fn other_forms_of_lines_are_read(rt: HostRuntime) -> Result<(), Fail> {
-    let read = read_cover(
-        rt.alloc(),
-        b"infeasible\ntaken 3\nfinished 00000000000000000003\ncover tsptw\ninstance 5\nlayerlayer 0 2\nnone ; ;\n-4611686018427387904 ; -9223372036854775808 5 ; 0 r 4294967295 4294967295\nend",
-    );
-    assert!(rt; read.is_ok());
-    let Ok(text) = read else { return Ok(()) };
-    assert_eq!(rt; text.model, ModelName::TspWindows);
-    assert_eq!(rt; text.best, None);
-    assert!(rt; text.assignment.is_empty());
-    assert_eq!(rt; text.instance.as_slice(), b"layer".as_slice());
-    let cover = &text.cover;
-    assert_eq!(rt; cover.layers(), 1);
-    assert_eq!(rt; cover.rows(0), 2);
-    assert_eq!(rt; cover.bound(0, 0), None);
-    assert!(rt; cover.words(0, 0).is_empty());
-    assert!(rt; cover.arcs(0, 0) == Some([].as_slice()));
-    assert_eq!(rt; cover.bound(0, 1), Some(-4_611_686_018_427_387_904));
-    assert_eq!(rt; cover.words(0, 1), [i64::MIN, 5].as_slice());
-    assert!(rt;
-        cover.arcs(0, 1)
-            == Some([
-                CoverArc {
-                    decision: 0,
-                    target: None
-                },
-                CoverArc {
-                    decision: 4_294_967_295,
-                    target: Some(4_294_967_295)
-                }
-            ]
-            .as_slice())
-    );
-    Ok(())
-}
-
-#[test]
-fn the_sections_of_a_cover_are_printed(rt: HostRuntime) -> Result<(), Fail> {
-    let parsed = knapsack::read(rt.alloc(), b"1 1\n4 1\n");
-    assert!(rt; parsed.is_ok());
-    let Ok(model) = parsed else { return Ok(()) };
-    for (head, sections) in [
-        (
-            b"infeasible cover knapsack instance 0\n".as_slice(),
-            b"layer 0 1\n4 ; 1 ; 0 0 1 0\nlayer 1 1\n0 ; 1\nend\n".as_slice(),
-        ),
-        (
-            b"infeasible cover knapsack instance 0\n".as_slice(),
-            b"end\n".as_slice(),
-        ),
-        (
-            b"infeasible cover knapsack instance 0\n".as_slice(),
-            b"layer 0 0\nlayer 1 2\nnone ; ;\n-4 ; -5 6 ; 0 r 7 8\nend\n".as_slice(),
-        ),
-    ] {
-        let mut text = head.to_vec(rt.alloc())?;
-        text.extend_from_slice(sections)?;
-        let text = text.as_slice();
-        assert!(rt; text.len() < 1_000);
-        let read = read_cover(rt.alloc(), text);
-        assert!(rt; read.is_ok());
-        let Ok(text) = read else { return Ok(()) };
-        let mut out = Vec::new(rt.alloc());
-        push_cover(&mut out, &model, &text.cover)?;
-        assert_eq!(rt; out.as_slice(), sections);
+fn the_sections_of_a_cover_are_printed(rt: HostRuntime) {
+    let model = items(&rt, rt.alloc(), b"1 1\n4 1\n");
+    let sections: &[&[u8]] = &[
+        b"layer 0 1\n4 ; 1 ; 0 0 1 0\nlayer 1 1\n0 ; 1\nend\n",
+        b"end\n",
+        b"layer 0 0\nlayer 1 2\nnone ; ;\n-4 ; -5 6 ; 0 r 7 8\nend\n",
+    ];
+    for sections in sections.iter().copied() {
+        are_printed(&rt, rt.alloc(), &model, sections);
     }
-    Ok(())
 }

@@ -1,7 +1,11 @@
-use bound_cover::{Checker, Verdict, Why};
-use cover_text::{CoverError, open_cover, read_cover};
+use crate::checking::{items, verdict_on};
+use crate::texts::{joined, read};
+use bound_cover::{Verdict, Why};
+use cover_text::{CoverError, open_cover};
 use dd_text::Place;
-use std::test::Fail;
+use dp_model::DpModel;
+use std::alloc::Global;
+use std::process::Abort;
 
 /// Two items of profits 4 and 3 and of weight 1 in a room of 1, and a true report.
 const HEAD: &[u8] =
@@ -75,55 +79,51 @@ const CASES: &[Case] = &[
     ("no layer", b"end\n", Verdict::Refused(Why::Layers)),
 ];
 
-#[test]
-fn layers_in_turn_have_the_verdict_of_the_cover(rt: HostRuntime) -> Result<(), Fail> {
-    let read = knapsack::read(rt.alloc(), b"2 1\n4 1\n3 1\n");
-    assert!(rt; read.is_ok());
-    let Ok(model) = read else { return Ok(()) };
-    for (what, sections, verdict) in CASES {
-        let mut text = HEAD.to_vec(rt.alloc())?;
-        text.extend_from_slice(sections)?;
-        let bytes = text.as_slice();
-        assert!(rt; bytes.len() < 1_000);
-        let opened = open_cover(rt.alloc(), bytes);
-        assert!(rt; opened.is_ok());
-        let Ok(opened) = opened else { return Ok(()) };
-        match opened.check(rt.alloc(), &model, 0) {
-            Ok(found) => assert_eq!(rt; found, *verdict, "at {what}"),
-            Err(_) => assert!(rt; false, "not read: {what}"),
-        }
-        let held = read_cover(rt.alloc(), bytes);
-        assert!(rt; held.is_ok());
-        let Ok(held) = held else { return Ok(()) };
-        let mut checker = Checker::prepare(rt.alloc(), &model)?;
-        let assignment = held.assignment.as_slice();
-        let found = checker.check(&model, held.best, 0, assignment, &held.cover);
-        assert_eq!(rt; found, *verdict, "at {what}");
-    }
-    Ok(())
+/// The verdict on the layers in turn, as they are read.
+fn verdict_in_turn<M: DpModel>(
+    rt: &impl Abort,
+    alloc: Global,
+    model: &M,
+    text: &[u8],
+) -> Result<Verdict, CoverError> {
+    assert!(rt; text.len() < 1_000);
+    let opened = open_cover(alloc, text).expect(rt, "a head");
+    opened.check(alloc, model, 0)
+}
+
+/// The verdict on the cover that is read first.
+fn verdict_behind<M: DpModel>(rt: &impl Abort, alloc: Global, model: &M, text: &[u8]) -> Verdict {
+    let held = read(rt, alloc, text);
+    let assignment = held.assignment.as_slice();
+    verdict_on(rt, alloc, model, &held.cover, held.best, 0, assignment)
+}
+
+/// Both verdicts are that of the case.
+fn has_verdicts<M: DpModel>(rt: &impl Abort, alloc: Global, model: &M, case: &Case) {
+    let (what, sections, verdict) = *case;
+    let text = joined(rt, alloc, HEAD, sections);
+    let in_turn = verdict_in_turn(rt, alloc, model, text.as_slice());
+    let behind = verdict_behind(rt, alloc, model, text.as_slice());
+    assert_eq!(rt; (in_turn, behind), (Ok(verdict), verdict), "at {what}");
 }
 
 #[test]
-fn a_fault_of_the_text_comes_before_a_row_that_fails(rt: HostRuntime) -> Result<(), Fail> {
-    let read = knapsack::read(rt.alloc(), b"2 1\n4 1\n3 1\n");
-    assert!(rt; read.is_ok());
-    let Ok(model) = read else { return Ok(()) };
-    let mut text = HEAD.to_vec(rt.alloc())?;
-    text.extend_from_slice(b"layer 0 1\n3 ; 1 ; 0 0 1 1\nlayer 1 1\n2 ; 1\nlayer 3 1\n")?;
-    let bytes = text.as_slice();
-    assert!(rt; bytes.len() < 1_000);
-    let opened = open_cover(rt.alloc(), bytes);
-    assert!(rt; opened.is_ok());
-    let Ok(opened) = opened else { return Ok(()) };
-    match opened.check(rt.alloc(), &model, 0) {
-        Ok(_) => assert!(rt; false, "read"),
-        Err(found) => assert_eq!(rt;
-            found,
-            CoverError::Word(Place {
-                line: 13,
-                column: 7,
-            })
-        ),
+fn layers_in_turn_have_the_verdict_of_the_cover(rt: HostRuntime) {
+    let model = items(&rt, rt.alloc(), b"2 1\n4 1\n3 1\n");
+    for case in CASES {
+        has_verdicts(&rt, rt.alloc(), &model, case);
     }
-    Ok(())
+}
+
+#[test]
+fn a_fault_of_the_text_comes_before_a_row_that_fails(rt: HostRuntime) {
+    let model = items(&rt, rt.alloc(), b"2 1\n4 1\n3 1\n");
+    let sections = b"layer 0 1\n3 ; 1 ; 0 0 1 1\nlayer 1 1\n2 ; 1\nlayer 3 1\n";
+    let text = joined(&rt, rt.alloc(), HEAD, sections);
+    let found = verdict_in_turn(&rt, rt.alloc(), &model, text.as_slice());
+    let place = Place {
+        line: 13,
+        column: 7,
+    };
+    assert_eq!(rt; found, Err(CoverError::Word(place)));
 }

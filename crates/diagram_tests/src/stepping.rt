@@ -6,10 +6,12 @@ ghost use Rattle.dp_model.specs.Subproblem.{IsOwn};
 ghost use Rattle.layer_build.specs.Layers.{IsPreparedFor};
 ghost use Rattle.layer_build.specs.UnderWay.{IsUnderWay};
 
-use crate::beams::root_of;
-use dp_model::{DpModel, OutOfMemory, Sub};
-use layer_build::{PrepareError, Workspace};
+use crate::roots::{THREE_ITEMS, instance, root_of, space_for};
+use dp_model::{DpModel, Sub};
+use layer_build::Workspace;
+use problems::Knapsack;
 use std::alloc::Global;
+use std::process::Abort;
 
 /// Makes the next layer where the last one is the first, or stands just below it.
 fn expand<M: DpModel>(space: &mut Workspace, model: &M)
@@ -47,42 +49,52 @@ fn keep(space: &mut Workspace)
 
 /// How many rows are held after the start, after the first layer is made and struck, after the second one is made, struck and
 /// merged, and after those above it are dropped.
-fn live_rows<M: DpModel>(
-    alloc: Global,
+fn holds_rows<M: DpModel>(
+    rt: &impl Abort,
     space: &mut Workspace,
     model: &M,
     sub: &Sub,
     threshold: Option<i64>,
-) -> Result<Vec<usize>, OutOfMemory>
+    wanted: [usize; 6],
+)
     requires prepared { IsPreparedFor (M.meaning (M.numbers model.now)) space.old }
     requires own { IsOwn (M.meaning (M.numbers model.now)) sub.now.subproblem }
 {
-    let mut live = Vec::new(alloc);
     space.begin(model, sub);
-    live.push(space.live_rows())?;
+    let begun = space.live_rows();
     expand(space, model);
     space.strike(model, threshold);
-    live.push(space.live_rows())?;
+    let first = space.live_rows();
     expand(space, model);
-    live.push(space.live_rows())?;
+    let second = space.live_rows();
     space.strike(model, threshold);
-    live.push(space.live_rows())?;
+    let struck = space.live_rows();
     merge(space, model);
-    live.push(space.live_rows())?;
+    let merged = space.live_rows();
     space.drop_above();
-    live.push(space.live_rows())?;
-    Ok(live)
+    let found = [begun, first, second, struck, merged, space.live_rows()];
+    assert_eq!(rt; found, wanted);
 }
 
-/// How many nodes the last layer has after two layers are made and struck and the second one is kept to the width, and the
-/// value and the decisions of its first exact node.
-fn first_kept<M: DpModel>(
-    alloc: Global,
+/// The rows that are held below the empty prefix, at a width of 1 and a threshold of 110.
+fn holds_rows_below_root<M: DpModel>(rt: &impl Abort, alloc: Global, model: &M, wanted: [usize; 6])
+    requires { 0 < (M.meaning (M.numbers model.now)).vars }
+{
+    let root = root_of(rt, alloc, model);
+    let mut space = space_for(rt, alloc, model, 1);
+    holds_rows(rt, &mut space, model, &root, Some(110), wanted);
+}
+
+/// After two layers are made and struck and the second one is kept to the width: how many nodes it has, and the value and the
+/// decisions of its first exact node.
+fn keeps_first<M: DpModel>(
+    rt: &impl Abort,
     space: &mut Workspace,
     model: &M,
     sub: &Sub,
     threshold: Option<i64>,
-) -> Result<Option<(usize, i64, Vec<u32>)>, OutOfMemory>
+    wanted: (usize, i64, &[u32]),
+)
     requires prepared { IsPreparedFor (M.meaning (M.numbers model.now)) space.old }
     requires own { IsOwn (M.meaning (M.numbers model.now)) sub.now.subproblem }
 {
@@ -93,46 +105,33 @@ fn first_kept<M: DpModel>(
     space.strike(model, threshold);
     keep(space);
     let nodes = space.nodes(space.last_depth());
-    let Some(found) = space.first_exact() else {
-        return Ok(None);
-    };
-    Ok(Some((nodes, found.value, found.decisions.to_vec(alloc)?)))
+    let found = space.first_exact();
+    let found = found.map(|found| (nodes, found.value, found.decisions));
+    assert_eq!(rt; found, Some(wanted));
 }
 
-/// What is kept of the second layer below the empty prefix.
-pub fn first_kept_below_root<M: DpModel>(
+/// What is kept of the second layer below the empty prefix, at a width of 1 and a threshold of 110.
+fn keeps_first_below_root<M: DpModel>(
+    rt: &impl Abort,
     alloc: Global,
     model: &M,
-    width: u32,
-    threshold: Option<i64>,
-) -> Result<Option<(usize, i64, Vec<u32>)>, PrepareError>
+    wanted: (usize, i64, &[u32]),
+)
     requires { 0 < (M.meaning (M.numbers model.now)).vars }
 {
-    let Ok(root) = root_of(alloc, model) else {
-        return Err(PrepareError::OutOfMemory);
-    };
-    let mut space = Workspace::prepare(alloc, model, width)?;
-    match first_kept(alloc, &mut space, model, &root, threshold) {
-        Ok(kept) => Ok(kept),
-        Err(_) => Err(PrepareError::OutOfMemory),
-    }
+    let root = root_of(rt, alloc, model);
+    let mut space = space_for(rt, alloc, model, 1);
+    keeps_first(rt, &mut space, model, &root, Some(110), wanted);
 }
 
-/// How many rows are held step by step below the empty prefix.
-pub fn live_rows_below_root<M: DpModel>(
-    alloc: Global,
-    model: &M,
-    width: u32,
-    threshold: Option<i64>,
-) -> Result<Vec<usize>, PrepareError>
-    requires { 0 < (M.meaning (M.numbers model.now)).vars }
-{
-    let Ok(root) = root_of(alloc, model) else {
-        return Err(PrepareError::OutOfMemory);
-    };
-    let mut space = Workspace::prepare(alloc, model, width)?;
-    match live_rows(alloc, &mut space, model, &root, threshold) {
-        Ok(live) => Ok(live),
-        Err(_) => Err(PrepareError::OutOfMemory),
-    }
+#[test]
+fn rows_are_held_as_layers_are_made(rt: HostRuntime) {
+    let model: Knapsack = instance(&rt, rt.alloc(), THREE_ITEMS);
+    holds_rows_below_root(&rt, rt.alloc(), &model, [1, 3, 7, 6, 4, 1]);
+}
+
+#[test]
+fn the_first_nodes_are_kept(rt: HostRuntime) {
+    let model: Knapsack = instance(&rt, rt.alloc(), THREE_ITEMS);
+    keeps_first_below_root(&rt, rt.alloc(), &model, (1, 110, &[1, 1]));
 }

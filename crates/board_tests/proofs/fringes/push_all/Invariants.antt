@@ -3,4 +3,4 @@ use Rattle.dp_model.specs.Lists.{Each}
 use Rattle.board_tests.proofs.fringes.push_all.Given as goal
 
 abbrev pub invariant-loop-place : goal.invariant-loop-place
-invariant-loop-place l = Each (λ o. o.ticket < l.place) l.fringe.open_ones
+invariant-loop-place g l = Each (λ o. o.ticket < l.place-counter) l.fringe.open_ones
