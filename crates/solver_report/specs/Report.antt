@@ -13,9 +13,11 @@ use Rattle.bound_cover.specs.declared.cover.Why.TheVariants as whys
 use Rattle.bound_cover.specs.declared.cover.Verdict.{Verdict}
 use Rattle.bound_cover.specs.declared.cover.Verdict.TheVariants as verdicts
 use Rattle.dp_model.specs.Solution.{Solution}
+use Rattle.journal_file.specs.declared.error.JournalError.{JournalError}
+use Rattle.journal_file.specs.declared.error.JournalError.TheVariants as journals
 use Rattle.hex.specs.Hex.{encode_lower}
 use Rattle.solver_report.specs.declared.answer.Stop.{Stop}
-use Rattle.solver_report.specs.declared.answer.Stop.TheVariants.{Budget, Memory}
+use Rattle.solver_report.specs.declared.answer.Stop.TheVariants.{Budget, Memory, Journal}
 use Rattle.solver_words.specs.declared.words_error.WordsError.{WordsError}
 use Rattle.solver_words.specs.declared.words_error.WordsError.TheVariants as errors
 use Rattle.solver_report.specs.declared.answer.Outcome.{Outcome}
@@ -48,6 +50,7 @@ incumbent_lines (Some best) = solution_lines best
 abbrev pub stop_line : Stop → List ℕ
 stop_line Budget = line (codes "stopped budget")
 stop_line Memory = line (codes "stopped memory")
+stop_line Journal = line (codes "stopped journal")
 
 abbrev pub fault_word : InstanceFault → List ℕ
 fault_word NotNumber = codes "not-number"
@@ -124,6 +127,17 @@ words_line (errors.Number option) = line (codes "words number " ++ option.now)
 words_line errors.Cutset = line (codes "words cutset")
 words_line errors.OutOfMemory = line (codes "out of memory")
 
+-- why a journal is not begun, or why its search does not go on; an offset counts the bytes of the file before what is refused
+abbrev pub journal_line : JournalError → List ℕ
+journal_line journals.Disk = line (codes "disk fault")
+journal_line journals.NotBegun = line (codes "journal not-begun")
+journal_line journals.Exists = line (codes "journal exists")
+journal_line (journals.Damaged offset) = count_line (codes "journal damaged") offset
+journal_line (journals.Malformed offset) = count_line (codes "journal malformed") offset
+journal_line (journals.Version found) = count_line (codes "journal version") found
+journal_line (journals.NoSolution offset) = count_line (codes "journal no-solution") offset
+journal_line journals.OutOfMemory = line (codes "out of memory")
+
 -- the text of an answer
 abbrev pub report : Answer → List ℕ
 report (answers.Searched outcome counts) = outcome_lines outcome ++ count_lines counts
@@ -136,6 +150,7 @@ report (answers.CoverRefused e) = fault_line (codes "cover ") e
 report answers.TooLong = line (codes "input too-long")
 report answers.Width = line (codes "width")
 report (answers.Words e) = words_line e
+report (answers.Journal e) = journal_line e
 report answers.ReadFault = line (codes "read fault")
 report answers.OutOfMemory = line (codes "out of memory")
 
@@ -153,6 +168,11 @@ abbrev pub words_status : WordsError → ℕ
 words_status errors.OutOfMemory = 8
 words_status _ = 4
 
+abbrev pub journal_status : JournalError → ℕ
+journal_status journals.Disk = 10
+journal_status journals.OutOfMemory = 8
+journal_status _ = 5
+
 abbrev pub verdict_status : Verdict → ℕ
 verdict_status verdicts.Accepted = 0
 verdict_status (verdicts.Refused why) = 9
@@ -169,5 +189,6 @@ status_of (answers.CoverRefused e) = 3
 status_of answers.TooLong = 3
 status_of answers.Width = 4
 status_of (answers.Words e) = words_status e
+status_of (answers.Journal e) = journal_status e
 status_of answers.ReadFault = 6
 status_of answers.OutOfMemory = 8

@@ -4,6 +4,7 @@ ghost use Rattle.solver_report.specs.Report.{is_final, best_told};
 use bound_cover::Verdict;
 use dd_text::InstanceError;
 use dp_model::{Found, OutOfMemory};
+use journal_file::JournalError;
 use solver_words::WordsError;
 use std::alloc::Global;
 use std::marker::Model;
@@ -57,6 +58,8 @@ pub enum Stop {
     Budget,
     /// Memory ran out.
     Memory,
+    /// A record was not added to the journal.
+    Journal,
 }
 
 /// How a search ended.
@@ -124,6 +127,8 @@ pub enum Answer {
     Width,
     /// The words are refused, or memory ran out for reading them.
     Words(WordsError),
+    /// Why no journal is begun, or why the search of a journal does not go on.
+    Journal(JournalError),
     /// The input could not be read.
     ReadFault,
     /// Memory ran out before the search or in printing.

@@ -1,13 +1,14 @@
 ghost use Rattle.std.specs.Prelude.{◌≡◌, ◌∷◌, [], ◌++◌, pos, IfOk, OnOk, codes, option_map};
 ghost use Rattle.std.specs.Fmt.{decimal};
 ghost use Rattle.hex.specs.Hex.{encode_lower};
-ghost use Rattle.solver_report.specs.Report.{report, status_of, outcome_status, covered_status, text_behind, words_status, line, number_line, spaced, assignment_line, solution_lines, outcome_lines, count_line, count_lines, words_line, incumbent_lines, stop_line, fault_word, fault_line, why_words, verdict_line, verdict_status};
+ghost use Rattle.solver_report.specs.Report.{report, status_of, outcome_status, covered_status, text_behind, words_status, journal_status, journal_line, line, number_line, spaced, assignment_line, solution_lines, outcome_lines, count_line, count_lines, words_line, incumbent_lines, stop_line, fault_word, fault_line, why_words, verdict_line, verdict_status};
 
 use crate::answer::{Answer, Counts, Outcome, Solution, Stop};
 use bound_cover::{Verdict, Why};
 use dd_text::{InstanceError, InstanceFault, push_number, push_text};
 use dp_model::OutOfMemory;
 use itoa::Buffer;
+use journal_file::JournalError;
 use solver_words::WordsError;
 use std::alloc::Global;
 
@@ -23,6 +24,7 @@ pub fn status(answer: &Answer) -> u8
         Answer::Refused(_) | Answer::CoverRefused(_) | Answer::TooLong => 3,
         Answer::Width => 4,
         Answer::Words(error) => words_status(*error),
+        Answer::Journal(error) => journal_status(*error),
         Answer::ReadFault => 6,
         Answer::OutOfMemory => 8,
     }
@@ -69,6 +71,22 @@ fn words_status(error: WordsError) -> u8
     }
 }
 
+/// The exit status of a journal that is not begun, or whose search does not go on.
+fn journal_status(error: JournalError) -> u8
+    ensures { result ≡ journal_status error }
+{
+    match error {
+        JournalError::NotBegun
+        | JournalError::Exists
+        | JournalError::Damaged { .. }
+        | JournalError::Malformed { .. }
+        | JournalError::Version { .. }
+        | JournalError::NoSolution { .. } => 5,
+        JournalError::OutOfMemory => 8,
+        JournalError::Disk => 10,
+    }
+}
+
 /// The text of an answer. Fails only for want of memory.
 pub fn report_text(alloc: Global, answer: &Answer) -> Result<Vec<u8>, OutOfMemory>
     ensures { IfOk result (λ text. text.items ≡ report answer.now) }
@@ -87,6 +105,7 @@ pub fn report_text(alloc: Global, answer: &Answer) -> Result<Vec<u8>, OutOfMemor
         Answer::TooLong => push_line(&mut out, "input too-long")?,
         Answer::Width => push_line(&mut out, "width")?,
         Answer::Words(error) => push_words(&mut out, *error)?,
+        Answer::Journal(error) => push_journal(&mut out, *error)?,
         Answer::ReadFault => push_line(&mut out, "read fault")?,
         Answer::OutOfMemory => push_line(&mut out, "out of memory")?,
     }
@@ -189,6 +208,26 @@ fn push_named_number(out: &mut Vec<u8>, name: &str) -> Result<(), OutOfMemory>
     push_line(out, name)
 }
 
+/// Appends why a journal is not begun, or why its search does not go on.
+fn push_journal(out: &mut Vec<u8>, error: JournalError) -> Result<(), OutOfMemory>
+    ensures { OnOk result (out.new.items ≡ out.old.items ++ journal_line error) }
+{
+    match error {
+        JournalError::Disk => push_line(out, "disk fault"),
+        JournalError::NotBegun => push_line(out, "journal not-begun"),
+        JournalError::Exists => push_line(out, "journal exists"),
+        JournalError::Damaged { offset } => push_count_line(out, "journal damaged", offset),
+        JournalError::Malformed { offset } => push_count_line(out, "journal malformed", offset),
+        JournalError::Version { found } => push_count_line(
+            out,
+            "journal version",
+            u64::from(found),
+        ),
+        JournalError::NoSolution { offset } => push_count_line(out, "journal no-solution", offset),
+        JournalError::OutOfMemory => push_line(out, "out of memory"),
+    }
+}
+
 /// Appends a line.
 fn push_line(out: &mut Vec<u8>, text: &str) -> Result<(), OutOfMemory>
     ensures { OnOk result (out.new.items ≡ out.old.items ++ line text.now) }
@@ -257,6 +296,7 @@ fn push_stop(out: &mut Vec<u8>, stop: Stop) -> Result<(), OutOfMemory>
     match stop {
         Stop::Budget => push_line(out, "stopped budget"),
         Stop::Memory => push_line(out, "stopped memory"),
+        Stop::Journal => push_line(out, "stopped journal"),
     }
 }
 
