@@ -50,6 +50,7 @@ unopened bytes (answers.CoverRefused e) h = absurd (let clash : None ≡ Some e 
 unopened bytes answers.TooLong h = absurd h
 unopened bytes answers.Width h = absurd h
 unopened bytes (answers.Words e) h = absurd h
+unopened bytes (answers.Journal e) h = absurd h
 unopened bytes answers.ReadFault h = absurd h
 unopened bytes answers.OutOfMemory h = unread (text_of bytes)
 

@@ -1,9 +1,8 @@
 -- What a search that is over may answer.
-use Rattle.std.proofs.Common.{◌≡◌, ◌≢◌, ℕ, ◌+◌, ◌^◌, ◌≤◌, ℤ, pos, List, [], ◌∷◌, ◌++◌, length, true, false, nat_eq, Option, Some, None, refl, sym, ◌∙◌, ap, subst, arith}
+use Rattle.std.proofs.Common.{◌≡◌, ◌≢◌, ℕ, ◌+◌, ℤ, pos, List, [], ◌∷◌, ◌++◌, length, true, false, nat_eq, Option, Some, None, refl, sym, ◌∙◌, ap, subst, arith}
 use Rattle.std.proofs.lemmas.Int.{ints}
 use Rattle.dp_model.specs.Solution.{Solution, IsSolutionWith, SolutionGives}
 use Rattle.dp_model.specs.Best.{best, IsBest}
-use Rattle.dp_model.specs.Counts.{tree}
 use Rattle.dp_model.specs.Dp.{Dp}
 use Rattle.dp_model.specs.Numbers.{AtMost}
 use Rattle.dp_model.specs.Prefixes.{IsSolution, value_of}
@@ -13,19 +12,15 @@ use Rattle.shared_fringe.specs.Bounds.{raised}
 use Rattle.board_laws.specs.Bound.{raised_by}
 use Rattle.shared_fringe.specs.Tickets.{Ticketed}
 use Rattle.board_laws.specs.Board.{BoardState, full_slots, value_held, reach, is_explored}
-use Rattle.board_laws.specs.declared.cause.Cause.{Cause}
-use Rattle.board_laws.specs.declared.cause.Cause.TheVariants as causes
-use Rattle.board_laws.specs.Runs.{IsRun}
-use Rattle.board_laws.specs.Steps.{first_board}
 use Rattle.board_laws.specs.declared.settings.Settings.{Settings}
 use Rattle.board_laws.proofs.Running.{run-follows}
 use Rattle.board_laws.specs.Bound.{board_bound}
-use Rattle.board_laws.specs.GoodBoard.{IncumbentHolds, IsBoard}
+use Rattle.board_laws.specs.GoodBoard.{IncumbentHolds, IsBoard, IsGood}
 use Rattle.solver_report.specs.declared.answer.Stop.{Stop}
-use Rattle.solver_report.specs.declared.answer.Stop.TheVariants.{Budget}
-use Rattle.solver_jobs.specs.Answers.{StopHolds, IsStopped}
+use Rattle.solver_report.specs.declared.answer.Stop.TheVariants.{Budget, Memory, Journal}
+use Rattle.solver_jobs.specs.Outcomes.{StopHolds, IsBounded, IsExploredWith, IsStopped}
 use Rattle.solver_jobs.specs.Reports.{IsFeasible, IncumbentIsFeasible, NoneIsWorthMore, IsProved, IsInfeasible}
-use Rattle.solver_jobs.specs.Over.{IsMemoryAlone, IsOver}
+use Rattle.solver_jobs.specs.Over.{IsOver}
 use Rattle.solver_jobs.specs.declared.text_job.Search.{Search}
 
 -- an incumbent is a solution in the problem's own words too
@@ -47,6 +42,14 @@ none_worth_more dp own agrees value most x worth is =
     let up = most x found.solution in
     let same = found.value in
     omega (arith, ints)
+
+-- the incumbent of an explored board is feasible
+pub explored_with : (dp : Dp) (own : List ℕ → Option ℤ) → Agrees dp own → (b : BoardState) (found : Option Solution) → is_explored b ≡ true → IsBoard dp b → found ≡ b.incumbent → IsExploredWith dp own b found
+explored_with dp own agrees b found all kept same = record {
+  explored = all;
+  held = sym same;
+  found_one = found_holds dp own agrees found (subst (IncumbentHolds dp) (sym same) kept.incumbent);
+}
 
 -- the incumbent of an explored board is best
 pub proved : (dp : Dp) (own : List ℕ → Option ℤ) → Agrees dp own → (held : Option Solution) (found : Solution) → Some found ≡ held → IncumbentHolds dp held → IsBest dp (value_held held) → IsProved dp own found
@@ -88,48 +91,42 @@ no_append : {X : Type 0} (xs ys : List X) → ys ≢ [] → xs ++ ys ≡ [] → 
 no_append [] ys some h = some h
 no_append (x ∷ xs) ys some h = absurd (cc)
 
-pub bound_there : (dp : Dp) (search : Search) (b : BoardState) → IsOver dp search b → is_explored b ≡ false → board_bound b ≡ None → ⊥
-bound_there dp search b over left h =
+pub bound_there : (dp : Dp) (search : Search) (first b : BoardState) → IsOver dp search first b → is_explored b ≡ false → board_bound b ≡ None → ⊥
+bound_there dp search first b over left h =
     let some = open_left b.open_ones (full_slots b.slots) over.idle left in
     raised_by-open (reach b) (full_slots b.slots ++ b.open_ones) (no_append (full_slots b.slots) b.open_ones some) h
 
 -- a search that is over with something open is stopped, for the reason that holds
-pub is_stopped : (dp : Dp) (own : List ℕ → Option ℤ) → Agrees dp own → (search : Search) (b : BoardState) (stop : Stop) (found : Option Solution) (bound : ℤ)
-    → IsBoard dp b → IsOver dp search b → is_explored b ≡ false → found ≡ b.incumbent → board_bound b ≡ Some bound → ((x : List ℕ) → IsSolution dp x → AtMost (value_of dp x) (Some bound))
-    → StopHolds b stop → (stop ≡ Budget → tree dp ≤ search.budget → tree dp ≤ 2 ^ 63 → ⊥) → IsStopped dp own search.budget b stop found bound
-is_stopped dp own agrees search b stop found bound kept over left same bound_is most holds incomplete = record {
+pub is_stopped : (dp : Dp) (own : List ℕ → Option ℤ) → Agrees dp own → (search : Search) (first b : BoardState) (stop : Stop) (found : Option Solution) (bound : ℤ)
+    → IsBoard dp b → IsOver dp search first b → is_explored b ≡ false → found ≡ b.incumbent → board_bound b ≡ Some bound → StopHolds b stop → IsStopped dp own b stop found bound
+is_stopped dp own agrees search first b stop found bound kept over left same bound_is holds = record {
   something_open = open_left b.open_ones (full_slots b.slots) over.idle left;
   holds = holds;
   held = sym same;
-  bound_is = bound_is;
   found_one = found_holds dp own agrees found (subst (IncumbentHolds dp) (sym same) kept.incumbent);
-  most = most;
-  own_most = none_worth_more dp own agrees bound most;
-  incomplete = incomplete;
+  bound_is = bound_is;
 }
 
--- only want of memory may be held
-pub memory_held : (held : Option Cause) (cause : Cause) → IsMemoryAlone held → held ≡ Some cause → held ≡ Some causes.Memory
-memory_held None cause after is = absurd (let none : None ≡ Some cause = is in cc)
-memory_held (Some x) cause after is = ap Some after
+-- where it is stopped for the budget no cause is held
+no_cause : (b : BoardState) (stop : Stop) → StopHolds b stop → stop ≡ Budget → b.cause ≡ None
+no_cause b Budget holds e = holds.1
+no_cause b Memory holds e = absurd (cc)
+no_cause b Journal holds e = absurd (cc)
 
--- The search that is over.
+-- its bound is true, and where it is stopped for the budget this or the tickets do not suffice for every prefix
+pub is_bounded : (dp : Dp) (own : List ℕ → Option ℤ) → Agrees dp own → (search : Search) (first b : BoardState) (stop : Stop) (bound : ℤ)
+    → IsOver dp search first b → is_explored b ≡ false → IsGood dp first → ((x : List ℕ) → IsSolution dp x → AtMost (value_of dp x) (Some bound)) → StopHolds b stop
+    → IsBounded dp own search.budget stop bound
+is_bounded dp own agrees search first b stop bound over left good most holds = record {
+  most = most;
+  own_most = none_worth_more dp own agrees bound most;
+  incomplete = λ e enough tickets.
+      let all : is_explored b ≡ true = over.complete good enough tickets (no_cause b stop holds e) in
+      absurd (cc);
+}
 
--- the settings are those of the first board
-pub over_settings : (dp : Dp) (search : Search) (b : BoardState) → (over : IsOver dp search b) → b.settings ≡ over.settings
-over_settings dp search b over = (run-follows dp (first_board dp over.settings) over.steps b over.run).settings
+-- ---- the search that is over
 
-pub over_exact : (dp : Dp) (search : Search) (b : BoardState) → IsOver dp search b → b.settings.within ≡ pos 0
-over_exact dp search b over = ap (λ (s : Settings). s.within) (over_settings dp search b over) ∙ over.exact
-
--- a search that is over with something open and without a cause is stopped for its budget
-pub budget_up : (dp : Dp) (search : Search) (b : BoardState) → IsOver dp search b → is_explored b ≡ false → b.cause ≡ None → StopHolds b Budget
-budget_up dp search b over left none = (over.ended left none, none)
-
--- and then the budget or the tickets do not suffice for every prefix
-pub incomplete_for : (dp : Dp) (search : Search) (b : BoardState) → IsOver dp search b → is_explored b ≡ false → b.cause ≡ None → tree dp ≤ search.budget → tree dp ≤ 2 ^ 63 → ⊥
-incomplete_for dp search b over left none most tickets =
-    let same : search.budget ≡ b.settings.budget = sym over.within ∙ ap (λ (s : Settings). s.budget) (sym (over_settings dp search b over)) in
-    let up : tree dp ≤ b.settings.budget = omega arith in
-    let all : is_explored b ≡ true = over.complete up tickets none in
-    cc
+-- it has no distance from the best
+pub over_exact : (dp : Dp) (search : Search) (first b : BoardState) → IsOver dp search first b → b.settings.within ≡ pos 0
+over_exact dp search first b over = ap (λ (s : Settings). s.within) (run-follows dp first over.steps b over.run).settings ∙ over.exact

@@ -1,5 +1,5 @@
 -- A printed report with its cover is accepted.
-use Rattle.std.proofs.Common.{◌≡◌, ℕ, ◌+◌, ◌^◌, ◌<◌, ◌≤◌, ℤ, pos, ◌+ℤ◌, List, [], ◌∷◌, ◌++◌, length, Bool, true, false, Option, Some, None, Vec, refl, sym, ◌∙◌, ap, subst, append_assoc, length-append, arith}
+use Rattle.std.proofs.Common.{◌≡◌, ℕ, ◌+◌, ◌^◌, ◌<◌, ◌≤◌, ℤ, pos, ◌+ℤ◌, List, [], ◌∷◌, ◌++◌, length, true, Option, Some, None, Vec, refl, sym, ◌∙◌, ap, subst, append_assoc, length-append, arith}
 use Rattle.std.specs.Prelude.{codes, Ok, MatchResult}
 use Rattle.std.specs.declared.alloc.Global.{Global}
 use Rattle.std.proofs.lemmas.Int.{ints}
@@ -28,10 +28,10 @@ use Rattle.solver_report.specs.declared.answer.Answer.TheVariants as answers
 use Rattle.solver_report.specs.declared.answer.Counts.{Counts}
 use Rattle.solver_report.specs.declared.answer.Outcome.{Outcome}
 use Rattle.solver_report.specs.declared.answer.Outcome.TheVariants.{Proved, Infeasible, Stopped}
-use Rattle.board_laws.specs.Board.{BoardState}
-use Rattle.solver_jobs.specs.Answers.{IsCounted, IsOutcomeOf}
+use Rattle.solver_jobs.specs.Answers.{AreSized}
 use Rattle.solver_jobs.specs.Checks.{Checks, ChecksText, IsTrueReport, RefusesCover, RefusesInstance}
 use Rattle.solver_jobs.specs.Covers.{IsAccepted, IsCoverText, IsCovered}
+use Rattle.solver_jobs.specs.Outcomes.{IsTrueOf}
 
 -- ---- what is told
 
@@ -49,11 +49,11 @@ counts_told None = None
 counts_told (Some counts) = Some (record { taken = counts.taken; finished = counts.finished })
 
 -- at its end a search tells a true report
-pub true-told : (dp : Dp) (own : List ℕ → Option ℤ) (budget : ℕ) (board : BoardState) (outcome : Outcome) → is_final outcome ≡ true → IsOutcomeOf dp own budget board outcome
+pub true-told : (dp : Dp) (own : List ℕ → Option ℤ) (budget : ℕ) (outcome : Outcome) → is_final outcome ≡ true → IsTrueOf dp own budget outcome
     → IsTrueReport dp own (best_told outcome) (assignment_told outcome)
-true-told dp own budget board (Proved found) final h = h
-true-told dp own budget board Infeasible final h = h
-true-told dp own budget board (Stopped stop incumbent bound) final h = absurd (cc)
+true-told dp own budget (Proved found) final h = h
+true-told dp own budget Infeasible final h = h
+true-told dp own budget (Stopped stop incumbent bound) final h = absurd (cc)
 
 -- decisions have 32 bits
 path-small : (dp : Dp) → IsLawful dp → (k : ℕ) (s : List ℤ) (x : List ℕ) → IsPath dp k s x → Each (λ d. d < 2 ^ 32) x
@@ -71,11 +71,10 @@ told-fits dp laws own (Proved found) h =
 told-fits dp laws own Infeasible h = refl
 told-fits dp laws own (Stopped stop incumbent bound) h = refl
 
--- counts have 64 bits
-pub counts-fit : (dp : Dp) (board : BoardState) (stats : Bool) (counts : Option Counts) → IsCounted dp board stats counts → MayBeCounts (counts_told counts)
-counts-fit dp board stats None h = tt
-counts-fit dp board true (Some counts) h = let low = h.in_order in let few = h.sized in record { taken = few; finished = omega arith }
-counts-fit dp board false (Some counts) h = absurd h
+-- counts of 64 bits can be printed
+pub counts-fit : (counts : Option Counts) → AreSized counts → MayBeCounts (counts_told counts)
+counts-fit None h = tt
+counts-fit (Some counts) h = record { taken = h.0; finished = h.1 }
 
 -- ---- how it is printed
 

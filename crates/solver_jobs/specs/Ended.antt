@@ -1,5 +1,7 @@
 -- How a run of the program ends.
-use Rattle.std.specs.Prelude.{◌≡◌, ℕ, ◌+◌, ◌^◌, ◌≤◌, ◌==◌, if◌then◌else◌, List, length, Option, IfSome, Ok, Err, ◌⊎◌}
+use Rattle.std.specs.Prelude.{◌≡◌, ℕ, ◌+◌, ◌^◌, ◌≤◌, ◌==◌, if◌then◌else◌, List, length, Option, IfOk, IfSome, Ok, Err, ◌⊎◌}
+use Rattle.dd_disk.specs.declared.disk.Disk.{Ghosts}
+use Rattle.problem_names.specs.declared.ModelName.{ModelName}
 use Rattle.std.specs.Io.KnownBytes.{append_known}
 use Rattle.dd_io.specs.Counts.{Rose}
 use Rattle.dd_io.specs.Told.{IsAllOf, Ends, Skips, TakesSome}
@@ -13,9 +15,9 @@ use Rattle.solver_report.specs.Report.{report, status_of}
 use Rattle.solver_jobs.specs.Answers.{IsReply, Draws}
 use Rattle.solver_jobs.specs.Checks.{IsChecked}
 use Rattle.solver_jobs.specs.Covers.{cover_limit}
-use Rattle.solver_jobs.specs.declared.tasks.Task.{Task}
-use Rattle.solver_jobs.specs.declared.tasks.Task.TheVariants.{OnInput, OnCover, Draw}
-use Rattle.solver_jobs.specs.Tasks.{task_asked}
+use Rattle.solver_jobs.specs.Journals.{HasLeftBegun}
+use Rattle.solver_jobs.specs.Kept.{LeavesAfterResume, RepliesKept, Resumes, head_of}
+use Rattle.solver_jobs.specs.Tasks.{TaskView, on_input, journaled, resumed, on_cover, drawn, task_asked}
 
 -- the source as the run found it and left it: the bytes that are left, where they are told, and how many calls have failed
 pub record Readings : Type 0 where
@@ -88,22 +90,31 @@ unread Fault = answers.ReadFault
 unread TooLong = answers.TooLong
 unread OutOfMemory = answers.OutOfMemory
 
--- what a task may answer; nothing is read for an instance that is drawn
-abbrev pub IsTaskAnswer : Task → Readings → Answer → Type 0
-IsTaskAnswer (OnInput job) r answer = IsInputAnswer text_limit (IsReply job) r answer
-IsTaskAnswer OnCover r answer = IsInputAnswer cover_limit IsChecked r answer
-IsTaskAnswer (Draw problem n seed solved) r answer = IsUntouched r × Draws (theory_of problem) n seed solved answer
+module _ {D : Type 0} (on : Ghosts D) where
+  -- the disk is as it was, or the input was read whole, and if it spells an instance a crash has left what a journal of it leaves that has begun
+  abbrev pub LeavesOfSearch : ModelName → Readings → D → D → Type 0
+  LeavesOfSearch name r before now = (now ≡ before) ⊎ ((bytes : List ℕ) × WasRead text_limit r bytes
+      × IfOk ((theory_of name).spelled bytes) (λ numbers. HasLeftBegun on ((theory_of name).program numbers) (head_of (theory_of name) name numbers) now))
 
--- the words ask for a task, which may answer this
-pub record Answers (words : List (List ℕ)) (r : Readings) (answer : Answer) : Type 0 where
-  pub task : Task
-  pub is_asked : task_asked words ≡ Ok task
-  pub right : IsTaskAnswer task r answer
+  -- what a task may answer; nothing is read for an instance that is drawn and for a journal, and the disk is as it was where no journal is kept
+  abbrev pub IsTaskAnswer : TaskView → Readings → D → D → Answer → Type 0
+  IsTaskAnswer (on_input job) r before now answer = IsInputAnswer text_limit (IsReply job) r answer × (now ≡ before)
+  IsTaskAnswer (journaled model search path) r before now answer =
+      IsInputAnswer text_limit (RepliesKept on model search before now) r answer × LeavesOfSearch model r before now
+  IsTaskAnswer (resumed path search) r before now answer = IsUntouched r × Resumes on search before now answer × LeavesAfterResume on before now
+  IsTaskAnswer on_cover r before now answer = IsInputAnswer cover_limit IsChecked r answer × (now ≡ before)
+  IsTaskAnswer (drawn problem n seed solved) r before now answer = IsUntouched r × Draws (theory_of problem) n seed solved answer × (now ≡ before)
 
--- when an answer is right: words are refused for their reason, or memory ran out for reading them, and then nothing was read
-abbrev pub IsRight : List (List ℕ) → Readings → Answer → Type 0
-IsRight words r (answers.Words e) = IfSome (refusal_of e) (λ why. task_asked words ≡ Err why) × IsUntouched r
-IsRight words r answer = Answers words r answer
+  -- the words ask for a task, which may answer this
+  pub record Answers (words : List (List ℕ)) (r : Readings) (before now : D) (answer : Answer) : Type 0 where
+    pub task : TaskView
+    pub is_asked : task_asked words ≡ Ok task
+    pub right : IsTaskAnswer task r before now answer
+
+  -- when an answer is right: words are refused for their reason, or memory ran out for reading them, and then nothing was read and the disk is as it was
+  abbrev pub IsRight : List (List ℕ) → Readings → D → D → Answer → Type 0
+  IsRight words r before now (answers.Words e) = IfSome (refusal_of e) (λ why. task_asked words ≡ Err why) × IsUntouched r × (now ≡ before)
+  IsRight words r before now answer = Answers words r before now answer
 
 -- the text was taken whole, no call failed, and none took nothing
 pub record WasWritten (w : Writings) (text : List ℕ) : Type 0 where
@@ -131,7 +142,7 @@ pub record IsSaid (w : Writings) (given : Answer) (status : ℕ) : Type 0 where
   pub said : Says w (report answer) (status_of answer) status
 
 -- a run ends with a right answer that is said
-pub record HasEnded (words : List (List ℕ)) (r : Readings) (w : Writings) (status : ℕ) : Type 0 where
+pub record HasEnded {D : Type 0} (on : Ghosts D) (words : List (List ℕ)) (r : Readings) (w : Writings) (before now : D) (status : ℕ) : Type 0 where
   pub answer : Answer
-  pub right : IsRight words r answer
+  pub right : IsRight on words r before now answer
   pub said : IsSaid w answer status

@@ -3,8 +3,12 @@ pub mod Widths
 pub mod Reports
 pub mod Checks
 pub mod Covers
-pub mod Answers
 pub mod Over
+pub mod Outcomes
+pub mod Answers
+-- what a run leaves on its disk where it keeps a journal, and what it then answers
+pub mod Journals
+pub mod Kept
 -- what words ask for, and how a run ends
 pub mod Tasks
 pub mod Ended

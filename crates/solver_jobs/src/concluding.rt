@@ -1,18 +1,20 @@
-ghost use Rattle.std.specs.Prelude.{◌≡◌, ℕ, pos, true, false, IfOk};
+ghost use Rattle.std.specs.Prelude.{◌≡◌, ◌≤◌, ℕ, pos, true, false, None, IsTrue, IfOk};
+ghost use Rattle.dp_model.specs.Counts.{tree};
 ghost use Rattle.board_laws.specs.Board.{is_explored};
 ghost use Rattle.board_laws.specs.GoodBoard.{IsBoard, IsGood};
-ghost use Rattle.solver_jobs.specs.Answers.{HasSearched, IsOutcomeOf, IsCounted};
+ghost use Rattle.board_laws.specs.Taking.{is_budget_up};
+ghost use Rattle.solver_jobs.specs.Outcomes.{IsConcluded, IsCounted, IsTold, IsTrueOf, StopHolds};
 ghost use Rattle.solver_jobs.specs.Over.{IsOver};
 
 use crate::text_job::Search;
+use board_laws::Cause;
 use dp_model::{DpModel, OutOfMemory};
 use problems::Problem;
 use search_core::Board;
 use solver_report::{Counts, Outcome, Solution, Stop};
 use std::alloc::Global;
 
-/// How a search that is over ended, with its counts where they are asked for. The first board was a good one. Fails only for
-/// want of memory.
+/// How a search that is over ended, with its counts where they are asked for. Fails only for want of memory.
 pub fn conclude<P: Problem>(
     alloc: Global,
     board: &Board<P>,
@@ -20,9 +22,8 @@ pub fn conclude<P: Problem>(
     search: Search,
 ) -> Result<(Outcome, Option<Counts>), OutOfMemory>
     requires numbers { board.now.numbers ≡ P.numbers model.now }
-    requires good { IsGood (P.meaning board.now.numbers) board.now.first }
-    requires over { IsOver (P.meaning (P.numbers model.now)) search board.now.board }
-    ensures { IfOk result (λ told. HasSearched (P.meaning (P.numbers model.now)) (P.theory.own_value (P.numbers model.now)) search told.0 told.1) }
+    requires over { IsOver (P.meaning (P.numbers model.now)) search board.now.first board.now.board }
+    ensures { IfOk result (λ told. IsConcluded (P.meaning (P.numbers model.now)) (P.theory.own_value (P.numbers model.now)) search board.now.first board.now.board told.0 told.1) }
 {
     let found = held_solution(alloc, board)?;
     let outcome = outcome_of(board, model, found, search);
@@ -45,19 +46,20 @@ fn held_solution<M: DpModel>(
 
 /// The counts of a search, where they are asked for.
 fn counts_of<M: DpModel>(board: &Board<M>, stats: bool) -> Option<Counts>
-    requires { IsGood (M.meaning board.now.numbers) board.now.first }
-    ensures counts { IsCounted (M.meaning board.now.numbers) board.now.board stats result }
+    ensures counts { IsCounted board.now.board stats result }
     ensures kept { IsBoard (M.meaning board.now.numbers) board.now.board }
-    ensures good { IsGood (M.meaning board.now.numbers) board.now.board }
+    ensures good { IsGood (M.meaning board.now.numbers) board.now.first → IsGood (M.meaning board.now.numbers) board.now.board }
+    ensures few { IsGood (M.meaning board.now.numbers) board.now.first → board.now.board.finished ≤ tree (M.meaning board.now.numbers) }
 {
     // What the board keeps of its counts.
     let _ = board.incumbent_value();
+    let finished = board.finished();
     if !stats {
         return None;
     }
     Some(Counts {
         taken: board.taken(),
-        finished: board.finished(),
+        finished,
     })
 }
 
@@ -69,10 +71,10 @@ fn outcome_of<P: Problem>(
     search: Search,
 ) -> Outcome
     requires numbers { board.now.numbers ≡ P.numbers model.now }
-    requires good { IsGood (P.meaning board.now.numbers) board.now.first }
-    requires over { IsOver (P.meaning (P.numbers model.now)) search board.now.board }
+    requires over { IsOver (P.meaning (P.numbers model.now)) search board.now.first board.now.board }
     requires copied { found ≡ board.now.board.incumbent }
-    ensures { IsOutcomeOf (P.meaning (P.numbers model.now)) (P.theory.own_value (P.numbers model.now)) search.budget board.now.board result }
+    ensures told { IsTold (P.meaning (P.numbers model.now)) (P.theory.own_value (P.numbers model.now)) board.now.board result }
+    ensures ends { IsGood (P.meaning (P.numbers model.now)) board.now.first → IsTrueOf (P.meaning (P.numbers model.now)) (P.theory.own_value (P.numbers model.now)) search.budget result }
 {
     if board.is_explored() {
         return explored(board, model, found);
@@ -83,11 +85,11 @@ fn outcome_of<P: Problem>(
 /// How a search with nothing open or out ended: the incumbent is best, or there is no feasible solution.
 fn explored<P: Problem>(board: &Board<P>, model: &P, found: Option<Solution>) -> Outcome
     requires numbers { board.now.numbers ≡ P.numbers model.now }
-    requires good { IsGood (P.meaning board.now.numbers) board.now.first }
     requires nothing_left { is_explored board.now.board ≡ true }
     requires exact { board.now.board.settings.within ≡ pos 0 }
     requires copied { found ≡ board.now.board.incumbent }
-    ensures { (budget : ℕ) → IsOutcomeOf (P.meaning (P.numbers model.now)) (P.theory.own_value (P.numbers model.now)) budget board.now.board result }
+    ensures told { IsTold (P.meaning (P.numbers model.now)) (P.theory.own_value (P.numbers model.now)) board.now.board result }
+    ensures ends { (budget : ℕ) → IsGood (P.meaning (P.numbers model.now)) board.now.first → IsTrueOf (P.meaning (P.numbers model.now)) (P.theory.own_value (P.numbers model.now)) budget result }
 {
     // What the board keeps of its incumbent, and that it is best.
     let _ = board.incumbent_value();
@@ -106,19 +108,32 @@ fn stopped<P: Problem>(
     search: Search,
 ) -> Outcome
     requires numbers { board.now.numbers ≡ P.numbers model.now }
-    requires good { IsGood (P.meaning board.now.numbers) board.now.first }
-    requires over { IsOver (P.meaning (P.numbers model.now)) search board.now.board }
+    requires over { IsOver (P.meaning (P.numbers model.now)) search board.now.first board.now.board }
     requires left { is_explored board.now.board ≡ false }
     requires copied { found ≡ board.now.board.incumbent }
-    ensures { IsOutcomeOf (P.meaning (P.numbers model.now)) (P.theory.own_value (P.numbers model.now)) search.budget board.now.board result }
+    ensures told { IsTold (P.meaning (P.numbers model.now)) (P.theory.own_value (P.numbers model.now)) board.now.board result }
+    ensures ends { IsGood (P.meaning (P.numbers model.now)) board.now.first → IsTrueOf (P.meaning (P.numbers model.now)) (P.theory.own_value (P.numbers model.now)) search.budget result }
 {
     // What the board keeps of its incumbent.
     let _ = board.incumbent_value();
+    let stop = stop_of(board);
     let Some(bound) = board.bound() else {
         unreachable!();
     };
+    Outcome::Stopped(stop, found, bound)
+}
+
+/// Why a search ended while something was open. The budget is no cause that a board keeps.
+fn stop_of<M: DpModel>(board: &Board<M>) -> Stop
+    requires { board.now.board.cause ≡ None → IsTrue (is_budget_up board.now.board) }
+    ensures { StopHolds board.now.board result }
+{
+    // What the board keeps of its cause.
+    let _ = board.incumbent_value();
     match board.cause() {
-        None => Outcome::Stopped(Stop::Budget, found, bound),
-        Some(_) => Outcome::Stopped(Stop::Memory, found, bound),
+        None => Stop::Budget,
+        Some(Cause::Memory) => Stop::Memory,
+        Some(Cause::Journal) => Stop::Journal,
+        Some(Cause::Budget) => unreachable!(),
     }
 }

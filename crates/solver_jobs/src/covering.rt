@@ -2,8 +2,9 @@ ghost use Rattle.std.specs.Prelude.{◌≡◌, ◌^◌, ◌<◌, ◌++◌, Ok, I
 ghost use Rattle.cover_text.specs.Outputs.{cover_lines, printed_lines};
 ghost use Rattle.dp_model.specs.Best.{best};
 ghost use Rattle.problems.specs.Theories.{theory_of};
-ghost use Rattle.solver_jobs.specs.Answers.{HasSearched, Solves};
+ghost use Rattle.solver_jobs.specs.Answers.{AreSized, IsReport};
 ghost use Rattle.solver_jobs.specs.Covers.{IsCoverText, IsCovered};
+ghost use Rattle.solver_jobs.specs.Outcomes.{IsTrueOf};
 
 use crate::text_job::Search;
 use cover_book::explore_whole;
@@ -15,8 +16,8 @@ use problems::Problem;
 use solver_report::{Answer, Counts, Outcome};
 use std::alloc::Global;
 
-/// The answer to a search of an instance of the named problem: its report, and the cover behind it where one is asked for and the search
-/// went to its end.
+/// The answer to a search of an instance of the named problem, of which this was told and is true: its report, and the cover behind it
+/// where one is asked for and the search went to its end.
 pub fn told<P: Problem>(
     alloc: Global,
     name: ModelName,
@@ -26,8 +27,9 @@ pub fn told<P: Problem>(
     search: Search,
 ) -> Answer
     requires named { theory_of name ≡ P.theory }
-    requires searched { HasSearched (P.meaning (P.numbers model.now)) (P.theory.own_value (P.numbers model.now)) search outcome counts }
-    ensures solves { Solves (P.meaning (P.numbers model.now)) (P.theory.own_value (P.numbers model.now)) search result }
+    requires true_told { IsTrueOf (P.meaning (P.numbers model.now)) (P.theory.own_value (P.numbers model.now)) search.budget outcome }
+    requires sized { AreSized counts }
+    ensures report { IsReport search outcome counts result }
     ensures covered { IsCovered name (P.theory.canonical (P.numbers model.now)) result }
 {
     if !search.cover || !outcome.is_final() {

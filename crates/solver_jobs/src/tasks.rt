@@ -1,6 +1,6 @@
-ghost use Rattle.std.specs.Prelude.{◌≡◌, IfOk, map, string_bytes, option_map};
-ghost use Rattle.solver_words.specs.Words.{IsAnswer, IsDrawable, job_view};
-ghost use Rattle.solver_jobs.specs.Tasks.{IsDrawn, is_plain, task_of, task_asked};
+ghost use Rattle.std.specs.Prelude.{◌≡◌, IfOk, map, option_map, string_bytes};
+ghost use Rattle.solver_words.specs.Words.{IsAnswer, job_view};
+ghost use Rattle.solver_jobs.specs.Tasks.{IsDrawn, search_of, search_task, task_asked, task_of, task_view};
 
 use crate::text_job::{Search, TextJob};
 use problem_names::ModelName;
@@ -8,10 +8,21 @@ use solver_words::{Job, JobSettings, WordsError, read_words};
 use std::alloc::Global;
 
 /// What the program is to do.
-#[derive(Clone, Copy, Debug, PartialEq, Eq)]
+#[derive(Debug, Drop)]
 pub enum Task {
     /// A job on the instance that the input spells.
     OnInput(TextJob),
+    /// A search of the instance that the input spells, which begins a journal in the named file.
+    Journaled {
+        model: ModelName,
+        search: Search,
+        path: String,
+    },
+    /// The search of the journal in the named file goes on.
+    Resume {
+        path: String,
+        search: Search,
+    },
     /// A whole output with its cover is checked.
     OnCover,
     /// An instance of that size is drawn from the seed, and printed or solved.
@@ -25,19 +36,16 @@ pub enum Task {
 
 /// What the words ask for, or why they are refused.
 pub fn task_asked(alloc: Global, words: &[String]) -> Result<Task, WordsError>
-    ensures answer { IsAnswer (λ task. task) (task_asked (map string_bytes words.now)) result }
-    ensures drawn { IfOk result IsDrawn }
+    ensures answer { IsAnswer task_view (task_asked (map string_bytes words.now)) result }
+    ensures drawn { IfOk result (λ task. IsDrawn (task_view task)) }
 {
     let job = read_words(alloc, words)?;
-    task_of(&job)
+    Ok(task_of(job))
 }
 
-/// The task of a job. This is the one place that tells which words are still to come: a search with a journal, and the command `resume`.
-/// They are answered as words outside the grammar.
-fn task_of(job: &Job) -> Result<Task, WordsError>
-    requires { IsDrawable job.now }
-    ensures answer { IsAnswer (λ task. task) (task_of (job_view job.now)) result }
-    ensures drawn { IfOk result IsDrawn }
+/// The task of a job.
+fn task_of(job: Job) -> Task
+    ensures { task_view result ≡ task_of (job_view job) }
 {
     match job {
         Job::Solve {
@@ -45,37 +53,51 @@ fn task_of(job: &Job) -> Result<Task, WordsError>
             settings,
             journal,
             cover_words,
-        } if is_plain(*settings, journal) => Ok(Task::OnInput(TextJob::Solve {
-            model: *model,
-            search: Search {
-                width: settings.width,
-                workers: settings.workers,
-                budget: settings.budget,
-                cutset: settings.cutset,
-                stats: settings.stats,
-                cover: cover_words.is_some(),
-            },
-        })),
-        Job::Check => Ok(Task::OnCover),
-        Job::Digest { model } => Ok(Task::OnInput(TextJob::Digest { model: *model })),
+        } => search_task(model, search_of(settings, cover_words), journal),
+        Job::Resume { path, settings } => Task::Resume {
+            path,
+            search: search_of(settings, None),
+        },
+        Job::Check => Task::OnCover,
+        Job::Digest { model } => Task::OnInput(TextJob::Digest { model }),
         Job::Generate {
             model,
             n,
             seed,
             solve,
-        } => Ok(Task::Draw {
-            problem: *model,
-            n: *n,
-            seed: *seed,
-            solved: *solve,
-        }),
-        Job::Solve { .. } | Job::Resume { .. } => Err(WordsError::Usage),
+        } => Task::Draw {
+            problem: model,
+            n,
+            seed,
+            solved: solve,
+        },
     }
 }
 
-/// Whether a search asks for nothing that is still to come. It has from 1 to 16 workers, as the grammar leaves it.
-fn is_plain(settings: JobSettings, journal: &Option<String>) -> bool
-    ensures { result ≡ is_plain settings (option_map string_bytes journal.now) }
+/// How an instance is searched. How many words a cover may keep has no effect.
+fn search_of(settings: JobSettings, cover_words: Option<u64>) -> Search
+    ensures { result ≡ search_of settings cover_words }
 {
-    settings.workers >= 1 && settings.workers <= 16 && journal.is_none()
+    Search {
+        width: settings.width,
+        workers: settings.workers,
+        budget: settings.budget,
+        cutset: settings.cutset,
+        stats: settings.stats,
+        cover: cover_words.is_some(),
+    }
+}
+
+/// A search of an instance, with a journal in the named file or with none.
+fn search_task(model: ModelName, search: Search, journal: Option<String>) -> Task
+    ensures { task_view result ≡ search_task model search (option_map string_bytes journal) }
+{
+    match journal {
+        None => Task::OnInput(TextJob::Solve { model, search }),
+        Some(path) => Task::Journaled {
+            model,
+            search,
+            path,
+        },
+    }
 }

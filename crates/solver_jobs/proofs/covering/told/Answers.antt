@@ -18,10 +18,9 @@ returns-in-Ok-clause-covered g c =
     let numbers = g.P.DpModel.numbers m in
     let dp = g.P.DpModel.meaning numbers in
     let t : Theory = g.P.Problem.theory in
-    let searched = c.requires.searched in
     let final = sym c.is_final.ensures ∙ c.if-not-is_final.false in
     covered-told c.args.name t numbers dp c.args.outcome c.args.counts c.in-Ok.text c.requires.named (same_program g m) (laws_of g m) final
-    (true-told dp (t.own_value numbers) c.args.search.budget searched.board c.args.outcome final searched.ends)
-    (counts-fit dp searched.board c.args.search.stats c.args.counts searched.counted)
+    (true-told dp (t.own_value numbers) c.args.search.budget c.args.outcome final c.requires.true_told)
+    (counts-fit c.args.counts c.requires.sized)
     c.in-Ok.ensures.reads_back
     (subst (λ v. IsCoverText dp c.args.name (t.canonical numbers) v c.in-Ok.text.items) c.best.ensures c.in-Ok.ensures.text)
