@@ -1,37 +1,58 @@
--- A board some rounds after the first one, from which no round can follow.
-use Rattle.std.proofs.Common.{◌≡◌, ◌≢◌, pos, Option, Some, None, ap, subst, inl, inr, ◌∙◌}
+-- A board some rounds after the one that a search goes on from, from which no round can follow.
+use Rattle.std.proofs.Common.{◌≡◌, ℕ, ℤ, ◌≤◌, [], List, Option, is_some, Result, IfOk, Vec, Global, sym, ap, subst, ◌∙◌}
+use Rattle.std.specs.declared.alloc.AllocError.{AllocError}
+use Rattle.dd_disk.specs.declared.disk.Disk.{Ghosts}
+use Rattle.dp_model.specs.Counts.{tree}
 use Rattle.dp_model.specs.Dp.{Dp}
 use Rattle.board_laws.specs.Board.{BoardState, full_slots}
-use Rattle.board_laws.specs.Runs.{IsRun}
-use Rattle.board_laws.specs.Steps.{first_board}
-use Rattle.board_laws.specs.declared.cause.Cause.{Cause}
-use Rattle.board_laws.specs.declared.cause.Cause.TheVariants.{Journal}
+use Rattle.board_laws.specs.GoodBoard.{IsGood}
 use Rattle.board_laws.specs.declared.settings.Settings.{Settings}
-use Rattle.board_laws.proofs.Fresh.{full-none}
-use Rattle.worker_gate.specs.Later.{IsCauseAfter, IsLater, NoRoundFollows, IsComplete}
-use Rattle.solver_jobs.specs.Over.{IsMemoryAlone, IsOver}
-use Rattle.solver_jobs.specs.Widths.{IsSearchWidth}
+use Rattle.worker_gate.specs.Later.{IsLater, NoRoundFollows, IsComplete}
+use Rattle.worker_gate.specs.declared.desk.Desk.{Desk}
+use Rattle.frontier_journal.specs.View.{KeptView}
+use Rattle.search_core.specs.View.{BoardView}
+use Rattle.search_core.specs.declared.tag.BoardTag.{BoardTag}
+use Rattle.solver_jobs.specs.Outcomes.{HasSearched, IsConcluded}
+use Rattle.solver_jobs.specs.Over.{IsOver}
 use Rattle.solver_jobs.specs.declared.text_job.Search.{Search}
+use Rattle.solver_cli.specs.Searches.{HasExplored, IsKeptOn}
+use Rattle.solver_cli.specs.Starts.{AreAsked, IsReadyFor}
+use Rattle.solver_cli.proofs.Told.{Told, if-told}
 
--- of a search that no journal can halt
-memory_alone : (held : Option Cause) → IsCauseAfter None held → held ≢ Some Journal → IsMemoryAlone held
-memory_alone None after alone = tt
-memory_alone (Some cause) (inl still) alone = still
-memory_alone (Some cause) (inr failed) alone = absurd (alone failed)
+is_over : (dp : Dp) (search : Search) (first b : BoardState) → AreAsked dp search first.settings → full_slots first.slots ≡ [] → b.settings ≡ first.settings → IsLater dp first b → NoRoundFollows b → (IsGood dp first → IsComplete dp b) → IsOver dp search first b
+is_over dp search first b asked idle same later ended complete =
+    let budget : b.settings.budget ≡ search.budget = ap (λ (s : Settings). s.budget) same ∙ asked.within in
+    record {
+      steps = later.steps;
+      run = later.run;
+      wide = asked.wide;
+      crew = asked.crew;
+      within = asked.within;
+      exact = asked.exact;
+      idle = ap full_slots later.slots ∙ idle;
+      ended = ended;
+      complete = λ good few. complete good (subst (λ n. tree dp ≤ n) (sym budget) few);
+    }
 
--- some rounds after the first board
-pub is_over : (dp : Dp) (search : Search) (settings : Settings) (first b : BoardState) → first ≡ first_board dp settings → IsSearchWidth dp search.width settings.width → settings.workers ≡ search.workers → settings.budget ≡ search.budget → settings.within ≡ pos 0
-    → IsLater dp first b → NoRoundFollows b → IsComplete dp b → b.cause ≢ Some Journal → IsOver dp search b
-is_over dp search settings first b is wide crew within exact later ended complete alone = record {
-  settings = settings;
-  crew = crew;
-  steps = later.steps;
-  run = subst (λ (f : BoardState). IsRun dp f later.steps b) is later.run;
-  wide = wide;
-  within = within;
-  exact = exact;
-  idle = ap full_slots later.slots ∙ (ap (λ (f : BoardState). full_slots f.slots) is ∙ full-none settings.workers);
-  ended = ended;
-  complete = complete;
-  cause = memory_alone b.cause (subst (λ o. IsCauseAfter o b.cause) (ap (λ (f : BoardState). f.cause) is) later.cause) alone;
-}
+module _ {D : Type 0} (on : Ghosts D) (dp : Dp) (search : Search) (first : KeptView D) (now : D) (b : BoardView) (e : HasExplored on dp first now b) where
+  same-first : b.first ≡ first.board.first
+  same-first = ap (λ (t : BoardTag). t.first) e.tag
+
+  pub over : (desks : Vec Desk Global) → IsReadyFor dp search first.board desks → IsOver dp search b.first b.board
+  over desks ready =
+      subst (λ (f : BoardState). IsOver dp search f b.board) (sym (same-first ∙ ready.first))
+      (is_over dp search first.board.board b.board ready.asked ready.idle (ap (λ (t : BoardTag). t.settings) e.tag) e.later e.ended (subst (λ (f : BoardState). IsGood dp f → IsComplete dp b.board) ready.first e.complete))
+
+  -- what is told of it is told of a search
+  pub searched : (own : List ℕ → Option ℤ) → IsOver dp search b.first b.board → (ended : Result Told AllocError) → IfOk ended (λ told. IsConcluded dp own search b.first b.board told.0 told.1)
+      → IfOk ended (λ told. HasSearched dp own (λ settings. first.board.first) (IsGood dp first.board.first) search (IsKeptOn on dp (is_some first.tail) first.made now) told.0 told.1)
+  searched own over ended h = if-told (λ told. IsConcluded dp own search b.first b.board told.0 told.1)
+      (λ told. HasSearched dp own (λ settings. first.board.first) (IsGood dp first.board.first) search (IsKeptOn on dp (is_some first.tail) first.made now) told.0 told.1)
+      (λ told concluded. record {
+        settings = b.board.settings;
+        board = b.board;
+        over = subst (λ (f : BoardState). IsOver dp search f b.board) same-first over;
+        concluded = subst (λ (f : BoardState). IsConcluded dp own search f b.board told.0 told.1) same-first concluded;
+        trusted = λ good. good;
+        keeps = e.keeps;
+      }) ended h

@@ -1,2 +1,7 @@
 -- the desks of the workers
 pub mod Desks
+-- what a search needs beside the disk, and what it gives
+pub mod Starts
+pub mod Searches
+-- the disk of a search that keeps a journal
+pub mod Journals

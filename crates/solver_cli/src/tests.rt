@@ -1,8 +1,10 @@
 mod covers;
+mod journals;
 mod meeting;
 mod words;
 
 use crate::run;
+use dd_disk::MemDisk;
 use dd_io::{MemSink, MemSource};
 use std::alloc::{AllocError, Global};
 use std::process::Abort;
@@ -52,7 +54,17 @@ fn run_line<R: Threads + Wait + Sync>(
     let bytes = input.as_bytes().to_vec(alloc)?;
     let mut source = MemSource::new(bytes, failing_reads.to_vec(alloc)?);
     let mut text = MemSink::new(alloc, failing_writes.to_vec(alloc)?);
-    let status = run(rt, alloc, words.as_slice(), &mut source, &mut text, &NoGate);
+    let disk = MemDisk::new(Vec::new(alloc), Vec::new(alloc));
+    let ended = run(
+        rt,
+        alloc,
+        words.as_slice(),
+        &mut source,
+        &mut text,
+        disk,
+        &NoGate,
+    );
+    let status = ended.status;
     Ok(Printed { text, status })
 }
 

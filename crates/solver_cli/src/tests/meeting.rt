@@ -1,5 +1,6 @@
 use crate::run;
 use crate::tests::{THREE_ITEMS, words_of};
+use dd_disk::MemDisk;
 use dd_io::{MemSink, MemSource};
 use std::sync::atomic::{AtomicU32, AtomicU64, Ordering};
 use std::test::Fail;
@@ -72,9 +73,18 @@ fn two_workers_meet(rt: HostRuntime) -> Result<(), Fail> {
     let gate = Meeting::new();
     let mut input = MemSource::new(THREE_ITEMS.as_bytes().to_vec(alloc)?, Vec::new(alloc));
     let mut out = MemSink::new(alloc, Vec::new(alloc));
-    let status = run(&rt, alloc, words.as_slice(), &mut input, &mut out, &gate);
+    let disk = MemDisk::new(Vec::new(alloc), Vec::new(alloc));
+    let ended = run(
+        &rt,
+        alloc,
+        words.as_slice(),
+        &mut input,
+        &mut out,
+        disk,
+        &gate,
+    );
     let text = "proved\nvalue 120\nassignment 0 1 1\n";
-    let told = (out.taken(), status, gate.met.load(Ordering::SeqCst));
+    let told = (out.taken(), ended.status, gate.met.load(Ordering::SeqCst));
     assert_eq!(rt; told, (text.as_bytes(), 0, 1));
     Ok(())
 }

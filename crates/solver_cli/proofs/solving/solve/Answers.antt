@@ -1,16 +1,16 @@
-use Rattle.std.proofs.Common.{Err, subst}
-use Rattle.dp_model.specs.Laws.{IsLawful}
-use Rattle.layer_build.specs.declared.workspace.PrepareError.{PrepareError}
-use Rattle.solver_cli.specs.Desks.{AreAllDesks}
-use Rattle.solver_cli.proofs.Widths.{refused}
-use Rattle.solver_cli.proofs.solving.solve.Given as given
+use Rattle.std.proofs.Common.{false, is_some, ap, ◌∙◌}
+use Rattle.solver_cli.proofs.Told.{none-solves, searched-here}
 use Rattle.solver_cli.proofs.solving.solve.Goals as goal
 
-laws_of : (g : given.Over) (m : g.row.P.Denot) → IsLawful (g.P.DpModel.meaning (g.P.DpModel.numbers m))
-laws_of g m = (g.met.P.DpModel g.world.𝓛 g.world.𝓜 g.world.𝓡 ((λ s x. x), (λ x. x), (λ x. x), λ x. x)).lawful m
-
-pub returns-in-Err-Width-clause-solves : goal.returns-in-Err-Width-clause-solves
-returns-in-Err-Width-clause-solves g c =
-    let dp = g.P.DpModel.meaning (g.P.DpModel.numbers c.args.model) in
-    let never = subst (λ (e : PrepareError). AreAllDesks dp c.width_for-width.result c.args.search.workers (Err e)) c.in-Err-Width.field-0-is c.in-Err-Width.ensures in
-    refused dp (laws_of g c.args.model) c.args.search.width c.width_for-width.result c.width_for-width.ensures never
+pub returns-in-Ok-clause-solves : goal.returns-in-Ok-clause-solves
+returns-in-Ok-clause-solves g c =
+    let meaning = g.P.DpModel.meaning in
+    let here = g.P.DpModel.numbers c.args.model in
+    let at = ap g.P.DpModel.numbers c.deref.ensures ∙ c.in-Ok.ensures.model in
+    let kept = c.new-kept.ensures in
+    let start = c.in-Ok.field-0 in
+    let ended = c.search_from-ended.result.0 in
+    let now = c.search_from-ended.result.1 in
+    let own = g.P.Problem.theory.own_value in
+    let searched = searched-here g.D.Disk meaning (g.P.DpModel.numbers c.deref.result.now) here at c.new-kept.result start.board c.args.disk false kept.board kept.made (ap is_some kept.tail) now own c.args.search ended c.search_from-ended.ensures.searched in
+    none-solves g.D.Disk (meaning here) (own here) c.args.search start.board start.desks c.args.disk now c.in-Ok.ensures.begun ended c.answer_of.result c.answer_of.ensures.answers searched

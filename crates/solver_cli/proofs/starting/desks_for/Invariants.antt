@@ -2,7 +2,7 @@ use Rattle.std.proofs.Common.{◌≡◌, ◌≤◌, vec_len, vec_capacity}
 use Rattle.std.specs.List.{All}
 use Rattle.layer_build.specs.Layers.{IsWidth}
 use Rattle.worker_gate.specs.Prepared.{IsPreparedDesk}
-use Rattle.solver_cli.proofs.solving.desks_for.Given as goal
+use Rattle.solver_cli.proofs.starting.desks_for.Given as goal
 
 abbrev pub invariant-loop-made : goal.invariant-loop-made
 invariant-loop-made g l =

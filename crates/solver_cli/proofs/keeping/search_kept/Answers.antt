@@ -1,0 +1,28 @@
+use Rattle.std.proofs.Common.{ap, subst}
+use Rattle.std.specs.Arc.{arc_value}
+use Rattle.dp_model.specs.Laws.{IsLawful}
+use Rattle.solver_jobs.specs.Kept.{head_of}
+use Rattle.solver_jobs.proofs.Journaled.{BeginsSince, left-begun-alone}
+use Rattle.solver_cli.proofs.Beginning.{begun-solves, since-before}
+use Rattle.solver_cli.proofs.keeping.search_kept.Given as given
+use Rattle.solver_cli.proofs.keeping.search_kept.Goals as goal
+
+laws_of : (g : given.Over) (m : g.row.P.Denot) → IsLawful (g.P.DpModel.meaning (g.P.DpModel.numbers m))
+laws_of g m = (g.met.P.DpModel g.world.𝓛 g.world.𝓜 g.world.𝓡 ((λ s x. x), (λ x. x), (λ x. x), λ x. x)).lawful m
+
+pub returns-in-Ok-clause-solves : goal.returns-in-Ok-clause-solves
+returns-in-Ok-clause-solves g c =
+    let here = g.P.DpModel.numbers (arc_value c.args.start.model) in
+    let dp = g.P.DpModel.meaning here in
+    let own = g.P.Problem.theory.own_value here in
+    let head = head_of g.P.Problem.theory c.args.name here in
+    begun-solves g.D.Disk dp own head c.args.search c.args.disk c.search_begun.result.1 c.search_begun.result.0
+    (since-before g.D.Disk dp own head c.args.search c.args.disk c.begin_journal.new.disk c.search_begun.result.1 c.search_begun.result.0 c.begin_journal.ensures.faults c.search_begun.ensures.ends)
+
+pub returns-in-Err-clause-left : goal.returns-in-Err-clause-left
+returns-in-Err-clause-left g c =
+    let m = arc_value c.args.start.model in
+    let here = g.P.DpModel.numbers m in
+    let now = c.begin_journal.new.disk in
+    left-begun-alone g.D.Disk (g.P.DpModel.meaning here) now (head_of g.P.Problem.theory c.args.name here) (laws_of g m)
+    (subst (λ ns. BeginsSince g.D.Disk (head_of g.P.Problem.theory c.args.name ns) now) (ap g.P.DpModel.numbers c.deref.ensures) c.begin_journal.ensures.since)

@@ -1,0 +1,186 @@
+//! What a search needs beside the disk.
+
+ghost use Rattle.std.specs.Prelude.{◌≡◌, ◌≤◌, IfOk, IfErr, OnOk};
+ghost use Rattle.std.specs.Arc.{arc_value};
+ghost use Rattle.board_laws.specs.Board.{AreSettings};
+ghost use Rattle.board_laws.specs.GoodBoard.{IsGood};
+ghost use Rattle.board_laws.specs.Steps.{first_board};
+ghost use Rattle.journal_replay.specs.Accepting.{AreAccepted, AreRefused};
+ghost use Rattle.journal_replay.specs.Replay.{replay_of, replay_start, restored_from};
+ghost use Rattle.solver_jobs.specs.Answers.{HasCrew};
+ghost use Rattle.solver_jobs.specs.Widths.{IsAskedWidth};
+ghost use Rattle.solver_cli.specs.Desks.{AreAllDesks};
+ghost use Rattle.solver_cli.specs.Starts.{DoesNotGoOn, GoesOnFrom, HasBegun, IsUnready, settings_for, unprepared};
+
+use dp_model::{CutKind, DpModel, OutOfMemory};
+use journal_bytes::Records;
+use journal_file::JournalError;
+use journal_replay::replay;
+use layer_build::{PrepareError, greatest_width};
+use problems::Problem;
+use search_core::{Board, Settings};
+use solver_jobs::Search;
+use solver_report::Answer;
+use std::alloc::Global;
+use std::sync::Arc;
+use worker_gate::Desk;
+
+/// How many entries the dominance table holds at most.
+const TABLE_LIMIT: u32 = 4096;
+
+/// The width where none is given, unless the greatest one is less.
+const DEFAULT_WIDTH: u32 = 100;
+
+/// An instance, the board that its search goes on from, and a desk for each worker.
+#[derive(Drop)]
+pub struct Start<P: Problem> {
+    pub model: Arc<P>,
+    pub board: Board<P>,
+    pub desks: Vec<Desk>,
+}
+
+/// The start of a search of the instance, or the answer where there is none: the width is refused where it is 0 or above the greatest one
+/// of the instance, or there is no memory.
+pub fn begin_search<P: Problem>(alloc: Global, model: P, search: Search) -> Result<Start<P>, Answer>
+    requires crew { HasCrew search }
+    ensures model { IfOk result (λ s. P.numbers (arc_value s.model) ≡ P.numbers model) }
+    ensures numbers { IfOk result (λ s. s.board.numbers ≡ P.numbers model) }
+    ensures begun { IfOk result (λ s. HasBegun (P.meaning (P.numbers model)) search s.board s.desks) }
+    ensures refused { IfErr result (IsUnready (P.meaning (P.numbers model)) search) }
+{
+    let width = width_for(&model, search.width);
+    match desks_for(alloc, &model, width, search.workers, search.cutset) {
+        Ok(desks) => match begun(alloc, model, settings_for(search, width)) {
+            Ok((model, board)) => Ok(Start {
+                model,
+                board,
+                desks,
+            }),
+            Err(_) => Err(Answer::OutOfMemory),
+        },
+        Err(error) => Err(unprepared(error)),
+    }
+}
+
+/// The start of a search of the instance that goes on from the records, or the answer where there is none: as for one that begins, and
+/// after the width the first record that may not follow is refused.
+pub fn go_on<P: Problem>(
+    alloc: Global,
+    model: P,
+    records: &Records,
+    search: Search,
+) -> Result<Start<P>, Answer>
+    requires crew { HasCrew search }
+    ensures model { IfOk result (λ s. P.numbers (arc_value s.model) ≡ P.numbers model) }
+    ensures numbers { IfOk result (λ s. s.board.numbers ≡ P.numbers model) }
+    ensures goes_on { IfOk result (λ s. GoesOnFrom (P.meaning (P.numbers model)) search records.now s.board s.desks) }
+    ensures refused { IfErr result (DoesNotGoOn (P.meaning (P.numbers model)) search records.now) }
+{
+    let width = width_for(&model, search.width);
+    match desks_for(alloc, &model, width, search.workers, search.cutset) {
+        Ok(desks) => match restored(alloc, model, records, settings_for(search, width)) {
+            Ok((model, board)) => Ok(Start {
+                model,
+                board,
+                desks,
+            }),
+            Err(error) => Err(Answer::Journal(error)),
+        },
+        Err(error) => Err(unprepared(error)),
+    }
+}
+
+/// The width of a search for which this one or none is given.
+fn width_for<M: DpModel>(model: &M, given: Option<u32>) -> u32
+    ensures { IsAskedWidth (M.meaning (M.numbers model.now)) given result }
+{
+    match given {
+        Some(width) => width,
+        None => greatest_width(model).min(DEFAULT_WIDTH),
+    }
+}
+
+/// A desk for each worker.
+fn desks_for<M: DpModel>(
+    alloc: Global,
+    model: &M,
+    width: u32,
+    workers: u32,
+    cutset: CutKind,
+) -> Result<Vec<Desk>, PrepareError>
+    requires { 1 ≤ workers }
+    ensures { AreAllDesks (M.meaning (M.numbers model.now)) width workers result }
+{
+    let first = Desk::prepare(alloc, model, width, cutset)?;
+    let Ok(mut desks) = Vec::with_capacity(alloc, workers as usize) else {
+        return Err(PrepareError::OutOfMemory);
+    };
+    desks.push_reserved(first);
+    for _made in 1..workers {
+        desks.push_reserved(Desk::prepare(alloc, model, width, cutset)?);
+    }
+    Ok(desks)
+}
+
+/// The answer where no desks are prepared.
+fn unprepared(error: PrepareError) -> Answer
+    ensures { result ≡ unprepared error }
+{
+    match error {
+        PrepareError::Width => Answer::Width,
+        PrepareError::OutOfMemory => Answer::OutOfMemory,
+    }
+}
+
+/// The settings of a search with diagrams of this width.
+fn settings_for(search: Search, width: u32) -> Settings
+    ensures { result ≡ settings_for search width }
+{
+    Settings {
+        workers: search.workers,
+        budget: search.budget,
+        table_limit: TABLE_LIMIT,
+        width,
+        within: 0,
+    }
+}
+
+/// The instance, and the board at the start of its search.
+fn begun<P: Problem>(
+    alloc: Global,
+    model: P,
+    settings: Settings,
+) -> Result<(Arc<P>, Board<P>), OutOfMemory>
+    requires { AreSettings settings }
+    ensures model { IfOk result (λ r. P.numbers (arc_value r.0) ≡ P.numbers model) }
+    ensures numbers { IfOk result (λ r. r.1.numbers ≡ P.numbers model) }
+    ensures board { IfOk result (λ r. r.1.board ≡ first_board (P.meaning (P.numbers model)) settings) }
+    ensures first { IfOk result (λ r. r.1.first ≡ r.1.board) }
+    ensures good { IfOk result (λ r. IsGood (P.meaning (P.numbers model)) r.1.first) }
+{
+    let model = Arc::new(alloc, model)?;
+    let board = Board::begin(alloc, Arc::try_clone(&model)?, settings)?;
+    Ok((model, board))
+}
+
+/// The instance, and the board that goes on from the records. It is refused as `replay` says.
+fn restored<P: Problem>(
+    alloc: Global,
+    model: P,
+    records: &Records,
+    settings: Settings,
+) -> Result<(Arc<P>, Board<P>), JournalError>
+    requires { AreSettings settings }
+    ensures accepted { OnOk result (AreAccepted (P.meaning (P.numbers model)) records.now.records) }
+    ensures model { IfOk result (λ r. P.numbers (arc_value r.0) ≡ P.numbers model) }
+    ensures numbers { IfOk result (λ r. r.1.numbers ≡ P.numbers model) }
+    ensures board { IfOk result (λ r. r.1.board ≡ restored_from settings (replay_of (P.meaning (P.numbers model)) records.now.records)) }
+    ensures first { IfOk result (λ r. r.1.first ≡ r.1.board) }
+    ensures refused { IfErr result (AreRefused (P.meaning (P.numbers model)) (replay_start (P.meaning (P.numbers model))) records.now.first records.now.records) }
+{
+    let Ok(model) = Arc::new(alloc, model) else {
+        return Err(JournalError::OutOfMemory);
+    };
+    let board = replay(alloc, records, Arc::try_clone(&model)?, settings)?;
+    Ok((model, board))
+}
