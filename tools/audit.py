@@ -4,8 +4,8 @@
     tools/audit.py                     prints a table, for the clause of `run` and for parts of it
     tools/audit.py CRATE/FILE NAME     lists the definitions under one, as solver_jobs/Reports IsProved
 
-It follows names through the imports of specs/ and through the re-exports of Lib.antt. Comments, blank lines and imports are
-not counted, nor is what the kit defines, nor the types that are declared in src/ (their number is given).
+It follows names through the imports of specs/, through the re-exports of Lib.antt, and into modules with parameters. Comments, blank lines and
+imports are not counted, nor is what the kit defines, nor the types that are declared in src/ (their number is given).
 """
 import collections
 import os
@@ -22,15 +22,22 @@ PROBLEMS = {
     "tours": ("tsp_windows/OwnWords tour_value", "tsp_windows/Program program_of", "tsp_windows/Texts spelled"),
 }
 
+JOURNALS = ["solver_jobs/Journals HasKept", "solver_jobs/Journals HasLeftBegun", "solver_jobs/Kept LeavesAfterResume"]
+
 
 class File:
     """A file of specs/: the lines of each of its definitions, and where the names that it imports come from."""
 
     def __init__(self, path):
         self.lines, self.imports, self.shown = {}, {}, {}
-        of = None
+        of, in_module = None, False
         with open(path, encoding="utf-8") as text:
             for line in map(str.rstrip, text):
+                if line.startswith("module "):
+                    of, in_module = None, True
+                    continue
+                in_module = in_module and (not line or line.startswith(" "))
+                line = line[2:] if in_module else line
                 taken = re.match(rf"(pub )?use (\S+?)(?:\.{{(.*)}}| as ({WORD}))?$", line)
                 if taken:
                     self.take(*taken.groups())
@@ -121,7 +128,8 @@ def main():
     rows = [("all that the clause of `run` says (`HasEnded`)", ["solver_jobs/Ended HasEnded"])]
     rows += [("`proved`, for any problem (`IsProved`)", ["solver_jobs/Reports IsProved"])]
     rows += [("`infeasible` (`IsInfeasible`)", ["solver_jobs/Reports IsInfeasible"])]
-    rows += [("`stopped` (`IsStopped`)", ["solver_jobs/Answers IsStopped"])]
+    rows += [("`stopped` (`IsStopped`, `IsBounded`)", ["solver_jobs/Outcomes IsStopped", "solver_jobs/Outcomes IsBounded"])]
+    rows += [("what a crash leaves of a journal (`HasKept`, `HasLeftBegun`, `LeavesAfterResume`)", JOURNALS)]
     for name, (own, program, grammar) in PROBLEMS.items():
         rows += [(f"{name}: the value in its own words", [own]), (f"{name}: its dynamic program", [program])]
         rows += [(f"{name}: its grammar", [grammar])]
