@@ -34,6 +34,10 @@ pub begins : (file : List ℕ) → MayBegin file → journal_of file ≡ Err Not
 begins file (inl probed) = probed_not_begun true file probed
 begins file (inr probed) = probed_not_begun false file probed
 
+pub may_begin : (gate : Bool) (file : List ℕ) → IsProbed gate file → MayBegin file
+may_begin true file probed = inl probed
+may_begin false file probed = inr probed
+
 -- the byte 0 written at the front of a file of at most one byte
 pub torn_first : (file c : List ℕ) → length file ≤ 1 → Torn 0 1 file c → journal_of c ≡ Err NotBegun
 torn_first file c short torn = short_file c (omega (arith, torn.no_longer))

@@ -1,4 +1,4 @@
-ghost use Rattle.std.specs.Prelude.{◌≡◌, ◌≤◌, ◌<◌, ◌^◌, [], ℕ, List, length, Some, None, Err, get_or, is_err, IsTrue, IsSome, IfSome, IfOk, OnOk, IfErr, IsErrOf};
+ghost use Rattle.std.specs.Prelude.{◌≡◌, ◌⊎◌, ◌≤◌, ◌<◌, ◌^◌, [], ℕ, List, length, Some, None, Err, get_or, is_err, IsTrue, IsSome, IfSome, IfOk, OnOk, IfErr, IsErrOf};
 ghost use Rattle.dd_disk.specs.Counts.{Rose, Counts};
 ghost use Rattle.dd_disk.specs.Disk.{FirstSync, Only, Keeps, LeavesOnly};
 ghost use Rattle.journal_bytes.specs.Journal.{journal_of, head_view, HasRecords};
@@ -83,13 +83,15 @@ pub fn begin<D: Disk>(alloc: Global, disk: &mut D, head: &Head) -> Result<Tail, 
         LeavesSince D.moment D.left_since s disk.new (IsBegun (head_view head.now)))) }
     ensures began { OnOk result (D.start disk.old ≡ None → IsSome (D.start disk.new)) }
 
-    // Where the file has something else, it is left as it was.
+    // Where the file has something else, it is left as it was, whatever is answered.
     ensures exists { IsErrOf result JournalError.Exists → IsTrue (D.tells disk.old) →
         (2 ≤ length (D.seen disk.old)) × ¬ (get_or (D.seen disk.old) 0 0 ≡ 0) × (D.seen disk.new ≡ D.seen disk.old) }
     ensures untouched { IsErrOf result JournalError.Exists → IsTrue (D.tells disk.old) → D.start disk.old ≡ None →
         IfSome (D.start disk.new) (λ s. BeganAt D.moment D.left_since s disk.new (D.seen disk.old)) }
     ensures began_exists { IsErrOf result JournalError.Exists → D.start disk.old ≡ None → IsSome (D.start disk.new) }
     ensures begins { OnOk result (IsTrue (D.tells disk.old) → MayBegin (D.seen disk.old)) }
+    ensures spared { IsTrue (D.tells disk.old) → D.start disk.old ≡ None →
+        IfSome (D.start disk.new) (λ s. MayBegin s.content ⊎ BeganAt D.moment D.left_since s disk.new s.content) }
     ensures disk { IsErrOf result JournalError.Disk → Rose (D.faults disk.old) (D.faults disk.new) }
     ensures errors { IfErr result KeepsFromBeginning }
     ensures faults { D.faults disk.old ≤ D.faults disk.new }
