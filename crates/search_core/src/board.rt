@@ -327,8 +327,9 @@ impl<M: DpModel> Board<M> {
         Ok(())
     }
 
-    /// The reach: the incumbent's value and the distance of the settings.
-    fn reach(&self) -> Option<i64>
+    /// The reach: the incumbent's value and the distance of the settings. Whatever is at most that is left out of the search. `None`
+    /// exactly where there is no incumbent.
+    pub fn reach(&self) -> Option<i64>
         ensures { result ≡ reach self.now.board }
     {
         reach_of(self.settings.within, self.best_value)

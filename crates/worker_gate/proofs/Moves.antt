@@ -1,16 +1,16 @@
 -- Moves of a kept board: one behind the other, and that of one holding.
-use Rattle.std.specs.Int.Signed.{≤ℤ_refl}
-use Rattle.std.proofs.Common.{◌≡◌, ℕ, ℤ, List, [], ◌∷◌, ◌++◌, Option, Some, None, ◌⊎◌, ⊎_elim, inr, sym, subst}
+use Rattle.std.proofs.Common.{◌≡◌, ◌∙◌, ℕ, ℤ, List, [], ◌∷◌, ◌++◌, Option, ◌⊎◌, ⊎_elim, inr, sym, ap, subst}
 use Rattle.board_lock.specs.History.{Moved, HasMoved}
 use Rattle.board_lock.specs.Order.{NoLess}
 use Rattle.board_lock.proofs.History.{not_moved, moved_once}
 use Rattle.dd_disk.specs.declared.disk.Disk.{Ghosts}
 use Rattle.dp_model.specs.Dp.{Dp}
-use Rattle.board_laws.specs.Board.{incumbent_value}
+use Rattle.board_laws.specs.Board.{incumbent_value, reach, reach_of}
 use Rattle.board_laws.proofs.Running.{option-then}
 use Rattle.frontier_journal.specs.Laws.MoveLaw.{keeps-kept-move}
 use Rattle.frontier_journal.specs.Moves.{IsMove}
-use Rattle.frontier_journal.specs.View.{KeptView}
+use Rattle.frontier_journal.specs.View.{KeptView, tag_of}
+use Rattle.frontier_journal.specs.declared.tag.KeptTag.{KeptTag}
 use Rattle.worker_gate.proofs.FinishLater.{at-most-of, no-less-of}
 
 module _ {V : Type 0} (moves : V → V → ℕ → Type 0) where
@@ -23,10 +23,6 @@ module _ {V : Type 0} (moves : V → V → ℕ → Type 0) where
 
   pub moved_then : (a b c : V) → HasMoved moves a b → HasMoved moves b c → HasMoved moves a c
   moved_then a b c h k = record { line = h.line ++ k.line; moved = moved-behind a h.line b k.line c h.moved k.moved }
-
-pub no-less-same : (a : Option ℤ) → NoLess a a
-no-less-same None = tt
-no-less-same (Some z) = ≤ℤ_refl z
 
 no-less-then : (a b c : Option ℤ) → NoLess a b → NoLess b c → NoLess a c
 no-less-then a b c h k = no-less-of a c (option-then a b c (at-most-of a b h) (at-most-of b c k))
@@ -45,3 +41,11 @@ module _ {D : Type 0} (on : Ghosts D) (meaning : List ℤ → Dp) where
   still-no-less before now who seen less m = ⊎_elim
       (λ (same : now ≡ before). subst (λ (v : KeptView D). NoLess seen (incumbent_value v.board.board)) (sym same) less)
       (λ (one : IsMove on meaning before now who). no-less-then seen (incumbent_value before.board.board) (incumbent_value now.board.board) less (keeps-kept-move on meaning before now who one).1) m
+
+  -- after a move the tag is that of what was found
+  still-tagged : (before now : KeptView D) (who : ℕ) → MayLeave before now who → tag_of now ≡ tag_of before
+  still-tagged before now who m = ⊎_elim (λ (same : now ≡ before). ap tag_of same) (λ (one : IsMove on meaning before now who). (keeps-kept-move on meaning before now who one).0) m
+
+  -- the reach after a move is by the distance that the turn began with
+  pub reach-left : (first before now : KeptView D) (who : ℕ) → tag_of before ≡ tag_of first → MayLeave before now who → reach now.board.board ≡ reach_of first.board.board.settings.within (incumbent_value now.board.board)
+  reach-left first before now who tag m = ap (λ (t : KeptTag D). reach_of t.board.settings.within (incumbent_value now.board.board)) (still-tagged before now who m ∙ tag)

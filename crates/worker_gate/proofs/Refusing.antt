@@ -1,6 +1,6 @@
 -- Steps that are refused, and a step that finishes, after offers.
 use Rattle.std.proofs.Common.{◌≡◌, ℤ, List, [], ◌∷◌, ◌++◌, slice_set, slice_get, Option, Some, None, option_map, refl, sym, ◌∙◌, ap, subst}
-use Rattle.std.specs.Prelude.{IsSome, Result, Ok, Err, OnOk, IfErr}
+use Rattle.std.specs.Prelude.{IsSome, Result, Ok, Err, OnOk, IfOk, IfErr}
 use Rattle.std.specs.Result.{IsErrAnd}
 use Rattle.dp_model.specs.Dp.{Dp}
 use Rattle.dp_model.specs.Subproblem.{Subproblem}
@@ -70,6 +70,10 @@ finished_then dp a b c first f = record {
 pub on_ok : {T E P Q : Type 0} (r : Result T E) → (P → Q) → OnOk r P → OnOk r Q
 on_ok (Ok x) f h = f h
 on_ok (Err e) f h = tt
+
+pub ok_then : {T E : Type 0} {P Q : T → Type 0} (r : Result T E) → ((x : T) → P x → Q x) → IfOk r P → IfOk r Q
+ok_then (Ok x) f h = f x h
+ok_then (Err e) f h = tt
 
 pub err_then : {T E : Type 0} {P Q : E → Type 0} (r : Result T E) → ((e : E) → P e → Q e) → IsErrAnd r P → IfErr r Q
 err_then (Ok x) f h = tt

@@ -1,9 +1,10 @@
 //! Branch and bound search by decision diagrams: rounds on a board that one owns, and workers behind a turn.
 //!
-//! In a round, a subproblem is taken and its restricted diagram is compiled with the incumbent's value as threshold; the beam is
-//! offered as a solution. Where the width took nothing from that diagram, no completion is better than the threshold and the beam,
-//! so the subproblem is finished without children. Otherwise its relaxed diagram is compiled with the incumbent's value as it is
-//! then; the solution that it finds is offered, and its children are those of the kind that the desk was prepared for.
+//! In a round, a subproblem is taken and its restricted diagram is compiled with the reach as threshold, which is the incumbent's
+//! value and the distance of the settings; the beam is offered as a solution. Where the width took nothing from that diagram, no
+//! completion is better than the threshold and the beam, so the subproblem is finished without children. Otherwise its relaxed
+//! diagram is compiled with the reach as it is then; the solution that it finds is offered, and its children are those of the kind
+//! that the desk was prepared for.
 //!
 //! The crate has two parts, and a `Desk` is what a round needs in either:
 //!

@@ -39,8 +39,8 @@ pub struct Restricted {
     pub reduced: bool,
 }
 
-/// Compiles the restricted diagram of a subproblem with the incumbent's value as threshold, and offers its beam. Where the width
-/// took nothing from it, the subproblem has no children. No cause is held.
+/// Compiles the restricted diagram of a subproblem with the reach as threshold, and offers its beam. Where the width took nothing
+/// from it, the subproblem has no children. No cause is held.
 ///
 /// # Errors
 ///
@@ -65,15 +65,15 @@ pub fn restrict<M: DpModel, D: Disk>(
     ensures prepared { IsPreparedFor (M.meaning (M.numbers model.now)) space.new }
     ensures width { space.new.width ≡ space.old.width }
 {
-    let threshold = kept.board().incumbent_value();
+    let threshold = kept.board().reach();
     let compiled = compile(space, model, taken, threshold);
     let reduced = compiled.reduced;
     offer(alloc, kept, compiled.found)?;
     Ok(Restricted { threshold, reduced })
 }
 
-/// Compiles the relaxed diagram of a subproblem with the incumbent's value as threshold, offers the solution that it finds, and
-/// fills `cutset` with its children. Gives the threshold. No cause is held.
+/// Compiles the relaxed diagram of a subproblem with the reach as threshold, offers the solution that it finds, and fills `cutset`
+/// with its children. Gives the threshold. No cause is held.
 ///
 /// # Errors
 ///
@@ -102,7 +102,7 @@ pub fn relax<M: DpModel, D: Disk>(
     ensures width { space.new.width ≡ space.old.width }
     ensures cutset { HoldsChildren (M.meaning (M.numbers model.now)) space.old.width kind cutset.new }
 {
-    let threshold = kept.board().incumbent_value();
+    let threshold = kept.board().reach();
     fill(space, cutset, taken, threshold, kind, model);
     offer(alloc, kept, cutset.found())?;
     Ok(threshold)

@@ -4,7 +4,7 @@ ghost use Rattle.std.specs.Prelude.{◌≡◌, None, OnOk, IfErr};
 ghost use Rattle.dp_model.specs.Numbers.{OptionAtMost};
 ghost use Rattle.dp_laws.specs.Children.{found_value};
 ghost use Rattle.board_lock.specs.History.{HasMoved};
-ghost use Rattle.board_laws.specs.Board.{incumbent_value, reach};
+ghost use Rattle.board_laws.specs.Board.{reach};
 ghost use Rattle.board_laws.specs.GoodBoard.{IncumbentHolds};
 ghost use Rattle.frontier_journal.specs.Moves.{IsMove};
 ghost use Rattle.frontier_journal.specs.View.{tag_of};
@@ -16,8 +16,8 @@ use dp_model::{DpModel, Found};
 use frontier_journal::{Kept, KeptError};
 use std::alloc::Global;
 
-/// Offers a feasible solution with its value, where there is one: neither it nor the incumbent is above the reach then. No cause is
-/// held.
+/// Offers a feasible solution with its value, where there is one: it is not above the reach then, and the reach is no less than
+/// before. No cause is held.
 ///
 /// # Errors
 ///
@@ -32,7 +32,7 @@ pub fn offer<M: DpModel, D: Disk>(
     requires going { kept.old.board.board.cause ≡ None }
     ensures offered { OnOk result (IsOffered (M.meaning kept.old.board.numbers) kept.old.board.board kept.new.board.board) }
     ensures found { OnOk result (OptionAtMost (found_value (found_solution found.entry)) (reach kept.new.board.board)) }
-    ensures before { OnOk result (OptionAtMost (incumbent_value kept.old.board.board) (reach kept.new.board.board)) }
+    ensures before { OnOk result (OptionAtMost (reach kept.old.board.board) (reach kept.new.board.board)) }
     ensures refused { IfErr result (λ error. IsRefused (M.meaning kept.old.board.numbers) kept.old.board.board error kept.new.board.board) }
     ensures tag { tag_of kept.new ≡ tag_of kept.old }
     ensures moved { HasMoved (IsMove D.Disk M.meaning) kept.old kept.new }

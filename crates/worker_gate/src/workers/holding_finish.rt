@@ -35,7 +35,7 @@ pub fn finish_one<M: DpModel, D: Disk + Send, R: Wait>(
     fates: &mut Vec<Fate>,
 ) -> Result<(), Stopped>
     requires worker { IsWorker turn.now seat.old }
-    requires may { MayFinishLater (M.meaning (first_of turn.now).board.numbers) (first_of turn.now).board.board.settings.width (out_of seat.old) (seen_of seat.old) threshold (contents subs.old.items) }
+    requires may { MayFinishLater (M.meaning (first_of turn.now).board.numbers) (first_of turn.now).board.board.settings (out_of seat.old) (seen_of seat.old) threshold (contents subs.old.items) }
     ensures worker { IsWorker turn.now seat.new }
     ensures number { seat.new.number ≡ seat.old.number }
     ensures no_less { NoLess (seen_of seat.old) (seen_of seat.new) }

@@ -3,9 +3,10 @@
 ghost use Rattle.std.specs.Prelude.{◌≡◌, IfOk, OnOk, IfErr};
 ghost use Rattle.board_lock.specs.Order.{NoLess};
 ghost use Rattle.board_lock.specs.Seats.{first_of, seen_of, out_of};
-ghost use Rattle.dp_model.specs.Numbers.{AtMost};
+ghost use Rattle.dp_model.specs.Numbers.{AtMost, OptionAtMost};
 ghost use Rattle.dp_model.specs.Prefixes.{IsSolution, value_of};
 ghost use Rattle.worker_gate.specs.Ready.{IsWorker};
+ghost use Rattle.worker_gate.specs.Seen.{reach_seen};
 ghost use Rattle.worker_gate.specs.Stopped.{IsLeftOut};
 
 use super::moving::improve;
@@ -17,7 +18,8 @@ use frontier_journal::Kept;
 use std::alloc::Global;
 use std::sync::Wait;
 
-/// Holds, offers a solution, and leaves. Gives the incumbent's value that is left, which is no less than the solution's.
+/// Holds, offers a solution, and leaves. Gives the reach by what the seat has seen then: the solution's value is at most the incumbent's
+/// that it has seen, and this is at most the reach.
 ///
 /// # Errors
 ///
@@ -33,7 +35,8 @@ pub fn improve_one<M: DpModel, D: Disk + Send, R: Wait>(
     requires worker { IsWorker turn.now seat.old }
     ensures worker { IsWorker turn.now seat.new }
     ensures number { seat.new.number ≡ seat.old.number }
-    ensures seen { IfOk result (λ seen. seen_of seat.new ≡ seen) }
+    ensures reach { IfOk result (λ reach. reach ≡ reach_seen turn.now seat.new) }
+    ensures above { OnOk result (OptionAtMost (seen_of seat.new) (reach_seen turn.now seat.new)) }
     ensures no_less { NoLess (seen_of seat.old) (seen_of seat.new) }
     ensures better { OnOk result (IsSolution (M.meaning (first_of turn.now).board.numbers) decisions.now → AtMost (value_of (M.meaning (first_of turn.now).board.numbers) decisions.now) (seen_of seat.new)) }
     ensures out { OnOk result (out_of seat.new ≡ out_of seat.old) }
@@ -41,7 +44,7 @@ pub fn improve_one<M: DpModel, D: Disk + Send, R: Wait>(
 {
     let who = seat.number();
     let mut guard = turn.hold(rt, seat);
-    let seen = improve(alloc, guard.value(), who, decisions);
+    let reach = improve(alloc, guard.value(), who, decisions);
     guard.leave();
-    seen
+    reach
 }

@@ -5,6 +5,7 @@ ghost use Rattle.board_lock.specs.Order.{NoLess};
 ghost use Rattle.board_lock.specs.Seats.{first_of, seen_of, out_of};
 ghost use Rattle.worker_gate.specs.Prepared.{CanHold};
 ghost use Rattle.worker_gate.specs.Ready.{IsWorker, IsReadySeat, TakenOut};
+ghost use Rattle.worker_gate.specs.Seen.{reach_seen};
 
 use super::moving::{Asked, take};
 use board_lock::{Seat, Turn};
@@ -13,8 +14,8 @@ use dp_model::{DpModel, Sub};
 use frontier_journal::Kept;
 use std::sync::Wait;
 
-/// Holds, takes and leaves. What was taken is copied to `into`, and is a prefix of its own with its state and value. The seat has
-/// nothing out, `into` has room for a subproblem, and the turn's instance is the model's.
+/// Holds, takes and leaves. What was taken is copied to `into`, and is a prefix of its own with its state and value. It tells the reach
+/// by what the seat has seen then. The seat has nothing out, `into` has room for a subproblem, and the turn's instance is the model's.
 pub fn take_one<M: DpModel, D: Disk + Send, R: Wait>(
     rt: &R,
     turn: &Turn<Kept<M, D>>,
@@ -27,7 +28,7 @@ pub fn take_one<M: DpModel, D: Disk + Send, R: Wait>(
     requires room { CanHold (M.meaning (M.numbers model.now)) into.old }
     ensures worker { IsWorker turn.now seat.new }
     ensures number { seat.new.number ≡ seat.old.number }
-    ensures seen { seen_of seat.new ≡ result.seen }
+    ensures reach { result.reach ≡ reach_seen turn.now seat.new }
     ensures no_less { NoLess (seen_of seat.old) (seen_of seat.new) }
     ensures out { TakenOut (M.meaning (M.numbers model.now)) result.taken (out_of seat.new) into.new.subproblem }
     ensures room { CanHold (M.meaning (M.numbers model.now)) into.new }

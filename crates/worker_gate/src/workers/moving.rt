@@ -1,9 +1,9 @@
 //! What a worker does with the board while it holds the turn: each function makes one move, or none.
 
 ghost use Rattle.std.specs.Prelude.{◌≡◌, ◌≢◌, ◌⊎◌, ◌<◌, true, false, [], None, Some, IsSome, IfOk, OnOk, IfErr, MatchBool};
-ghost use Rattle.board_laws.specs.Board.{incumbent_value};
+ghost use Rattle.board_laws.specs.Board.{incumbent_value, reach};
 ghost use Rattle.board_laws.specs.declared.cause.Cause.TheVariants.{Journal};
-ghost use Rattle.dp_model.specs.Numbers.{AtMost};
+ghost use Rattle.dp_model.specs.Numbers.{AtMost, OptionAtMost};
 ghost use Rattle.dp_model.specs.Prefixes.{IsSolution, value_of};
 ghost use Rattle.frontier_journal.specs.Moves.{IsMove};
 ghost use Rattle.search_core.specs.Contents.{contents};
@@ -20,11 +20,11 @@ use frontier_journal::Kept;
 use search_core::{Cause, Fate, Taken};
 use std::alloc::Global;
 
-/// What a worker got that asked for a subproblem, and the incumbent's value as it was then.
+/// What a worker got that asked for a subproblem, and the reach as it was then.
 #[derive(Clone, Copy, Debug)]
 pub struct Asked {
     pub taken: Taken,
-    pub seen: Option<i64>,
+    pub reach: Option<i64>,
 }
 
 /// Takes for a worker that has nothing out.
@@ -38,7 +38,7 @@ pub fn take<M: DpModel, D: Disk>(
     requires within { who < kept.old.board.board.settings.workers }
     requires nothing_out { out_at kept.old.board.board who ≡ None }
     requires room { CanHold (M.meaning (M.numbers model.now)) into.old }
-    ensures seen { result.seen ≡ incumbent_value kept.new.board.board }
+    ensures reach { result.reach ≡ reach kept.new.board.board }
     ensures out { TakenOut (M.meaning (M.numbers model.now)) result.taken (out_at kept.new.board.board who) into.new.subproblem }
     ensures room { CanHold (M.meaning (M.numbers model.now)) into.new }
     ensures moves { (kept.new ≡ kept.old) ⊎ IsMove D.Disk M.meaning kept.old kept.new who }
@@ -47,11 +47,12 @@ pub fn take<M: DpModel, D: Disk>(
     let _ = kept.board().incumbent_value();
     let taken = kept.take(who, into);
     // What every board keeps of what is out.
-    let seen = kept.board().incumbent_value();
-    Asked { taken, seen }
+    let _ = kept.board().incumbent_value();
+    let reach = kept.board().reach();
+    Asked { taken, reach }
 }
 
-/// Offers a solution. Gives the incumbent's value that is left, which is no less than the solution's.
+/// Offers a solution. Gives the reach that is left: the solution's value is at most the incumbent's, and this is at most the reach.
 ///
 /// # Errors
 ///
@@ -63,7 +64,8 @@ pub fn improve<M: DpModel, D: Disk>(
     decisions: &[u32],
 ) -> Result<Option<i64>, Stopped>
     requires within { who < kept.old.board.board.settings.workers }
-    ensures seen { IfOk result (λ seen. seen ≡ incumbent_value kept.new.board.board) }
+    ensures reach { IfOk result (λ r. r ≡ reach kept.new.board.board) }
+    ensures above { OnOk result (OptionAtMost (incumbent_value kept.new.board.board) (reach kept.new.board.board)) }
     ensures better { OnOk result (IsSolution (M.meaning kept.old.board.numbers) decisions.now → AtMost (value_of (M.meaning kept.old.board.numbers) decisions.now) (incumbent_value kept.new.board.board)) }
     ensures out { OnOk result (out_at kept.new.board.board who ≡ out_at kept.old.board.board who) }
     ensures stopped { IfErr result (λ stopped. IsLeftOut stopped (out_at kept.old.board.board who) (out_at kept.new.board.board who)) }
@@ -74,7 +76,11 @@ pub fn improve<M: DpModel, D: Disk>(
         return Err(Stopped::GaveBack);
     }
     match kept.improve(alloc, decisions) {
-        Ok(_) => Ok(kept.board().incumbent_value()),
+        Ok(_) => {
+            // What every board keeps of its distance.
+            let _ = kept.board().incumbent_value();
+            Ok(kept.board().reach())
+        }
         Err(error) => Err(Stopped::Refused(error)),
     }
 }
@@ -92,14 +98,12 @@ pub fn finish<M: DpModel, D: Disk>(
     subs: &mut Vec<Sub>,
     fates: &mut Vec<Fate>,
 ) -> Result<(), Stopped>
-    requires may { MayFinishLater (M.meaning kept.old.board.numbers) kept.old.board.board.settings.width (out_at kept.old.board.board who) (incumbent_value kept.old.board.board) threshold (contents subs.old.items) }
+    requires may { MayFinishLater (M.meaning kept.old.board.numbers) kept.old.board.board.settings (out_at kept.old.board.board who) (incumbent_value kept.old.board.board) threshold (contents subs.old.items) }
     ensures out { OnOk result (out_at kept.new.board.board who ≡ None) }
     ensures emptied { OnOk result (subs.new.items ≡ []) }
     ensures stopped { IfErr result (λ stopped. IsLeftOut stopped (out_at kept.old.board.board who) (out_at kept.new.board.board who) × (subs.new ≡ subs.old)) }
     ensures moves { (kept.new ≡ kept.old) ⊎ IsMove D.Disk M.meaning kept.old kept.new who }
 {
-    // What every board keeps of its distance.
-    let _ = kept.board().incumbent_value();
     if has_failed(kept) {
         kept.give_back(who);
         return Err(Stopped::GaveBack);

@@ -12,6 +12,7 @@ ghost use Rattle.worker_gate.specs.Branched.{AreBranched};
 ghost use Rattle.worker_gate.specs.Offered.{found_solution};
 ghost use Rattle.worker_gate.specs.Prepared.{HoldsChildren};
 ghost use Rattle.worker_gate.specs.Ready.{IsWorker};
+ghost use Rattle.worker_gate.specs.Seen.{reach_seen};
 ghost use Rattle.worker_gate.specs.Stopped.{IsLeftOut};
 
 use super::gate::{Gate, Step};
@@ -33,12 +34,12 @@ use std::sync::Wait;
 pub struct Restricted {
     /// Whether the width took something from a layer.
     pub reduced: bool,
-    /// The incumbent's value that the seat has seen by then.
-    pub seen: Option<i64>,
+    /// The reach by what the seat has seen by then.
+    pub reach: Option<i64>,
 }
 
-/// Offers a feasible solution with its value, where there is one, and then passes the gate. Gives the incumbent's value that the seat
-/// has seen by then, which is no less than that of the solution.
+/// Offers a feasible solution with its value, where there is one, and then passes the gate. Gives the reach by what the seat has seen
+/// by then, which is no less than the value of the solution.
 ///
 /// # Errors
 ///
@@ -50,29 +51,29 @@ fn offer_one<M: DpModel, D: Disk + Send, G: Gate, R: Wait>(
     seat: &mut Seat<Kept<M, D>>,
     gate: &G,
     found: Option<Found<'_>>,
-    seen: Option<i64>,
+    reach: Option<i64>,
 ) -> Result<Option<i64>, Stopped>
     requires worker { IsWorker turn.now seat.old }
-    requires seen { seen_of seat.old ≡ seen }
+    requires reach { reach ≡ reach_seen turn.now seat.old }
     requires held { IncumbentHolds (M.meaning (first_of turn.now).board.numbers) (found_solution found) }
     ensures worker { IsWorker turn.now seat.new }
     ensures number { seat.new.number ≡ seat.old.number }
     ensures out { OnOk result (out_of seat.new ≡ out_of seat.old) }
-    ensures seen { IfOk result (λ seen. seen_of seat.new ≡ seen) }
+    ensures reach { IfOk result (λ reach. reach ≡ reach_seen turn.now seat.new) }
     ensures no_less { NoLess (seen_of seat.old) (seen_of seat.new) }
-    ensures found { OnOk result (OptionAtMost (found_value (found_solution found.entry)) (seen_of seat.new)) }
+    ensures found { OnOk result (OptionAtMost (found_value (found_solution found.entry)) (reach_seen turn.now seat.new)) }
     ensures stopped { IfErr result (λ stopped. IsLeftOut stopped (out_of seat.old) (out_of seat.new)) }
 {
     let Some(found) = found else {
-        return Ok(seen);
+        return Ok(reach);
     };
-    let seen = improve_one(rt, alloc, turn, seat, found.decisions)?;
+    let reach = improve_one(rt, alloc, turn, seat, found.decisions)?;
     gate.pass(seat.number(), Step::Improved);
-    Ok(seen)
+    Ok(reach)
 }
 
-/// Compiles the restricted diagram of a subproblem outside the turn, with the incumbent's value that the seat has seen as threshold,
-/// and offers its beam. Where the width took nothing from it, the subproblem has no children.
+/// Compiles the restricted diagram of a subproblem outside the turn, with the reach by what the seat has seen as threshold, and offers
+/// its beam. Where the width took nothing from it, the subproblem has no children.
 ///
 /// # Errors
 ///
@@ -86,30 +87,30 @@ pub fn restrict_one<M: DpModel, D: Disk + Send, G: Gate, R: Wait>(
     space: &mut Workspace,
     taken: &Sub,
     model: &M,
-    seen: Option<i64>,
+    reach: Option<i64>,
 ) -> Result<Restricted, Stopped>
     requires numbers { (first_of turn.now).board.numbers ≡ M.numbers model.now }
     requires worker { IsWorker turn.now seat.old }
-    requires seen { seen_of seat.old ≡ seen }
+    requires reach { reach ≡ reach_seen turn.now seat.old }
     requires own { IsOwn (M.meaning (M.numbers model.now)) taken.now.subproblem }
     requires prepared { IsPreparedFor (M.meaning (M.numbers model.now)) space.old }
     ensures worker { IsWorker turn.now seat.new }
     ensures number { seat.new.number ≡ seat.old.number }
     ensures out { OnOk result (out_of seat.new ≡ out_of seat.old) }
-    ensures seen { IfOk result (λ r. seen_of seat.new ≡ r.seen) }
-    ensures whole { IfOk result (λ r. r.reduced ≡ false → AreBranched (M.meaning (M.numbers model.now)) (first_of turn.now).board.board.settings.width (seen_of seat.new) taken.now.subproblem.decisions seen []) }
+    ensures reach { IfOk result (λ r. r.reach ≡ reach_seen turn.now seat.new) }
+    ensures whole { IfOk result (λ r. r.reduced ≡ false → AreBranched (M.meaning (M.numbers model.now)) (first_of turn.now).board.board.settings.width (reach_seen turn.now seat.new) taken.now.subproblem.decisions reach []) }
     ensures stopped { IfErr result (λ stopped. IsLeftOut stopped (out_of seat.old) (out_of seat.new)) }
     ensures prepared { IsPreparedFor (M.meaning (M.numbers model.now)) space.new }
     ensures width { space.new.width ≡ space.old.width }
 {
-    let compiled = compile(space, model, taken, seen);
+    let compiled = compile(space, model, taken, reach);
     let reduced = compiled.reduced;
-    let seen = offer_one(rt, alloc, turn, seat, gate, compiled.found, seen)?;
-    Ok(Restricted { reduced, seen })
+    let reach = offer_one(rt, alloc, turn, seat, gate, compiled.found, reach)?;
+    Ok(Restricted { reduced, reach })
 }
 
-/// Compiles the relaxed diagram of a subproblem outside the turn, with the incumbent's value that the seat has seen as threshold,
-/// fills `cutset` with its children, as `fill` does, and offers the solution that it finds.
+/// Compiles the relaxed diagram of a subproblem outside the turn, with the reach by what the seat has seen as threshold, fills
+/// `cutset` with its children, as `fill` does, and offers the solution that it finds.
 ///
 /// # Errors
 ///
@@ -125,11 +126,11 @@ pub fn relax_one<M: DpModel, D: Disk + Send, G: Gate, R: Wait>(
     taken: &Sub,
     kind: CutKind,
     model: &M,
-    seen: Option<i64>,
+    reach: Option<i64>,
 ) -> Result<(), Stopped>
     requires numbers { (first_of turn.now).board.numbers ≡ M.numbers model.now }
     requires worker { IsWorker turn.now seat.old }
-    requires seen { seen_of seat.old ≡ seen }
+    requires reach { reach ≡ reach_seen turn.now seat.old }
     requires own { IsOwn (M.meaning (M.numbers model.now)) taken.now.subproblem }
     requires prepared { IsPreparedFor (M.meaning (M.numbers model.now)) space.old }
     requires width { space.old.width ≡ (first_of turn.now).board.board.settings.width }
@@ -137,13 +138,13 @@ pub fn relax_one<M: DpModel, D: Disk + Send, G: Gate, R: Wait>(
     ensures worker { IsWorker turn.now seat.new }
     ensures number { seat.new.number ≡ seat.old.number }
     ensures out { OnOk result (out_of seat.new ≡ out_of seat.old) }
-    ensures branched { OnOk result (AreBranched (M.meaning (M.numbers model.now)) (first_of turn.now).board.board.settings.width (seen_of seat.new) taken.now.subproblem.decisions seen cutset.new.subs) }
+    ensures branched { OnOk result (AreBranched (M.meaning (M.numbers model.now)) (first_of turn.now).board.board.settings.width (reach_seen turn.now seat.new) taken.now.subproblem.decisions reach cutset.new.subs) }
     ensures stopped { IfErr result (λ stopped. IsLeftOut stopped (out_of seat.old) (out_of seat.new)) }
     ensures prepared { IsPreparedFor (M.meaning (M.numbers model.now)) space.new }
     ensures width { space.new.width ≡ space.old.width }
     ensures cutset { HoldsChildren (M.meaning (M.numbers model.now)) space.old.width kind cutset.new }
 {
-    fill(space, cutset, taken, seen, kind, model);
-    let _ = offer_one(rt, alloc, turn, seat, gate, cutset.found(), seen)?;
+    fill(space, cutset, taken, reach, kind, model);
+    let _ = offer_one(rt, alloc, turn, seat, gate, cutset.found(), reach)?;
     Ok(())
 }

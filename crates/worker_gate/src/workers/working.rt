@@ -6,6 +6,7 @@ ghost use Rattle.search_core.specs.Contents.{contents};
 ghost use Rattle.worker_gate.specs.Prepared.{IsPreparedDesk};
 ghost use Rattle.worker_gate.specs.FinishLater.{MayFinishLater};
 ghost use Rattle.worker_gate.specs.Ready.{IsWorker, IsReadySeat, IsOut};
+ghost use Rattle.worker_gate.specs.Seen.{reach_seen};
 ghost use Rattle.worker_gate.specs.Stopped.{IsLeftOut};
 
 use super::gate::{Gate, Step};
@@ -75,7 +76,7 @@ fn round<M: DpModel, D: Disk + Send, G: Gate + Sync, R: Wait>(
     match asked.taken {
         Taken::Sub => {
             gate.pass(who, Step::Taken);
-            go_on(rt, alloc, turn, seat, desk, model, gate, asked.seen)
+            go_on(rt, alloc, turn, seat, desk, model, gate, asked.reach)
         }
         Taken::WaitForOthers => {
             gate.pass(who, Step::Waiting);
@@ -95,11 +96,11 @@ fn go_on<M: DpModel, D: Disk + Send, G: Gate + Sync, R: Wait>(
     desk: &mut Desk,
     model: &M,
     gate: &G,
-    seen: Option<i64>,
+    reach: Option<i64>,
 ) -> bool
     requires numbers { (first_of turn.now).board.numbers ≡ M.numbers model.now }
     requires worker { IsWorker turn.now seat.old }
-    requires seen { seen_of seat.old ≡ seen }
+    requires reach { reach ≡ reach_seen turn.now seat.old }
     requires out { IsOut (M.meaning (M.numbers model.now)) (out_of seat.old) desk.old.taken.subproblem }
     requires prepared { IsPreparedDesk (M.meaning (M.numbers model.now)) (first_of turn.now).board.board.settings.width desk.old }
     ensures ready { IsReadySeat turn.now seat.new }
@@ -107,7 +108,7 @@ fn go_on<M: DpModel, D: Disk + Send, G: Gate + Sync, R: Wait>(
     ensures prepared { IsPreparedDesk (M.meaning (M.numbers model.now)) (first_of turn.now).board.board.settings.width desk.new }
 {
     let who = seat.number();
-    match expand(rt, alloc, turn, seat, desk, model, gate, seen) {
+    match expand(rt, alloc, turn, seat, desk, model, gate, reach) {
         Ok(()) => {
             gate.pass(who, Step::Finished);
             true
@@ -137,11 +138,11 @@ fn expand<M: DpModel, D: Disk + Send, G: Gate + Sync, R: Wait>(
     desk: &mut Desk,
     model: &M,
     gate: &G,
-    seen: Option<i64>,
+    reach: Option<i64>,
 ) -> Result<(), Stopped>
     requires numbers { (first_of turn.now).board.numbers ≡ M.numbers model.now }
     requires worker { IsWorker turn.now seat.old }
-    requires seen { seen_of seat.old ≡ seen }
+    requires reach { reach ≡ reach_seen turn.now seat.old }
     requires out { IsOut (M.meaning (M.numbers model.now)) (out_of seat.old) desk.old.taken.subproblem }
     requires prepared { IsPreparedDesk (M.meaning (M.numbers model.now)) (first_of turn.now).board.board.settings.width desk.old }
     ensures worker { IsWorker turn.now seat.new }
@@ -150,7 +151,7 @@ fn expand<M: DpModel, D: Disk + Send, G: Gate + Sync, R: Wait>(
     ensures stopped { IfErr result (λ stopped. IsLeftOut stopped (out_of seat.old) (out_of seat.new)) }
     ensures prepared { IsPreparedDesk (M.meaning (M.numbers model.now)) (first_of turn.now).board.board.settings.width desk.new }
 {
-    let mut branched = branch(rt, alloc, turn, seat, desk, model, gate, seen)?;
+    let mut branched = branch(rt, alloc, turn, seat, desk, model, gate, reach)?;
     let finished = finish_one(
         rt,
         alloc,
@@ -177,17 +178,17 @@ fn branch<M: DpModel, D: Disk + Send, G: Gate + Sync, R: Wait>(
     desk: &mut Desk,
     model: &M,
     gate: &G,
-    seen: Option<i64>,
+    reach: Option<i64>,
 ) -> Result<Branched, Stopped>
     requires numbers { (first_of turn.now).board.numbers ≡ M.numbers model.now }
     requires worker { IsWorker turn.now seat.old }
-    requires seen { seen_of seat.old ≡ seen }
+    requires reach { reach ≡ reach_seen turn.now seat.old }
     requires out { IsOut (M.meaning (M.numbers model.now)) (out_of seat.old) desk.old.taken.subproblem }
     requires prepared { IsPreparedDesk (M.meaning (M.numbers model.now)) (first_of turn.now).board.board.settings.width desk.old }
     ensures worker { IsWorker turn.now seat.new }
     ensures number { seat.new.number ≡ seat.old.number }
     ensures out { OnOk result (out_of seat.new ≡ out_of seat.old) }
-    ensures branched { IfOk result (λ b. MayFinishLater (M.meaning (M.numbers model.now)) (first_of turn.now).board.board.settings.width (out_of seat.new) (seen_of seat.new) b.threshold (contents b.children.items)) }
+    ensures branched { IfOk result (λ b. MayFinishLater (M.meaning (M.numbers model.now)) (first_of turn.now).board.board.settings (out_of seat.new) (seen_of seat.new) b.threshold (contents b.children.items)) }
     ensures stopped { IfErr result (λ stopped. IsLeftOut stopped (out_of seat.old) (out_of seat.new)) }
     ensures prepared { IsPreparedDesk (M.meaning (M.numbers model.now)) (first_of turn.now).board.board.settings.width desk.new }
 {
@@ -200,11 +201,11 @@ fn branch<M: DpModel, D: Disk + Send, G: Gate + Sync, R: Wait>(
         &mut desk.space,
         &desk.taken,
         model,
-        seen,
+        reach,
     )?;
     if !restricted.reduced {
         return Ok(Branched {
-            threshold: seen,
+            threshold: reach,
             children: Vec::new(alloc),
         });
     }
@@ -219,11 +220,11 @@ fn branch<M: DpModel, D: Disk + Send, G: Gate + Sync, R: Wait>(
         &desk.taken,
         desk.kind,
         model,
-        restricted.seen,
+        restricted.reach,
     )?;
     match desk.cutset.subs(alloc) {
         Ok(children) => Ok(Branched {
-            threshold: restricted.seen,
+            threshold: restricted.reach,
             children,
         }),
         Err(_) => Err(Stopped::Refused(KeptError::OutOfMemory)),

@@ -4,7 +4,7 @@ use Rattle.dp_model.specs.Numbers.{OptionAtMost}
 use Rattle.dp_model.specs.Solution.{Solution}
 use Rattle.dp_model.specs.Subproblem.{Subproblem}
 use Rattle.dp_laws.specs.Children.{found_value}
-use Rattle.board_laws.specs.Board.{reach, incumbent_value}
+use Rattle.board_laws.specs.Board.{reach}
 use Rattle.board_laws.specs.GoodBoard.{IncumbentHolds}
 use Rattle.frontier_journal.specs.declared.tag.KeptTag.{KeptTag}
 use Rattle.search_core.specs.View.{BoardView}
@@ -26,16 +26,16 @@ offer-requires-clause-held g c κs within =
     let found = shown-solution _ _ c.found.ensures ∙ c.fill.ensures.found in
     subst (λ ns. IncumbentHolds (g.M.DpModel.meaning ns) (found_solution c.found.result)) (sym c.requires.numbers)
     (subst (λ (f : Option Solution). IncumbentHolds dp f) (sym found)
-    (relaxed-held dp (laws_of g c.args.model.now) (chain_of g c.args.model.now) c.args.taken.now.subproblem c.args.space.now.width c.incumbent_value-threshold.result c.requires.own c.requires.prepared.width))
+    (relaxed-held dp (laws_of g c.args.model.now) (chain_of g c.args.model.now) c.args.taken.now.subproblem c.args.space.now.width c.reach-threshold.result c.requires.own c.requires.prepared.width))
 
 pub returns-clause-branched : goal.returns-clause-branched
 returns-clause-branched g c =
     let dp = g.M.DpModel.meaning (g.M.DpModel.numbers c.args.model.now) in
     let b = c.offer.new.kept.board.board in
-    let t = c.incumbent_value-threshold.result in
+    let t = c.reach-threshold.result in
     let found = shown-solution _ _ c.found.ensures ∙ c.fill.ensures.found in
     let same = c.requires.width ∙ ap (λ (t : KeptTag g.row.D.Denot). t.board.settings.width) (sym c.offer.ensures.tag) in
     subst (λ (cs : List Subproblem). IsBranched dp b c.args.taken.now.subproblem.decisions t cs) (sym c.fill.ensures.subs)
     (relaxed-branched dp (laws_of g c.args.model.now) (chain_of g c.args.model.now) b c.args.taken.now.subproblem c.args.space.now.width t c.args.kind c.requires.own c.requires.prepared.width same
-    (subst (λ v. OptionAtMost v (reach b)) (sym (c.incumbent_value-threshold.ensures.value ∙ ap (λ (v : BoardView). incumbent_value v.board) c.board.ensures.board)) c.in_ok-offer.ensures.before)
+    (subst (λ v. OptionAtMost v (reach b)) (sym (c.reach-threshold.ensures ∙ ap (λ (v : BoardView). reach v.board) c.board.ensures.board)) c.in_ok-offer.ensures.before)
     (subst (λ (f : Option Solution). OptionAtMost (found_value f) (reach b)) found c.in_ok-offer.ensures.found))

@@ -1,7 +1,7 @@
 use Rattle.std.proofs.Common.{refl, sym, ◌∙◌, ap, subst}
 use Rattle.dp_model.specs.Laws.{IsLawful}
 use Rattle.dp_model.specs.Numbers.{OptionAtMost}
-use Rattle.board_laws.specs.Board.{reach, incumbent_value}
+use Rattle.board_laws.specs.Board.{reach}
 use Rattle.board_laws.specs.GoodBoard.{IncumbentHolds}
 use Rattle.search_core.specs.View.{BoardView}
 use Rattle.worker_gate.specs.Offered.{found_solution}
@@ -20,5 +20,5 @@ offer-requires-clause-held g c κs within =
 pub returns-clause-whole : goal.returns-clause-whole
 returns-clause-whole g c = λ whole.
     whole-branched _ (laws_of g c.args.model.now) c.offer.new.kept.board.board _ _ _ _ c.requires.own.prefix (sym whole ∙ c.compile-compiled.ensures.reduced) c.compile-compiled.ensures.beam
-    (subst (λ v. OptionAtMost v (reach c.offer.new.kept.board.board)) (sym (c.incumbent_value-threshold.ensures.value ∙ ap (λ (v : BoardView). incumbent_value v.board) c.board.ensures.board)) c.in_ok-offer.ensures.before)
+    (subst (λ v. OptionAtMost v (reach c.offer.new.kept.board.board)) (sym (c.reach-threshold.ensures ∙ ap (λ (v : BoardView). reach v.board) c.board.ensures.board)) c.in_ok-offer.ensures.before)
     c.in_ok-offer.ensures.found

@@ -5,7 +5,7 @@ use Rattle.frontier_journal.specs.Moves.{IsMove}
 use Rattle.frontier_journal.specs.View.{KeptView}
 use Rattle.worker_gate.specs.Offered.{IsOffered}
 use Rattle.worker_gate.proofs.Moves.{moved_by}
-use Rattle.worker_gate.proofs.Offers.{IsOffered-refl, offered_by}
+use Rattle.worker_gate.proofs.Offers.{IsOffered-refl, offered_by, reach-offered}
 use Rattle.worker_gate.proofs.rounds.offering.offer.Goals as goal
 use Rattle.worker_gate.proofs.rounds.offering.offer.Goals.{in-Some+in_ok-improve, in_default}
 
@@ -19,6 +19,9 @@ returns-clause-offered g c =
       | in-Some+in_ok-improve w ↦ subst (λ (v : KeptView g.row.D.Denot). IsOffered dp c.args.kept.now.board.board v.board.board) (sym w.kept-is) (offered_by _ _ _ _ _ w.in_ok-improve.ensures.answer w.in_ok-improve.ensures.step)
       | in_default w ↦ subst (λ (v : KeptView g.row.D.Denot). IsOffered dp c.args.kept.now.board.board v.board.board) (sym w.kept-is) (IsOffered-refl _ _)
     ]
+
+pub returns-clause-before : goal.returns-clause-before
+returns-clause-before g c = reach-offered _ _ _ (returns-clause-offered g c)
 
 pub returns-clause-moved : goal.returns-clause-moved
 returns-clause-moved g c =

@@ -25,7 +25,7 @@ finish-finished-requires-clause-may g c κs within =
     let h = c.hold-guard.ensures in
     let cs = contents c.args.subs.now.items in
     let who = c.number-who.result in
-    subst (λ (v : KeptView g.row.D.Denot). MayFinishLater (g.M.DpModel.meaning v.board.numbers) v.board.board.settings.width (out_at v.board.board who) (incumbent_value v.board.board) c.args.threshold cs) (sym c.value.ensures.now)
+    subst (λ (v : KeptView g.row.D.Denot). MayFinishLater (g.M.DpModel.meaning v.board.numbers) v.board.board.settings (out_at v.board.board who) (incumbent_value v.board.board) c.args.threshold cs) (sym c.value.ensures.now)
     (later-at g.M.DpModel.meaning (first_of c.args.turn.now) c.hold-guard.result.value who c.args.seat.now.number _ _ c.args.threshold cs c.requires.may h.tag h.out h.seen c.number-who.ensures)
 
 pub hold-guard-requires-send-V : goal.hold-guard-requires-send-V

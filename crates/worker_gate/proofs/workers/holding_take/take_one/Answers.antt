@@ -1,12 +1,12 @@
 use denote.Param.Send.{sendable}
 use Rattle.std.proofs.Crossing.{crosses}
 use Rattle.frontier_journal.proofs.Sent.{kept_send}
-use Rattle.std.proofs.Common.{rules, subst, sym}
+use Rattle.std.proofs.Common.{◌≡◌, ◌∙◌, rules, ap, subst, sym}
 use Rattle.board_lock.specs.Order.{NoLess}
-use Rattle.board_lock.specs.Seats.{seen_of}
-use Rattle.board_laws.specs.Board.{incumbent_value}
-use Rattle.frontier_journal.specs.View.{KeptView}
-use Rattle.worker_gate.proofs.Moves.{still-no-less}
+use Rattle.board_lock.specs.Seats.{first_of, seen_of}
+use Rattle.board_laws.specs.Board.{incumbent_value, reach_of}
+use Rattle.frontier_journal.specs.View.{KeptView, tag_of}
+use Rattle.worker_gate.proofs.Moves.{still-no-less, reach-left}
 use Rattle.worker_gate.proofs.workers.holding_take.take_one.Goals as goal
 
 pub returns-clause-no_less : goal.returns-clause-no_less
@@ -15,6 +15,13 @@ returns-clause-no_less g c =
     let before = c.value.result.now in
     let less = subst (λ (v : KeptView g.row.D.Denot). NoLess seen (incumbent_value v.board.board)) (sym c.value.ensures.now) c.hold-guard.ensures.seen in
     subst (NoLess seen) (search rules) (still-no-less g.D.Disk g.M.DpModel.meaning before c.take-asked.new.kept c.number-who.result seen less c.take-asked.ensures.moves)
+
+pub returns-clause-reach : goal.returns-clause-reach
+returns-clause-reach g c =
+    let first = first_of c.args.turn.now in
+    let tag = ap tag_of c.value.ensures.now ∙ c.hold-guard.ensures.tag in
+    let left = reach-left g.D.Disk g.M.DpModel.meaning first c.value.result.now c.take-asked.new.kept c.number-who.result tag c.take-asked.ensures.moves in
+    subst (λ seen. c.take-asked.result.reach ≡ reach_of first.board.board.settings.within seen) (search rules) (c.take-asked.ensures.reach ∙ left)
 
 pub hold-guard-requires-send-V : goal.hold-guard-requires-send-V
 hold-guard-requires-send-V g c κs within =

@@ -15,7 +15,7 @@ pub returns-clause-out : goal.returns-clause-out
 returns-clause-out g c =
     let dp = g.M.DpModel.meaning (g.M.DpModel.numbers c.args.model.now) in
     let now = c.take-taken.new.self in
-    let kept = subst (λ (v : BoardView). IsBoard (g.M.DpModel.meaning v.numbers) v.board) c.board-2.ensures.board c.incumbent_value-seen.ensures.kept in
+    let kept = subst (λ (v : BoardView). IsBoard (g.M.DpModel.meaning v.numbers) v.board) c.board-2.ensures.board c.incumbent_value-2.ensures.kept in
     let same = subst (λ ns. IsBoard (g.M.DpModel.meaning ns) now.board.board) (ap (λ (t : KeptTag g.row.D.Denot). t.board.numbers) c.take-taken.ensures.tag ∙ c.requires.numbers) kept in
     taken_out dp c.args.kept.now.board.board now.board.board c.args.who c.take-taken.new.into.subproblem c.take-taken.result c.take-taken.ensures.answer c.take-taken.ensures.step c.take-taken.ensures.out c.requires.nothing_out same
 

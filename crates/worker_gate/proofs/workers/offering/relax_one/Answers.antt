@@ -8,8 +8,9 @@ use Rattle.dp_laws.specs.Children.{found_value}
 use Rattle.board_laws.specs.GoodBoard.{IncumbentHolds}
 use Rattle.worker_gate.specs.Branched.{AreBranched}
 use Rattle.worker_gate.specs.Offered.{found_solution}
+use Rattle.worker_gate.specs.Seen.{reach_seen}
 use Rattle.worker_gate.proofs.Branches.{shown-solution, relaxed-held, relaxed-branched-for}
-use Rattle.worker_gate.proofs.FinishLater.{at-most-of}
+use Rattle.worker_gate.proofs.FinishLater.{seen-later}
 use Rattle.worker_gate.proofs.workers.offering.relax_one.Given as given
 use Rattle.worker_gate.proofs.workers.offering.relax_one.Goals as goal
 
@@ -25,16 +26,16 @@ offer_one-requires-clause-held g c κs within =
     let found = shown-solution _ _ c.found.ensures ∙ c.fill.ensures.found in
     subst (λ ns. IncumbentHolds (g.M.DpModel.meaning ns) (found_solution c.found.result)) (sym c.requires.numbers)
     (subst (λ (f : Option Solution). IncumbentHolds dp f) (sym found)
-    (relaxed-held dp (laws_of g c.args.model.now) (chain_of g c.args.model.now) c.args.taken.now.subproblem c.args.space.now.width c.args.seen c.requires.own c.requires.prepared.width))
+    (relaxed-held dp (laws_of g c.args.model.now) (chain_of g c.args.model.now) c.args.taken.now.subproblem c.args.space.now.width c.args.reach c.requires.own c.requires.prepared.width))
 
 pub returns-clause-branched : goal.returns-clause-branched
 returns-clause-branched g c =
     let dp = g.M.DpModel.meaning (g.M.DpModel.numbers c.args.model.now) in
-    let width = (first_of c.args.turn.now).board.board.settings.width in
-    let seen = seen_of c.offer_one.new.seat in
+    let settings = (first_of c.args.turn.now).board.board.settings in
+    let reach = reach_seen c.args.turn.now c.offer_one.new.seat in
     let found = shown-solution _ _ c.found.ensures ∙ c.fill.ensures.found in
-    subst (λ (cs : List Subproblem). AreBranched dp width seen c.args.taken.now.subproblem.decisions c.args.seen cs) (sym c.fill.ensures.subs)
-    (relaxed-branched-for dp (laws_of g c.args.model.now) (chain_of g c.args.model.now) width seen c.args.taken.now.subproblem c.args.space.now.width c.args.seen c.args.kind c.requires.own
+    subst (λ (cs : List Subproblem). AreBranched dp settings.width reach c.args.taken.now.subproblem.decisions c.args.reach cs) (sym c.fill.ensures.subs)
+    (relaxed-branched-for dp (laws_of g c.args.model.now) (chain_of g c.args.model.now) settings.width reach c.args.taken.now.subproblem c.args.space.now.width c.args.reach c.args.kind c.requires.own
     c.requires.prepared.width c.requires.width
-    (subst (λ v. OptionAtMost v seen) c.requires.seen (at-most-of (seen_of c.args.seat.now) seen c.offer_one.ensures.no_less))
-    (subst (λ (f : Option Solution). OptionAtMost (found_value f) seen) found c.in_ok-offer_one.ensures.found))
+    (subst (λ v. OptionAtMost v reach) (sym c.requires.reach) (seen-later settings.within (seen_of c.args.seat.now) (seen_of c.offer_one.new.seat) c.offer_one.ensures.no_less))
+    (subst (λ (f : Option Solution). OptionAtMost (found_value f) reach) found c.in_ok-offer_one.ensures.found))

@@ -4,8 +4,9 @@ use Rattle.dp_model.specs.Laws.{IsLawful}
 use Rattle.dp_model.specs.Numbers.{OptionAtMost}
 use Rattle.board_laws.specs.GoodBoard.{IncumbentHolds}
 use Rattle.worker_gate.specs.Offered.{found_solution}
+use Rattle.worker_gate.specs.Seen.{reach_seen}
 use Rattle.worker_gate.proofs.Branches.{beam-held, whole-branched-for}
-use Rattle.worker_gate.proofs.FinishLater.{at-most-of}
+use Rattle.worker_gate.proofs.FinishLater.{seen-later}
 use Rattle.worker_gate.proofs.workers.offering.restrict_one.Given as given
 use Rattle.worker_gate.proofs.workers.offering.restrict_one.Goals as goal
 
@@ -19,6 +20,7 @@ offer_one-requires-clause-held g c κs within =
 
 pub returns-clause-whole : goal.returns-clause-whole
 returns-clause-whole g c = λ whole.
-    let seen = seen_of c.offer_one.new.seat in
-    whole-branched-for _ (laws_of g c.args.model.now) (first_of c.args.turn.now).board.board.settings.width seen _ _ _ _ c.requires.own.prefix (sym whole ∙ c.compile-compiled.ensures.reduced)
-    c.compile-compiled.ensures.beam (subst (λ v. OptionAtMost v seen) c.requires.seen (at-most-of (seen_of c.args.seat.now) seen c.offer_one.ensures.no_less)) c.in_ok-seen.ensures.found
+    let settings = (first_of c.args.turn.now).board.board.settings in
+    let reach = reach_seen c.args.turn.now c.offer_one.new.seat in
+    whole-branched-for _ (laws_of g c.args.model.now) settings.width reach _ _ _ _ c.requires.own.prefix (sym whole ∙ c.compile-compiled.ensures.reduced) c.compile-compiled.ensures.beam
+    (subst (λ v. OptionAtMost v reach) (sym c.requires.reach) (seen-later settings.within (seen_of c.args.seat.now) (seen_of c.offer_one.new.seat) c.offer_one.ensures.no_less)) c.in_ok-reach.ensures.found
