@@ -197,6 +197,35 @@ const FAULTS: &[Faulty] = &[
         CoverError::Word(Place { line: 4, column: 7 }),
     ),
     (
+        "a distance below 0",
+        b"proved within -1\nvalue 4\n",
+        CoverError::Text(TextError::OutOfRange(Place {
+            line: 1,
+            column: 15,
+        })),
+    ),
+    (
+        "a distance above 2^50",
+        b"proved within 1125899906842625\nvalue 4\n",
+        CoverError::Text(TextError::OutOfRange(Place {
+            line: 1,
+            column: 15,
+        })),
+    ),
+    (
+        "no distance",
+        b"proved within value 4\n",
+        CoverError::Text(TextError::NotNumber(Place {
+            line: 1,
+            column: 15,
+        })),
+    ),
+    (
+        "another word than within",
+        b"proved about 2\nvalue 4\n",
+        CoverError::Word(Place { line: 1, column: 8 }),
+    ),
+    (
         "a value outside 64 bits",
         b"proved\nvalue 9223372036854775808\nassignment 1\ncover knapsack\ninstance 8\n1 1\n4 1\nlayer 0 1\n4 ; 1 ; 0 0 1 0\nlayer 1 1\n0 ; 1\nend\n",
         CoverError::Text(TextError::OutOfRange(Place { line: 2, column: 7 })),
@@ -237,23 +266,48 @@ pub fn read(rt: &impl Abort, alloc: Global, text: &[u8]) -> CoverText {
     read_cover(alloc, text).expect(rt, "a cover")
 }
 
-/// The problem, the reported value, the assignment and the instance.
-type Head = (ModelName, Option<i64>, &'static [u32], &'static [u8]);
+/// The reported value, distance and assignment.
+type Claim = (Option<i64>, i64, &'static [u32]);
+
+/// The text, and what stands before its rows: the problem, the claim and the instance.
+type Head = (&'static [u8], ModelName, Claim, &'static [u8]);
+
+const HEADS: &[Head] = &[
+    (TEXT, ModelName::Knapsack, (Some(4), 0, &[1]), b"1 1\n4 1\n"),
+    (
+        b"proved within 2\nvalue 120\nassignment 0 1 1\ncover knapsack\ninstance 20\n3 10\n60 5\n50 4\n70 6\nend\n",
+        ModelName::Knapsack,
+        (Some(120), 2, &[0, 1, 1]),
+        b"3 10\n60 5\n50 4\n70 6\n",
+    ),
+    (
+        b"proved within 1125899906842624\nvalue 4\nassignment 1\ncover knapsack\ninstance 8\n1 1\n4 1\nend\n",
+        ModelName::Knapsack,
+        (Some(4), 1_125_899_906_842_624, &[1]),
+        b"1 1\n4 1\n",
+    ),
+    (OTHER_FORMS, ModelName::TspWindows, (None, 0, &[]), b"layer"),
+];
 
 /// What stands before the rows.
-fn has_head(rt: &impl Abort, text: &CoverText, wanted: Head) {
-    let (assignment, instance) = (text.assignment.as_slice(), text.instance.as_slice());
-    assert_eq!(rt; (text.model, text.best, assignment, instance), wanted);
+fn has_head(rt: &impl Abort, alloc: Global, head: &Head) {
+    let (text, model, claim, instance) = *head;
+    let found = read(rt, alloc, text);
+    let found_claim = (found.best, found.within, found.assignment.as_slice());
+    let found_head = (found.model, found_claim, found.instance.as_slice());
+    assert_eq!(rt; found_head, (model, claim, instance));
 }
 
 #[test]
-fn the_text_of_a_small_knapsack_is_read(rt: HostRuntime) {
+fn the_lines_before_the_rows_are_read(rt: HostRuntime) {
+    for head in HEADS {
+        has_head(&rt, rt.alloc(), head);
+    }
+}
+
+#[test]
+fn the_rows_of_a_small_knapsack_are_read(rt: HostRuntime) {
     let text = read(&rt, rt.alloc(), TEXT);
-    has_head(
-        &rt,
-        &text,
-        (ModelName::Knapsack, Some(4), &[1], b"1 1\n4 1\n"),
-    );
     has_layers(&rt, &text.cover, &[1, 1]);
     has_row(&rt, &text.cover, 0, 0, (Some(4), &[1], Some(BOTH)));
     has_row(&rt, &text.cover, 1, 0, (Some(0), &[1], None));
@@ -274,9 +328,8 @@ const TO_THE_LAST: &[CoverArc] = &[
 ];
 
 #[test]
-fn other_forms_of_lines_are_read(rt: HostRuntime) {
+fn other_forms_of_rows_are_read(rt: HostRuntime) {
     let text = read(&rt, rt.alloc(), OTHER_FORMS);
-    has_head(&rt, &text, (ModelName::TspWindows, None, &[], b"layer"));
     has_layers(&rt, &text.cover, &[2]);
     has_row(&rt, &text.cover, 0, 0, (None, &[], Some(&[])));
     let bound = Some(-4_611_686_018_427_387_904);

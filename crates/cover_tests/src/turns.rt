@@ -11,6 +11,10 @@ use std::process::Abort;
 const HEAD: &[u8] =
     b"proved\nvalue 4\nassignment 1 0\ncover knapsack\ninstance 12\n2 1\n4 1\n3 1\n";
 
+/// One item of profit 4 and of weight 1 in a room of 1, and a true report within 2 of the best.
+const NEAR_HEAD: &[u8] =
+    b"proved within 2\nvalue 4\nassignment 1\ncover knapsack\ninstance 8\n1 1\n4 1\n";
+
 /// What the sections are, and the verdict on them.
 type Case = (&'static str, &'static [u8], Verdict);
 
@@ -79,6 +83,19 @@ const CASES: &[Case] = &[
     ("no layer", b"end\n", Verdict::Refused(Why::Layers)),
 ];
 
+const NEAR_CASES: &[Case] = &[
+    (
+        "a bound at the value and the distance",
+        b"layer 0 1\n6 ; 1 ; 0 0 1 0\nlayer 1 1\n0 ; 1\nend\n",
+        Verdict::Accepted,
+    ),
+    (
+        "a bound above them",
+        b"layer 0 1\n7 ; 1 ; 0 0 1 0\nlayer 1 1\n0 ; 1\nend\n",
+        Verdict::Refused(Why::Root),
+    ),
+];
+
 /// The verdict on the layers in turn, as they are read.
 fn verdict_in_turn<M: DpModel>(
     rt: &impl Abort,
@@ -88,20 +105,21 @@ fn verdict_in_turn<M: DpModel>(
 ) -> Result<Verdict, CoverError> {
     assert!(rt; text.len() < 1_000);
     let opened = open_cover(alloc, text).expect(rt, "a head");
-    opened.check(alloc, model, 0)
+    opened.check(alloc, model)
 }
 
 /// The verdict on the cover that is read first.
 fn verdict_behind<M: DpModel>(rt: &impl Abort, alloc: Global, model: &M, text: &[u8]) -> Verdict {
     let held = read(rt, alloc, text);
+    let within = u32::try_from(held.within).expect(rt, "a distance of 32 bits");
     let assignment = held.assignment.as_slice();
-    verdict_on(rt, alloc, model, &held.cover, held.best, 0, assignment)
+    verdict_on(rt, alloc, model, &held.cover, held.best, within, assignment)
 }
 
-/// Both verdicts are that of the case.
-fn has_verdicts<M: DpModel>(rt: &impl Abort, alloc: Global, model: &M, case: &Case) {
+/// Both verdicts behind the head are that of the case.
+fn has_verdicts<M: DpModel>(rt: &impl Abort, alloc: Global, model: &M, head: &[u8], case: &Case) {
     let (what, sections, verdict) = *case;
-    let text = joined(rt, alloc, HEAD, sections);
+    let text = joined(rt, alloc, head, sections);
     let in_turn = verdict_in_turn(rt, alloc, model, text.as_slice());
     let behind = verdict_behind(rt, alloc, model, text.as_slice());
     assert_eq!(rt; (in_turn, behind), (Ok(verdict), verdict), "at {what}");
@@ -111,7 +129,15 @@ fn has_verdicts<M: DpModel>(rt: &impl Abort, alloc: Global, model: &M, case: &Ca
 fn layers_in_turn_have_the_verdict_of_the_cover(rt: HostRuntime) {
     let model = items(&rt, rt.alloc(), b"2 1\n4 1\n3 1\n");
     for case in CASES {
-        has_verdicts(&rt, rt.alloc(), &model, case);
+        has_verdicts(&rt, rt.alloc(), &model, HEAD, case);
+    }
+}
+
+#[test]
+fn a_reported_distance_is_added_to_the_value(rt: HostRuntime) {
+    let model = items(&rt, rt.alloc(), b"1 1\n4 1\n");
+    for case in NEAR_CASES {
+        has_verdicts(&rt, rt.alloc(), &model, NEAR_HEAD, case);
     }
 }
 

@@ -144,7 +144,7 @@ moved-fails origin (Text e) read fails = rw fails refl
 moved-fails origin (Word p) read fails = rw fails refl
 
 -- the verdict on the sections of a text
-pub behind_tested : (dp : Dp) (within : ℤ) (o : OpenView) → verdict_behind dp within o ≡ moved_by (end_place o.before) (tested_sections dp o.best within o.assignment o.behind)
+pub behind_tested : (dp : Dp) (o : OpenView) → verdict_behind dp o ≡ moved_by (end_place o.before) (tested_sections dp o.best o.within o.assignment o.behind)
 unfolding cover_behind
-behind_tested dp within o =
-    moved-then (end_place o.before) (sections_at o.behind) (verdict dp o.best within o.assignment) ∙ ap (moved_by (end_place o.before)) (sym (sections-tested dp o.best within o.assignment o.behind))
+behind_tested dp o =
+    moved-then (end_place o.before) (sections_at o.behind) (verdict dp o.best o.within o.assignment) ∙ ap (moved_by (end_place o.before)) (sym (sections-tested dp o.best o.within o.assignment o.behind))

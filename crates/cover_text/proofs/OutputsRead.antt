@@ -1,6 +1,6 @@
 -- A printed output is read as what was printed.
 use Rattle.std.proofs.Common.{◌≡◌, ℕ, zero, suc, ◌<◌, ◌≤◌, ◌^◌, pos, true, false, List, [], ◌∷◌, ◌++◌, length, ℤ, refl, sym, ap, ◌∙◌, subst, arith, append_assoc, length-append, nat_eq}
-use Rattle.std.specs.Prelude.{codes, decimal, Option, Some, None, Ok, nat_abs, nat_le}
+use Rattle.std.specs.Prelude.{codes, decimal, Bool, cond, int_lt, Option, Some, None, Ok, nat_abs, nat_le}
 use Rattle.std.specs.List.{list_all}
 use Rattle.std.proofs.Math.Seq.{take-append_seam, drop-append_seam}
 use Rattle.std.proofs.lemmas.Bool.{and_parts, not-true}
@@ -15,11 +15,11 @@ use Rattle.problem_names.specs.declared.ModelName.{ModelName}
 use Rattle.problem_names.specs.declared.ModelName.TheVariants.{Knapsack, MaxCut, MaxTwoSat, TspWindows}
 use Rattle.cover_text.specs.Heads.{ClaimView}
 use Rattle.cover_text.specs.Instances.{behind_lines, parted}
-use Rattle.cover_text.specs.Outputs.{spaced, CountsView, printed_lines, claim_lines, counts_lines, cover_lines, printed_output, IsToldClaim, MayBeCounts}
+use Rattle.cover_text.specs.Outputs.{spaced, CountsView, printed_lines, proved_text, claim_lines, counts_lines, cover_lines, printed_output, IsDistance, IsToldClaim, MayBeCounts}
 use Rattle.cover_text.specs.Printed.{printed_cover}
 use Rattle.cover_text.specs.Texts.{text_of}
 use Rattle.cover_text.specs.Written.{IsWritten}
-use Rattle.cover_text.proofs.PrintedHeads.{word-small, claim_then, counts_then, head_then, head_height, MayBeClaim, head-read}
+use Rattle.cover_text.proofs.PrintedHeads.{word-small, distance-small, distance_text, claim_then, counts_then, head_then, head_height, MayBeClaim, head-read}
 use Rattle.cover_text.proofs.RoundTrip.{texts_read}
 
 -- ---- the instance begins behind the last of the lines
@@ -45,6 +45,11 @@ over-spaced l (d ∷ ds) rest held =
     let few = held.0 in
     ap (behind_lines (suc l)) (append_assoc (decimal_of (pos d)) (spaced ds) rest) ∙ (over-number l (pos d) (spaced ds ++ rest) (omega arith) ∙ over-spaced l ds rest held.1)
 
+-- the first line of a report ends behind its distance
+over-distance : (l : ℕ) (told : Bool) (within : ℤ) (rest : List ℕ) → IsDistance within → behind_lines (suc l) (distance_text told within ++ (10 ∷ rest)) ≡ behind_lines l rest
+over-distance l true within rest near = over-number l within (10 ∷ rest) (distance-small within near)
+over-distance l false within rest near = refl
+
 -- so many lines more
 abbrev claim_down : Option ℤ → ℕ → ℕ
 claim_down None l = suc l
@@ -54,10 +59,12 @@ abbrev counts_down : Option CountsView → ℕ → ℕ
 counts_down None l = l
 counts_down (Some counts) l = suc (suc l)
 
-behind-claim : (most : ℕ) (best : Option ℤ) (ds more : List ℕ) (l : ℕ) → MayBeClaim most best ds → behind_lines (claim_down best l) (claim_then best ds more) ≡ behind_lines l more
-behind-claim most None ds more l fits = refl
-behind-claim most (Some value) ds more l fits =
-    over-number (suc l) value (10 ∷ (codes "assignment" ++ (spaced ds ++ (10 ∷ more)))) (word-small value fits.0) ∙ over-spaced l ds (10 ∷ more) fits.1.0
+behind-claim : (most : ℕ) (best : Option ℤ) (within : ℤ) (ds more : List ℕ) (l : ℕ) → MayBeClaim most best within ds → behind_lines (claim_down best l) (claim_then best within ds more) ≡ behind_lines l more
+behind-claim most None within ds more l fits = refl
+behind-claim most (Some value) within ds more l fits =
+    let third = codes "assignment" ++ (spaced ds ++ (10 ∷ more)) in
+    over-distance (suc (suc l)) (int_lt (pos 0) within) within (codes "value" ++ (32 ∷ (decimal_of value ++ (10 ∷ third)))) fits.1.0
+    ∙ (over-number (suc l) value (10 ∷ third) (word-small value fits.0) ∙ over-spaced l ds (10 ∷ more) fits.1.1.0)
 
 behind-counts : (counts : Option CountsView) (more : List ℕ) (l : ℕ) → MayBeCounts counts → behind_lines (counts_down counts l) (counts_then counts more) ≡ behind_lines l more
 behind-counts None more l told = refl
@@ -81,11 +88,11 @@ heights claim (Some counts) None e = rw e refl
 heights claim None (Some value) e = rw e refl
 heights claim (Some counts) (Some value) e = rw e refl
 
-behind-head : (most : ℕ) (claim : ClaimView) (counts : Option CountsView) (model : ModelName) (size : ℕ) (more : List ℕ) → MayBeClaim most claim.best claim.assignment → MayBeCounts counts → size < 2 ^ 32 → behind_lines (head_height claim counts) (head_then claim counts model size more) ≡ more
+behind-head : (most : ℕ) (claim : ClaimView) (counts : Option CountsView) (model : ModelName) (size : ℕ) (more : List ℕ) → MayBeClaim most claim.best claim.within claim.assignment → MayBeCounts counts → size < 2 ^ 32 → behind_lines (head_height claim counts) (head_then claim counts model size more) ≡ more
 behind-head most claim counts model size more fits told few =
     let third = codes "cover" ++ (32 ∷ (names.text_of model ++ (10 ∷ (codes "instance" ++ (32 ∷ (decimal size ++ (10 ∷ more))))))) in
     ap (λ l. behind_lines l (head_then claim counts model size more)) (heights claim counts claim.best refl)
-    ∙ (behind-claim most claim.best claim.assignment (counts_then counts third) (counts_down counts (suc (suc zero))) fits
+    ∙ (behind-claim most claim.best claim.within claim.assignment (counts_then counts third) (counts_down counts (suc (suc zero))) fits
     ∙ (behind-counts counts third (suc (suc zero)) told ∙ (behind-cover model size more few ∙ behind-none more)))
 
 -- it has its bytes, and the sections stand behind them
@@ -101,19 +108,21 @@ spaced-few : (ds : List ℕ) → length ds ≤ length (spaced ds)
 spaced-few [] = omega arith
 spaced-few (d ∷ ds) = omega (arith, length-append (decimal_of (pos d)) (spaced ds), spaced-few ds)
 
-claim-few : (best : Option ℤ) (ds more : List ℕ) → IsToldClaim best ds → MayBeClaim (length (claim_then best ds more)) best ds
-claim-few None ds more told = told
-claim-few (Some value) ds more told =
+claim-few : (best : Option ℤ) (within : ℤ) (ds more : List ℕ) → IsToldClaim best within ds → MayBeClaim (length (claim_then best within ds more)) best within ds
+claim-few None within ds more told = told
+claim-few (Some value) within ds more told =
     let last = spaced ds ++ (10 ∷ more) in
     let third = codes "assignment" ++ last in
     let second = decimal_of value ++ (10 ∷ third) in
     let first = codes "value" ++ (32 ∷ second) in
-    let one = length-append (codes "proved") (10 ∷ first) in
+    let distance = distance_text (int_lt (pos 0) within) within in
+    let word = length-append (codes "proved") (distance ++ (10 ∷ first)) in
+    let one = length-append distance (10 ∷ first) in
     let two = length-append (codes "value") (32 ∷ second) in
     let three = length-append (decimal_of value) (10 ∷ third) in
     let four = length-append (codes "assignment") last in
     let five = length-append (spaced ds) (10 ∷ more) in
-    (told.0, (told.1, omega (arith, spaced-few ds)))
+    (told.0, (told.1, (told.2, omega (arith, spaced-few ds))))
 
 -- a line, and the others behind it
 lines-first : (text : List ℕ) (lines : List (List ℕ)) (rest : List ℕ) → printed_lines (text ∷ lines) ++ rest ≡ text ++ (10 ∷ (printed_lines lines ++ rest))
@@ -122,11 +131,17 @@ lines-first text lines rest = append_assoc (text ++ 10 ∷ []) (printed_lines li
 two-lines : (one two rest : List ℕ) → printed_lines (one ∷ two ∷ []) ++ rest ≡ one ++ (10 ∷ (two ++ (10 ∷ rest)))
 two-lines one two rest = lines-first one (two ∷ []) rest ∙ ap (λ l. one ++ (10 ∷ l)) (lines-first two [] rest)
 
-claim-parts : (best : Option ℤ) (x rest : List ℕ) → printed_lines (claim_lines best x) ++ rest ≡ claim_then best x rest
-claim-parts None x rest = lines-first (codes "infeasible") [] rest
-claim-parts (Some value) x rest =
-    lines-first (codes "proved") ((codes "value" ++ 32 ∷ decimal_of value) ∷ (codes "assignment" ++ spaced x) ∷ []) rest
-    ∙ ap (λ l. codes "proved" ++ (10 ∷ l)) (two-lines (codes "value" ++ 32 ∷ decimal_of value) (codes "assignment" ++ spaced x) rest)
+proved-parts : (within : ℤ) (rest : List ℕ) → proved_text within ++ rest ≡ codes "proved" ++ (distance_text (int_lt (pos 0) within) within ++ rest)
+proved-parts within rest =
+    elim (int_lt (pos 0) within) as (λ told. cond told (codes "proved within" ++ 32 ∷ decimal_of within) (codes "proved") ++ rest ≡ codes "proved" ++ (distance_text told within ++ rest)) [ true ↦ refl | false ↦ refl ]
+
+claim-parts : (best : Option ℤ) (within : ℤ) (x rest : List ℕ) → printed_lines (claim_lines best within x) ++ rest ≡ claim_then best within x rest
+claim-parts None within x rest = lines-first (codes "infeasible") [] rest
+claim-parts (Some value) within x rest =
+    let value_line = codes "value" ++ 32 ∷ decimal_of value in
+    let last_line = codes "assignment" ++ spaced x in
+    lines-first (proved_text within) (value_line ∷ last_line ∷ []) rest
+    ∙ (ap (λ l. proved_text within ++ (10 ∷ l)) (two-lines value_line last_line rest) ∙ proved-parts within (10 ∷ (value_line ++ (10 ∷ (last_line ++ (10 ∷ rest))))))
 
 counts-parts : (counts : Option CountsView) (rest : List ℕ) → printed_lines (counts_lines counts) ++ rest ≡ counts_then counts rest
 counts-parts None rest = refl
@@ -137,19 +152,20 @@ output-parts : (claim : ClaimView) (counts : Option CountsView) (model : ModelNa
 output-parts claim counts model instance cover =
     let sections = instance ++ printed_cover cover in
     let last = printed_lines (cover_lines model (length instance)) ++ sections in
-    claim-parts claim.best claim.assignment (printed_lines (counts_lines counts) ++ last)
-    ∙ ap (claim_then claim.best claim.assignment) (counts-parts counts last
+    claim-parts claim.best claim.within claim.assignment (printed_lines (counts_lines counts) ++ last)
+    ∙ ap (claim_then claim.best claim.within claim.assignment) (counts-parts counts last
     ∙ ap (counts_then counts) (two-lines (codes "cover" ++ 32 ∷ names.text_of model) (codes "instance" ++ 32 ∷ decimal (length instance)) sections))
 
 pub outputs_read : (claim : ClaimView) (counts : Option CountsView) (model : ModelName) (instance : List ℕ) (cover : List (List CoverRow))
-    → IsToldClaim claim.best claim.assignment → MayBeCounts counts → length instance < 2 ^ 32 → IsWritten cover
-    → text_of (printed_output claim counts model instance cover) ≡ Ok (record { model = model; best = claim.best; assignment = claim.assignment; instance = instance; cover = cover })
+    → IsToldClaim claim.best claim.within claim.assignment → MayBeCounts counts → length instance < 2 ^ 32 → IsWritten cover
+    → text_of (printed_output claim counts model instance cover) ≡ Ok (record { model = model; best = claim.best; within = claim.within; assignment = claim.assignment; instance = instance; cover = cover })
 outputs_read claim counts model instance cover told counted few written =
     let sections = instance ++ printed_cover cover in
     let bytes = printed_output claim counts model instance cover in
     let is : bytes ≡ head_then claim counts model (length instance) sections = output-parts claim counts model instance cover in
     let third = codes "cover" ++ (32 ∷ (names.text_of model ++ (10 ∷ (codes "instance" ++ (32 ∷ (decimal (length instance) ++ (10 ∷ sections))))))) in
-    let fits : MayBeClaim (length bytes) claim.best claim.assignment = subst (λ (b : List ℕ). MayBeClaim (length b) claim.best claim.assignment) (sym is) (claim-few claim.best claim.assignment (counts_then counts third) told) in
+    let fits : MayBeClaim (length bytes) claim.best claim.within claim.assignment =
+    subst (λ (b : List ℕ). MayBeClaim (length b) claim.best claim.within claim.assignment) (sym is) (claim-few claim.best claim.within claim.assignment (counts_then counts third) told) in
     let head = head-read claim counts model (length instance) sections bytes is fits counted few in
     let behind = ap (behind_lines (head_height claim counts)) is ∙ behind-head (length bytes) claim counts model (length instance) sections fits counted few in
     texts_read bytes instance (record { claim = claim; model = model; size = record { bytes = length instance; line = head_height claim counts } }) cover written head

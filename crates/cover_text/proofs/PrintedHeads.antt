@@ -1,6 +1,6 @@
 -- What is read of the printed lines before the instance, and on which line it stands.
 use Rattle.std.proofs.Common.{◌≡◌, ℕ, ◌+◌, ◌-◌, ◌<◌, ◌≤◌, ◌^◌, pos, negsuc, neg_ℤ, Bool, true, false, List, [], ◌∷◌, ◌++◌, length, ℤ, refl, sym, ap, ◌∙◌, subst, arith, rules, nat_eq, lit<}
-use Rattle.std.specs.Prelude.{codes, decimal, Option, Some, None, Ok, ◌||◌, ◌==◌, nat_abs, nat_le}
+use Rattle.std.specs.Prelude.{codes, decimal, Option, Some, None, Ok, ◌||◌, ◌==◌, nat_abs, nat_le, ◌≤ℤ◌, int_lt}
 use Rattle.std.specs.Str.{all_ascii_digits}
 use Rattle.std.specs.List.{list_all}
 use Rattle.std.proofs.lemmas.Bool.{and_parts, and_right, not-true}
@@ -20,8 +20,8 @@ use Rattle.problem_names.specs.ModelNames as names
 use Rattle.problem_names.specs.declared.ModelName.{ModelName}
 use Rattle.problem_names.specs.declared.ModelName.TheVariants.{Knapsack, MaxCut, MaxTwoSat, TspWindows}
 use Rattle.cover_text.specs.Grammar.{until}
-use Rattle.cover_text.specs.Heads.{ClaimView, decision_at, solution_at, claim_at, is_count, count_at, counts_at, name_at, size_at, head_at}
-use Rattle.cover_text.specs.Outputs.{spaced, CountsView, MayBeCounts}
+use Rattle.cover_text.specs.Heads.{ClaimView, decision_at, distance_at, solution_at, claim_at, is_count, count_at, counts_at, name_at, size_at, head_at}
+use Rattle.cover_text.specs.Outputs.{spaced, CountsView, MayBeCounts, IsDistance}
 use Rattle.cover_text.specs.Written.{IsWord}
 use Rattle.cover_text.proofs.PrintedTokens.{IsAt, IsAhead, Gives, BeginsBlank, behind_blank, PassesWord, passes_word, passes_fixed, passes_number, passes_small, until_reads, until_ended}
 
@@ -123,23 +123,56 @@ pub word-small : (z : ℤ) → IsWord z → nat_abs z < 2 ^ 64
 word-small (pos n) fits = let high = fits.high in omega (arith, ints)
 word-small (negsuc n) fits = let low = fits.low in omega (arith, ints)
 
--- the value and the assignment
-solution-on : (most : ℕ) (value : ℤ) (ds more : List ℕ) (s : TextState) → IsWord value → Each (λ d. d < 2 ^ 32) ds → length ds ≤ most
-    → IsOn 1 (10 ∷ (codes "value" ++ (32 ∷ (decimal_of value ++ (10 ∷ (codes "assignment" ++ (spaced ds ++ (10 ∷ more)))))))) s
-    → Gives (IsOn 3 (10 ∷ more)) (solution_at most s) (record { best = Some value; assignment = ds })
+pub distance-small : (z : ℤ) → IsDistance z → nat_abs z < 2 ^ 64
+distance-small (pos n) fits = let most = fits.most in omega (arith, ints)
+distance-small (negsuc n) fits = let least = fits.least in absurd (omega (arith, ints))
+
+-- what stands behind the first word of the first line: the distance, where it is told
+abbrev pub distance_text : Bool → ℤ → List ℕ
+distance_text true within = 32 ∷ (codes "within" ++ (32 ∷ decimal_of within))
+distance_text false within = []
+
+distance-blank : (told : Bool) (within : ℤ) (more : List ℕ) → BeginsBlank (distance_text told within ++ (10 ∷ more))
+distance-blank true within more = space-first ((codes "within" ++ (32 ∷ decimal_of within)) ++ (10 ∷ more))
+distance-blank false within more = LF-first more
+
+untold-none : (within : ℤ) → pos 0 ≤ℤ within → int_lt (pos 0) within ≡ false → within ≡ pos 0
+untold-none within least untold = grind (arith, ints)
+
+-- it is told exactly where it is above 0
+distance-on : (told : Bool) (within : ℤ) (more : List ℕ) (s : TextState) → int_lt (pos 0) within ≡ told → IsDistance within → IsOn 1 (distance_text told within ++ (10 ∷ (codes "value" ++ (32 ∷ more)))) s
+    → Gives (IsOn 2 (32 ∷ more)) (distance_at s) within
+unfolding distance_at
+distance-on true within more s above near on =
+    let second = codes "value" ++ (32 ∷ more) in
+    let number = decimal_of within ++ (10 ∷ second) in
+    let one = word-on 1 119 (codes "ithin") (32 ∷ number) s refl (lit< tt) (space-first number) (same-line 1 119 (codes "ithin" ++ (32 ∷ number)) s refl on) in
+    let t = after_token s in
+    let ahead = number-ahead 1 within (10 ∷ second) t (distance-small within near) one.on in
+    let two = passes_number within (pos 0) (pos (2 ^ 50)) (10 ∷ second) t (distance-small within near) near.least near.most (LF-first second) ahead.ahead in
+    let u = after_token t in
+    let three = word-on 2 118 (codes "alue") (32 ∷ more) u refl (lit< tt) (space-first more) (next-line 1 118 (codes "alue" ++ (32 ∷ more)) u refl (record { at = two.at; line_is = after-line t ∙ ahead.line_is })) in
+    record { state = after_token u; is = rw (one.word_is.value, two.value, passes_fixed 118 (codes "alue") (32 ∷ more) u three.word_is) refl; there = three.on }
+distance-on false within more s untold near on =
+    let word = word-on 2 118 (codes "alue") (32 ∷ more) s refl (lit< tt) (space-first more) (next-line 1 118 (codes "alue" ++ (32 ∷ more)) s refl on) in
+    record { state = after_token s; is = rw word.word_is.value (ap (λ (z : ℤ). Ok (z, after_token s)) (sym (untold-none within near.least untold))); there = word.on }
+
+-- the distance, the value and the assignment
+solution-on : (most : ℕ) (value within : ℤ) (ds more : List ℕ) (s : TextState) → IsWord value → IsDistance within → Each (λ d. d < 2 ^ 32) ds → length ds ≤ most
+    → IsOn 1 (distance_text (int_lt (pos 0) within) within ++ (10 ∷ (codes "value" ++ (32 ∷ (decimal_of value ++ (10 ∷ (codes "assignment" ++ (spaced ds ++ (10 ∷ more))))))))) s
+    → Gives (IsOn 3 (10 ∷ more)) (solution_at most s) (record { best = Some value; within = within; assignment = ds })
 unfolding solution_at
-solution-on most value ds more s fits held few on =
+solution-on most value within ds more s fits near held few on =
     let after = spaced ds ++ (10 ∷ more) in
     let second = 10 ∷ (codes "assignment" ++ after) in
-    let number = 32 ∷ (decimal_of value ++ second) in
-    let one = word-on 2 118 (codes "alue") number s refl (lit< tt) (space-first (decimal_of value ++ second)) (next-line 1 118 (codes "alue" ++ number) s refl on) in
-    let t = after_token s in
-    let ahead = number-ahead 2 value second t (word-small value fits) one.on in
+    let one = distance-on (int_lt (pos 0) within) within (decimal_of value ++ second) s refl near on in
+    let t = one.state in
+    let ahead = number-ahead 2 value second t (word-small value fits) one.there in
     let two = passes_number value (neg_ℤ (pos (2 ^ 63))) (pos (2 ^ 63 - 1)) second t (word-small value fits) fits.low fits.high (LF-first (codes "assignment" ++ after)) ahead.ahead in
     let u = after_token t in
     let three = word-on 3 97 (codes "ssignment") after u refl (lit< tt) (spaced-blank ds more) (next-line 2 97 (codes "ssignment" ++ after) u refl (record { at = two.at; line_is = after-line t ∙ ahead.line_is })) in
     let read = decisions-on 3 most ds more (after_token u) few held three.on in
-    record { state = read.state; is = rw (passes_fixed 118 (codes "alue") number s one.word_is, two.value, passes_fixed 97 (codes "ssignment") after u three.word_is, read.is) refl; there = read.there }
+    record { state = read.state; is = rw (one.is, two.value, passes_fixed 97 (codes "ssignment") after u three.word_is, read.is) refl; there = read.there }
 
 -- how many lines there are
 abbrev pub claim_height : Option ℤ → ℕ
@@ -147,25 +180,27 @@ claim_height None = 1
 claim_height (Some value) = 3
 
 -- the report and what stands behind it, each behind the one before
-abbrev pub claim_then : Option ℤ → List ℕ → List ℕ → List ℕ
-claim_then None ds more = codes "infeasible" ++ (10 ∷ more)
-claim_then (Some value) ds more = codes "proved" ++ (10 ∷ (codes "value" ++ (32 ∷ (decimal_of value ++ (10 ∷ (codes "assignment" ++ (spaced ds ++ (10 ∷ more))))))))
+abbrev pub claim_then : Option ℤ → ℤ → List ℕ → List ℕ → List ℕ
+claim_then None within ds more = codes "infeasible" ++ (10 ∷ more)
+claim_then (Some value) within ds more =
+    codes "proved" ++ (distance_text (int_lt (pos 0) within) within ++ (10 ∷ (codes "value" ++ (32 ∷ (decimal_of value ++ (10 ∷ (codes "assignment" ++ (spaced ds ++ (10 ∷ more)))))))))
 
 -- a claim that can be read, of at most so many decisions
-abbrev pub MayBeClaim : ℕ → Option ℤ → List ℕ → Type 0
-MayBeClaim most None ds = ds ≡ []
-MayBeClaim most (Some value) ds = IsWord value × (Each (λ d. d < 2 ^ 32) ds × (length ds ≤ most))
+abbrev pub MayBeClaim : ℕ → Option ℤ → ℤ → List ℕ → Type 0
+MayBeClaim most None within ds = (within ≡ pos 0) × (ds ≡ [])
+MayBeClaim most (Some value) within ds = IsWord value × (IsDistance within × (Each (λ d. d < 2 ^ 32) ds × (length ds ≤ most)))
 
-claim-on : (most : ℕ) (best : Option ℤ) (ds more : List ℕ) (s : TextState) → MayBeClaim most best ds → IsAheadOn 1 (claim_then best ds more) s
-    → Gives (IsOn (claim_height best) (10 ∷ more)) (claim_at most s) (record { best = best; assignment = ds })
+claim-on : (most : ℕ) (best : Option ℤ) (within : ℤ) (ds more : List ℕ) (s : TextState) → MayBeClaim most best within ds → IsAheadOn 1 (claim_then best within ds more) s
+    → Gives (IsOn (claim_height best) (10 ∷ more)) (claim_at most s) (record { best = best; within = within; assignment = ds })
 unfolding claim_at
-claim-on most None ds more s fits ahead =
+claim-on most None within ds more s fits ahead =
     let word = word-on 1 105 (codes "nfeasible") (10 ∷ more) s refl (lit< tt) (LF-first more) ahead in
-    record { state = after_token s; is = rw word.word_is.value (ap (λ (x : List ℕ). Ok (record { best = None; assignment = x }, after_token s)) (sym fits)); there = word.on }
-claim-on most (Some value) ds more s fits ahead =
-    let behind = 10 ∷ (codes "value" ++ (32 ∷ (decimal_of value ++ (10 ∷ (codes "assignment" ++ (spaced ds ++ (10 ∷ more))))))) in
-    let word = word-on 1 112 (codes "roved") behind s refl (lit< tt) (record { blank = 10; more = codes "value" ++ (32 ∷ (decimal_of value ++ (10 ∷ (codes "assignment" ++ (spaced ds ++ (10 ∷ more)))))); is = refl; is_blank = refl }) ahead in
-    let read = solution-on most value ds more (after_token s) fits.0 fits.1.0 fits.1.1 word.on in
+    record { state = after_token s; is = rw (word.word_is.value, fits.0, fits.1) refl; there = word.on }
+claim-on most (Some value) within ds more s fits ahead =
+    let lines = codes "value" ++ (32 ∷ (decimal_of value ++ (10 ∷ (codes "assignment" ++ (spaced ds ++ (10 ∷ more)))))) in
+    let told = int_lt (pos 0) within in
+    let word = word-on 1 112 (codes "roved") (distance_text told within ++ (10 ∷ lines)) s refl (lit< tt) (distance-blank told within lines) ahead in
+    let read = solution-on most value within ds more (after_token s) fits.0 fits.1.0 fits.1.1.0 fits.1.1.1 word.on in
     record { state = read.state; is = rw (word.word_is.value, read.is) refl; there = read.there }
 
 -- ---- the counts
@@ -261,7 +296,7 @@ size-on line size more s few on =
 -- all lines before the instance, and what stands behind them
 abbrev pub head_then : ClaimView → Option CountsView → ModelName → ℕ → List ℕ → List ℕ
 head_then claim counts model size more =
-    claim_then claim.best claim.assignment (counts_then counts (codes "cover" ++ (32 ∷ (names.text_of model ++ (10 ∷ (codes "instance" ++ (32 ∷ (decimal size ++ (10 ∷ more)))))))))
+    claim_then claim.best claim.within claim.assignment (counts_then counts (codes "cover" ++ (32 ∷ (names.text_of model ++ (10 ∷ (codes "instance" ++ (32 ∷ (decimal size ++ (10 ∷ more)))))))))
 
 abbrev pub head_height : ClaimView → Option CountsView → ℕ
 head_height claim counts = claim_height claim.best + (counts_height counts + 1) + 1
@@ -273,26 +308,26 @@ record BeginsSolid (bytes : List ℕ) : Type 0 where
   is : bytes ≡ first ∷ others
   solid : is_solid first ≡ true
 
-begins-first : (best : Option ℤ) (ds more : List ℕ) → BeginsSolid (claim_then best ds more)
-begins-first None ds more = record { first = 105; others = codes "nfeasible" ++ (10 ∷ more); is = refl; solid = refl }
-begins-first (Some value) ds more =
-    record { first = 112; others = codes "roved" ++ (10 ∷ (codes "value" ++ (32 ∷ (decimal_of value ++ (10 ∷ (codes "assignment" ++ (spaced ds ++ (10 ∷ more)))))))); is = refl; solid = refl }
+begins-first : (best : Option ℤ) (within : ℤ) (ds more : List ℕ) → BeginsSolid (claim_then best within ds more)
+begins-first None within ds more = record { first = 105; others = codes "nfeasible" ++ (10 ∷ more); is = refl; solid = refl }
+begins-first (Some value) within ds more =
+    record { first = 112; others = codes "roved" ++ (distance_text (int_lt (pos 0) within) within ++ (10 ∷ (codes "value" ++ (32 ∷ (decimal_of value ++ (10 ∷ (codes "assignment" ++ (spaced ds ++ (10 ∷ more))))))))); is = refl; solid = refl }
 
 first-line : (w : ℕ) (bytes : List ℕ) → is_solid w ≡ true → (place_of (text_start Never (w ∷ bytes))).line ≡ 1
 unfolding place_of at_token
 first-line w bytes solid = ap (λ (t : TextState). t.place.line) (skip-stops true (record { line = 1; column = 1 }) w bytes solid)
 
-starts-on : (best : Option ℤ) (ds more : List ℕ) → IsAheadOn 1 (claim_then best ds more) (text_start Never (claim_then best ds more))
-starts-on best ds more =
-    let begins = begins-first best ds more in
-    let bytes = claim_then best ds more in
+starts-on : (best : Option ℤ) (within : ℤ) (ds more : List ℕ) → IsAheadOn 1 (claim_then best within ds more) (text_start Never (claim_then best within ds more))
+starts-on best within ds more =
+    let begins = begins-first best within ds more in
+    let bytes = claim_then best within ds more in
     record {
       ahead = record { before = before_start Never bytes; comment_is = refl };
       line_is = ap (λ (b : List ℕ). (place_of (text_start Never b)).line) begins.is ∙ first-line begins.first begins.others begins.solid;
     }
 
 -- the head is read, with the line of the instance's size
-pub head-read : (claim : ClaimView) (counts : Option CountsView) (model : ModelName) (size : ℕ) (more bytes : List ℕ) → bytes ≡ head_then claim counts model size more → MayBeClaim (length bytes) claim.best claim.assignment → MayBeCounts counts → size < 2 ^ 32
+pub head-read : (claim : ClaimView) (counts : Option CountsView) (model : ModelName) (size : ℕ) (more bytes : List ℕ) → bytes ≡ head_then claim counts model size more → MayBeClaim (length bytes) claim.best claim.within claim.assignment → MayBeCounts counts → size < 2 ^ 32
     → head_at bytes ≡ Ok (record { claim = claim; model = model; size = record { bytes = size; line = head_height claim counts } })
 unfolding head_at
 head-read claim counts model size more bytes is fits told few =
@@ -301,8 +336,8 @@ head-read claim counts model size more bytes is fits told few =
     let second = names.text_of model ++ third in
     let first = counts_then counts (codes "cover" ++ (32 ∷ second)) in
     let s = text_start Never bytes in
-    let here = subst (λ (b : List ℕ). IsAheadOn 1 (claim_then claim.best claim.assignment first) (text_start Never b)) (sym is) (starts-on claim.best claim.assignment first) in
-    let one = claim-on (length bytes) claim.best claim.assignment first s fits here in
+    let here = subst (λ (b : List ℕ). IsAheadOn 1 (claim_then claim.best claim.within claim.assignment first) (text_start Never b)) (sym is) (starts-on claim.best claim.within claim.assignment first) in
+    let one = claim-on (length bytes) claim.best claim.within claim.assignment first s fits here in
     let two = counts-on (claim_height claim.best) counts second one.state told one.there in
     let line = claim_height claim.best + (counts_height counts + 1) in
     let three = name-on line model third two.state (record { blank = 10; more = codes "instance" ++ behind; is = refl; is_blank = refl }) two.there in

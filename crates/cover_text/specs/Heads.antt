@@ -11,9 +11,10 @@ use Rattle.cover_text.specs.declared.head.Head.{Head}
 use Rattle.cover_text.specs.declared.cover_error.CoverError.TheVariants.{Word}
 use Rattle.cover_text.specs.Grammar.{CoverError, number_then, word_then, end_then, part_then, passed_then, until, fixed_at, small_at}
 
--- the reported value, none for infeasible, and the assignment
+-- the reported value, none for infeasible, how far the best value may be above it, and the assignment
 pub record ClaimView : Type 0 where
   pub best : Option ℤ
+  pub within : ℤ
   pub assignment : List ℕ
 
 pub record HeadView : Type 0 where
@@ -22,7 +23,7 @@ pub record HeadView : Type 0 where
   pub size : Size
 
 abbrev pub claim_in : Claim → ClaimView
-claim_in c = record { best = c.best; assignment = c.assignment.items }
+claim_in c = record { best = c.best; within = c.within; assignment = c.assignment.items }
 
 abbrev pub head_in : Head → HeadView
 head_in h = record { claim = claim_in h.claim; model = h.model; size = h.size }
@@ -31,20 +32,30 @@ head_in h = record { claim = claim_in h.claim; model = h.model; size = h.size }
 unfoldable pub decision_at : List ℕ → TextState → Result (List ℕ × TextState) CoverError
 decision_at decisions s = part_then (small_at s) (λ d t. Ok (decisions ++ d ∷ [], t))
 
--- what stands behind proved: the value, and an assignment of at most so many decisions, which ends with its line
+-- the distance from 0 to 2^50 behind the word within, or 0 where the word value stands in its place; and what stands behind value
+unfoldable pub distance_at : TextState → Result (ℤ × TextState) CoverError
+distance_at s = word_then s (λ w t.
+    cond (word_same w (codes "value")) (Ok (pos 0, t))
+    (cond (word_same w (codes "within"))
+    (number_then (pos 0) (pos (2 ^ 50)) t (λ within u.
+    passed_then (fixed_at (codes "value") u) (λ v.
+    Ok (within, v))))
+    (Err (Word (place_of s)))))
+
+-- what stands behind proved: perhaps a distance, the value, and an assignment of at most so many decisions, which ends with its line
 unfoldable pub solution_at : ℕ → TextState → Result (ClaimView × TextState) CoverError
 solution_at most s =
-    passed_then (fixed_at (codes "value") s) (λ t.
+    part_then (distance_at s) (λ within t.
     number_then (neg_ℤ (pos (2 ^ 63))) (pos (2 ^ 63 - 1)) t (λ best u.
     passed_then (fixed_at (codes "assignment") u) (λ v.
     part_then (until ends_line decision_at most [] v) (λ decisions w.
-    Ok (record { best = Some best; assignment = decisions }, w)))))
+    Ok (record { best = Some best; within = within; assignment = decisions }, w)))))
 
 -- the report: proved with a solution, or infeasible
 unfoldable pub claim_at : ℕ → TextState → Result (ClaimView × TextState) CoverError
 claim_at most s = word_then s (λ w t.
     cond (word_same w (codes "proved")) (solution_at most t)
-    (cond (word_same w (codes "infeasible")) (Ok (record { best = None; assignment = [] }, t)) (Err (Word (place_of s)))))
+    (cond (word_same w (codes "infeasible")) (Ok (record { best = None; within = pos 0; assignment = [] }, t)) (Err (Word (place_of s)))))
 
 -- whether a word is 1 to 20 digits
 abbrev pub is_count : List ℕ → Bool

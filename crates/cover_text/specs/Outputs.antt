@@ -1,5 +1,5 @@
 -- A whole output as it is printed: the report, perhaps the counts, the lines of the cover, the instance, and the sections.
-use Rattle.std.specs.Prelude.{◌≡◌, ℕ, ◌<◌, ◌^◌, ℤ, pos, List, [], ◌∷◌, ◌++◌, length, flat_map, codes, decimal, Option, Some, None, Ok}
+use Rattle.std.specs.Prelude.{◌≡◌, ℕ, ◌<◌, ◌^◌, ℤ, pos, ◌≤ℤ◌, int_lt, cond, List, [], ◌∷◌, ◌++◌, length, flat_map, codes, decimal, Option, Some, None, Ok}
 use Rattle.bound_cover.specs.Covers.{CoverRow}
 use Rattle.dd_text.specs.Decimal.{decimal_of}
 use Rattle.dp_model.specs.Lists.{Each}
@@ -18,10 +18,14 @@ printed_lines lines = flat_map (λ text. text ++ 10 ∷ []) lines
 abbrev pub spaced : List ℕ → List ℕ
 spaced ds = flat_map (λ d. 32 ∷ decimal_of (pos d)) ds
 
+-- the first line of a report with a solution, by how far a better one may be
+abbrev pub proved_text : ℤ → List ℕ
+proved_text within = cond (int_lt (pos 0) within) (codes "proved within" ++ 32 ∷ decimal_of within) (codes "proved")
+
 -- the lines of a report
-abbrev pub claim_lines : Option ℤ → List ℕ → List (List ℕ)
-claim_lines None x = codes "infeasible" ∷ []
-claim_lines (Some value) x = codes "proved" ∷ (codes "value" ++ 32 ∷ decimal_of value) ∷ (codes "assignment" ++ spaced x) ∷ []
+abbrev pub claim_lines : Option ℤ → ℤ → List ℕ → List (List ℕ)
+claim_lines None within x = codes "infeasible" ∷ []
+claim_lines (Some value) within x = proved_text within ∷ (codes "value" ++ 32 ∷ decimal_of value) ∷ (codes "assignment" ++ spaced x) ∷ []
 
 -- how many subproblems were taken, and how many of them finished
 pub record CountsView : Type 0 where
@@ -44,12 +48,17 @@ printed_whole model instance cover = printed_lines (cover_lines model (length in
 -- the report with its counts, and the cover behind it
 abbrev pub printed_output : ClaimView → Option CountsView → ModelName → List ℕ → List (List CoverRow) → List ℕ
 printed_output claim counts model instance cover =
-    printed_lines (claim_lines claim.best claim.assignment) ++ (printed_lines (counts_lines counts) ++ printed_whole model instance cover)
+    printed_lines (claim_lines claim.best claim.within claim.assignment) ++ (printed_lines (counts_lines counts) ++ printed_whole model instance cover)
 
--- a value of 64 bits with decisions of 32 bits; where there is none there are no decisions
-abbrev pub IsToldClaim : Option ℤ → List ℕ → Type 0
-IsToldClaim None x = x ≡ []
-IsToldClaim (Some value) x = IsWord value × Each (λ d. d < 2 ^ 32) x
+-- a distance from 0 to 2^50
+pub record IsDistance (within : ℤ) : Type 0 where
+  pub least : pos 0 ≤ℤ within
+  pub most : within ≤ℤ pos (2 ^ 50)
+
+-- a value of 64 bits with a distance and decisions of 32 bits; where there is none there are no decisions, and the distance is 0
+abbrev pub IsToldClaim : Option ℤ → ℤ → List ℕ → Type 0
+IsToldClaim None within x = (within ≡ pos 0) × (x ≡ [])
+IsToldClaim (Some value) within x = IsWord value × IsDistance within × Each (λ d. d < 2 ^ 32) x
 
 -- counts of 64 bits
 pub record AreToldCounts (counts : CountsView) : Type 0 where
@@ -63,5 +72,5 @@ MayBeCounts (Some counts) = AreToldCounts counts
 -- a whole output that is printed is read as what was printed
 abbrev pub OutputsAreRead : Type 0
 OutputsAreRead = (claim : ClaimView) (counts : Option CountsView) (model : ModelName) (instance : List ℕ) (cover : List (List CoverRow))
-    → IsToldClaim claim.best claim.assignment → MayBeCounts counts → length instance < 2 ^ 32 → IsWritten cover
-    → text_of (printed_output claim counts model instance cover) ≡ Ok (record { model = model; best = claim.best; assignment = claim.assignment; instance = instance; cover = cover })
+    → IsToldClaim claim.best claim.within claim.assignment → MayBeCounts counts → length instance < 2 ^ 32 → IsWritten cover
+    → text_of (printed_output claim counts model instance cover) ≡ Ok (record { model = model; best = claim.best; within = claim.within; assignment = claim.assignment; instance = instance; cover = cover })

@@ -16,12 +16,13 @@ use Rattle.cover_text.specs.Instances.{parted, end_place, moved}
 pub record CoverTextView : Type 0 where
   pub model : ModelName
   pub best : Option ℤ
+  pub within : ℤ
   pub assignment : List ℕ
   pub instance : List ℕ
   pub cover : List (List CoverRow)
 
 abbrev pub text_in : CoverText → CoverTextView
-text_in t = record { model = t.model; best = t.best; assignment = t.assignment.items; instance = t.instance.items; cover = t.cover }
+text_in t = record { model = t.model; best = t.best; within = t.within; assignment = t.assignment.items; instance = t.instance.items; cover = t.cover }
 
 -- what was read goes on
 abbrev pub and_then : {A B : Type 0} → Result A CoverError → (A → Result B CoverError) → Result B CoverError
@@ -41,28 +42,29 @@ cover_behind before behind = moved_by (end_place before) (sections_at behind)
 pub record OpenView : Type 0 where
   pub model : ModelName
   pub best : Option ℤ
+  pub within : ℤ
   pub assignment : List ℕ
   pub instance : List ℕ
   pub before : List ℕ
   pub behind : List ℕ
 
 abbrev pub opened_in : OpenCover → OpenView
-opened_in o = record { model = o.model; best = o.best; assignment = o.assignment.items; instance = o.instance.now; before = o.before.now; behind = o.behind.now }
+opened_in o = record { model = o.model; best = o.best; within = o.within; assignment = o.assignment.items; instance = o.instance.now; before = o.before.now; behind = o.behind.now }
 
 -- what stands before the sections, or its first fault
 unfoldable pub opened : List ℕ → Result OpenView CoverError
 opened bytes =
     and_then (head_at bytes) (λ head.
     and_then (parted bytes head.size.line head.size.bytes) (λ parts.
-    Ok (record { model = head.model; best = head.claim.best; assignment = head.claim.assignment; instance = parts.0; before = take (length bytes - length parts.1) bytes; behind = parts.1 })))
+    Ok (record { model = head.model; best = head.claim.best; within = head.claim.within; assignment = head.claim.assignment; instance = parts.0; before = take (length bytes - length parts.1) bytes; behind = parts.1 })))
 
 -- what the text holds where its sections are this cover
 abbrev pub held_with : OpenView → List (List CoverRow) → CoverTextView
-held_with o cover = record { model = o.model; best = o.best; assignment = o.assignment; instance = o.instance; cover = cover }
+held_with o cover = record { model = o.model; best = o.best; within = o.within; assignment = o.assignment; instance = o.instance; cover = cover }
 
 -- the verdict on the sections, or their first fault
-abbrev pub verdict_behind : Dp → ℤ → OpenView → Result Verdict CoverError
-verdict_behind dp within o = and_then (cover_behind o.before o.behind) (λ cover. Ok (verdict dp o.best within o.assignment cover))
+abbrev pub verdict_behind : Dp → OpenView → Result Verdict CoverError
+verdict_behind dp o = and_then (cover_behind o.before o.behind) (λ cover. Ok (verdict dp o.best o.within o.assignment cover))
 
 -- what a text holds, or its first fault
 unfoldable pub text_of : List ℕ → Result CoverTextView CoverError

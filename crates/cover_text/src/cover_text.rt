@@ -8,6 +8,8 @@ pub struct CoverText {
     pub model: ModelName,
     /// The reported value; none where the report is `infeasible`.
     pub best: Option<i64>,
+    /// How far the best value may be above the reported one, from 0 to 2^50; 0 where none is reported.
+    pub within: i64,
     /// The reported assignment, which is empty where no value is reported.
     pub assignment: Vec<u32>,
     /// The text of the instance.
@@ -23,6 +25,8 @@ pub struct OpenCover<'t> {
     pub model: ModelName,
     /// The reported value; none where the report is `infeasible`.
     pub best: Option<i64>,
+    /// How far the best value may be above the reported one, from 0 to 2^50; 0 where none is reported.
+    pub within: i64,
     /// The reported assignment, which is empty where no value is reported.
     pub assignment: Vec<u32>,
     /// The text of the instance.

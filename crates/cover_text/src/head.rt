@@ -1,12 +1,13 @@
 //! The lines before the instance, read.
 
-ghost use Rattle.std.specs.Prelude.{◌≡◌, ◌<◌, ◌-◌, ◌^◌, length};
+ghost use Rattle.std.specs.Prelude.{◌≡◌, ◌<◌, ◌-◌, ◌^◌, length, IfOk};
 ghost use Rattle.std.specs.Str.{all_ascii_digits};
 ghost use Rattle.problem_names.specs.ModelNames.{model_named};
 ghost use Rattle.dd_text.specs.Text.{ends_line, text_start};
 ghost use Rattle.dd_text.specs.declared.comment.Comment.TheVariants.{Never};
 ghost use Rattle.cover_text.specs.Grammar.{Reads, until};
-ghost use Rattle.cover_text.specs.Heads.{claim_in, claim_at, counts_at, decision_at, head_in, head_at, is_count, count_at, name_at, size_at, solution_at};
+ghost use Rattle.cover_text.specs.Heads.{claim_in, claim_at, counts_at, decision_at, distance_at, head_in, head_at, is_count, count_at, name_at, size_at, solution_at};
+ghost use Rattle.cover_text.specs.Outputs.{IsDistance};
 
 use crate::cover_error::CoverError;
 use crate::fixed::{is_word, next_small, pass_word};
@@ -14,10 +15,14 @@ use dd_text::{Comment, Tokens};
 use problem_names::ModelName;
 use std::alloc::Global;
 
-/// The reported value and assignment.
+/// The greatest distance.
+const MOST_WITHIN: i64 = 1 << 50;
+
+/// The reported value, distance and assignment.
 #[derive(Debug, Drop)]
 pub(crate) struct Claim {
     pub(crate) best: Option<i64>,
+    pub(crate) within: i64,
     pub(crate) assignment: Vec<u32>,
 }
 
@@ -64,18 +69,39 @@ fn read_decisions(
     Ok(())
 }
 
+/// Reads the distance, which is 0 where none stands here, and passes over the word `value` behind it.
+#[tactic(auto, unfolding(crate::specs::Heads::distance_at), using(crate::proofs::Chains::passed_fails))]
+fn read_distance(tokens: &mut Tokens<'_>) -> Result<i64, CoverError>
+    ensures read { Reads (λ within. (within, tokens.new)) result (distance_at tokens.old) }
+    ensures distance { IfOk result (λ within. IsDistance within) }
+{
+    let place = tokens.place();
+    let word = tokens.next_word()?;
+    if is_word(word, b"value") {
+        return Ok(0);
+    }
+    if !is_word(word, b"within") {
+        return Err(CoverError::Word(place));
+    }
+    let within = tokens.next_number(0, MOST_WITHIN)?;
+    pass_word(tokens, b"value")?;
+    Ok(within)
+}
+
 /// Reads what stands behind the word `proved`.
 #[tactic(auto, unfolding(crate::specs::Heads::solution_at), using(crate::proofs::Chains::part_fails, crate::proofs::Chains::passed_fails))]
 fn read_solution(alloc: Global, tokens: &mut Tokens<'_>, most: usize) -> Result<Claim, CoverError>
-    ensures { Reads (λ c. (claim_in c, tokens.new)) result (solution_at most tokens.old) }
+    ensures read { Reads (λ c. (claim_in c, tokens.new)) result (solution_at most tokens.old) }
+    ensures distance { IfOk result (λ c. IsDistance c.within) }
 {
-    pass_word(tokens, b"value")?;
+    let within = read_distance(tokens)?;
     let best = tokens.next_number(i64::MIN, i64::MAX)?;
     pass_word(tokens, b"assignment")?;
     let mut assignment = Vec::new(alloc);
     read_decisions(tokens, most, &mut assignment)?;
     Ok(Claim {
         best: Some(best),
+        within,
         assignment,
     })
 }
@@ -83,7 +109,8 @@ fn read_solution(alloc: Global, tokens: &mut Tokens<'_>, most: usize) -> Result<
 /// Reads the report.
 #[tactic(auto, unfolding(crate::specs::Heads::claim_at), using(crate::proofs::Chains::part_fails))]
 fn read_claim(alloc: Global, tokens: &mut Tokens<'_>, most: usize) -> Result<Claim, CoverError>
-    ensures { Reads (λ c. (claim_in c, tokens.new)) result (claim_at most tokens.old) }
+    ensures read { Reads (λ c. (claim_in c, tokens.new)) result (claim_at most tokens.old) }
+    ensures distance { IfOk result (λ c. IsDistance c.within) }
 {
     let place = tokens.place();
     let word = tokens.next_word()?;
@@ -92,6 +119,7 @@ fn read_claim(alloc: Global, tokens: &mut Tokens<'_>, most: usize) -> Result<Cla
     } else if is_word(word, b"infeasible") {
         Ok(Claim {
             best: None,
+            within: 0,
             assignment: Vec::new(alloc),
         })
     } else {
@@ -193,7 +221,8 @@ fn read_size(tokens: &mut Tokens<'_>) -> Result<Size, CoverError>
 #[tactic(auto, unfolding(crate::specs::Heads::head_at), using(crate::proofs::Chains::part_fails, crate::proofs::Chains::passed_fails))]
 pub(crate) fn read_head(alloc: Global, bytes: &[u8]) -> Result<Head, CoverError>
     requires { length bytes.now < 2 ^ 32 - 1 }
-    ensures { Reads head_in result (head_at bytes.now) }
+    ensures read { Reads head_in result (head_at bytes.now) }
+    ensures distance { IfOk result (λ head. IsDistance head.claim.within) }
 {
     let mut tokens = Tokens::new(bytes, Comment::Never);
     let claim = read_claim(alloc, &mut tokens, bytes.len())?;

@@ -3,6 +3,7 @@
 ghost use Rattle.std.specs.Prelude.{◌≡◌, ◌<◌, ◌≤◌, ◌-◌, ◌^◌, ◌++◌, pos, ◌≤ℤ◌, length, vec_len, IfOk};
 ghost use Rattle.cover_text.specs.Grammar.{Reads};
 ghost use Rattle.cover_text.specs.Instances.{end_place, moved};
+ghost use Rattle.cover_text.specs.Outputs.{IsDistance};
 ghost use Rattle.cover_text.specs.Texts.{cover_behind, opened, opened_in, text_in, text_of, verdict_behind};
 
 use crate::cover_error::CoverError;
@@ -39,23 +40,23 @@ impl<'t> OpenCover<'t> {
 
     /// The verdict of `Checker::check` on the sections, which are tested as they are read, or the first fault as `read` gives it. Two
     /// layers at a time are in memory.
-    ///
-    /// The distance is from 0 to 2^50.
     #[tactic(auto, using(crate::proofs::InTurn::behind_tested))]
-    pub fn check<M: DpModel>(
-        &self,
-        alloc: Global,
-        model: &M,
-        within: i64,
-    ) -> Result<Verdict, CoverError>
+    pub fn check<M: DpModel>(&self, alloc: Global, model: &M) -> Result<Verdict, CoverError>
         requires before { length self.now.before.now < 2 ^ 32 - 1 }
         requires behind { length self.now.behind.now < 2 ^ 32 - 1 }
-        requires least { pos 0 ≤ℤ within }
-        requires most { within ≤ℤ pos (2 ^ 50) }
-        ensures { Reads (λ v. v) result (verdict_behind (M.meaning (M.numbers model.now)) within (opened_in self.now)) }
+        requires least { pos 0 ≤ℤ self.now.within }
+        requires most { self.now.within ≤ℤ pos (2 ^ 50) }
+        ensures { Reads (λ v. v) result (verdict_behind (M.meaning (M.numbers model.now)) (opened_in self.now)) }
     {
         let assignment = self.assignment.as_slice();
-        match test_sections(alloc, model, self.best, within, assignment, self.behind) {
+        match test_sections(
+            alloc,
+            model,
+            self.best,
+            self.within,
+            assignment,
+            self.behind,
+        ) {
             Ok(verdict) => Ok(verdict),
             Err(fault) => Err(self.placed(fault)),
         }
@@ -69,16 +70,19 @@ impl<'t> OpenCover<'t> {
 pub fn open_cover(alloc: Global, bytes: &[u8]) -> Result<OpenCover<'_>, CoverError>
     requires { length bytes.now < 2 ^ 32 - 1 }
     ensures read { Reads opened_in result (opened bytes.now) }
+    ensures distance { IfOk result (λ o. IsDistance o.within) }
     ensures inside { IfOk result (λ o. length o.instance.now ≤ length bytes.now) }
     ensures before { IfOk result (λ o. length o.before.now ≤ length bytes.now) }
     ensures behind { IfOk result (λ o. length o.behind.now ≤ length bytes.now) }
 {
     let head = read_head(alloc, bytes)?;
     let parts = part_text(bytes, head.size.line, head.size.bytes)?;
+    let claim = head.claim;
     Ok(OpenCover {
         model: head.model,
-        best: head.claim.best,
-        assignment: head.claim.assignment,
+        best: claim.best,
+        within: claim.within,
+        assignment: claim.assignment,
         instance: parts.instance,
         before: &bytes[..bytes.len() - parts.behind.len()],
         behind: parts.behind,
@@ -95,6 +99,7 @@ pub fn open_cover(alloc: Global, bytes: &[u8]) -> Result<OpenCover<'_>, CoverErr
 pub fn read_cover(alloc: Global, bytes: &[u8]) -> Result<CoverText, CoverError>
     requires { length bytes.now < 2 ^ 32 - 1 }
     ensures read { Reads text_in result (text_of bytes.now) }
+    ensures distance { IfOk result (λ t. IsDistance t.within) }
     ensures inside { IfOk result (λ t. vec_len t.instance ≤ length bytes.now) }
 {
     let open = open_cover(alloc, bytes)?;
@@ -103,6 +108,7 @@ pub fn read_cover(alloc: Global, bytes: &[u8]) -> Result<CoverText, CoverError>
     Ok(CoverText {
         model: open.model,
         best: open.best,
+        within: open.within,
         assignment: open.assignment,
         instance,
         cover,
