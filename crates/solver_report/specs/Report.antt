@@ -1,5 +1,5 @@
 -- The printed texts.
-use Rattle.std.specs.Prelude.{ℕ, ℤ, pos, codes, Bool, true, false, List, [], ◌∷◌, ◌++◌, Option, Some, None, Vec}
+use Rattle.std.specs.Prelude.{ℕ, ℤ, pos, int_lt, codes, Bool, true, false, cond, List, [], ◌∷◌, ◌++◌, Option, Some, None, Vec}
 use Rattle.std.specs.List.{flat_map}
 use Rattle.std.specs.Fmt.{decimal}
 use Rattle.std.specs.declared.alloc.Global.{Global}
@@ -89,22 +89,32 @@ abbrev pub verdict_line : Verdict → List ℕ
 verdict_line verdicts.Accepted = line (codes "accepted")
 verdict_line (verdicts.Refused why) = line (codes "refused " ++ why_words why)
 
+-- the first line of a report with a solution, by how far a better one may be
+abbrev pub proved_line : ℤ → List ℕ
+proved_line within = cond (int_lt (pos 0) within) (number_line (codes "proved within") within) (line (codes "proved"))
+
 abbrev pub outcome_lines : Outcome → List ℕ
-outcome_lines (Proved best) = line (codes "proved") ++ solution_lines best
+outcome_lines (Proved best within) = proved_line within ++ solution_lines best
 outcome_lines Infeasible = line (codes "infeasible")
 outcome_lines (Stopped stop incumbent bound) = stop_line stop ++ incumbent_lines incumbent ++ number_line (codes "bound") bound
 
 -- whether a search went to its end
 abbrev pub is_final : Outcome → Bool
-is_final (Proved best) = true
+is_final (Proved best within) = true
 is_final Infeasible = true
 is_final (Stopped stop incumbent bound) = false
 
--- the value that is told as best
-abbrev pub best_told : Outcome → Option ℤ
-best_told (Proved best) = Some best.value
-best_told Infeasible = None
-best_told (Stopped stop incumbent bound) = None
+-- the value that is told
+abbrev pub value_told : Outcome → Option ℤ
+value_told (Proved best within) = Some best.value
+value_told Infeasible = None
+value_told (Stopped stop incumbent bound) = None
+
+-- how far a better solution may be above it
+abbrev pub distance_told : Outcome → ℤ
+distance_told (Proved best within) = within
+distance_told Infeasible = pos 0
+distance_told (Stopped stop incumbent bound) = pos 0
 
 -- a word and a count on a line
 abbrev pub count_line : List ℕ → ℕ → List ℕ
@@ -155,7 +165,7 @@ report answers.ReadFault = line (codes "read fault")
 report answers.OutOfMemory = line (codes "out of memory")
 
 abbrev pub outcome_status : Outcome → ℕ
-outcome_status (Proved best) = 0
+outcome_status (Proved best within) = 0
 outcome_status Infeasible = 1
 outcome_status (Stopped stop incumbent bound) = 2
 

@@ -1,5 +1,5 @@
 ghost use Rattle.std.specs.Prelude.{◌≡◌, IfOk};
-ghost use Rattle.solver_report.specs.Report.{is_final, best_told};
+ghost use Rattle.solver_report.specs.Report.{is_final, value_told, distance_told};
 
 use bound_cover::Verdict;
 use dd_text::InstanceError;
@@ -65,8 +65,8 @@ pub enum Stop {
 /// How a search ended.
 #[derive(Debug, Drop)]
 pub enum Outcome {
-    /// A best solution.
-    Proved(Solution),
+    /// A best solution, or where `within` is above 0 one from which no better is further above than that.
+    Proved { best: Solution, within: i64 },
     /// There is no feasible solution.
     Infeasible,
     /// The search ended early, with the incumbent and the bound that it has reached.
@@ -79,18 +79,29 @@ impl Outcome {
         ensures { result ≡ is_final self.now }
     {
         match self {
-            Outcome::Proved(_) | Outcome::Infeasible => true,
+            Outcome::Proved { .. } | Outcome::Infeasible => true,
             Outcome::Stopped(_, _, _) => false,
         }
     }
 
-    /// The value that is told as best, where one is.
-    pub fn best(&self) -> Option<i64>
-        ensures { result ≡ best_told self.now }
+    /// The value of the solution with which a search went to its end. None where there is no feasible solution, or the search ended
+    /// early.
+    pub fn value(&self) -> Option<i64>
+        ensures { result ≡ value_told self.now }
     {
         match self {
-            Outcome::Proved(best) => Some(best.value()),
+            Outcome::Proved { best, .. } => Some(best.value()),
             Outcome::Infeasible | Outcome::Stopped(_, _, _) => None,
+        }
+    }
+
+    /// How far the best value may be above that value. 0 where none is told.
+    pub fn distance(&self) -> i64
+        ensures { result ≡ distance_told self.now }
+    {
+        match self {
+            Outcome::Proved { within, .. } => *within,
+            Outcome::Infeasible | Outcome::Stopped(_, _, _) => 0,
         }
     }
 }

@@ -1,7 +1,7 @@
 ghost use Rattle.std.specs.Prelude.{◌≡◌, ◌∷◌, [], ◌++◌, pos, IfOk, OnOk, codes, option_map};
 ghost use Rattle.std.specs.Fmt.{decimal};
 ghost use Rattle.hex.specs.Hex.{encode_lower};
-ghost use Rattle.solver_report.specs.Report.{report, status_of, outcome_status, covered_status, text_behind, words_status, journal_status, journal_line, line, number_line, spaced, assignment_line, solution_lines, outcome_lines, count_line, count_lines, words_line, incumbent_lines, stop_line, fault_word, fault_line, why_words, verdict_line, verdict_status};
+ghost use Rattle.solver_report.specs.Report.{report, status_of, outcome_status, covered_status, text_behind, words_status, journal_status, journal_line, line, number_line, spaced, assignment_line, solution_lines, proved_line, outcome_lines, count_line, count_lines, words_line, incumbent_lines, stop_line, fault_word, fault_line, why_words, verdict_line, verdict_status};
 
 use crate::answer::{Answer, Counts, Outcome, Solution, Stop};
 use bound_cover::{Verdict, Why};
@@ -35,7 +35,7 @@ fn outcome_status(outcome: &Outcome) -> u8
     ensures { result ≡ outcome_status outcome.now }
 {
     match outcome {
-        Outcome::Proved(_) => 0,
+        Outcome::Proved { .. } => 0,
         Outcome::Infeasible => 1,
         Outcome::Stopped(_, _, _) => 2,
     }
@@ -152,7 +152,7 @@ fn push_outcome(out: &mut Vec<u8>, outcome: &Outcome) -> Result<(), OutOfMemory>
     ensures { OnOk result (out.new.items ≡ out.old.items ++ outcome_lines outcome.now) }
 {
     match outcome {
-        Outcome::Proved(found) => push_proved(out, found),
+        Outcome::Proved { best, within } => push_proved(out, best, *within),
         Outcome::Infeasible => push_line(out, "infeasible"),
         Outcome::Stopped(stop, incumbent, bound) => push_stopped(out, *stop, incumbent, *bound),
     }
@@ -267,12 +267,23 @@ fn push_solution(out: &mut Vec<u8>, found: &Solution) -> Result<(), OutOfMemory>
     push_text(out, "\n")
 }
 
-/// Appends the report of a best solution.
-fn push_proved(out: &mut Vec<u8>, found: &Solution) -> Result<(), OutOfMemory>
-    ensures { OnOk result (out.new.items ≡ out.old.items ++ (line (codes "proved") ++ solution_lines found.now)) }
+/// Appends the report of a solution, and how far a better one may be above it.
+fn push_proved(out: &mut Vec<u8>, found: &Solution, within: i64) -> Result<(), OutOfMemory>
+    ensures { OnOk result (out.new.items ≡ out.old.items ++ (proved_line within ++ solution_lines found.now)) }
 {
-    push_line(out, "proved")?;
+    push_distance(out, within)?;
     push_solution(out, found)
+}
+
+/// Appends the first line of such a report.
+fn push_distance(out: &mut Vec<u8>, within: i64) -> Result<(), OutOfMemory>
+    ensures { OnOk result (out.new.items ≡ out.old.items ++ proved_line within) }
+{
+    if within > 0 {
+        push_number_line(out, "proved within", within)
+    } else {
+        push_line(out, "proved")
+    }
 }
 
 /// Appends the report of a search that ended early.

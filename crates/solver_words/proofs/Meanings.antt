@@ -15,7 +15,7 @@ use Rattle.solver_words.specs.declared.words_error.WordsError.{WordsError}
 use Rattle.solver_words.specs.declared.words_error.WordsError.TheVariants.{Usage, Model, Number, Cutset, OutOfMemory}
 use Rattle.solver_words.specs.Grammar.{Syntax, Argument, Text, contains, has_flag, setting_of, words_of}
 use Rattle.solver_words.specs.Commands.{IsOutside, RowsTell, Tells}
-use Rattle.solver_words.specs.Words.{IsAnswer, by_command, meaning, is_refused, last_is_equals, asked, digest, digest_syntax, digest_line, usage, Refusal, JobView, and_then, digest_of, least_size, most_size, model_of, positional_number, optional, cover_of, generate, solve, resume, refusal_of, job_view, generate_syntax, generate_line, generate_of, resume_syntax, resume_line, resume_of, settings_of, solve_syntax, solve_line}
+use Rattle.solver_words.specs.Words.{IsAnswer, by_command, meaning, is_refused, last_is_equals, asked, digest, digest_syntax, digest_line, usage, Refusal, JobView, and_then, digest_of, least_size, most_size, model_of, positional_number, optional, cover_of, generate, resume, refusal_of, job_view, generate_syntax, generate_line, generate_of, resume_syntax, resume_line, resume_of, searched, settings_of, solve_syntax, solve_line, with_distance}
 
 -- what the matches tell of a line
 module _ (f : Syntax) (arguments : List Argument) (m : ArgMatches) (reads : RowsTell f arguments (rows_of (found_of m))) where
@@ -151,14 +151,31 @@ module _ (m : ArgMatches) (arguments : List Argument) (reads : RowsTell solve_sy
           (rw (at_model, at_settings) (fails _ (covered (setting_of (codes "cover-words") arguments)) (refusal_of e)
           (moved (covered (value (codes "cover-words"))) (covered (setting_of (codes "cover-words") arguments)) (refusal_of e) cover_same h)))
 
-      pub solve_all : (words : Option ℕ) (journal : Option Text) (cover : Bool) → covered (value (codes "cover-words")) ≡ Ok words → journal ≡ value (codes "journal")
-          → ((b : Bool) → one_text (found_of m) (codes "cover") ≡ Some (cond b (codes "true") (codes "false")) → cover ≡ b)
-          → solve_line arguments ≡ Ok (solve name settings journal (cover_of cover words))
-      solve_all words journal cover h j wanted =
-          let at_cover : covered (setting_of (codes "cover-words") arguments) ≡ Ok words = sym cover_same ∙ h in
-          let at_journal : setting_of (codes "journal") arguments ≡ journal = sym (j ∙ value_read solve_syntax arguments m reads (codes "journal") refl) in
-          let is : cover ≡ has_flag (codes "cover") arguments = wanted (has_flag (codes "cover") arguments) (flag_read solve_syntax arguments m reads (codes "cover") refl) in
-          rw (at_model, at_settings, at_cover, at_journal, ← is) refl
+      module _ (words : Option ℕ) (w : covered (value (codes "cover-words")) ≡ Ok words) where
+        at_cover : covered (setting_of (codes "cover-words") arguments) ≡ Ok words
+        at_cover = sym cover_same ∙ w
+
+        abbrev distanced : Option Text → Result (Option ℕ) Refusal
+        distanced = optional (codes "within") 0 1125899906842624
+
+        distance_same : distanced (value (codes "within")) ≡ distanced (setting_of (codes "within") arguments)
+        distance_same = ap distanced (value_read solve_syntax arguments m reads (codes "within") refl)
+
+        pub solve_no_distance : (r : Result Job WordsError) (e : WordsError) → IsErrAnd r (λ y. y ≡ e) → IfSome (refusal_of e) (λ why. distanced (value (codes "within")) ≡ Err why)
+            → IsAnswer job_view (solve_line arguments) r
+        solve_no_distance r e is h =
+            gives_up job_view (solve_line arguments) r e is
+            (rw (at_model, at_settings, at_cover) (fails _ (distanced (setting_of (codes "within") arguments)) (refusal_of e)
+            (moved (distanced (value (codes "within"))) (distanced (setting_of (codes "within") arguments)) (refusal_of e) distance_same h)))
+
+        pub solve_all : (within : Option ℕ) (journal : Option Text) (cover : Bool) → distanced (value (codes "within")) ≡ Ok within → journal ≡ value (codes "journal")
+            → ((b : Bool) → one_text (found_of m) (codes "cover") ≡ Some (cond b (codes "true") (codes "false")) → cover ≡ b)
+            → solve_line arguments ≡ searched name (with_distance settings within) journal (cover_of cover words)
+        solve_all within journal cover h j wanted =
+            let at_distance : distanced (setting_of (codes "within") arguments) ≡ Ok within = sym distance_same ∙ h in
+            let at_journal : setting_of (codes "journal") arguments ≡ journal = sym (j ∙ value_read solve_syntax arguments m reads (codes "journal") refl) in
+            let is : cover ≡ has_flag (codes "cover") arguments = wanted (has_flag (codes "cover") arguments) (flag_read solve_syntax arguments m reads (codes "cover") refl) in
+            rw (at_model, at_settings, at_cover, at_distance, at_journal, ← is) refl
 
 -- ---- resume and digest
 

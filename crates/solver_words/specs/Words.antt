@@ -1,5 +1,5 @@
 -- The commands, and what their lines ask for.
-use Rattle.std.specs.Prelude.{◌≤◌, ◌<◌, ◌≡◌, ◌-◌, ◌^◌, ◌&&◌, ◌==◌, ℕ, Bool, true, false, nat_le, cond, codes, List, [], ◌∷◌, length, Option, Some, None, IfSome, option_map, option_and_then, slice_get, Result, Ok, Err, string_bytes}
+use Rattle.std.specs.Prelude.{◌≤◌, ◌<◌, ◌≡◌, ◌-◌, ◌^◌, ◌&&◌, ◌==◌, ℕ, pos, int_lt, Bool, true, false, nat_le, cond, codes, List, [], ◌∷◌, length, Option, Some, None, IfSome, is_some, option_map, option_and_then, slice_get, Result, Ok, Err, string_bytes}
 use Rattle.std.specs.List.{list_any}
 use Rattle.std.specs.Str.{bytes_eq}
 use Rattle.dd_text.specs.Text.{natural_of}
@@ -20,7 +20,7 @@ use Rattle.solver_words.specs.declared.words_error.WordsError.TheVariants.{Usage
 abbrev pub solve_syntax : Syntax
 solve_syntax = record {
   positional = codes "model" ∷ [];
-  valued = codes "width" ∷ codes "workers" ∷ codes "budget" ∷ codes "cutset" ∷ codes "journal" ∷ codes "cover-words" ∷ [];
+  valued = codes "width" ∷ codes "workers" ∷ codes "budget" ∷ codes "cutset" ∷ codes "journal" ∷ codes "cover-words" ∷ codes "within" ∷ [];
   flags = codes "cover" ∷ codes "stats" ∷ [];
 }
 
@@ -118,7 +118,7 @@ abbrev pub cut_of : Option Text → Result CutKind Refusal
 cut_of None = Ok LastExactLayer
 cut_of (Some word) = cut_named word
 
--- the settings, by the values of the options in the order of their tests
+-- the settings, by the values of the options in the order of their tests; the distance from the best is 0
 abbrev pub settings_of : (Text → Option Text) → Bool → Result JobSettings Refusal
 settings_of value stats =
     and_then (λ width.
@@ -130,6 +130,7 @@ settings_of value stats =
       budget = or_default greatest_budget budget;
       cutset = cutset;
       stats = stats;
+      within = pos 0;
     }))
     (cut_of (value (codes "cutset"))))
     (optional (codes "budget") 0 greatest_budget (value (codes "budget"))))
@@ -150,11 +151,20 @@ abbrev pub cover_of : Bool → Option ℕ → Option ℕ
 cover_of false words = None
 cover_of true words = Some (or_default 67108864 words)
 
+abbrev pub with_distance : JobSettings → Option ℕ → JobSettings
+with_distance settings within = record settings { within = pos (or_default 0 within) }
+
+-- a search; its journal would not tell a distance, so with one above 0 none is kept
+abbrev pub searched : ModelName → JobSettings → Option Text → Option ℕ → Result JobView Refusal
+searched name settings journal words = cond (is_some journal && int_lt (pos 0) settings.within) (Err usage) (Ok (solve name settings journal words))
+
 abbrev pub solve_of : Option Text → (Text → Option Text) → (Text → Bool) → Result JobView Refusal
 solve_of name value flag =
     and_then (λ name.
     and_then (λ settings.
-    and_then (λ words. Ok (solve name settings (value (codes "journal")) (cover_of (flag (codes "cover")) words)))
+    and_then (λ words.
+    and_then (λ within. searched name (with_distance settings within) (value (codes "journal")) (cover_of (flag (codes "cover")) words))
+    (optional (codes "within") 0 1125899906842624 (value (codes "within"))))
     (optional (codes "cover-words") 0 134217728 (value (codes "cover-words"))))
     (settings_of value (flag (codes "stats"))))
     (model_of name)

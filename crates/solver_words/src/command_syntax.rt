@@ -17,6 +17,7 @@ pub(crate) const SOLVE: CommandSyntax = CommandSyntax {
         "cutset",
         "journal",
         "cover-words",
+        "within",
     ],
     flags: &["cover", "stats"],
 };

@@ -14,12 +14,15 @@ pub struct JobSettings {
     pub cutset: CutKind,
     /// Whether the counts are printed.
     pub stats: bool,
+    /// How far the best value may be above that of the solution with which the search ends, from 0 to 2^50.
+    pub within: i64,
 }
 
 /// What the words ask for.
 #[derive(Debug, Drop)]
 pub enum Job {
-    /// Search for a best solution, with a journal in that file, and with a cover of so many words.
+    /// Search for a best solution, or one within the distance of the settings, with a journal in that file, and with a cover of so
+    /// many words. With a journal the distance is 0.
     Solve {
         model: ModelName,
         settings: JobSettings,

@@ -1,14 +1,14 @@
-ghost use Rattle.std.specs.Prelude.{◌≡◌, ◌<◌, ◌≤◌, IfOk, option_map, List, map, drop, length, string_bytes};
+ghost use Rattle.std.specs.Prelude.{◌≡◌, ◌<◌, ◌≤◌, ◌^◌, IfOk, IfSome, option_map, List, map, drop, length, string_bytes};
 ghost use Rattle.std.specs.List.{list_any};
 ghost use Rattle.clap.specs.Matches.{found_of};
 ghost use Rattle.clap.specs.Walk.{rows_of};
 ghost use Rattle.solver_words.specs.Grammar.{Argument, line_of};
 ghost use Rattle.solver_words.specs.Commands.{RowsTell};
-ghost use Rattle.solver_words.specs.Words.{IsAnswer, IsDrawable, asked, cover_of, job_view, solve_syntax, solve_line, resume_syntax, resume_line, check_syntax, check_line, digest_syntax, digest_line, generate_syntax, generate_line, is_refused, least_size, most_size, meaning};
+ghost use Rattle.solver_words.specs.Words.{IsAnswer, IsDrawable, asked, cover_of, job_view, solve_syntax, solve_line, resume_syntax, resume_line, check_syntax, check_line, digest_syntax, digest_line, generate_syntax, generate_line, is_refused, least_size, most_size, meaning, searched, with_distance};
 
 use crate::command::parse;
 use crate::command_syntax::{CHECK, DIGEST, GENERATE, RESUME, SOLVE};
-use crate::job::Job;
+use crate::job::{Job, JobSettings};
 use crate::values::{is_given, read_model, read_optional, read_placed, read_settings};
 use crate::words_error::WordsError;
 use clap::ArgMatches;
@@ -19,9 +19,9 @@ use std::alloc::{AllocError, Global};
 ///
 /// # Errors
 ///
-/// `Usage` exactly where the words are outside the grammar. Inside it `Model` exactly where the problem is none of those that are
-/// known; then the first bad value, in the order of the values: `Number` with its name, or `Cutset`. `OutOfMemory` may come at any
-/// words.
+/// `Usage` exactly where the words are outside the grammar, or all of them are good and a search within a distance above 0 is to keep
+/// a journal. Inside the grammar `Model` exactly where the problem is none of those that are known; then the first bad value, in the
+/// order of the values: `Number` with its name, or `Cutset`. `OutOfMemory` may come at any words.
 pub fn read_words(alloc: Global, words: &[String]) -> Result<Job, WordsError>
     ensures answer { IsAnswer job_view (meaning (map string_bytes words.now)) result }
     ensures drawn { IfOk result IsDrawable }
@@ -76,12 +76,41 @@ fn solve_job(alloc: Global, matches: &ArgMatches) -> Result<Job, WordsError>
     let model = read_model(matches)?;
     let settings = read_settings(matches, is_given(matches, "stats"))?;
     let words = read_optional(matches, "cover-words", 0, 134_217_728)?;
+    let within = read_optional(matches, "within", 0, 1_125_899_906_842_624)?;
     let journal = copied(alloc, matches.get_str("journal"))?;
+    let cover = cover_words(is_given(matches, "cover"), words);
+    searched(model, with_distance(settings, within), journal, cover)
+}
+
+/// The settings with that distance, where one is given; else with 0.
+fn with_distance(settings: JobSettings, within: Option<u64>) -> JobSettings
+    requires { IfSome within (λ n. n ≤ 2 ^ 50) }
+    ensures { result ≡ with_distance settings within }
+{
+    JobSettings {
+        within: within.unwrap_or(0) as i64,
+        ..settings
+    }
+}
+
+/// The search, unless its journal would have to tell a distance.
+fn searched(
+    model: ModelName,
+    settings: JobSettings,
+    journal: Option<String>,
+    cover_words: Option<u64>,
+) -> Result<Job, WordsError>
+    ensures answer { IsAnswer job_view (searched model settings (option_map string_bytes journal) cover_words) result }
+    ensures drawn { IfOk result IsDrawable }
+{
+    if journal.is_some() && settings.within > 0 {
+        return Err(WordsError::Usage);
+    }
     Ok(Job::Solve {
         model,
         settings,
         journal,
-        cover_words: cover_words(is_given(matches, "cover"), words),
+        cover_words,
     })
 }
 

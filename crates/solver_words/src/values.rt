@@ -85,7 +85,7 @@ fn read_cut(word: &str) -> Result<CutKind, WordsError>
     }
 }
 
-/// The settings of a search, by its options.
+/// The settings of a search, by its options, with the distance 0.
 pub(crate) fn read_settings(matches: &ArgMatches, stats: bool) -> Result<JobSettings, WordsError>
     ensures { IsAnswer (λ s. s) (settings_of (first_value (found_of matches.now)) stats) result }
 {
@@ -102,6 +102,7 @@ pub(crate) fn read_settings(matches: &ArgMatches, stats: bool) -> Result<JobSett
         budget: budget.unwrap_or(u64::MAX),
         cutset,
         stats,
+        within: 0,
     })
 }
 
