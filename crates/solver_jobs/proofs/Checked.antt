@@ -1,12 +1,12 @@
 -- What is answered to a text up to its sections and to these, seen from the whole text.
-use Rattle.std.proofs.Common.{◌≡◌, ℕ, ℤ, pos, List, Option, Some, None, refl, sym, ◌∙◌}
+use Rattle.std.proofs.Common.{◌≡◌, ℕ, ℤ, List, Option, Some, None, sym, ◌∙◌}
 use Rattle.std.specs.Prelude.{Result, Ok, Err, MatchResult}
 use Rattle.dp_model.specs.Dp.{Dp}
 use Rattle.dp_model.specs.Laws.{IsLawful}
 use Rattle.bound_cover.specs.Covers.{CoverRow}
 use Rattle.bound_cover.specs.Verdicts.{checked, verdict}
 use Rattle.bound_cover.specs.declared.cover.Verdict.{Verdict}
-use Rattle.bound_cover.proofs.Sound.{accepted-is-best, accepted-none}
+use Rattle.bound_cover.proofs.Sound.{accepted-is-near, accepted-none}
 use Rattle.cover_text.specs.Grammar.{Fails}
 use Rattle.cover_text.specs.Texts.{CoverTextView, OpenView, and_then, cover_behind, held_with, opened, text_of, verdict_behind}
 use Rattle.cover_text.specs.declared.cover_error.CoverError.{CoverError}
@@ -64,16 +64,16 @@ fault-checked bytes OutOfMemory answer fails h = unopened bytes answer h
 -- ---- the verdict
 
 module _ (dp : Dp) (own : List ℕ → Option ℤ) (laws : IsLawful dp) (agrees : Agrees dp own) (o : OpenView) (given : Verdict) where
-  of-cover : (read : Result (List (List CoverRow)) CoverError) → and_then read (λ cover. Ok (verdict dp o.best (pos 0) o.assignment cover)) ≡ Ok given
+  of-cover : (read : Result (List (List CoverRow)) CoverError) → and_then read (λ cover. Ok (verdict dp o.best o.within o.assignment cover)) ≡ Ok given
       → MatchResult read (λ cover. Checks dp own (held_with o cover) (answers.Checked given)) (λ e. RefusesCover e (answers.Checked given))
   of-cover (Ok cover) is =
-      let same : verdict dp o.best (pos 0) o.assignment cover ≡ given = cc in
+      let same : verdict dp o.best o.within o.assignment cover ≡ given = cc in
       record {
         exact = sym same;
-        sound = λ accepted. true-report dp own agrees o.best o.assignment (accepted-is-best dp laws o.best (pos 0) o.assignment cover (accepted-none (checked dp o.best (pos 0) o.assignment cover) (same ∙ accepted)) refl);
+        sound = λ accepted. true-report dp own agrees o.best o.within o.assignment (accepted-is-near dp laws o.best o.within o.assignment cover (accepted-none (checked dp o.best o.within o.assignment cover) (same ∙ accepted)));
       }
   of-cover (Err e) is = absurd (cc)
 
   -- the verdict on the sections is right
-  pub verdict-given : verdict_behind dp (pos 0) o ≡ Ok given → ToSections o (λ cover. Checks dp own (held_with o cover)) (answers.Checked given)
+  pub verdict-given : verdict_behind dp o ≡ Ok given → ToSections o (λ cover. Checks dp own (held_with o cover)) (answers.Checked given)
   verdict-given is = of-cover (cover_behind o.before o.behind) is

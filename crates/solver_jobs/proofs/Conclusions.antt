@@ -1,17 +1,18 @@
 -- What a search that is over may answer.
-use Rattle.std.proofs.Common.{◌≡◌, ◌≢◌, ℕ, ◌+◌, ℤ, pos, List, [], ◌∷◌, ◌++◌, length, true, false, nat_eq, Option, Some, None, refl, sym, ◌∙◌, ap, subst, arith}
+use Rattle.std.proofs.Common.{◌≡◌, ◌≢◌, ℕ, ◌+◌, ℤ, pos, ◌+ℤ◌, ◌≤ℤ◌, List, [], ◌∷◌, ◌++◌, length, true, false, nat_eq, Option, Some, None, refl, sym, ◌∙◌, ap, subst, arith}
 use Rattle.std.proofs.lemmas.Int.{ints}
 use Rattle.dp_model.specs.Solution.{Solution, IsSolutionWith, SolutionGives}
+use Rattle.bound_cover.specs.Exploring.{HoldsAll}
+use Rattle.bound_cover.specs.Proved.{LiesWithin}
 use Rattle.dp_model.specs.Best.{best, IsBest}
 use Rattle.dp_model.specs.Dp.{Dp}
-use Rattle.dp_model.specs.Numbers.{AtMost}
 use Rattle.dp_model.specs.Prefixes.{IsSolution, value_of}
 use Rattle.dp_model.proofs.Solutions.{best-is_best, IsBest-unique, given_value, given_none}
 use Rattle.problems.specs.Theory.{Agrees}
 use Rattle.shared_fringe.specs.Bounds.{raised}
 use Rattle.board_laws.specs.Bound.{raised_by}
 use Rattle.shared_fringe.specs.Tickets.{Ticketed}
-use Rattle.board_laws.specs.Board.{BoardState, full_slots, value_held, reach, is_explored}
+use Rattle.board_laws.specs.Board.{BoardState, full_slots, value_held, reach, reach_of, is_explored}
 use Rattle.board_laws.specs.declared.settings.Settings.{Settings}
 use Rattle.board_laws.proofs.Running.{run-follows}
 use Rattle.board_laws.specs.Bound.{board_bound}
@@ -19,7 +20,7 @@ use Rattle.board_laws.specs.GoodBoard.{IncumbentHolds, IsBoard, IsGood}
 use Rattle.solver_report.specs.declared.answer.Stop.{Stop}
 use Rattle.solver_report.specs.declared.answer.Stop.TheVariants.{Budget, Memory, Journal}
 use Rattle.solver_jobs.specs.Outcomes.{StopHolds, IsBounded, IsExploredWith, IsStopped}
-use Rattle.solver_jobs.specs.Reports.{IsFeasible, IncumbentIsFeasible, NoneIsWorthMore, IsProved, IsInfeasible}
+use Rattle.solver_jobs.specs.Reports.{IsFeasible, IncumbentIsFeasible, NoneIsWorthMore, IsProvedWithin, IsInfeasible}
 use Rattle.solver_jobs.specs.Over.{IsOver}
 use Rattle.solver_jobs.specs.declared.text_job.Search.{Search}
 
@@ -35,14 +36,6 @@ pub found_holds : (dp : Dp) (own : List ℕ → Option ℤ) → Agrees dp own �
 found_holds dp own agrees None h = tt
 found_holds dp own agrees (Some found) h = found_one dp own agrees found h
 
--- where no feasible solution exceeds a number, no list is worth more in the problem's own words
-none_worth_more : (dp : Dp) (own : List ℕ → Option ℤ) → Agrees dp own → (value : ℤ) → ((x : List ℕ) → IsSolution dp x → AtMost (value_of dp x) (Some value)) → NoneIsWorthMore own value
-none_worth_more dp own agrees value most x worth is =
-    let found : IsSolutionWith dp x worth = subst (SolutionGives dp x) is (agrees x) in
-    let up = most x found.solution in
-    let same = found.value in
-    omega (arith, ints)
-
 -- the incumbent of an explored board is feasible
 pub explored_with : (dp : Dp) (own : List ℕ → Option ℤ) → Agrees dp own → (b : BoardState) (found : Option Solution) → is_explored b ≡ true → IsBoard dp b → found ≡ b.incumbent → IsExploredWith dp own b found
 explored_with dp own agrees b found all kept same = record {
@@ -51,23 +44,77 @@ explored_with dp own agrees b found all kept same = record {
   found_one = found_holds dp own agrees found (subst (IncumbentHolds dp) (sym same) kept.incumbent);
 }
 
--- the incumbent of an explored board is best
-pub proved : (dp : Dp) (own : List ℕ → Option ℤ) → Agrees dp own → (held : Option Solution) (found : Solution) → Some found ≡ held → IncumbentHolds dp held → IsBest dp (value_held held) → IsProved dp own found
-proved dp own agrees held found same h is = record {
-  found_one = found_one dp own agrees found (subst (IncumbentHolds dp) (sym same) h);
-  is_best = sym (IsBest-unique dp (Some found.value) (best dp) (subst (λ b. IsBest dp (value_held b)) (sym same) is) (best-is_best dp));
-  own_best = (let greatest : IsBest dp (Some found.value) = subst (λ b. IsBest dp (value_held b)) (sym same) is in none_worth_more dp own agrees found.value greatest.most);
+-- ---- nothing that exceeds a number
+
+-- where no feasible solution exceeds a number, no list is worth more in the problem's own words
+none_worth_more : (dp : Dp) (own : List ℕ → Option ℤ) → Agrees dp own → (value : ℤ) → HoldsAll dp (Some value) → NoneIsWorthMore own value
+none_worth_more dp own agrees value most x worth is =
+    let found : IsSolutionWith dp x worth = subst (SolutionGives dp x) is (agrees x) in
+    let up = most x found.solution in
+    let same = found.value in
+    omega (arith, ints)
+
+-- where the best value lies within a distance of a value, no feasible solution exceeds both
+pub none_exceeds : (dp : Dp) (greatest : Option ℤ) → IsBest dp greatest → (value within : ℤ) → LiesWithin greatest (Some value) within → HoldsAll dp (Some (value +ℤ within))
+none_exceeds dp None is value within near x solution = absurd near
+none_exceeds dp (Some g) is value within near x solution =
+    let least : value_of dp x ≤ℤ g = is.most x solution in
+    let most = near.1 in omega (arith, ints)
+
+-- and where none exceeds the value of a solution and the distance, the best value lies within the distance of it
+near_best : (dp : Dp) (greatest : Option ℤ) → IsBest dp greatest → (x : List ℕ) (value within : ℤ) → IsSolutionWith dp x value → HoldsAll dp (Some (value +ℤ within)) → LiesWithin greatest (Some value) within
+near_best dp None is x value within h most = absurd (is x h.solution)
+near_best dp (Some g) is x value within h most =
+    let least : value_of dp x ≤ℤ g = is.most x h.solution in
+    let greatest : value_of dp is.by ≤ℤ (value +ℤ within) = most is.by is.solution in
+    let same = h.value in let at = is.value in
+    (omega (arith, ints), omega (arith, ints))
+
+-- without a distance it is the value
+exact_best : (greatest : Option ℤ) (value within : ℤ) → within ≡ pos 0 → LiesWithin greatest (Some value) within → greatest ≡ Some value
+exact_best None value within zero near = absurd near
+exact_best (Some g) value within zero near =
+    let least = near.0 in let most = near.1 in
+    let same : g ≡ value = omega (arith, ints) in ap Some same
+
+-- ---- what is told is true
+
+-- a solution near the best value is proved within the distance
+pub proved_near : (dp : Dp) (own : List ℕ → Option ℤ) → Agrees dp own → (within : ℤ) (found : Solution) → IsSolutionWith dp found.decisions found.value → LiesWithin (best dp) (Some found.value) within → IsProvedWithin dp own within found
+proved_near dp own agrees within found h near =
+    let one = found_one dp own agrees found h in
+    let own_near = none_worth_more dp own agrees (found.value +ℤ within) (none_exceeds dp (best dp) (best-is_best dp) found.value within near) in
+    record {
+      found_one = one;
+      near = near;
+      own_near = own_near;
+      exact = λ zero. record {
+        found_one = one;
+        is_best = exact_best (best dp) found.value within zero near;
+        own_best = (let same : found.value +ℤ within ≡ found.value = omega (arith, ints, zero) in subst (NoneIsWorthMore own) same own_near);
+      };
+    }
+
+-- where no feasible solution exceeds the reach, the incumbent is proved within the distance of that
+pub reach_proved : (dp : Dp) (own : List ℕ → Option ℤ) → Agrees dp own → (within : ℤ) (held : Option Solution) (found : Solution) → Some found ≡ held → IncumbentHolds dp held → HoldsAll dp (reach_of within (value_held held)) → IsProvedWithin dp own within found
+reach_proved dp own agrees within held found same h most =
+    let solution : IsSolutionWith dp found.decisions found.value = subst (IncumbentHolds dp) (sym same) h in
+    let none : HoldsAll dp (Some (found.value +ℤ within)) = subst (λ b. HoldsAll dp (reach_of within (value_held b))) (sym same) most in
+    proved_near dp own agrees within found solution (near_best dp (best dp) (best-is_best dp) found.decisions found.value within solution none)
+
+-- where there is no feasible solution in the states and gains, no list is one in the problem's own words
+pub infeasible : (dp : Dp) (own : List ℕ → Option ℤ) → Agrees dp own → ((x : List ℕ) → IsSolution dp x → ⊥) → IsInfeasible dp own
+infeasible dp own agrees never = record {
+  no_best = sym (IsBest-unique dp None (best dp) never (best-is_best dp));
+  no_solution = never;
+  no_own = λ x. given_none dp x (own x) (agrees x) (never x);
 }
 
--- an explored board without an incumbent says that there is no feasible solution
-pub infeasible : (dp : Dp) (own : List ℕ → Option ℤ) → Agrees dp own → (held : Option Solution) → None ≡ held → IsBest dp (value_held held) → IsInfeasible dp own
-infeasible dp own agrees held same is =
-    let never : IsBest dp None = subst (λ b. IsBest dp (value_held b)) (sym same) is in
-    record {
-      no_best = sym (IsBest-unique dp None (best dp) never (best-is_best dp));
-      no_solution = never;
-      no_own = λ x. given_none dp x (own x) (agrees x) (never x);
-    }
+-- so it is where nothing is the reach
+pub reach_infeasible : (dp : Dp) (own : List ℕ → Option ℤ) → Agrees dp own → (within : ℤ) (held : Option Solution) → None ≡ held → HoldsAll dp (reach_of within (value_held held)) → IsInfeasible dp own
+reach_infeasible dp own agrees within held same most = infeasible dp own agrees (subst (λ b. HoldsAll dp (reach_of within (value_held b))) (sym same) most)
+
+-- ---- a search that ends early
 
 -- something is open where nothing is out and the board is not explored
 open_left : (os : List Ticketed) (out : List Ticketed) → out ≡ [] → nat_eq (length os + length out) 0 ≡ false → os ≢ []
@@ -115,7 +162,7 @@ no_cause b Journal holds e = absurd (cc)
 
 -- its bound is true, and where it is stopped for the budget this or the tickets do not suffice for every prefix
 pub is_bounded : (dp : Dp) (own : List ℕ → Option ℤ) → Agrees dp own → (search : Search) (first b : BoardState) (stop : Stop) (bound : ℤ)
-    → IsOver dp search first b → is_explored b ≡ false → IsGood dp first → ((x : List ℕ) → IsSolution dp x → AtMost (value_of dp x) (Some bound)) → StopHolds b stop
+    → IsOver dp search first b → is_explored b ≡ false → IsGood dp first → HoldsAll dp (Some bound) → StopHolds b stop
     → IsBounded dp own search.budget stop bound
 is_bounded dp own agrees search first b stop bound over left good most holds = record {
   most = most;
@@ -127,6 +174,6 @@ is_bounded dp own agrees search first b stop bound over left good most holds = r
 
 -- ---- the search that is over
 
--- it has no distance from the best
-pub over_exact : (dp : Dp) (search : Search) (first b : BoardState) → IsOver dp search first b → b.settings.within ≡ pos 0
-over_exact dp search first b over = ap (λ (s : Settings). s.within) (run-follows dp first over.steps b over.run).settings ∙ over.exact
+-- its distance is the one that it was asked for
+pub over_distance : (dp : Dp) (search : Search) (first b : BoardState) → IsOver dp search first b → b.settings.within ≡ search.within
+over_distance dp search first b over = ap (λ (s : Settings). s.within) (run-follows dp first over.steps b over.run).settings ∙ over.distance

@@ -12,7 +12,6 @@ use Rattle.board_laws.specs.Board.{AreSettings, BoardState, full_slots}
 use Rattle.board_laws.specs.GoodBoard.{IsGood}
 use Rattle.board_laws.specs.Steps.{first_board}
 use Rattle.board_laws.specs.Taking.{is_budget_up}
-use Rattle.board_laws.proofs.Running.{run-follows}
 use Rattle.journal_bytes.specs.declared.tail.Tail.{Tail}
 use Rattle.journal_bytes.specs.declared.head.Head.{Head}
 use Rattle.journal_bytes.specs.Bodies.{RecordView, RecordsView}
@@ -28,7 +27,8 @@ use Rattle.frontier_journal.specs.Records.{AreAdded, KeepUp}
 use Rattle.solver_jobs.specs.Over.{IsOver}
 use Rattle.solver_jobs.specs.declared.text_job.Search.{Search}
 use Rattle.solver_jobs.specs.Kept.{LeavesAfterResume}
-use Rattle.solver_jobs.specs.Journals.{HasBegun, HasKept, HasLeftBegun, HasOpened, IsUnwritten, LeavesBegun, LeavesResumed}
+use Rattle.solver_jobs.specs.Journals.{HasBegun, HasKept, HasLeftBegun, HasOpened, IsUnwritten, LeavesBegun, LeavesResumed, MightBegin, SparesOthers}
+use Rattle.solver_jobs.proofs.Conclusions.{over_distance}
 
 -- ---- a file is one journal
 
@@ -62,9 +62,9 @@ spent dp old added b k exact idle sound none up =
     (λ above. inr (subst (λ n. 2 ^ 64 - 2 ^ 29 < n) k.replay.next_ticket (ltb-true (2 ^ 64 - 2 ^ 29) b.next_ticket above)))
     (either (nat_eq b.taken b.settings.budget) (nat_lt (2 ^ 64 - 2 ^ 29) b.next_ticket) up)
 
--- no distance from the best was asked for
-pub exact-over : (dp : Dp) (search : Search) (first b : BoardState) → IsOver dp search first b → b.settings.within ≡ pos 0
-exact-over dp search first b over = ap (λ (s : Settings). s.within) (run-follows dp first over.steps b over.run).settings ∙ over.exact
+-- where no distance was asked for there is none
+pub exact-over : (dp : Dp) (search : Search) (first b : BoardState) → IsOver dp search first b → search.within ≡ pos 0 → b.settings.within ≡ pos 0
+exact-over dp search first b over exact = over_distance dp search first b over ∙ exact
 
 -- ---- no records
 
@@ -217,6 +217,14 @@ module _ {D : Type 0} (on : Ghosts D) where
       stays None is there = absurd (cc)
       stays (Some s) is there = (has-journal dp b made now tail some k).1.start s is
 
+  -- what its first sync found stays, and where a journal may begin in that, no other is to be spared
+  pub still-begins : (dp : Dp) (b : BoardState) (made now : D) (tail : Option Tail) → IsSome tail → IsKept on dp b made now tail → IsSome (on.start made) → MightBegin on made → MightBegin on now
+  still-begins dp b made now tail some k began begins tells =
+      subst (λ o. IfSome o (λ s. MayBegin s.content)) (sym (same-start dp b made now tail some k began)) (begins (subst IsTrue (still-tells dp b made now tail some k) tells))
+
+  pub spares : (disk : D) → MightBegin on disk → SparesOthers on disk
+  spares disk begins tells = if-some (on.start disk) (λ s. MayBegin s.content) (λ s. MayBegin s.content ⊎ BeganAt on.moment on.left_since s disk s.content) (λ s may. inl may) (begins tells)
+
   pub no-fewer-faults : (dp : Dp) (b : BoardState) (made now : D) (tail : Option Tail) → IsSome tail → IsKept on dp b made now tail → on.faults made ≤ on.faults now
   no-fewer-faults dp b made now tail some k = (has-journal dp b made now tail some k).1.faults
 
@@ -259,15 +267,19 @@ module _ {D : Type 0} (on : Ghosts D) where
 
     -- ---- however a search ends
 
-    pub left-begun : (IsTrue (on.tells made) → HasRecords head [] (on.seen made)) → BeginsSince head made → HasLeftBegun on dp head now
-    left-begun reads since = by-telling (on.tells now) refl
+    pub left-begun : (IsTrue (on.tells made) → HasRecords head [] (on.seen made)) → MightBegin on made → BeginsSince head made → HasLeftBegun on dp head now
+    left-begun reads begins since = by-telling (on.tells now) refl
       where
+        spared : SparesOthers on now
+        spared = spares now (still-begins dp b made now tail some k began begins)
+
         by-telling : (t : Bool) → on.tells now ≡ t → HasLeftBegun on dp head now
-        by-telling false is = record { written = []; accepted = tt; sound = none-sound dp k.lawful; since = λ tells. absurd (let no : true ≡ false = sym tells ∙ is in cc) }
+        by-telling false is = record { written = []; spared = spared; accepted = tt; sound = none-sound dp k.lawful; since = λ tells. absurd (let no : true ≡ false = sym tells ∙ is in cc) }
         by-telling true is =
             let w = written dp b made now journal.0 head [] (reads (told-made is)) journal.1 is in
             record {
               written = w.added ++ w.last;
+              spared = spared;
               accepted = w.whole.accepted;
               sound = subst (λ z. AreSound dp z (w.added ++ w.last)) exact (w.whole.sound (subst (λ z. AreSound dp z []) (sym exact) (none-sound dp k.lawful)));
               since = leaves-begun made now began journal.1.start told-made head (w.added ++ w.last) since w.since;
@@ -289,9 +301,10 @@ module _ {D : Type 0} (on : Ghosts D) where
 
   -- ---- where no search has begun
 
-  pub left-begun-alone : (dp : Dp) (now : D) (head : HeadView) → IsLawful dp → BeginsSince head now → HasLeftBegun on dp head now
-  left-begun-alone dp now head laws since = record {
+  pub left-begun-alone : (dp : Dp) (now : D) (head : HeadView) → IsLawful dp → SparesOthers on now → BeginsSince head now → HasLeftBegun on dp head now
+  left-begun-alone dp now head laws spared since = record {
     written = [];
+    spared = spared;
     accepted = tt;
     sound = none-sound dp laws;
     since = λ tells. if-some (on.start now) (λ s. MayBegin s.content → LeavesSince on.moment on.left_since s now (IsBegun head)) (λ s. MayBegin s.content → (c : List ℕ) → on.left_since now s.moment c → HasBegun head [] c)

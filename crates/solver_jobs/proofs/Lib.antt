@@ -1,5 +1,5 @@
 pub mod Conclusions
-pub mod Crews
+pub mod Asked
 pub mod Covered
 pub mod Ending
 pub mod Reports

@@ -1,17 +1,13 @@
 -- What an accepted cover says of its report.
-use Rattle.std.proofs.Common.{ℕ, ℤ, List, Option, Some, None, refl, sym, subst}
-use Rattle.bound_cover.specs.Proved.{IsReportedBest}
+use Rattle.std.proofs.Common.{ℕ, ℤ, List, Option, Some, None, subst}
+use Rattle.bound_cover.specs.Proved.{IsReportedWithin}
 use Rattle.dp_model.specs.Best.{IsBest}
 use Rattle.dp_model.specs.Dp.{Dp}
 use Rattle.dp_model.proofs.Solutions.{best-is_best}
 use Rattle.problems.specs.Theory.{Agrees}
 use Rattle.solver_jobs.specs.Checks.{IsTrueReport}
-use Rattle.solver_jobs.proofs.Conclusions.{proved, infeasible}
+use Rattle.solver_jobs.proofs.Conclusions.{infeasible, proved_near}
 
-reported-best : (dp : Dp) (x : List ℕ) (value : Option ℤ) → IsReportedBest dp x value → IsBest dp value
-reported-best dp x value h = subst (IsBest dp) (sym h.best) (best-is_best dp)
-
-pub true-report : (dp : Dp) (own : List ℕ → Option ℤ) → Agrees dp own → (value : Option ℤ) (x : List ℕ) → IsReportedBest dp x value → IsTrueReport dp own value x
-true-report dp own agrees None x h = infeasible dp own agrees None refl (reported-best dp x None h)
-true-report dp own agrees (Some value) x h =
-    proved dp own agrees (Some (record { decisions = x; value = value })) (record { decisions = x; value = value }) refl h.shown (reported-best dp x (Some value) h)
+pub true-report : (dp : Dp) (own : List ℕ → Option ℤ) → Agrees dp own → (value : Option ℤ) (within : ℤ) (x : List ℕ) → IsReportedWithin dp x value within → IsTrueReport dp own value within x
+true-report dp own agrees None within x h = infeasible dp own agrees (subst (IsBest dp) h.near (best-is_best dp))
+true-report dp own agrees (Some value) within x h = proved_near dp own agrees within (record { decisions = x; value = value }) h.shown h.near

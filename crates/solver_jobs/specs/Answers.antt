@@ -1,5 +1,5 @@
 -- When what a job answers for an instance is right.
-use Rattle.std.specs.Prelude.{◌≡◌, ◌≢◌, ℕ, ◌-◌, ◌^◌, ◌<◌, ◌≤◌, Bool, true, false, ◌&&◌, ℤ, List, Option, Some, None, MatchResult}
+use Rattle.std.specs.Prelude.{◌≡◌, ◌≢◌, ℕ, ◌-◌, ◌^◌, ◌<◌, ◌≤◌, Bool, true, false, ◌&&◌, ℤ, pos, ◌≤ℤ◌, List, Option, Some, None, MatchResult}
 use Rattle.dp_model.specs.Dp.{Dp}
 use Rattle.dp_model.specs.declared.cut_kind.CutKind.TheVariants.{LastExactLayer}
 use Rattle.problem_names.specs.declared.ModelName.{ModelName}
@@ -53,9 +53,9 @@ KeepsNone b = b.cause ≢ Some causes.Journal
 abbrev pub Solves : Dp → (List ℕ → Option ℤ) → Search → Answer → Type 0
 Solves dp own search answer = Ends dp search (HasSearchedFromStart dp own search KeepsNone) answer
 
--- how an instance that is drawn is searched: with the default width, one worker, the greatest budget, its counts, and without a cover
+-- how an instance that is drawn is searched: to the best solution, with the default width, one worker, the greatest budget, its counts, and without a cover
 abbrev pub by_default : Search
-by_default = record { width = None; workers = 1; budget = 2 ^ 64 - 1; cutset = LastExactLayer; stats = true; cover = false }
+by_default = record { width = None; workers = 1; budget = 2 ^ 64 - 1; cutset = LastExactLayer; within = pos 0; stats = true; cover = false }
 
 -- what a digest may answer
 abbrev pub Digests : List ℕ → Answer → Type 0
@@ -74,14 +74,22 @@ abbrev pub Draws : Theory → ℕ → ℕ → Bool → Answer → Type 0
 Draws t n seed false answer = Prints (t.canonical (t.drawn n seed)) answer
 Draws t n seed true answer = Solves (t.program (t.drawn n seed)) (t.own_value (t.drawn n seed)) by_default answer
 
--- a search has from 1 to 16 workers
-abbrev pub HasCrew : Search → Type 0
-HasCrew search = (1 ≤ search.workers) × (search.workers ≤ 16)
+-- a search has from 1 to 16 workers, and its distance from the best is from 0 to 2^50
+pub record MaySearch (search : Search) : Type 0 where
+  pub some_workers : 1 ≤ search.workers
+  pub few_workers : search.workers ≤ 16
+  pub least : pos 0 ≤ℤ search.within
+  pub most : search.within ≤ℤ pos (2 ^ 50)
 
--- so many workers, where it is a search
-abbrev pub IsCrewed : TextJob → Type 0
-IsCrewed (Solve model search) = HasCrew search
-IsCrewed (Digest model) = Unit {0}
+-- so it is where a job is a search
+abbrev pub MayDo : TextJob → Type 0
+MayDo (Solve model search) = MaySearch search
+MayDo (Digest model) = Unit {0}
+
+-- a search that keeps a journal has the distance 0
+pub record MaySearchKept (search : Search) : Type 0 where
+  pub may : MaySearch search
+  pub exact : search.within ≡ pos 0
 
 -- the problem that a job is for
 abbrev pub model_in : TextJob → ModelName

@@ -1,5 +1,5 @@
 -- When what is answered to a whole output with a cover is right.
-use Rattle.std.specs.Prelude.{◌≡◌, ℕ, ℤ, pos, List, Option, Some, None, MatchResult}
+use Rattle.std.specs.Prelude.{◌≡◌, ℕ, ℤ, List, Option, Some, None, MatchResult}
 use Rattle.bound_cover.specs.Covers.{CoverRow}
 use Rattle.bound_cover.specs.Verdicts.{verdict}
 use Rattle.bound_cover.specs.declared.cover.Verdict.{Verdict}
@@ -15,17 +15,17 @@ use Rattle.problems.specs.Theories.{theory_of}
 use Rattle.problems.specs.Theory.{Theory}
 use Rattle.solver_report.specs.declared.answer.Answer.{Answer}
 use Rattle.solver_report.specs.declared.answer.Answer.TheVariants as answers
-use Rattle.solver_jobs.specs.Reports.{IsProved, IsInfeasible}
+use Rattle.solver_jobs.specs.Reports.{IsProvedWithin, IsInfeasible}
 
--- a report is true: its solution is feasible and of the greatest value, or there is none, in both senses
-abbrev pub IsTrueReport : Dp → (List ℕ → Option ℤ) → Option ℤ → List ℕ → Type 0
-IsTrueReport dp own None x = IsInfeasible dp own
-IsTrueReport dp own (Some value) x = IsProved dp own (record { decisions = x; value = value })
+-- a report is true: its solution is feasible, and none is further above it than the distance, or there is none, in both senses
+abbrev pub IsTrueReport : Dp → (List ℕ → Option ℤ) → Option ℤ → ℤ → List ℕ → Type 0
+IsTrueReport dp own None within x = IsInfeasible dp own
+IsTrueReport dp own (Some value) within x = IsProvedWithin dp own within (record { decisions = x; value = value })
 
 -- the verdict is the first test that fails; where none fails, the report is true
 pub record IsVerdict (dp : Dp) (own : List ℕ → Option ℤ) (held : CoverTextView) (given : Verdict) : Type 0 where
-  pub exact : given ≡ verdict dp held.best (pos 0) held.assignment held.cover
-  pub sound : given ≡ Accepted → IsTrueReport dp own held.best held.assignment
+  pub exact : given ≡ verdict dp held.best held.within held.assignment held.cover
+  pub sound : given ≡ Accepted → IsTrueReport dp own held.best held.within held.assignment
 
 -- what may be answered for the instance
 abbrev pub Checks : Dp → (List ℕ → Option ℤ) → CoverTextView → Answer → Type 0

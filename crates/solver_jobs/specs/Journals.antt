@@ -31,9 +31,17 @@ module _ {D : Type 0} (on : Ghosts D) where
   abbrev pub Since : D → (List ℕ → Type 0) → (List ℕ → Type 0) → Type 0
   Since disk M P = IsTrue (on.tells disk) → IfSome (on.start disk) (λ s. M s.content → (c : List ℕ) → on.left_since disk s.moment c → P c)
 
+  -- the first sync found a file in which a journal may begin
+  abbrev pub MightBegin : D → Type 0
+  MightBegin disk = IsTrue (on.tells disk) → IfSome (on.start disk) (λ s. MayBegin s.content)
+
   -- nothing was written: since the first sync a crash at any moment has left what that found
   abbrev pub IsUnwritten : D → Type 0
   IsUnwritten disk = IsTrue (on.tells disk) → IfSome (on.start disk) (λ s. BeganAt on.moment on.left_since s disk s.content)
+
+  -- where the first sync found a file in which no journal may begin, nothing was written
+  abbrev pub SparesOthers : D → Type 0
+  SparesOthers disk = IsTrue (on.tells disk) → IfSome (on.start disk) (λ s. MayBegin s.content ⊎ BeganAt on.moment on.left_since s disk s.content)
 
   -- bytes were read, which are what the first sync found where the disk tells them: what was opened is what they read as, its first record stands behind
   -- their head, and an error is their first cause, told only after the first sync
@@ -83,10 +91,11 @@ module _ {D : Type 0} (on : Ghosts D) where
   IsRefusedToBegin before now (errors.NoSolution offset) = ⊥
   IsRefusedToBegin before now errors.OutOfMemory = Unit {0}
 
-  -- the disk is as it was, or a crash at any moment since its first sync has left no journal or this head with a front of some records, which are
-  -- accepted and sound
+  -- what the first sync found is as it was where no journal may begin in it; and else a crash at any moment since then has left no journal or this head
+  -- with a front of some records, which are accepted and sound
   pub record HasLeftBegun (dp : Dp) (head : HeadView) (now : D) : Type 0 where
     pub written : List RecordView
+    pub spared : SparesOthers now
     pub accepted : AreAccepted dp written
     pub sound : AreSound dp (pos 0) written
     pub since : LeavesBegun head written now

@@ -20,7 +20,7 @@ use Rattle.solver_jobs.specs.Answers.{Ends, HasSearchedFromStart}
 use Rattle.solver_jobs.specs.Checks.{RefusesInstance}
 use Rattle.solver_jobs.specs.Covers.{IsCovered}
 use Rattle.solver_jobs.specs.Outcomes.{HasSearched}
-use Rattle.solver_jobs.specs.Journals.{HasKept, IsRefusedToBegin, IsUnwritten, LeavesBegun, LeavesResumed}
+use Rattle.solver_jobs.specs.Journals.{HasKept, IsRefusedToBegin, IsUnwritten, LeavesBegun, LeavesResumed, MightBegin}
 use Rattle.solver_jobs.specs.declared.text_job.Search.{Search}
 
 -- the head of the journal of an instance
@@ -32,7 +32,7 @@ module _ {D : Type 0} (on : Ghosts D) where
   abbrev pub SolvesKept : Dp → (List ℕ → Option ℤ) → HeadView → Search → D → D → Answer → Type 0
   SolvesKept dp own head search before now (answers.Journal e) = IsRefusedToBegin on before now e
   SolvesKept dp own head search before now answer =
-      Ends dp search (HasSearchedFromStart dp own search (HasKept on dp head [] (LeavesBegun on head) before now)) answer
+      Ends dp search (λ outcome counts. MightBegin on now × HasSearchedFromStart dp own search (HasKept on dp head [] (LeavesBegun on head) before now) outcome counts) answer
 
   -- for a text: for the instance that it spells, with a cover that is accepted behind a report, or its first fault, and then the disk is as it was
   abbrev pub RepliesKept : ModelName → Search → D → D → List ℕ → Answer → Type 0

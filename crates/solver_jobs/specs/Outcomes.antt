@@ -11,6 +11,7 @@ use Rattle.board_laws.specs.GoodBoard.{IsBoard, IsGood}
 use Rattle.board_laws.specs.Taking.{is_budget_up}
 use Rattle.board_laws.specs.declared.cause.Cause.TheVariants as causes
 use Rattle.board_laws.specs.declared.settings.Settings.{Settings}
+use Rattle.cover_text.specs.Outputs.{IsDistance}
 use Rattle.solver_report.specs.declared.answer.Stop.{Stop}
 use Rattle.solver_report.specs.declared.answer.Stop.TheVariants.{Budget, Memory, Journal}
 use Rattle.solver_report.specs.declared.answer.Counts.{Counts}
@@ -18,7 +19,7 @@ use Rattle.solver_report.specs.declared.answer.Outcome.{Outcome}
 use Rattle.solver_report.specs.declared.answer.Outcome.TheVariants.{Proved, Infeasible, Stopped}
 use Rattle.solver_jobs.specs.declared.text_job.Search.{Search}
 use Rattle.solver_jobs.specs.Over.{IsOver}
-use Rattle.solver_jobs.specs.Reports.{IncumbentIsFeasible, IsInfeasible, IsProved, NoneIsWorthMore}
+use Rattle.solver_jobs.specs.Reports.{IncumbentIsFeasible, IsInfeasible, IsProvedWithin, NoneIsWorthMore}
 
 -- why a board is not explored: the budget is taken up and no cause is held, or want of memory or a failed journal is held
 abbrev pub StopHolds : BoardState → Stop → Type 0
@@ -42,7 +43,7 @@ pub record IsStopped (dp : Dp) (own : List ℕ → Option ℤ) (board : BoardSta
 
 -- what is told of a board
 abbrev pub IsTold : Dp → (List ℕ → Option ℤ) → BoardState → Outcome → Type 0
-IsTold dp own board (Proved found) = IsExploredWith dp own board (Some found)
+IsTold dp own board (Proved found within) = IsExploredWith dp own board (Some found) × (within ≡ board.settings.within)
 IsTold dp own board Infeasible = IsExploredWith dp own board None
 IsTold dp own board (Stopped stop incumbent bound) = IsStopped dp own board stop incumbent bound
 
@@ -52,9 +53,9 @@ pub record IsBounded (dp : Dp) (own : List ℕ → Option ℤ) (budget : ℕ) (s
   pub own_most : NoneIsWorthMore own bound
   pub incomplete : stop ≡ Budget → tree dp ≤ budget → tree dp ≤ 2 ^ 63 → ⊥
 
--- what is told is true
+-- what is told is true, and its distance is from 0 to 2^50
 abbrev pub IsTrueOf : Dp → (List ℕ → Option ℤ) → ℕ → Outcome → Type 0
-IsTrueOf dp own budget (Proved found) = IsProved dp own found
+IsTrueOf dp own budget (Proved found within) = IsDistance within × IsProvedWithin dp own within found
 IsTrueOf dp own budget Infeasible = IsInfeasible dp own
 IsTrueOf dp own budget (Stopped stop incumbent bound) = IsBounded dp own budget stop bound
 

@@ -5,7 +5,7 @@ use Rattle.problems.specs.Theories.{theory_of}
 use Rattle.solver_jobs.specs.declared.text_job.Search.{Search}
 use Rattle.solver_jobs.specs.declared.text_job.TextJob.TheVariants.{Solve, Digest}
 use Rattle.solver_jobs.specs.declared.text_job.TextJob.{TextJob}
-use Rattle.solver_jobs.specs.Answers.{HasCrew, IsCrewed}
+use Rattle.solver_jobs.specs.Answers.{MayDo, MaySearchKept}
 use Rattle.solver_words.specs.Grammar.{Text}
 use Rattle.solver_words.specs.Words.{JobView, Refusal, and_then, meaning, solve, resume, check, digest, generate}
 use Rattle.solver_words.specs.declared.job.JobSettings.{JobSettings}
@@ -29,7 +29,7 @@ task_view (Draw problem n seed solved) = drawn problem n seed solved
 
 -- what a search is asked for; how many words a cover may keep has no effect
 abbrev pub search_of : JobSettings → Option ℕ → Search
-search_of settings cover = record { width = settings.width; workers = settings.workers; budget = settings.budget; cutset = settings.cutset; stats = settings.stats; cover = is_some cover }
+search_of settings cover = record { width = settings.width; workers = settings.workers; budget = settings.budget; cutset = settings.cutset; within = settings.within; stats = settings.stats; cover = is_some cover }
 
 -- a search of an instance, with a journal in the named file or with none
 abbrev pub search_task : ModelName → Search → Option Text → TaskView
@@ -48,10 +48,10 @@ task_of (generate model n seed solved) = drawn model n seed solved
 abbrev pub task_asked : List Text → Result TaskView Refusal
 task_asked words = and_then (λ job. Ok (task_of job)) (meaning words)
 
--- a search has from 1 to 16 workers, and what is to be drawn a size of its problem and a seed below 2^31
-abbrev pub IsDrawn : TaskView → Type 0
-IsDrawn (on_input job) = IsCrewed job
-IsDrawn (journaled model search path) = HasCrew search
-IsDrawn (resumed path search) = HasCrew search
-IsDrawn on_cover = Unit {0}
-IsDrawn (drawn problem n seed solved) = ((theory_of problem).least_size ≤ n) × (n ≤ (theory_of problem).most_size) × (seed < 2 ^ 31)
+-- a search may be made so, without a distance where it keeps a journal, and what is to be drawn has a size of its problem and a seed below 2^31
+abbrev pub IsPossible : TaskView → Type 0
+IsPossible (on_input job) = MayDo job
+IsPossible (journaled model search path) = MaySearchKept search
+IsPossible (resumed path search) = MaySearchKept search
+IsPossible on_cover = Unit {0}
+IsPossible (drawn problem n seed solved) = ((theory_of problem).least_size ≤ n) × (n ≤ (theory_of problem).most_size) × (seed < 2 ^ 31)

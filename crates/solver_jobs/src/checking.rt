@@ -1,4 +1,5 @@
 ghost use Rattle.std.specs.Prelude.{◌^◌, ◌-◌, ◌<◌, length};
+ghost use Rattle.cover_text.specs.Outputs.{IsDistance};
 ghost use Rattle.cover_text.specs.Texts.{held_with, opened_in};
 ghost use Rattle.problems.specs.Theories.{theory_of};
 ghost use Rattle.solver_jobs.specs.Checks.{IsChecked, Checks, ChecksOpened, RefusesCover, RefusesInstance, ToSections};
@@ -38,6 +39,7 @@ fn refused(fault: CoverError) -> Answer
 
 /// The answer to a text up to its sections, which names its problem.
 fn check_open(alloc: Global, text: &OpenCover<'_>) -> Answer
+    requires distance { IsDistance text.now.within }
     requires instance { length text.now.instance.now < 2 ^ 32 - 1 }
     requires before { length text.now.before.now < 2 ^ 32 - 1 }
     requires behind { length text.now.behind.now < 2 ^ 32 - 1 }
@@ -53,6 +55,7 @@ fn check_open(alloc: Global, text: &OpenCover<'_>) -> Answer
 
 /// The same for this problem.
 fn check_instance<P: Problem>(alloc: Global, text: &OpenCover<'_>) -> Answer
+    requires distance { IsDistance text.now.within }
     requires instance { length text.now.instance.now < 2 ^ 32 - 1 }
     requires before { length text.now.before.now < 2 ^ 32 - 1 }
     requires behind { length text.now.behind.now < 2 ^ 32 - 1 }
@@ -79,11 +82,12 @@ fn refuse_instance(alloc: Global, error: InstanceError, text: &OpenCover<'_>) ->
 
 /// The verdict on the sections, for the instance.
 fn check_sections<P: Problem>(alloc: Global, model: &P, text: &OpenCover<'_>) -> Answer
+    requires distance { IsDistance text.now.within }
     requires before { length text.now.before.now < 2 ^ 32 - 1 }
     requires behind { length text.now.behind.now < 2 ^ 32 - 1 }
     ensures { ToSections (opened_in text.now) (λ cover. Checks (P.meaning (P.numbers model.now)) (P.theory.own_value (P.numbers model.now)) (held_with (opened_in text.now) cover)) result }
 {
-    match text.check(alloc, model, 0) {
+    match text.check(alloc, model) {
         Ok(verdict) => Answer::Checked(verdict),
         Err(fault) => refused(fault),
     }

@@ -1,4 +1,4 @@
-ghost use Rattle.std.specs.Prelude.{◌≡◌, ◌≤◌, ℕ, pos, true, false, None, IsTrue, IfOk};
+ghost use Rattle.std.specs.Prelude.{◌≡◌, ◌≤◌, ℕ, true, false, None, IsTrue, IfOk};
 ghost use Rattle.dp_model.specs.Counts.{tree};
 ghost use Rattle.board_laws.specs.Board.{is_explored};
 ghost use Rattle.board_laws.specs.GoodBoard.{IsBoard, IsGood};
@@ -77,25 +77,30 @@ fn outcome_of<P: Problem>(
     ensures ends { IsGood (P.meaning (P.numbers model.now)) board.now.first → IsTrueOf (P.meaning (P.numbers model.now)) (P.theory.own_value (P.numbers model.now)) search.budget result }
 {
     if board.is_explored() {
-        return explored(board, model, found);
+        return explored(board, model, found, search.within);
     }
     stopped(board, model, found, search)
 }
 
-/// How a search with nothing open or out ended: the incumbent is best, or there is no feasible solution.
-fn explored<P: Problem>(board: &Board<P>, model: &P, found: Option<Solution>) -> Outcome
+/// How a search with nothing open or out ended: no feasible solution is further above the incumbent than the distance, or there is none.
+fn explored<P: Problem>(
+    board: &Board<P>,
+    model: &P,
+    found: Option<Solution>,
+    within: i64,
+) -> Outcome
     requires numbers { board.now.numbers ≡ P.numbers model.now }
     requires nothing_left { is_explored board.now.board ≡ true }
-    requires exact { board.now.board.settings.within ≡ pos 0 }
+    requires distance { within ≡ board.now.board.settings.within }
     requires copied { found ≡ board.now.board.incumbent }
     ensures told { IsTold (P.meaning (P.numbers model.now)) (P.theory.own_value (P.numbers model.now)) board.now.board result }
     ensures ends { (budget : ℕ) → IsGood (P.meaning (P.numbers model.now)) board.now.first → IsTrueOf (P.meaning (P.numbers model.now)) (P.theory.own_value (P.numbers model.now)) budget result }
 {
-    // What the board keeps of its incumbent, and that it is best.
+    // What the board keeps of its incumbent, and that no feasible solution exceeds the reach.
     let _ = board.incumbent_value();
     let _ = board.is_explored();
     match found {
-        Some(best) => Outcome::Proved(best),
+        Some(best) => Outcome::Proved { best, within },
         None => Outcome::Infeasible,
     }
 }

@@ -1,6 +1,8 @@
 ghost use Rattle.std.specs.Prelude.{◌≡◌, ◌^◌, ◌<◌, ◌++◌, Ok, IfOk, OnOk};
-ghost use Rattle.cover_text.specs.Outputs.{cover_lines, printed_lines};
-ghost use Rattle.dp_model.specs.Best.{best};
+ghost use Rattle.bound_cover.specs.Clamping.{IsReachable, IsWritable};
+ghost use Rattle.bound_cover.specs.Exploring.{HoldsAll};
+ghost use Rattle.bound_cover.specs.Verdicts.{claim_of};
+ghost use Rattle.cover_text.specs.Outputs.{IsDistance, cover_lines, printed_lines};
 ghost use Rattle.problems.specs.Theories.{theory_of};
 ghost use Rattle.solver_jobs.specs.Answers.{AreSized, IsReport};
 ghost use Rattle.solver_jobs.specs.Covers.{IsCoverText, IsCovered};
@@ -35,20 +37,35 @@ pub fn told<P: Problem>(
     if !search.cover || !outcome.is_final() {
         return Answer::Searched(outcome, counts);
     }
-    match cover_text(alloc, name, model, outcome.best()) {
+    let claim = claim_of(outcome.value(), outcome.distance());
+    match cover_text(alloc, name, model, claim) {
         Ok(text) => Answer::Covered(outcome, counts, Some(text)),
         Err(_) => Answer::Covered(outcome, counts, None),
     }
 }
 
-/// The text of a cover for the best value, or for none where there is no feasible solution. Fails only for want of memory.
+/// What no feasible solution exceeds: the value and the distance that are told, or none where no value is told.
+fn claim_of(value: Option<i64>, within: i64) -> Option<i64>
+    requires value { IsWritable value }
+    requires distance { IsDistance within }
+    ensures { result ≡ claim_of value within }
+{
+    match value {
+        None => None,
+        Some(value) => Some(value + within),
+    }
+}
+
+/// The text of a cover for a claim that no feasible solution exceeds, or for none where there is no feasible solution. Fails only for
+/// want of memory.
 fn cover_text<P: Problem>(
     alloc: Global,
     name: ModelName,
     model: &P,
     claim: Option<i64>,
 ) -> Result<Vec<u8>, OutOfMemory>
-    requires { claim ≡ best (P.meaning (P.numbers model.now)) }
+    requires holds { HoldsAll (P.meaning (P.numbers model.now)) claim }
+    requires reachable { IsReachable claim }
     ensures text { IfOk result (λ text. IsCoverText (P.meaning (P.numbers model.now)) name (P.theory.canonical (P.numbers model.now)) claim text.items) }
     ensures reads_back { IfOk result (λ text. P.theory.spelled (P.theory.canonical (P.numbers model.now)) ≡ Ok (P.numbers model.now)) }
 {

@@ -4,7 +4,7 @@ ghost use Rattle.journal_bytes.specs.Journal.{HasRecords, head_view};
 ghost use Rattle.journal_file.specs.Beginning.{IsBegun, LeavesSince, MayBegin};
 ghost use Rattle.journal_file.specs.Settled.{IsOpen};
 ghost use Rattle.problems.specs.Theories.{theory_of};
-ghost use Rattle.solver_jobs.specs.Journals.{IsRefusedToBegin, IsUnwritten, HasOpened};
+ghost use Rattle.solver_jobs.specs.Journals.{IsRefusedToBegin, IsUnwritten, HasOpened, MightBegin, SparesOthers};
 ghost use Rattle.solver_jobs.specs.Kept.{head_of};
 
 use dd_disk::Disk;
@@ -38,6 +38,10 @@ pub fn begin_journal<P: Problem, D: Disk>(
     ensures since { IsTrue (D.tells disk.new) → IfSome (D.start disk.new) (λ s. MayBegin s.content →
         LeavesSince D.moment D.left_since s disk.new (IsBegun (head_of P.theory name (P.numbers model.now)))) }
     ensures began { OnOk result (IsSome (D.start disk.new)) }
+
+    // That is so where it begins one; a file in which none may begin is left as it was, whatever is answered.
+    ensures begins { OnOk result (MightBegin D.Disk disk.new) }
+    ensures spared { SparesOthers D.Disk disk.new }
     ensures refused { IfErr result (IsRefusedToBegin D.Disk disk.old disk.new) }
     ensures faults { D.faults disk.old ≤ D.faults disk.new }
     ensures tells { D.tells disk.new ≡ D.tells disk.old }

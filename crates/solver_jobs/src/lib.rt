@@ -1,10 +1,11 @@
 //! What the program answers: jobs on an instance, a journal or a cover, and how an answer is said.
 //!
 //! A search that is over is told by its outcome, its counts and, where one is asked for, its cover. A proved answer is a best
-//! solution, an infeasible one says that there is no feasible solution, and a search that stopped early tells its incumbent and a
-//! bound that no feasible solution exceeds; it stops for the budget only where that is less than the number of prefixes. What is
-//! told is true of a search that began at the root, and of one that goes on from a journal where its records are sound. A cover
-//! behind a report is accepted by a check, and an accepted cover proves its report.
+//! solution, or for a distance a solution from which no other is further above than that; an infeasible one says that there is no
+//! feasible solution, and a search that stopped early tells its incumbent and a bound that no feasible solution exceeds; it stops
+//! for the budget only where that is less than the number of prefixes. What is told is true of a search that began at the root, and
+//! of one that goes on from a journal where its records are sound. A cover behind a report is accepted by a check, and an accepted
+//! cover proves its report.
 //!
 //! A search that keeps a journal begins it by `begin_journal`, and goes on from one that `open_journal` has opened. What it may
 //! then leave on its disk, and when the answer is right, stands in `specs/Journals.antt` and `specs/Kept.antt`.

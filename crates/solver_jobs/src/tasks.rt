@@ -1,6 +1,6 @@
 ghost use Rattle.std.specs.Prelude.{◌≡◌, IfOk, map, option_map, string_bytes};
 ghost use Rattle.solver_words.specs.Words.{IsAnswer, job_view};
-ghost use Rattle.solver_jobs.specs.Tasks.{IsDrawn, search_of, search_task, task_asked, task_of, task_view};
+ghost use Rattle.solver_jobs.specs.Tasks.{IsPossible, search_of, search_task, task_asked, task_of, task_view};
 
 use crate::text_job::{Search, TextJob};
 use problem_names::ModelName;
@@ -37,7 +37,7 @@ pub enum Task {
 /// What the words ask for, or why they are refused.
 pub fn task_asked(alloc: Global, words: &[String]) -> Result<Task, WordsError>
     ensures answer { IsAnswer task_view (task_asked (map string_bytes words.now)) result }
-    ensures drawn { IfOk result (λ task. IsDrawn (task_view task)) }
+    ensures possible { IfOk result (λ task. IsPossible (task_view task)) }
 {
     let job = read_words(alloc, words)?;
     Ok(task_of(job))
@@ -83,6 +83,7 @@ fn search_of(settings: JobSettings, cover_words: Option<u64>) -> Search
         workers: settings.workers,
         budget: settings.budget,
         cutset: settings.cutset,
+        within: settings.within,
         stats: settings.stats,
         cover: cover_words.is_some(),
     }

@@ -12,6 +12,8 @@ pub struct Search {
     pub budget: u64,
     /// Of which kind the children are that a relaxed diagram leaves.
     pub cutset: CutKind,
+    /// How far the best value may be above that of the solution with which the search ends, from 0 to 2^50.
+    pub within: i64,
     /// Whether the counts of the search are told.
     pub stats: bool,
     /// Whether a cover is told behind the report of a search that went to its end.
@@ -21,7 +23,7 @@ pub struct Search {
 /// What is done with an instance that a text spells.
 #[derive(Clone, Copy, Debug, PartialEq, Eq)]
 pub enum TextJob {
-    /// Search for a best solution.
+    /// Search for a best solution, or for one from which no other is further above than the distance.
     Solve { model: ModelName, search: Search },
     /// Digest the canonical text.
     Digest { model: ModelName },

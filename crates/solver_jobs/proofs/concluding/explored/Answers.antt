@@ -1,9 +1,11 @@
-use Rattle.std.proofs.Common.{◌∙◌, sym, subst}
-use Rattle.dp_model.specs.Best.{IsBest}
+use Rattle.std.proofs.Common.{◌≡◌, ◌∙◌, sym, subst, w64, to_z, of_z, rules}
+use Rattle.bound_cover.specs.Exploring.{HoldsAll}
 use Rattle.problems.specs.Theory.{Agrees}
-use Rattle.board_laws.specs.Board.{incumbent_value}
+use Rattle.board_laws.specs.Board.{reach}
 use Rattle.board_laws.specs.GoodBoard.{IsBoard, IsGood}
-use Rattle.solver_jobs.proofs.Conclusions.{explored_with, proved, infeasible}
+use Rattle.cover_text.specs.Outputs.{IsDistance}
+use Rattle.solver_jobs.specs.Reports.{IsProvedWithin}
+use Rattle.solver_jobs.proofs.Conclusions.{explored_with, reach_infeasible, reach_proved}
 use Rattle.solver_jobs.proofs.concluding.explored.Given as given
 use Rattle.solver_jobs.proofs.concluding.explored.Goals as goal
 
@@ -14,7 +16,8 @@ pub returns-in-Some-clause-told : goal.returns-in-Some-clause-told
 returns-in-Some-clause-told g c =
     let b = c.args.board.now.board in
     let kept = subst (λ n. IsBoard (g.P.DpModel.meaning n) b) c.requires.numbers c.incumbent_value.ensures.kept in
-    explored_with _ _ (agrees_of g c.args.model.now) b _ c.requires.nothing_left kept (sym c.in-Some.is ∙ c.requires.copied)
+    let read : to_z w64 (of_z w64 c.args.within) ≡ c.args.within = search rules in
+    (explored_with _ _ (agrees_of g c.args.model.now) b _ c.requires.nothing_left kept (sym c.in-Some.is ∙ c.requires.copied), read ∙ c.requires.distance)
 
 pub returns-in-None-clause-told : goal.returns-in-None-clause-told
 returns-in-None-clause-told g c =
@@ -26,15 +29,22 @@ pub returns-in-Some-clause-ends : goal.returns-in-Some-clause-ends
 returns-in-Some-clause-ends g c = λ _ good.
     let numbers = c.requires.numbers in
     let b = c.args.board.now.board in
+    let dp = g.P.DpModel.meaning (g.P.DpModel.numbers c.args.model.now) in
+    let own = g.P.Problem.theory.own_value (g.P.DpModel.numbers c.args.model.now) in
     let begun = subst (λ n. IsGood (g.P.DpModel.meaning n) c.args.board.now.first) (sym numbers) good in
     let kept = subst (λ n. IsBoard (g.P.DpModel.meaning n) b) numbers c.incumbent_value.ensures.kept in
-    let is = subst (λ n. IsBest (g.P.DpModel.meaning n) (incumbent_value b)) numbers (c.is_explored.ensures.best begun (c.is_explored.ensures.explored ∙ c.requires.nothing_left) c.requires.exact) in
-    proved _ _ (agrees_of g c.args.model.now) b.incumbent c.in-Some.best (sym c.in-Some.is ∙ c.requires.copied) kept.incumbent is
+    let most = subst (λ n. HoldsAll (g.P.DpModel.meaning n) (reach b)) numbers (c.is_explored.ensures.within begun (c.is_explored.ensures.explored ∙ c.requires.nothing_left)) in
+    let found = c.in-Some.best in
+    let near : IsProvedWithin dp own b.settings.within found =
+    reach_proved dp own (agrees_of g c.args.model.now) b.settings.within b.incumbent found (sym c.in-Some.is ∙ c.requires.copied) kept.incumbent most in
+    let read : to_z w64 (of_z w64 c.args.within) ≡ c.args.within = search rules in
+    subst (λ w. IsDistance w × IsProvedWithin dp own w found) (sym (read ∙ c.requires.distance))
+    (record { least = kept.settings.within_least; most = kept.settings.within_most }, near)
 
 pub returns-in-None-clause-ends : goal.returns-in-None-clause-ends
 returns-in-None-clause-ends g c = λ _ good.
     let numbers = c.requires.numbers in
     let b = c.args.board.now.board in
     let begun = subst (λ n. IsGood (g.P.DpModel.meaning n) c.args.board.now.first) (sym numbers) good in
-    let is = subst (λ n. IsBest (g.P.DpModel.meaning n) (incumbent_value b)) numbers (c.is_explored.ensures.best begun (c.is_explored.ensures.explored ∙ c.requires.nothing_left) c.requires.exact) in
-    infeasible _ _ (agrees_of g c.args.model.now) b.incumbent (sym c.in-None.is ∙ c.requires.copied) is
+    let most = subst (λ n. HoldsAll (g.P.DpModel.meaning n) (reach b)) numbers (c.is_explored.ensures.within begun (c.is_explored.ensures.explored ∙ c.requires.nothing_left)) in
+    reach_infeasible _ _ (agrees_of g c.args.model.now) b.settings.within b.incumbent (sym c.in-None.is ∙ c.requires.copied) most

@@ -1,8 +1,11 @@
-use Rattle.solver_jobs.proofs.Conclusions.{over_exact}
+use Rattle.std.proofs.Common.{◌≡◌, ◌∙◌, sym, w64, to_z, of_z, rules}
+use Rattle.solver_jobs.proofs.Conclusions.{over_distance}
 use Rattle.solver_jobs.proofs.concluding.outcome_of.Goals as goal
 
 pub returns-then-is_explored-clause-ends : goal.returns-then-is_explored-clause-ends
 returns-then-is_explored-clause-ends g c = c.explored.ensures.ends c.args.search.budget
 
-pub explored-requires-clause-exact : goal.explored-requires-clause-exact
-explored-requires-clause-exact g c κs within = over_exact _ _ _ _ c.requires.over
+pub explored-requires-clause-distance : goal.explored-requires-clause-distance
+explored-requires-clause-distance g c κs within =
+    let read : to_z w64 (of_z w64 c.args.search.within) ≡ c.args.search.within = search rules in
+    read ∙ sym (over_distance _ _ _ _ c.requires.over)

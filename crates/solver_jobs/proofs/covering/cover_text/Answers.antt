@@ -12,7 +12,7 @@ pub returns-clause-text : goal.returns-clause-text
 returns-clause-text g c =
     let dp = g.P.DpModel.meaning (g.P.DpModel.numbers c.args.model.now) in
     let cover = c.in_ok-cover.cover in
-    let passes = c.in_ok-cover.ensures.best c.requires in
+    let passes = c.in_ok-cover.ensures.passes c.requires.holds c.requires.reachable in
     let instance : List ℕ = g.P.Problem.theory.canonical (g.P.DpModel.numbers c.args.model.now) in
     let same : c.in_ok-instance.instance.items ≡ instance = c.in_ok-instance.ensures.text in
     let h1 = c.in_ok-push_head.ensures in
