@@ -1,5 +1,5 @@
 -- A search that goes on from a journal.
-use Rattle.std.proofs.Common.{◌≡◌, ◌≤◌, ◌⊎◌, inl, inr, ℕ, ◌+◌, ◌^◌, ℤ, ◌≤ℤ◌, pos, List, [], ◌∷◌, Bool, true, false, ◌&&◌, Option, Some, IsSome, IfSome, IsTrue, Result, Ok, Err, IfOk, Vec, Global, refl, sym, subst, ap, arith, ◌∙◌}
+use Rattle.std.proofs.Common.{◌≡◌, ◌≤◌, ◌⊎◌, inl, inr, ℕ, ◌+◌, ℤ, pos, List, [], ◌∷◌, Bool, true, false, ◌&&◌, Option, IsSome, IfSome, IsTrue, Result, Ok, Err, IfOk, Vec, Global, refl, sym, subst, ap, arith, ◌∙◌}
 use Rattle.std.specs.Prelude.{MatchResult}
 use Rattle.std.specs.declared.alloc.AllocError.{AllocError}
 use Rattle.dd_disk.specs.declared.disk.Disk.{Ghosts}
@@ -7,10 +7,9 @@ use Rattle.dd_disk.specs.Counts.{Rose}
 use Rattle.dd_disk.specs.Disk.{FirstSync}
 use Rattle.dp_model.specs.Dp.{Dp}
 use Rattle.dp_model.specs.Laws.{IsLawful}
-use Rattle.board_laws.specs.Board.{AreSettings, BoardState}
+use Rattle.board_laws.specs.Board.{BoardState}
 use Rattle.board_laws.specs.GoodBoard.{IsGood}
 use Rattle.board_laws.specs.declared.settings.Settings.{Settings}
-use Rattle.frontier_journal.specs.Kept.{MayKeep}
 use Rattle.journal_bytes.specs.Bodies.{RecordView, RecordsView}
 use Rattle.journal_bytes.specs.Frames.{frames_of}
 use Rattle.journal_bytes.specs.Journal.{HeadView, JournalView, behind_head, journal_of, journal_view}
@@ -27,7 +26,6 @@ use Rattle.journal_replay.specs.Sound.{AreSound}
 use Rattle.journal_bytes.specs.Spelling.{record_size}
 use Rattle.journal_replay.proofs.Joined.{sound-restore-good}
 use Rattle.search_core.specs.View.{BoardView}
-use Rattle.std.proofs.lemmas.Int.{ints}
 use Rattle.worker_gate.specs.declared.desk.Desk.{Desk}
 use Rattle.problems.specs.Theories.{theory_of}
 use Rattle.solver_report.specs.declared.answer.Answer.{Answer}
@@ -35,16 +33,17 @@ use Rattle.solver_report.specs.declared.answer.Answer.TheVariants as answers
 use Rattle.solver_report.specs.declared.answer.Counts.{Counts}
 use Rattle.solver_report.specs.declared.answer.Outcome.{Outcome}
 use Rattle.solver_report.specs.Report.{is_final}
-use Rattle.solver_jobs.specs.Answers.{HasCrew}
+use Rattle.solver_jobs.specs.Answers.{MaySearch}
 use Rattle.solver_jobs.specs.Journals.{HasKept, HasOpened, IsUnwritten, LeavesResumed}
 use Rattle.solver_jobs.specs.Kept.{GoesOn, Resumes, ResumesJournal, WasResumed}
 use Rattle.solver_jobs.specs.Outcomes.{HasSearched}
 use Rattle.solver_jobs.specs.Over.{IsOver}
 use Rattle.solver_jobs.specs.declared.text_job.Search.{Search}
-use Rattle.solver_jobs.proofs.Journaled.{exact-over, ends-resumed, left-behind, made-resumed, none-behind, same-start, still-tells}
+use Rattle.solver_jobs.proofs.Journaled.{exact-over, ends-resumed, left-behind, none-behind, same-start, still-tells}
 use Rattle.solver_cli.specs.Journals.{IsOpened, LeavesOpened, TouchesNothing}
 use Rattle.solver_cli.specs.Searches.{IsKeptOn, KeepsSome, report_of}
 use Rattle.solver_cli.specs.Starts.{AreAsked, GoesOnFrom}
+use Rattle.solver_cli.proofs.Starts.{are-settings}
 use Rattle.solver_cli.proofs.Told.{Told}
 use Rattle.solver_cli.proofs.Searched.{in-words}
 
@@ -66,27 +65,17 @@ matched P Q E f (Ok x) h = f x h
 matched P Q E f (Err e) h = h
 
 -- sound records make a good board
-pub restored-good : (dp : Dp) → IsLawful dp → (search : Search) (settings : Settings) (records : List RecordView) → HasCrew search → AreAsked dp search settings → AreAccepted dp records → AreSound dp (pos 0) records → IsGood dp (restored_from settings (replay_of dp records))
-restored-good dp laws search settings records crew asked accepted sound =
-    let count = asked.crew in
-    let some = asked.wide.fits.positive in
-    let exact = asked.exact in
-    let are : AreSettings settings = record {
-      some_workers = subst (λ n. 1 ≤ n) (sym count) crew.0;
-      few_workers = subst (λ n. n ≤ 16) (sym count) crew.1;
-      some_width = some;
-      within_least = subst (λ z. pos 0 ≤ℤ z) (sym exact) (omega (arith, ints));
-      within_most = subst (λ z. z ≤ℤ pos (2 ^ 50)) (sym exact) (omega (arith, ints));
-    } in
-    sound-restore-good dp laws settings records are accepted (subst (λ z. AreSound dp z records) (sym exact) sound)
+pub restored-good : (dp : Dp) → IsLawful dp → (search : Search) (settings : Settings) (records : List RecordView) → MaySearch search → search.within ≡ pos 0 → AreAsked dp search settings → AreAccepted dp records → AreSound dp (pos 0) records → IsGood dp (restored_from settings (replay_of dp records))
+restored-good dp laws search settings records may exact asked accepted sound =
+    sound-restore-good dp laws settings records (are-settings dp search settings may asked) accepted (subst (λ z. AreSound dp z records) (sym (asked.distance ∙ exact)) sound)
 
 -- the board that goes on is restored from its own settings
 pub first-restored : (dp : Dp) (search : Search) (records : RecordsView) (board : BoardView) (desks : Vec Desk Global) → GoesOnFrom dp search records board desks → board.first ≡ restored_from board.first.settings (replay_of dp records.records)
 first-restored dp search records board desks on = on.ready.first ∙ (on.board ∙ ap (λ (x : BoardState). restored_from x.settings (replay_of dp records.records)) (sym on.ready.first))
 
-pub first-good : (dp : Dp) → IsLawful dp → (search : Search) (records : RecordsView) (board : BoardView) (desks : Vec Desk Global) → HasCrew search → GoesOnFrom dp search records board desks → AreSound dp (pos 0) records.records → IsGood dp board.first
-first-good dp laws search records board desks crew on sound =
-    subst (IsGood dp) (sym (on.ready.first ∙ on.board)) (restored-good dp laws search board.board.settings records.records crew on.ready.asked on.accepted sound)
+pub first-good : (dp : Dp) → IsLawful dp → (search : Search) (records : RecordsView) (board : BoardView) (desks : Vec Desk Global) → MaySearch search → search.within ≡ pos 0 → GoesOnFrom dp search records board desks → AreSound dp (pos 0) records.records → IsGood dp board.first
+first-good dp laws search records board desks may exact on sound =
+    subst (IsGood dp) (sym (on.ready.first ∙ on.board)) (restored-good dp laws search board.board.settings records.records may exact on.ready.prepared.asked on.accepted sound)
 
 -- without a cover
 coverless : (cover : Bool) (final : Bool) → cover ≡ false → (cover && final) ≡ false
@@ -123,31 +112,18 @@ module _ {D : Type 0} (on : Ghosts D) where
     pub goes-on-before : (first : ℕ) (before made now : D) → on.faults before ≤ on.faults made → (answer : Answer) → GoesOn on dp own head records first search made now answer → GoesOn on dp own head records first search before now answer
     goes-on-before first before made now faults (answers.Searched outcome counts) h = (gone-before before made now faults outcome counts h.0, h.1)
     goes-on-before first before made now faults (answers.Covered outcome counts cover) h = (gone-before before made now faults outcome counts h.0, h.1)
-    goes-on-before first before made now faults (answers.Digest digest) h = h
-    goes-on-before first before made now faults (answers.Drawn text) h = h
-    goes-on-before first before made now faults (answers.Checked given) h = h
-    goes-on-before first before made now faults (answers.Refused e) h = h
-    goes-on-before first before made now faults (answers.CoverRefused e) h = h
-    goes-on-before first before made now faults answers.TooLong h = h
-    goes-on-before first before made now faults answers.Width h = h
-    goes-on-before first before made now faults (answers.Words e) h = h
-    goes-on-before first before made now faults (answers.Journal e) h = h
-    goes-on-before first before made now faults answers.ReadFault h = h
-    goes-on-before first before made now faults answers.OutOfMemory h = h
+    goes-on-before first before made now faults answer h = h
 
-    module _ (made : D) (tail : Tail) (opened : IsOpened on head records made tail) where
-      pub may-keep : (settings : Settings) (b : BoardState) → AreAccepted dp records → b ≡ restored_from settings (replay_of dp records) → MayKeep on dp b made (Some tail)
-      may-keep settings b accepted is = made-resumed on dp settings b made tail head records (opened.is_attached, opened.is_open) accepted is
-
+    module _ (exact : search.within ≡ pos 0) (made : D) (tail : Tail) (opened : IsOpened on head records made tail) where
       kept-resumed : (now : D) (f b : BoardState) → IsOver dp search f b → IsKeptOn on dp true made now b → HasKept on dp head records (LeavesResumed on head records) made now b
       kept-resumed now f b over k =
-          ends-resumed on dp b made now k.tail k.same k.kept opened.synced (exact-over dp search f b over) head made records (omega arith) over.idle (λ tells. (opened.is_open tells).1) opened.found opened.unwritten
+          ends-resumed on dp b made now k.tail k.same k.kept opened.synced (exact-over dp search f b over exact) head made records (omega arith) over.idle (λ tells. (opened.is_open tells).1) opened.found opened.unwritten
 
-      pub leaves : (now : D) (settings : Settings) → settings.within ≡ pos 0 → KeepsSome on dp true made now settings → LeavesOpened on made now
-      leaves now settings exact k =
+      pub leaves : (now : D) (settings : Settings) → settings.within ≡ search.within → KeepsSome on dp true made now settings → LeavesOpened on made now
+      leaves now settings distance k =
           let b = k.board in
           let tail = k.keeps.tail in
-          let behind = left-behind on dp b made now tail k.keeps.same k.keeps.kept opened.synced (ap (λ (s : Settings). s.within) k.same ∙ exact) head records (λ tells. (opened.is_open tells).1) opened.found opened.unwritten in
+          let behind = left-behind on dp b made now tail k.keeps.same k.keeps.kept opened.synced (ap (λ (s : Settings). s.within) k.same ∙ (distance ∙ exact)) head records (λ tells. (opened.is_open tells).1) opened.found opened.unwritten in
           record {
             written = behind.0;
             leaves = behind.1;
@@ -200,26 +176,11 @@ module _ {D : Type 0} (on : Ghosts D) where
 
     resumed : (r : Head × RecordsView × Tail) → HasOpened on made (Ok r) → IsSome (on.start made) → on.faults before ≤ on.faults made → IsUnwritten on made → LeavesOpened on made now → (answer : Answer) → ResumesJournal on (journal_view r) r.1.first search made now answer → TouchesNothing made now answer
         → Resumes on search before now answer
-    resumed r opened began faults unwritten left (answers.Searched outcome counts) h stays = was-resumed r opened began faults left (answers.Searched outcome counts) h
-    resumed r opened began faults unwritten left (answers.Covered outcome counts cover) h stays = was-resumed r opened began faults left (answers.Covered outcome counts cover) h
-    resumed r opened began faults unwritten left (answers.Digest digest) h stays = was-resumed r opened began faults left (answers.Digest digest) h
-    resumed r opened began faults unwritten left (answers.Drawn text) h stays = was-resumed r opened began faults left (answers.Drawn text) h
-    resumed r opened began faults unwritten left (answers.Checked given) h stays = was-resumed r opened began faults left (answers.Checked given) h
-    resumed r opened began faults unwritten left (answers.Refused e) h stays = was-resumed r opened began faults left (answers.Refused e) h
-    resumed r opened began faults unwritten left (answers.CoverRefused e) h stays = was-resumed r opened began faults left (answers.CoverRefused e) h
-    resumed r opened began faults unwritten left answers.TooLong h stays = was-resumed r opened began faults left answers.TooLong h
-    resumed r opened began faults unwritten left answers.Width h stays = was-resumed r opened began faults left answers.Width h
-    resumed r opened began faults unwritten left (answers.Words e) h stays = was-resumed r opened began faults left (answers.Words e) h
     resumed r opened began faults unwritten left (answers.Journal errors.Disk) h stays = absurd (not-for-disk (journal_view r) r.1.first search made now h)
-    resumed r opened began faults unwritten left (answers.Journal errors.NotBegun) h stays = (was-resumed r opened began faults left (answers.Journal errors.NotBegun) h, subst (IsUnwritten on) (sym stays) unwritten)
-    resumed r opened began faults unwritten left (answers.Journal errors.Exists) h stays = (was-resumed r opened began faults left (answers.Journal errors.Exists) h, subst (IsUnwritten on) (sym stays) unwritten)
-    resumed r opened began faults unwritten left (answers.Journal (errors.Damaged offset)) h stays = (was-resumed r opened began faults left (answers.Journal (errors.Damaged offset)) h, subst (IsUnwritten on) (sym stays) unwritten)
-    resumed r opened began faults unwritten left (answers.Journal (errors.Malformed offset)) h stays = (was-resumed r opened began faults left (answers.Journal (errors.Malformed offset)) h, subst (IsUnwritten on) (sym stays) unwritten)
-    resumed r opened began faults unwritten left (answers.Journal (errors.Version found)) h stays = (was-resumed r opened began faults left (answers.Journal (errors.Version found)) h, subst (IsUnwritten on) (sym stays) unwritten)
-    resumed r opened began faults unwritten left (answers.Journal (errors.NoSolution offset)) h stays = (was-resumed r opened began faults left (answers.Journal (errors.NoSolution offset)) h, subst (IsUnwritten on) (sym stays) unwritten)
     resumed r opened began faults unwritten left (answers.Journal errors.OutOfMemory) h stays = tt
-    resumed r opened began faults unwritten left answers.ReadFault h stays = was-resumed r opened began faults left answers.ReadFault h
+    resumed r opened began faults unwritten left (answers.Journal e) h stays = (was-resumed r opened began faults left (answers.Journal e) h, subst (IsUnwritten on) (sym stays) unwritten)
     resumed r opened began faults unwritten left answers.OutOfMemory h stays = tt
+    resumed r opened began faults unwritten left answer h stays = was-resumed r opened began faults left answer h
 
     -- the answer to a journal that was opened
     pub answered : (r : Head × RecordsView × Tail) → HasOpened on made (Ok r) → IsSome (on.start made) → on.faults before ≤ on.faults made → IsUnwritten on made → LeavesOpened on made now → (answer : Answer) → (answer ≡ answers.OutOfMemory) ⊎ ResumesJournal on (journal_view r) r.1.first search made now answer

@@ -21,14 +21,14 @@ use Rattle.solver_cli.proofs.Told.{Told, if-told}
 
 is_over : (dp : Dp) (search : Search) (first b : BoardState) → AreAsked dp search first.settings → full_slots first.slots ≡ [] → b.settings ≡ first.settings → IsLater dp first b → NoRoundFollows b → (IsGood dp first → IsComplete dp b) → IsOver dp search first b
 is_over dp search first b asked idle same later ended complete =
-    let budget : b.settings.budget ≡ search.budget = ap (λ (s : Settings). s.budget) same ∙ asked.within in
+    let budget : b.settings.budget ≡ search.budget = ap (λ (s : Settings). s.budget) same ∙ asked.budget in
     record {
       steps = later.steps;
       run = later.run;
       wide = asked.wide;
       crew = asked.crew;
-      within = asked.within;
-      exact = asked.exact;
+      budget = asked.budget;
+      distance = asked.distance;
       idle = ap full_slots later.slots ∙ idle;
       ended = ended;
       complete = λ good few. complete good (subst (λ n. tree dp ≤ n) (sym budget) few);
@@ -41,7 +41,7 @@ module _ {D : Type 0} (on : Ghosts D) (dp : Dp) (search : Search) (first : KeptV
   pub over : (desks : Vec Desk Global) → IsReadyFor dp search first.board desks → IsOver dp search b.first b.board
   over desks ready =
       subst (λ (f : BoardState). IsOver dp search f b.board) (sym (same-first ∙ ready.first))
-      (is_over dp search first.board.board b.board ready.asked ready.idle (ap (λ (t : BoardTag). t.settings) e.tag) e.later e.ended (subst (λ (f : BoardState). IsGood dp f → IsComplete dp b.board) ready.first e.complete))
+      (is_over dp search first.board.board b.board ready.prepared.asked ready.idle (ap (λ (t : BoardTag). t.settings) e.tag) e.later e.ended (subst (λ (f : BoardState). IsGood dp f → IsComplete dp b.board) ready.first e.complete))
 
   -- what is told of it is told of a search
   pub searched : (own : List ℕ → Option ℤ) → IsOver dp search b.first b.board → (ended : Result Told AllocError) → IfOk ended (λ told. IsConcluded dp own search b.first b.board told.0 told.1)

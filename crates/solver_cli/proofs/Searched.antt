@@ -29,14 +29,4 @@ in-words dp own search f first Trusted Keeps Other is good other outcome counts 
 pub ends-in-words : (dp : Dp) (search : Search) (Has Other : Outcome → Option Counts → Type 0) → ((outcome : Outcome) (counts : Option Counts) → Has outcome counts → Other outcome counts) → (answer : Answer) → Ends dp search Has answer → Ends dp search Other answer
 ends-in-words dp search Has Other f (answers.Searched outcome counts) h = (f outcome counts h.0, h.1)
 ends-in-words dp search Has Other f (answers.Covered outcome counts cover) h = (f outcome counts h.0, h.1)
-ends-in-words dp search Has Other f (answers.Digest digest) h = absurd h
-ends-in-words dp search Has Other f (answers.Drawn text) h = absurd h
-ends-in-words dp search Has Other f (answers.Checked given) h = absurd h
-ends-in-words dp search Has Other f (answers.Refused e) h = absurd h
-ends-in-words dp search Has Other f (answers.CoverRefused e) h = absurd h
-ends-in-words dp search Has Other f answers.TooLong h = absurd h
-ends-in-words dp search Has Other f answers.Width h = h
-ends-in-words dp search Has Other f (answers.Words e) h = absurd h
-ends-in-words dp search Has Other f (answers.Journal e) h = absurd h
-ends-in-words dp search Has Other f answers.ReadFault h = absurd h
-ends-in-words dp search Has Other f answers.OutOfMemory h = tt
+ends-in-words dp search Has Other f answer h = h

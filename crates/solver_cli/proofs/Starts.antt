@@ -1,9 +1,9 @@
 -- What a search needs beside the disk.
-use Rattle.std.proofs.Common.{◌≡◌, ℕ, [], None, Err, Vec, Global, refl, sym, ap, subst, ◌∙◌}
-use Rattle.std.specs.List.{All}
+use Rattle.std.proofs.Common.{◌≡◌, ℕ, ◌^◌, ◌≤◌, pos, ◌≤ℤ◌, [], None, Result, Ok, Err, IfErr, Vec, Global, refl, sym, ap, subst, ◌∙◌}
+use Rattle.std.specs.Result.{IsErrAnd}
 use Rattle.dp_model.specs.Dp.{Dp}
 use Rattle.dp_model.specs.Laws.{IsLawful}
-use Rattle.board_laws.specs.Board.{BoardState, full_slots}
+use Rattle.board_laws.specs.Board.{AreSettings, BoardState, full_slots}
 use Rattle.board_laws.specs.GoodBoard.{IsGood}
 use Rattle.board_laws.specs.Steps.{first_board}
 use Rattle.board_laws.specs.declared.settings.Settings.{Settings}
@@ -14,27 +14,50 @@ use Rattle.journal_replay.specs.Replay.{replay_of, restored_from}
 use Rattle.layer_build.specs.declared.workspace.PrepareError.{PrepareError}
 use Rattle.layer_build.specs.declared.workspace.PrepareError.TheVariants as preparing
 use Rattle.search_core.specs.View.{BoardView}
+use Rattle.solver_jobs.specs.Answers.{MaySearch}
 use Rattle.solver_jobs.specs.Widths.{IsAskedWidth}
 use Rattle.solver_jobs.specs.declared.text_job.Search.{Search}
-use Rattle.worker_gate.specs.Prepared.{IsPreparedDesk}
+use Rattle.solver_report.specs.declared.answer.Answer.{Answer}
+use Rattle.solver_report.specs.declared.answer.Answer.TheVariants as answers
 use Rattle.worker_gate.specs.declared.desk.Desk.{Desk}
 use Rattle.solver_cli.specs.Desks.{AreAllDesks, AreCrew}
-use Rattle.solver_cli.specs.Starts.{AreAsked, DoesNotGoOn, GoesOnFrom, HasBegun, IsReadyFor, IsUnready, settings_for, unprepared}
+use Rattle.solver_cli.specs.Starts.{AreAsked, ArePrepared, DoesNotGoOn, GoesOnFrom, HasBegun, IsReadyFor, IsUnready, settings_for, unprepared}
 use Rattle.solver_cli.proofs.Widths.{refused}
 
-module _ (dp : Dp) (search : Search) (w : ℕ) (asked : IsAskedWidth dp search.width w) where
-  module _ (desks : Vec Desk Global) (crew : AreCrew dp w search.workers desks) (settings : Settings) (named : settings ≡ settings_for search w) (b : BoardView) (first : b.first ≡ b.board) where
+-- settings as a search may ask for them are settings of a board
+pub are-settings : (dp : Dp) (search : Search) (settings : Settings) → MaySearch search → AreAsked dp search settings → AreSettings settings
+are-settings dp search settings may asked = record {
+  some_workers = subst (λ n. 1 ≤ n) (sym asked.crew) may.some_workers;
+  few_workers = subst (λ n. n ≤ 16) (sym asked.crew) may.few_workers;
+  some_width = asked.wide.fits.positive;
+  within_least = subst (λ z. pos 0 ≤ℤ z) (sym asked.distance) may.least;
+  within_most = subst (λ z. z ≤ℤ pos (2 ^ 50)) (sym asked.distance) may.most;
+}
+
+module _ (dp : Dp) (search : Search) where
+  -- ---- settings and desks
+
+  module _ (w : ℕ) (asked : IsAskedWidth dp search.width w) where
+    pub all-prepared : (desks : Vec Desk Global) → AreCrew dp w search.workers desks → (settings : Settings) → settings ≡ settings_for search w → ArePrepared dp search settings desks
+    all-prepared desks crew settings named =
+        subst (λ (s : Settings). ArePrepared dp search s desks) (sym named)
+        (record { asked = record { crew = refl; budget = refl; distance = refl; wide = record { asked = asked; fits = crew.fits } }; count = crew.count; each = crew.prepared })
+
+    -- without desks
+    pub unready : IsLawful dp → (e : PrepareError) → AreAllDesks dp w search.workers (Err e) → IsUnready dp search (unprepared e)
+    unready laws preparing.Width never = refused dp laws search.width w asked never
+    unready laws preparing.OutOfMemory none = tt
+
+  -- ---- with a board
+
+  module _ (settings : Settings) (desks : Vec Desk Global) (prepared : ArePrepared dp search settings desks) (b : BoardView) (first : b.first ≡ b.board) where
     ready : b.board.settings ≡ settings → full_slots b.board.slots ≡ [] → b.board.cause ≡ None → IsReadyFor dp search b desks
-    ready same idle going =
-        let all : b.board.settings ≡ settings_for search w = same ∙ named in
-        record {
-          first = first;
-          asked = subst (AreAsked dp search) (sym all) (record { crew = refl; within = refl; exact = refl; wide = record { asked = asked; fits = crew.fits } });
-          idle = idle;
-          going = going;
-          count = crew.count;
-          prepared = subst (λ (s : Settings). All (IsPreparedDesk dp s.width) desks.items) (sym all) crew.prepared;
-        }
+    ready same idle going = record {
+      first = first;
+      prepared = subst (λ (s : Settings). ArePrepared dp search s desks) (sym same) prepared;
+      idle = idle;
+      going = going;
+    }
 
     -- at the start
     pub begun : b.board ≡ first_board dp settings → IsGood dp b.first → HasBegun dp search b desks
@@ -56,11 +79,12 @@ module _ (dp : Dp) (search : Search) (w : ℕ) (asked : IsAskedWidth dp search.w
           board = is ∙ ap (λ (s : Settings). restored_from s (replay_of dp records.records)) (sym same);
         }
 
-  -- without desks
-  pub unready : IsLawful dp → (e : PrepareError) → AreAllDesks dp w search.workers (Err e) → IsUnready dp search (unprepared e)
-  unready laws preparing.Width never = refused dp laws search.width w asked never
-  unready laws preparing.OutOfMemory none = tt
+  -- a search that is not ready does not go on
+  does-not-go-on : (records : RecordsView) (answer : Answer) → IsUnready dp search answer → DoesNotGoOn dp search records answer
+  does-not-go-on records (answers.Journal e) h = absurd h
+  does-not-go-on records answer h = h
 
-  pub does-not-go-on : (records : RecordsView) → IsLawful dp → (e : PrepareError) → AreAllDesks dp w search.workers (Err e) → DoesNotGoOn dp search records (unprepared e)
-  does-not-go-on records laws preparing.Width never = refused dp laws search.width w asked never
-  does-not-go-on records laws preparing.OutOfMemory none = tt
+  -- and its answer is passed on
+  pub passed-on : {T : Type 0} (records : RecordsView) (answer : Answer) → IsUnready dp search answer → (r : Result T Answer) → IsErrAnd r (λ e. e ≡ answer) → IfErr r (DoesNotGoOn dp search records)
+  passed-on records answer h (Ok x) same = tt
+  passed-on records answer h (Err e) same = subst (DoesNotGoOn dp search records) (sym same) (does-not-go-on records answer h)

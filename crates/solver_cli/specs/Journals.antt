@@ -10,7 +10,7 @@ use Rattle.journal_file.specs.Settled.{IsOpen}
 use Rattle.problem_names.specs.declared.ModelName.{ModelName}
 use Rattle.problems.specs.Theories.{theory_of}
 use Rattle.solver_jobs.specs.Answers.{Ends, HasSearchedFromStart}
-use Rattle.solver_jobs.specs.Journals.{HasKept, HasLeftBegun, IsUnwritten, LeavesBegun, LeavesResumed}
+use Rattle.solver_jobs.specs.Journals.{HasKept, HasLeftBegun, IsUnwritten, LeavesBegun, LeavesResumed, MightBegin}
 use Rattle.solver_jobs.specs.Kept.{head_of}
 use Rattle.solver_jobs.specs.declared.text_job.Search.{Search}
 use Rattle.solver_report.specs.declared.answer.Answer.{Answer}
@@ -22,6 +22,7 @@ module _ {D : Type 0} (on : Ghosts D) where
     pub is_attached : IsTrue (on.attached disk)
     pub is_open : IsTrue (on.tells disk) → IsOpen (on.seen disk) (on.may_leave disk) tail × HasRecords head [] (on.seen disk)
     pub synced : IsSome (on.start disk)
+    pub begins : MightBegin on disk
     pub since : IsTrue (on.tells disk) → IfSome (on.start disk) (λ s. MayBegin s.content → LeavesSince on.moment on.left_since s disk (IsBegun head))
 
   -- a journal with this head and these records was opened on the disk, and nothing was written
@@ -34,7 +35,8 @@ module _ {D : Type 0} (on : Ghosts D) where
 
   -- what may be answered to a search whose journal has begun
   abbrev pub EndsBegun : Dp → (List ℕ → Option ℤ) → HeadView → Search → D → D → Answer → Type 0
-  EndsBegun dp own head search before now answer = Ends dp search (HasSearchedFromStart dp own search (HasKept on dp head [] (LeavesBegun on head) before now)) answer
+  EndsBegun dp own head search before now answer =
+      Ends dp search (λ outcome counts. MightBegin on now × HasSearchedFromStart dp own search (HasKept on dp head [] (LeavesBegun on head) before now) outcome counts) answer
 
   -- the disk is as it was, or the text spells an instance, and a crash has left what a journal of that leaves that has begun
   abbrev pub LeavesOfText : ModelName → List ℕ → D → D → Type 0

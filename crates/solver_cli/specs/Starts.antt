@@ -1,5 +1,5 @@
 -- What a search needs beside the disk.
-use Rattle.std.specs.Prelude.{◌≡◌, ℕ, pos, [], None, vec_len, Vec}
+use Rattle.std.specs.Prelude.{◌≡◌, ℕ, [], None, vec_len, Vec}
 use Rattle.std.specs.List.{All}
 use Rattle.std.specs.declared.alloc.Global.{Global}
 use Rattle.dp_model.specs.Dp.{Dp}
@@ -20,25 +20,29 @@ use Rattle.solver_report.specs.declared.answer.Answer.TheVariants as answers
 use Rattle.worker_gate.specs.Prepared.{IsPreparedDesk}
 use Rattle.worker_gate.specs.declared.desk.Desk.{Desk}
 
--- the settings of a search with diagrams of this width: no distance from the best, and a table of at most 4096 entries
+-- the settings of a search with diagrams of this width: a table of at most 4096 entries
 abbrev pub settings_for : Search → ℕ → Settings
-settings_for search width = record { workers = search.workers; budget = search.budget; table_limit = 4096; width = width; within = pos 0 }
+settings_for search width = record { workers = search.workers; budget = search.budget; table_limit = 4096; width = width; within = search.within }
 
 -- settings as the search asks for them, with a width that is positive and fits
 pub record AreAsked (dp : Dp) (search : Search) (settings : Settings) : Type 0 where
   pub crew : settings.workers ≡ search.workers
-  pub within : settings.budget ≡ search.budget
-  pub exact : settings.within ≡ pos 0
+  pub budget : settings.budget ≡ search.budget
+  pub distance : settings.within ≡ search.within
   pub wide : IsSearchWidth dp search.width settings.width
 
--- a board of which nothing is out and that no cause halts, as it was made, with the settings of the search, and a desk for each worker
+-- such settings, and a desk for each worker
+pub record ArePrepared (dp : Dp) (search : Search) (settings : Settings) (desks : Vec Desk Global) : Type 0 where
+  pub asked : AreAsked dp search settings
+  pub count : vec_len desks ≡ search.workers
+  pub each : All (IsPreparedDesk dp settings.width) desks.items
+
+-- a board of which nothing is out and that no cause halts, as it was made, for which settings and desks are prepared
 pub record IsReadyFor (dp : Dp) (search : Search) (b : BoardView) (desks : Vec Desk Global) : Type 0 where
   pub first : b.first ≡ b.board
-  pub asked : AreAsked dp search b.board.settings
+  pub prepared : ArePrepared dp search b.board.settings desks
   pub idle : full_slots b.board.slots ≡ []
   pub going : b.board.cause ≡ None
-  pub count : vec_len desks ≡ search.workers
-  pub prepared : All (IsPreparedDesk dp b.board.settings.width) desks.items
 
 -- and it is the board at the start of a search, which is good
 pub record HasBegun (dp : Dp) (search : Search) (b : BoardView) (desks : Vec Desk Global) : Type 0 where

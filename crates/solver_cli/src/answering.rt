@@ -1,5 +1,5 @@
 ghost use Rattle.std.specs.Prelude.{◌≡◌, map, string_bytes};
-ghost use Rattle.solver_jobs.specs.Answers.{HasCrew, IsCrewed, IsReply};
+ghost use Rattle.solver_jobs.specs.Answers.{IsReply, MayDo, MaySearchKept};
 ghost use Rattle.solver_jobs.specs.Ended.{IsInputAnswer, IsRight, LeavesOfSearch, readings, text_limit};
 ghost use Rattle.solver_jobs.specs.Kept.{RepliesKept};
 
@@ -64,7 +64,7 @@ fn answer_text<S: Source, D: Disk + Send, G: Gate + Sync, R: Threads + Wait + Sy
     disk: D,
     gate: &G,
 ) -> (Answer, D)
-    requires { IsCrewed job }
+    requires { MayDo job }
     ensures answer { IsInputAnswer text_limit (IsReply job) (readings S.left S.faults input.old input.new) result.0 }
     ensures disk { result.1 ≡ disk }
 {
@@ -85,7 +85,7 @@ fn answer_kept<S: Source, D: Disk + Send, G: Gate + Sync, R: Threads + Wait + Sy
     disk: D,
     gate: &G,
 ) -> (Answer, D)
-    requires { HasCrew search }
+    requires { MaySearchKept search }
     ensures answer { IsInputAnswer text_limit (RepliesKept D.Disk name search disk result.1) (readings S.left S.faults input.old input.new) result.0 }
     ensures left { LeavesOfSearch D.Disk name (readings S.left S.faults input.old input.new) disk result.1 }
 {

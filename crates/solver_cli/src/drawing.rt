@@ -20,12 +20,14 @@ const BY_DEFAULT: Search = Search {
     workers: 1,
     budget: u64::MAX,
     cutset: CutKind::LastExactLayer,
+    within: 0,
     stats: true,
     cover: false,
 };
 
-/// Draws an instance of the problem, of size `n` from the seed. Its canonical text is answered, or where `solved` how a search of it ends,
-/// with the default width, by one worker, with no budget but the greatest, and with its counts. The disk comes back as it was.
+/// Draws an instance of the problem, of size `n` from the seed. Its canonical text is answered, or where `solved` how a search of it for a
+/// best solution ends, with the default width, by one worker, with no budget but the greatest, and with its counts. The disk comes back as
+/// it was.
 pub fn generate<D: Disk + Send, G: Gate + Sync, R: Threads + Wait + Sync>(
     rt: &R,
     alloc: Global,

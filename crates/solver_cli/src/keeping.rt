@@ -3,7 +3,7 @@
 ghost use Rattle.std.specs.Prelude.{◌≡◌, ◌⊎◌, ℕ, ◌^◌, ◌-◌, ◌<◌, length};
 ghost use Rattle.std.specs.Arc.{arc_value};
 ghost use Rattle.problems.specs.Theories.{theory_of};
-ghost use Rattle.solver_jobs.specs.Answers.{HasCrew};
+ghost use Rattle.solver_jobs.specs.Answers.{MaySearchKept};
 ghost use Rattle.solver_jobs.specs.Covers.{IsCovered};
 ghost use Rattle.solver_jobs.specs.Journals.{HasLeftBegun};
 ghost use Rattle.solver_jobs.specs.Kept.{RepliesKept, SolvesKept, head_of};
@@ -39,7 +39,7 @@ pub fn reply_kept<D: Disk + Send, G: Gate + Sync, R: Threads + Wait + Sync>(
     gate: &G,
 ) -> (Answer, D)
     requires short { length text.now < 2 ^ 32 - 1 }
-    requires crew { HasCrew search }
+    requires may { MaySearchKept search }
     ensures reply { RepliesKept D.Disk name search disk result.1 text.now result.0 }
     ensures left { LeavesOfText D.Disk name text.now disk result.1 }
 {
@@ -71,7 +71,7 @@ fn read_kept<P: Problem, D: Disk + Send, G: Gate + Sync, R: Threads + Wait + Syn
     gate: &G,
 ) -> (Answer, D)
     requires short { length text.now < 2 ^ 32 - 1 }
-    requires crew { HasCrew search }
+    requires may { MaySearchKept search }
     requires named { theory_of name ≡ P.theory }
     ensures reply { RepliesKept D.Disk name search disk result.1 text.now result.0 }
     ensures left { LeavesOfText D.Disk name text.now disk result.1 }
@@ -95,7 +95,7 @@ fn solve_kept<P: Problem, D: Disk + Send, G: Gate + Sync, R: Threads + Wait + Sy
     disk: D,
     gate: &G,
 ) -> (Answer, D)
-    requires crew { HasCrew search }
+    requires may { MaySearchKept search }
     requires named { theory_of name ≡ P.theory }
     ensures solves { SolvesKept D.Disk (P.meaning (P.numbers model)) (P.theory.own_value (P.numbers model)) (head_of P.theory name (P.numbers model)) search disk result.1 result.0 }
     ensures covered { IsCovered name (P.theory.canonical (P.numbers model)) result.0 }
@@ -120,6 +120,7 @@ fn search_kept<P: Problem, D: Disk + Send, G: Gate + Sync, R: Threads + Wait + S
 ) -> (Answer, D)
     requires named { theory_of name ≡ P.theory }
     requires numbers { start.board.numbers ≡ P.numbers (arc_value start.model) }
+    requires may { MaySearchKept search }
     requires begun { HasBegun (P.meaning (P.numbers (arc_value start.model))) search start.board start.desks }
     ensures solves { SolvesKept D.Disk (P.meaning (P.numbers (arc_value start.model))) (P.theory.own_value (P.numbers (arc_value start.model))) (head_of P.theory name (P.numbers (arc_value start.model))) search disk result.1 result.0 }
     ensures covered { IsCovered name (P.theory.canonical (P.numbers (arc_value start.model))) result.0 }
@@ -144,6 +145,7 @@ fn search_begun<P: Problem, D: Disk + Send, G: Gate + Sync, R: Threads + Wait + 
 ) -> (Answer, D)
     requires named { theory_of name ≡ P.theory }
     requires numbers { start.board.numbers ≡ P.numbers (arc_value start.model) }
+    requires may { MaySearchKept search }
     requires begun { HasBegun (P.meaning (P.numbers (arc_value start.model))) search start.board start.desks }
     requires ready { HasBegunOn D.Disk (head_of P.theory name (P.numbers (arc_value start.model))) disk tail }
     ensures ends { EndsBegun D.Disk (P.meaning (P.numbers (arc_value start.model))) (P.theory.own_value (P.numbers (arc_value start.model))) (head_of P.theory name (P.numbers (arc_value start.model))) search disk result.1 result.0 }

@@ -1,6 +1,6 @@
 ghost use Rattle.std.specs.Prelude.{◌≡◌, ℕ, ◌^◌, ◌-◌, ◌<◌, length};
 ghost use Rattle.problems.specs.Theories.{theory_of};
-ghost use Rattle.solver_jobs.specs.Answers.{Replies, IsReply, IsCrewed, model_in};
+ghost use Rattle.solver_jobs.specs.Answers.{Replies, IsReply, MayDo, model_in};
 
 use crate::solving::solve;
 use dd_disk::Disk;
@@ -25,7 +25,7 @@ pub fn reply<D: Disk + Send, G: Gate + Sync, R: Threads + Wait + Sync>(
     gate: &G,
 ) -> (Answer, D)
     requires short { length text.now < 2 ^ 32 - 1 }
-    requires crewed { IsCrewed job }
+    requires may { MayDo job }
     ensures reply { IsReply job text.now result.0 }
     ensures disk { result.1 ≡ disk }
 {
@@ -50,7 +50,7 @@ fn answer_text<P: Problem, D: Disk + Send, G: Gate + Sync, R: Threads + Wait + S
     gate: &G,
 ) -> (Answer, D)
     requires short { length text.now < 2 ^ 32 - 1 }
-    requires crewed { IsCrewed job }
+    requires may { MayDo job }
     requires named { theory_of (model_in job) ≡ P.theory }
     ensures reply { Replies P.theory job text.now result.0 }
     ensures disk { result.1 ≡ disk }

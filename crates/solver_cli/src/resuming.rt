@@ -3,7 +3,7 @@
 ghost use Rattle.std.specs.Prelude.{◌≡◌, ◌⊎◌, ℕ, ◌^◌, ◌-◌, ◌<◌, false, length};
 ghost use Rattle.journal_bytes.specs.Journal.{head_view, journal_view};
 ghost use Rattle.problems.specs.Theories.{theory_of};
-ghost use Rattle.solver_jobs.specs.Answers.{HasCrew};
+ghost use Rattle.solver_jobs.specs.Answers.{MaySearchKept};
 ghost use Rattle.solver_jobs.specs.Kept.{GoesOn, LeavesAfterResume, Resumes, ResumesJournal};
 ghost use Rattle.solver_cli.specs.Journals.{IsOpened, LeavesOpened, TouchesNothing};
 ghost use Rattle.solver_cli.specs.Searches.{report_of};
@@ -35,7 +35,7 @@ pub fn resume<D: Disk + Send, G: Gate + Sync, R: Threads + Wait + Sync>(
     mut disk: D,
     gate: &G,
 ) -> (Answer, D)
-    requires crew { HasCrew search }
+    requires may { MaySearchKept search }
     requires coverless { search.cover ≡ false }
     ensures resumes { Resumes D.Disk search disk result.1 result.0 }
     ensures left { LeavesAfterResume D.Disk disk result.1 }
@@ -59,7 +59,7 @@ fn resume_journal<D: Disk + Send, G: Gate + Sync, R: Threads + Wait + Sync>(
     disk: D,
     gate: &G,
 ) -> (Answer, D)
-    requires crew { HasCrew search }
+    requires may { MaySearchKept search }
     requires coverless { search.cover ≡ false }
     requires text { length head.now.text.items < 2 ^ 32 - 1 }
     requires opened { IsOpened D.Disk (head_view head.now) records.now.records disk tail }
@@ -94,7 +94,7 @@ fn resume_on<P: Problem, D: Disk + Send, G: Gate + Sync, R: Threads + Wait + Syn
     disk: D,
     gate: &G,
 ) -> (Answer, D)
-    requires crew { HasCrew search }
+    requires may { MaySearchKept search }
     requires coverless { search.cover ≡ false }
     requires named { theory_of head.now.model ≡ P.theory }
     requires text { length head.now.text.items < 2 ^ 32 - 1 }
@@ -125,7 +125,7 @@ fn resume_search<P: Problem, D: Disk + Send, G: Gate + Sync, R: Threads + Wait +
     disk: D,
     gate: &G,
 ) -> (Answer, D)
-    requires crew { HasCrew search }
+    requires may { MaySearchKept search }
     requires coverless { search.cover ≡ false }
     requires opened { IsOpened D.Disk (head_view head.now) records.now.records disk tail }
     ensures goes_on { GoesOn D.Disk (P.meaning (P.numbers model)) (P.theory.own_value (P.numbers model)) (head_view head.now) records.now.records records.now.first search disk result.1 result.0 }

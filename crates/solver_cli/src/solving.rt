@@ -1,6 +1,6 @@
 ghost use Rattle.std.specs.Prelude.{◌≡◌, IfOk};
 ghost use Rattle.problems.specs.Theories.{theory_of};
-ghost use Rattle.solver_jobs.specs.Answers.{AreSized, HasCrew, Solves};
+ghost use Rattle.solver_jobs.specs.Answers.{AreSized, MaySearch, Solves};
 ghost use Rattle.solver_jobs.specs.Covers.{IsCovered};
 ghost use Rattle.solver_jobs.specs.Outcomes.{IsTrueOf};
 ghost use Rattle.solver_cli.specs.Searches.{IsAnswerTo};
@@ -30,7 +30,7 @@ pub fn solve<P: Problem, D: Disk + Send, G: Gate + Sync, R: Threads + Wait + Syn
     disk: D,
     gate: &G,
 ) -> (Answer, D)
-    requires crew { HasCrew search }
+    requires may { MaySearch search }
     requires named { theory_of name ≡ P.theory }
     ensures solves { Solves (P.meaning (P.numbers model)) (P.theory.own_value (P.numbers model)) search result.0 }
     ensures covered { IsCovered name (P.theory.canonical (P.numbers model)) result.0 }

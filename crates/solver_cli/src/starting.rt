@@ -7,10 +7,10 @@ ghost use Rattle.board_laws.specs.GoodBoard.{IsGood};
 ghost use Rattle.board_laws.specs.Steps.{first_board};
 ghost use Rattle.journal_replay.specs.Accepting.{AreAccepted, AreRefused};
 ghost use Rattle.journal_replay.specs.Replay.{replay_of, replay_start, restored_from};
-ghost use Rattle.solver_jobs.specs.Answers.{HasCrew};
+ghost use Rattle.solver_jobs.specs.Answers.{MaySearch};
 ghost use Rattle.solver_jobs.specs.Widths.{IsAskedWidth};
 ghost use Rattle.solver_cli.specs.Desks.{AreAllDesks};
-ghost use Rattle.solver_cli.specs.Starts.{DoesNotGoOn, GoesOnFrom, HasBegun, IsUnready, settings_for, unprepared};
+ghost use Rattle.solver_cli.specs.Starts.{ArePrepared, DoesNotGoOn, GoesOnFrom, HasBegun, IsUnready, settings_for, unprepared};
 
 use dp_model::{CutKind, DpModel, OutOfMemory};
 use journal_bytes::Records;
@@ -42,23 +42,20 @@ pub struct Start<P: Problem> {
 /// The start of a search of the instance, or the answer where there is none: the width is refused where it is 0 or above the greatest one
 /// of the instance, or there is no memory.
 pub fn begin_search<P: Problem>(alloc: Global, model: P, search: Search) -> Result<Start<P>, Answer>
-    requires crew { HasCrew search }
+    requires may { MaySearch search }
     ensures model { IfOk result (λ s. P.numbers (arc_value s.model) ≡ P.numbers model) }
     ensures numbers { IfOk result (λ s. s.board.numbers ≡ P.numbers model) }
     ensures begun { IfOk result (λ s. HasBegun (P.meaning (P.numbers model)) search s.board s.desks) }
     ensures refused { IfErr result (IsUnready (P.meaning (P.numbers model)) search) }
 {
-    let width = width_for(&model, search.width);
-    match desks_for(alloc, &model, width, search.workers, search.cutset) {
-        Ok(desks) => match begun(alloc, model, settings_for(search, width)) {
-            Ok((model, board)) => Ok(Start {
-                model,
-                board,
-                desks,
-            }),
-            Err(_) => Err(Answer::OutOfMemory),
-        },
-        Err(error) => Err(unprepared(error)),
+    let (settings, desks) = prepared(alloc, &model, search)?;
+    match begun(alloc, model, settings) {
+        Ok((model, board)) => Ok(Start {
+            model,
+            board,
+            desks,
+        }),
+        Err(_) => Err(Answer::OutOfMemory),
     }
 }
 
@@ -70,22 +67,37 @@ pub fn go_on<P: Problem>(
     records: &Records,
     search: Search,
 ) -> Result<Start<P>, Answer>
-    requires crew { HasCrew search }
+    requires may { MaySearch search }
     ensures model { IfOk result (λ s. P.numbers (arc_value s.model) ≡ P.numbers model) }
     ensures numbers { IfOk result (λ s. s.board.numbers ≡ P.numbers model) }
     ensures goes_on { IfOk result (λ s. GoesOnFrom (P.meaning (P.numbers model)) search records.now s.board s.desks) }
     ensures refused { IfErr result (DoesNotGoOn (P.meaning (P.numbers model)) search records.now) }
 {
-    let width = width_for(&model, search.width);
-    match desks_for(alloc, &model, width, search.workers, search.cutset) {
-        Ok(desks) => match restored(alloc, model, records, settings_for(search, width)) {
-            Ok((model, board)) => Ok(Start {
-                model,
-                board,
-                desks,
-            }),
-            Err(error) => Err(Answer::Journal(error)),
-        },
+    let (settings, desks) = prepared(alloc, &model, search)?;
+    match restored(alloc, model, records, settings) {
+        Ok((model, board)) => Ok(Start {
+            model,
+            board,
+            desks,
+        }),
+        Err(error) => Err(Answer::Journal(error)),
+    }
+}
+
+/// The settings of the search of the instance, and a desk for each worker, or the answer where there are none.
+fn prepared<M: DpModel>(
+    alloc: Global,
+    model: &M,
+    search: Search,
+) -> Result<(Settings, Vec<Desk>), Answer>
+    requires { MaySearch search }
+    ensures prepared { IfOk result (λ r. ArePrepared (M.meaning (M.numbers model.now)) search r.0 r.1) }
+    ensures settings { IfOk result (λ r. AreSettings r.0) }
+    ensures refused { IfErr result (IsUnready (M.meaning (M.numbers model.now)) search) }
+{
+    let width = width_for(model, search.width);
+    match desks_for(alloc, model, width, search.workers, search.cutset) {
+        Ok(desks) => Ok((settings_for(search, width), desks)),
         Err(error) => Err(unprepared(error)),
     }
 }
@@ -141,7 +153,7 @@ fn settings_for(search: Search, width: u32) -> Settings
         budget: search.budget,
         table_limit: TABLE_LIMIT,
         width,
-        within: 0,
+        within: search.within,
     }
 }
 

@@ -6,12 +6,11 @@ mod words;
 use crate::run;
 use dd_disk::MemDisk;
 use dd_io::{MemSink, MemSource};
-use std::alloc::{AllocError, Global};
+use std::alloc::Global;
 use std::process::Abort;
 use std::sync::Wait;
-use std::test::Fail;
 use std::thread::Threads;
-use worker_gate::NoGate;
+use worker_gate::{Gate, NoGate};
 
 const THREE_ITEMS: &str = "3 10\n60 5\n50 4\n70 6\n";
 
@@ -26,77 +25,95 @@ const DRAWN_CLAUSES: &str = "p wcnf 2 4\n10 1 -1 0\n10 2 0\n2 1 2 0\n7 -1 -2 0\n
 const DRAWN_TOURS: &str = "3\n0 10 35\n35 0 28\n23 45 0\n0 101\n0 50\n0 78\n";
 
 /// The words of a line.
-fn words_of(alloc: Global, line: &str) -> Result<Vec<String>, AllocError> {
+fn words_of(rt: &impl Abort, alloc: Global, line: &str) -> Vec<String> {
     let mut words = Vec::new(alloc);
     for word in line.split_ascii_whitespace() {
-        words.push(String::from_str(alloc, word)?)?;
+        let word = String::from_str(alloc, word).expect(rt, "a word");
+        words.push(word).expect(rt, "the words");
     }
-    Ok(words)
+    words
 }
 
-/// What a run prints, and its status.
+/// What a run prints, its status, and its disk.
 #[derive(Drop)]
-struct Printed {
+struct Told {
     text: MemSink,
     status: u8,
+    disk: MemDisk,
 }
 
-/// Runs the words of a line on an input, over a source and a sink of which these calls fail.
-fn run_line<R: Threads + Wait + Sync>(
+/// Whether it prints this, with this status.
+fn says(told: &Told, text: &str, status: u8) -> bool {
+    told.text.taken() == text.as_bytes() && told.status == status
+}
+
+/// Runs the words of a line on an input, into a sink and over a disk.
+fn run_between<R: Abort + Threads + Wait + Sync, G: Gate + Sync>(
     rt: &R,
     alloc: Global,
     line: &str,
-    input: &str,
-    failing_reads: &[u64],
-    failing_writes: &[u64],
-) -> Result<Printed, AllocError> {
-    let words = words_of(alloc, line)?;
-    let bytes = input.as_bytes().to_vec(alloc)?;
-    let mut source = MemSource::new(bytes, failing_reads.to_vec(alloc)?);
-    let mut text = MemSink::new(alloc, failing_writes.to_vec(alloc)?);
-    let disk = MemDisk::new(Vec::new(alloc), Vec::new(alloc));
+    mut input: MemSource,
+    mut text: MemSink,
+    disk: MemDisk,
+    gate: &G,
+) -> Told {
+    let words = words_of(rt, alloc, line);
     let ended = run(
         rt,
         alloc,
         words.as_slice(),
-        &mut source,
+        &mut input,
         &mut text,
         disk,
-        &NoGate,
+        gate,
     );
-    let status = ended.status;
-    Ok(Printed { text, status })
+    Told {
+        text,
+        status: ended.status,
+        disk: ended.disk,
+    }
+}
+
+/// A source of these bytes, of which these calls fail.
+fn source_of(rt: &impl Abort, alloc: Global, bytes: &[u8], failing: &[u64]) -> MemSource {
+    let bytes = bytes.to_vec(alloc).expect(rt, "the bytes");
+    MemSource::new(bytes, failing.to_vec(alloc).expect(rt, "the calls"))
+}
+
+/// Runs the words of a line on an input, and with no file.
+fn run_line<R: Abort + Threads + Wait + Sync>(
+    rt: &R,
+    alloc: Global,
+    line: &str,
+    input: &[u8],
+) -> Told {
+    run_between(
+        rt,
+        alloc,
+        line,
+        source_of(rt, alloc, input, &[]),
+        MemSink::new(alloc, Vec::new(alloc)),
+        MemDisk::new(Vec::new(alloc), Vec::new(alloc)),
+        &NoGate,
+    )
 }
 
 /// The words of a line, an input, what is printed, and the status.
 type Case = (&'static str, &'static str, &'static str, u8);
 
-/// Runs the words of the line on its input, over a source and a sink of which these calls fail, and compares what is printed, and the
-/// status.
-fn prints_over<R: Abort + Threads + Wait + Sync>(
-    rt: &R,
-    alloc: Global,
-    case: Case,
-    failing_reads: &[u64],
-    failing_writes: &[u64],
-) -> Result<(), Fail> {
+/// Compares what the run of a case has printed, and its status.
+fn is_printed(rt: &impl Abort, told: &Told, case: Case) {
     let (line, input, text, status) = case;
-    let printed = run_line(rt, alloc, line, input, failing_reads, failing_writes)?;
-    let told = (printed.text.taken(), printed.status);
-    assert_eq!(rt; told, (text.as_bytes(), status), "{line} on {input}");
-    Ok(())
+    let seen = (told.text.taken(), told.status);
+    assert_eq!(rt; seen, (text.as_bytes(), status), "{line} on {input}");
 }
 
-/// The same for each case, where no call fails.
-fn prints<R: Abort + Threads + Wait + Sync>(
-    rt: &R,
-    alloc: Global,
-    cases: &[Case],
-) -> Result<(), Fail> {
-    for case in cases {
-        prints_over(rt, alloc, *case, &[], &[])?;
+/// Each case is printed as it must be.
+fn prints<R: Abort + Threads + Wait + Sync>(rt: &R, alloc: Global, cases: &[Case]) {
+    for case in cases.iter().copied() {
+        let told = run_line(rt, alloc, case.0, case.1.as_bytes());
+        is_printed(rt, &told, case);
     }
-    Ok(())
 }
 
 /// Reports of each problem, and instances that are drawn.
@@ -159,6 +176,18 @@ const PRINTED: &[Case] = &[
         "solve knapsack --width 1 --stats",
         THREE_ITEMS,
         "proved\nvalue 120\nassignment 0 1 1\ntaken 3\nfinished 3\n",
+        0,
+    ),
+    (
+        "solve knapsack --width 1 --within 10 --stats",
+        THREE_ITEMS,
+        "proved within 10\nvalue 110\nassignment 1 1 0\ntaken 1\nfinished 1\n",
+        0,
+    ),
+    (
+        "solve knapsack --width 1 --within 9 --stats",
+        THREE_ITEMS,
+        "proved within 9\nvalue 120\nassignment 0 1 1\ntaken 3\nfinished 3\n",
         0,
     ),
     (
@@ -240,8 +269,8 @@ const PRINTED: &[Case] = &[
 ];
 
 #[test]
-fn prints_what_it_must(rt: HostRuntime) -> Result<(), Fail> {
-    prints(&rt, rt.alloc(), PRINTED)
+fn prints_what_it_must(rt: HostRuntime) {
+    prints(&rt, rt.alloc(), PRINTED);
 }
 
 /// Words and inputs with a fault, and what stands beside a fault and is none.
@@ -325,29 +354,62 @@ const REFUSED: &[Case] = &[
         "words number workers\n",
         4,
     ),
+    (
+        "solve knapsack --within 1125899906842625",
+        THREE_ITEMS,
+        "words number within\n",
+        4,
+    ),
+    (
+        "solve knapsack --journal j --within 1",
+        THREE_ITEMS,
+        "words usage\n",
+        4,
+    ),
 ];
 
 #[test]
-fn refuses_at_the_place(rt: HostRuntime) -> Result<(), Fail> {
-    prints(&rt, rt.alloc(), REFUSED)
+fn refuses_at_the_place(rt: HostRuntime) {
+    prints(&rt, rt.alloc(), REFUSED);
+}
+
+/// Runs the words of a case over a source and a sink of which these calls fail.
+fn fails_between<R: Abort + Threads + Wait + Sync>(
+    rt: &R,
+    alloc: Global,
+    case: Case,
+    failing_reads: &[u64],
+    failing_writes: &[u64],
+) {
+    let failing = failing_writes.to_vec(alloc).expect(rt, "the calls");
+    let told = run_between(
+        rt,
+        alloc,
+        case.0,
+        source_of(rt, alloc, case.1.as_bytes(), failing_reads),
+        MemSink::new(alloc, failing),
+        MemDisk::new(Vec::new(alloc), Vec::new(alloc)),
+        &NoGate,
+    );
+    is_printed(rt, &told, case);
 }
 
 #[test]
-fn solves_what_it_draws(rt: HostRuntime) -> Result<(), Fail> {
+fn solves_what_it_draws(rt: HostRuntime) {
     let report = "proved\nvalue 19\nassignment 1 1\ntaken 1\nfinished 1\n";
     let case = ("generate knapsack 2 0 --solve", "", report, 0);
-    prints_over(&rt, rt.alloc(), case, &[0], &[])
+    fails_between(&rt, rt.alloc(), case, &[0], &[]);
 }
 
 #[test]
-fn tells_faults_of_the_outside(rt: HostRuntime) -> Result<(), Fail> {
+fn tells_faults_of_the_outside(rt: HostRuntime) {
     let line = "solve knapsack";
     let unread = (line, THREE_ITEMS, "read fault\n", 6);
-    prints_over(&rt, rt.alloc(), unread, &[0], &[])?;
+    fails_between(&rt, rt.alloc(), unread, &[0], &[]);
     let unwritten = (line, THREE_ITEMS, "", 7);
-    prints_over(&rt, rt.alloc(), unwritten, &[], &[0])?;
+    fails_between(&rt, rt.alloc(), unwritten, &[], &[0]);
     let neither = (line, THREE_ITEMS, "", 6);
-    prints_over(&rt, rt.alloc(), neither, &[0], &[0])
+    fails_between(&rt, rt.alloc(), neither, &[0], &[0]);
 }
 
 /// The digest of the three items.
@@ -365,6 +427,6 @@ const DIGESTED: &[Case] = &[
 ];
 
 #[test]
-fn one_instance_has_one_digest(rt: HostRuntime) -> Result<(), Fail> {
-    prints(&rt, rt.alloc(), DIGESTED)
+fn one_instance_has_one_digest(rt: HostRuntime) {
+    prints(&rt, rt.alloc(), DIGESTED);
 }

@@ -1,13 +1,8 @@
-use super::{Case, DRAWN_CLAUSES, TEN_ITEMS, THREE_ITEMS, prints, run_line};
-use crate::run;
-use dd_disk::MemDisk;
-use dd_io::{MemSink, MemSource};
-use std::alloc::{AllocError, Global};
+use super::{Case, DRAWN_CLAUSES, TEN_ITEMS, THREE_ITEMS, prints, run_line, says};
+use std::alloc::Global;
 use std::process::Abort;
 use std::sync::Wait;
-use std::test::Fail;
 use std::thread::Threads;
-use worker_gate::NoGate;
 
 /// A report with its cover: one item of profit 4 and weight 1 in a room of 1.
 const COVER: &str =
@@ -122,6 +117,18 @@ const CHECKED: &[Case] = &[
     ),
     (
         "check",
+        "proved within 2\nvalue 4\nassignment 1\ncover knapsack\ninstance 8\n1 1\n4 1\nlayer 0 1\n6 ; 1 ; 0 0 1 0\nlayer 1 1\n0 ; 1\nend\n",
+        "accepted\n",
+        0,
+    ),
+    (
+        "check",
+        "proved within 2\nvalue 4\nassignment 1\ncover knapsack\ninstance 8\n1 1\n4 1\nlayer 0 1\n7 ; 1 ; 0 0 1 0\nlayer 1 1\n0 ; 1\nend\n",
+        "refused root\n",
+        9,
+    ),
+    (
+        "check",
         "infeasible\ncover tsptw\ninstance 35\n3\n0 2 9\n2 0 3\n4 3 0\n0 100\n5 20\n0 1\nlayer 0 1\nnone ; 1 6 0 0\nlayer 1 0\nlayer 2 0\nlayer 3 0\nend\n",
         "accepted\n",
         0,
@@ -141,8 +148,8 @@ const CHECKED: &[Case] = &[
 ];
 
 #[test]
-fn checks_covers(rt: HostRuntime) -> Result<(), Fail> {
-    prints(&rt, rt.alloc(), CHECKED)
+fn checks_covers(rt: HostRuntime) {
+    prints(&rt, rt.alloc(), CHECKED);
 }
 
 /// From a byte of the cover on and up to another: what is printed where the lowest bit of one of them is flipped, and the status.
@@ -200,49 +207,40 @@ const FLIPS: &[Flips] = &[
 ];
 
 /// The cover with the lowest bit of a byte flipped.
-fn flipped(alloc: Global, at: usize) -> Result<Vec<u8>, AllocError> {
-    let mut bytes = COVER.as_bytes().to_vec(alloc)?;
+fn flipped(rt: &impl Abort, alloc: Global, at: usize) -> Vec<u8> {
+    let mut bytes = COVER.as_bytes().to_vec(alloc).expect(rt, "the cover");
     if let Some(byte) = bytes.get_mut(at) {
         *byte ^= 1;
     }
-    Ok(bytes)
+    bytes
 }
 
-/// Checks the bytes, and gives what is printed, and the status.
-fn checked<R: Threads + Wait + Sync>(
+/// Whether a check of the cover with this byte flipped prints this, with this status.
+fn tells_flip<R: Abort + Threads + Wait + Sync>(
     rt: &R,
     alloc: Global,
-    bytes: Vec<u8>,
-) -> Result<(MemSink, u8), AllocError> {
-    let words = [String::from_str(alloc, "check")?];
-    let mut input = MemSource::new(bytes, Vec::new(alloc));
-    let mut out = MemSink::new(alloc, Vec::new(alloc));
-    let disk = MemDisk::new(Vec::new(alloc), Vec::new(alloc));
-    let ended = run(rt, alloc, &words, &mut input, &mut out, disk, &NoGate);
-    let status = ended.status;
-    Ok((out, status))
+    at: usize,
+    text: &str,
+    status: u8,
+) -> bool {
+    let told = run_line(rt, alloc, "check", flipped(rt, alloc, at).as_slice());
+    says(&told, text, status)
 }
 
 /// Each flip is told as the cases say.
-fn tells_flips<R: Abort + Threads + Wait + Sync>(
-    rt: &R,
-    alloc: Global,
-    flips: Flips,
-) -> Result<(), Fail> {
-    let (from, to, text, own) = flips;
+fn tells_flips<R: Abort + Threads + Wait + Sync>(rt: &R, alloc: Global, flips: Flips) {
+    let (from, to, text, status) = flips;
     for at in from..to {
-        let (out, status) = checked(rt, alloc, flipped(alloc, at)?)?;
-        assert_eq!(rt; (out.taken(), status), (text.as_bytes(), own), "byte {at}");
+        let right = tells_flip(rt, alloc, at, text, status);
+        assert!(rt; right, "byte {at}");
     }
-    Ok(())
 }
 
 #[test]
-fn tells_each_flipped_byte(rt: HostRuntime) -> Result<(), Fail> {
-    for flips in FLIPS {
-        tells_flips(&rt, rt.alloc(), *flips)?;
+fn tells_each_flipped_byte(rt: HostRuntime) {
+    for flips in FLIPS.iter().copied() {
+        tells_flips(&rt, rt.alloc(), flips);
     }
-    Ok(())
 }
 
 /// Distances and windows of three nodes, of which the last one is due at 8.
@@ -263,6 +261,12 @@ const COVERED: &[Case] = &[
         "solve knapsack --cover --stats --width 1 --budget 50 --cover-words 0",
         THREE_ITEMS,
         "proved\nvalue 120\nassignment 0 1 1\ntaken ",
+        0,
+    ),
+    (
+        "solve knapsack --cover --within 10 --width 1",
+        THREE_ITEMS,
+        "proved within 10\nvalue 110\nassignment 1 1 0\ncover knapsack\ninstance ",
         0,
     ),
     (
@@ -304,18 +308,21 @@ const COVERED: &[Case] = &[
     ),
 ];
 
+/// Whether the case is printed so, and what is printed is accepted.
+fn covers<R: Abort + Threads + Wait + Sync>(rt: &R, alloc: Global, case: Case) -> bool {
+    let (line, input, begins, status) = case;
+    let told = run_line(rt, alloc, line, input.as_bytes());
+    let text = told.text.taken();
+    let verdict = run_line(rt, alloc, "check", text);
+    text.starts_with(begins.as_bytes()) && told.status == status && says(&verdict, "accepted\n", 0)
+}
+
 #[test]
-fn printed_covers_are_accepted(rt: HostRuntime) -> Result<(), Fail> {
-    for (line, input, begins, status) in COVERED.iter().copied() {
-        let printed = run_line(&rt, rt.alloc(), line, input, &[], &[])?;
-        let text = printed.text.taken();
-        let told = (text.starts_with(begins.as_bytes()), printed.status);
-        let (verdict, own) = checked(&rt, rt.alloc(), text.to_vec(rt.alloc())?)?;
-        let accepted = (verdict.taken(), own);
-        let wanted = ((true, status), ("accepted\n".as_bytes(), 0));
-        assert_eq!(rt; (told, accepted), wanted, "{line} on {input}");
+fn printed_covers_are_accepted(rt: HostRuntime) {
+    for case in COVERED.iter().copied() {
+        let right = covers(&rt, rt.alloc(), case);
+        assert!(rt; right, "{} on {}", case.0, case.1);
     }
-    Ok(())
 }
 
 /// Searches after which no cover is printed.
@@ -335,6 +342,6 @@ const COVERLESS: &[Case] = &[
 ];
 
 #[test]
-fn a_stopped_search_prints_no_cover(rt: HostRuntime) -> Result<(), Fail> {
-    prints(&rt, rt.alloc(), COVERLESS)
+fn a_stopped_search_prints_no_cover(rt: HostRuntime) {
+    prints(&rt, rt.alloc(), COVERLESS);
 }

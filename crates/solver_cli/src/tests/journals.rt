@@ -1,11 +1,9 @@
-use crate::run;
-use crate::tests::{THREE_ITEMS, words_of};
+use crate::tests::{THREE_ITEMS, Told, run_between, says, source_of};
 use dd_disk::MemDisk;
-use dd_io::{MemSink, MemSource};
-use std::alloc::{AllocError, Global};
+use dd_io::MemSink;
+use std::alloc::Global;
 use std::process::Abort;
 use std::sync::Wait;
-use std::test::Fail;
 use std::thread::Threads;
 use worker_gate::NoGate;
 
@@ -30,44 +28,38 @@ const LAST_RECORD: u64 = FIRST_RECORD + 4 * 4;
 /// How many calls the search makes.
 const ALL_CALLS: u64 = LAST_RECORD + 4;
 
-/// What a run prints, its status, and its disk.
-#[derive(Drop)]
-struct Told {
-    text: MemSink,
-    status: u8,
-    disk: MemDisk,
-}
-
 /// Runs the words of a line on the three items over a disk.
-fn run_on<R: Threads + Wait + Sync>(
+fn run_on<R: Abort + Threads + Wait + Sync>(
     rt: &R,
     alloc: Global,
     line: &str,
     disk: MemDisk,
-) -> Result<Told, AllocError> {
-    let words = words_of(alloc, line)?;
-    let bytes = THREE_ITEMS.as_bytes().to_vec(alloc)?;
-    let mut input = MemSource::new(bytes, Vec::new(alloc));
-    let mut text = MemSink::new(alloc, Vec::new(alloc));
-    let ended = run(
-        rt,
-        alloc,
-        words.as_slice(),
-        &mut input,
-        &mut text,
-        disk,
-        &NoGate,
-    );
-    Ok(Told {
-        text,
-        status: ended.status,
-        disk: ended.disk,
-    })
+) -> Told {
+    let input = source_of(rt, alloc, THREE_ITEMS.as_bytes(), &[]);
+    let text = MemSink::new(alloc, Vec::new(alloc));
+    run_between(rt, alloc, line, input, text, disk, &NoGate)
 }
 
-/// Whether it prints this, with this status.
-fn says(told: &Told, text: &str, status: u8) -> bool {
-    told.text.taken() == text.as_bytes() && told.status == status
+/// The same over a file with these bytes.
+fn run_over<R: Abort + Threads + Wait + Sync>(
+    rt: &R,
+    alloc: Global,
+    line: &str,
+    file: &[u8],
+) -> Told {
+    let file = file.to_vec(alloc).expect(rt, "a file");
+    run_on(rt, alloc, line, MemDisk::new(file, Vec::new(alloc)))
+}
+
+/// The same over a disk of which only the call with this number fails.
+fn run_failing<R: Abort + Threads + Wait + Sync>(
+    rt: &R,
+    alloc: Global,
+    line: &str,
+    call: u64,
+) -> Told {
+    let failing = [call].to_vec(alloc).expect(rt, "the call");
+    run_on(rt, alloc, line, MemDisk::new(Vec::new(alloc), failing))
 }
 
 /// Whether it prints the best solution, with status 0.
@@ -80,25 +72,24 @@ fn prints_on<R: Abort + Threads + Wait + Sync>(
     rt: &R,
     alloc: Global,
     line: &str,
-    file: Vec<u8>,
+    file: &[u8],
     text: &str,
     status: u8,
-) -> Result<(), Fail> {
-    let told = run_on(rt, alloc, line, MemDisk::new(file, Vec::new(alloc)))?;
+) {
+    let told = run_over(rt, alloc, line, file);
     let printed = (told.text.taken(), told.status);
     assert_eq!(rt; printed, (text.as_bytes(), status), "{line}");
-    Ok(())
+}
+
+/// The bytes of the file of a run.
+fn file_of(rt: &impl Abort, alloc: Global, told: &Told) -> Vec<u8> {
+    told.disk.bytes().to_vec(alloc).expect(rt, "a file")
 }
 
 /// The file that the whole search leaves.
-fn whole_file<R: Threads + Wait + Sync>(rt: &R, alloc: Global) -> Result<Vec<u8>, AllocError> {
-    let told = run_on(
-        rt,
-        alloc,
-        SEARCH,
-        MemDisk::new(Vec::new(alloc), Vec::new(alloc)),
-    )?;
-    told.disk.bytes().to_vec(alloc)
+fn whole_file<R: Abort + Threads + Wait + Sync>(rt: &R, alloc: Global) -> Vec<u8> {
+    let told = run_over(rt, alloc, SEARCH, &[]);
+    file_of(rt, alloc, &told)
 }
 
 /// Where its gates stand, and whether they are open.
@@ -120,44 +111,33 @@ fn has_gates(file: &[u8]) -> bool {
 }
 
 #[test]
-fn a_search_leaves_its_journal(rt: HostRuntime) -> Result<(), Fail> {
-    let file = whole_file(&rt, rt.alloc())?;
+fn a_search_leaves_its_journal(rt: HostRuntime) {
+    let file = whole_file(&rt, rt.alloc());
     let read = (file.len(), has_gates(file.as_slice()));
     assert_eq!(rt; read, (390, true));
-    Ok(())
 }
 
 #[test]
-fn a_journal_is_gone_on_from(rt: HostRuntime) -> Result<(), Fail> {
+fn a_journal_is_gone_on_from(rt: HostRuntime) {
     let alloc = rt.alloc();
+    let file = whole_file(&rt, alloc);
+    let file = file.as_slice();
     let counted = "proved\nvalue 120\nassignment 0 1 1\ntaken 0\nfinished 0\n";
-    prints_on(&rt, alloc, "resume j", whole_file(&rt, alloc)?, BEST, 0)?;
-    prints_on(
-        &rt,
-        alloc,
-        "resume j --stats",
-        whole_file(&rt, alloc)?,
-        counted,
-        0,
-    )?;
-    prints_on(
-        &rt,
-        alloc,
-        "solve knapsack --journal j",
-        whole_file(&rt, alloc)?,
-        "journal exists\n",
-        5,
-    )
+    prints_on(&rt, alloc, "resume j", file, BEST, 0);
+    prints_on(&rt, alloc, "resume j --stats", file, counted, 0);
+    let again = "solve knapsack --journal j";
+    prints_on(&rt, alloc, again, file, "journal exists\n", 5);
 }
 
 #[test]
-fn a_changed_byte_is_damage(rt: HostRuntime) -> Result<(), Fail> {
+fn a_changed_byte_is_damage(rt: HostRuntime) {
     let alloc = rt.alloc();
-    let mut file = whole_file(&rt, alloc)?;
+    let mut file = whole_file(&rt, alloc);
     if let Some(byte) = file.get_mut(80) {
         *byte ^= 1;
     }
-    prints_on(&rt, alloc, "resume j", file, "journal damaged 67\n", 5)
+    let damaged = "journal damaged 67\n";
+    prints_on(&rt, alloc, "resume j", file.as_slice(), damaged, 5);
 }
 
 /// Files in hexadecimal digits, and how the search of each goes on.
@@ -182,12 +162,12 @@ const REFUSED: &[(&str, &str)] = &[
 ];
 
 #[test]
-fn journals_are_refused(rt: HostRuntime) -> Result<(), Fail> {
+fn journals_are_refused(rt: HostRuntime) {
     let alloc = rt.alloc();
     for (digits, text) in REFUSED.iter().copied() {
-        prints_on(&rt, alloc, "resume j", hex::decode(alloc, digits)?, text, 5)?;
+        let file = hex::decode(alloc, digits).expect(&rt, "a file");
+        prints_on(&rt, alloc, "resume j", file.as_slice(), text, 5);
     }
-    Ok(())
 }
 
 /// What the search may print where only the call with this number fails.
@@ -201,122 +181,116 @@ fn failed_once(told: &Told, call: u64) -> bool {
     is_best(told)
 }
 
+/// Whether the search whose file has these bytes goes on to the best solution.
+fn goes_on_to_best<R: Abort + Threads + Wait + Sync>(rt: &R, alloc: Global, file: &[u8]) -> bool {
+    let told = run_over(rt, alloc, "resume j", file);
+    is_best(&told)
+}
+
 /// Whether the search over a disk of which one call fails prints what it may, and goes on to the best solution where it stopped.
-fn one_fails<R: Threads + Wait + Sync>(
-    rt: &R,
-    alloc: Global,
-    call: u64,
-) -> Result<bool, AllocError> {
-    let disk = MemDisk::new(Vec::new(alloc), [call].to_vec(alloc)?);
-    let told = run_on(rt, alloc, SEARCH, disk)?;
-    if !failed_once(&told, call) {
-        return Ok(false);
-    }
-    if told.status != 2 {
-        return Ok(true);
-    }
-    let file = told.disk.bytes().to_vec(alloc)?;
-    let resumed = run_on(rt, alloc, "resume j", MemDisk::new(file, Vec::new(alloc)))?;
-    Ok(is_best(&resumed))
+fn one_fails<R: Abort + Threads + Wait + Sync>(rt: &R, alloc: Global, call: u64) -> bool {
+    let told = run_failing(rt, alloc, SEARCH, call);
+    failed_once(&told, call) && (told.status != 2 || goes_on_to_best(rt, alloc, told.disk.bytes()))
 }
 
 #[test]
-fn one_failing_call_is_told(rt: HostRuntime) -> Result<(), Fail> {
+fn one_failing_call_is_told(rt: HostRuntime) {
     for call in 0..=ALL_CALLS {
-        let right = one_fails(&rt, rt.alloc(), call)?;
+        let right = one_fails(&rt, rt.alloc(), call);
         assert!(rt; right, "call {call}");
     }
-    Ok(())
+}
+
+/// Whether the search stops at its first record, where this call fails.
+fn stops_at<R: Abort + Threads + Wait + Sync>(rt: &R, alloc: Global, call: u64) -> bool {
+    let told = run_failing(rt, alloc, SEARCH, call);
+    says(&told, STOPPED, 2)
 }
 
 #[test]
-fn a_write_of_the_first_record_fails(rt: HostRuntime) -> Result<(), Fail> {
-    let alloc = rt.alloc();
+fn a_write_of_the_first_record_fails(rt: HostRuntime) {
     for call in [FIRST_RECORD, FIRST_RECORD + 2] {
-        let disk = MemDisk::new(Vec::new(alloc), [call].to_vec(alloc)?);
-        let told = run_on(&rt, alloc, SEARCH, disk)?;
-        assert!(rt; says(&told, STOPPED, 2), "call {call}");
+        let right = stops_at(&rt, rt.alloc(), call);
+        assert!(rt; right, "call {call}");
     }
-    Ok(())
 }
 
-/// What a crash leaves of the file of a run over a disk that passes so many calls.
-fn crashed<R: Threads + Wait + Sync>(
+/// Whether a run over a disk that passes so many calls prints the best solution, and what a crash leaves of its file.
+fn crashed<R: Abort + Threads + Wait + Sync>(
     rt: &R,
     alloc: Global,
     line: &str,
     file: Vec<u8>,
     calls: u64,
     fill: &[u8],
-) -> Result<(Told, Vec<u8>), AllocError> {
-    let told = run_on(rt, alloc, line, MemDisk::fused(file, calls))?;
-    let Told { text, status, disk } = told;
-    let image = disk.crash(fill)?;
-    let left = image.bytes().to_vec(alloc)?;
-    let told = Told {
-        text,
-        status,
-        disk: image,
-    };
-    Ok((told, left))
+) -> (bool, Vec<u8>) {
+    let told = run_on(rt, alloc, line, MemDisk::fused(file, calls));
+    let best = is_best(&told);
+    let image = told.disk.crash(fill).expect(rt, "an image");
+    let left = image.bytes().to_vec(alloc).expect(rt, "a file");
+    (best, left)
 }
 
 /// Whether the search of what was left goes on to the best solution, or no journal has begun.
-fn goes_on<R: Threads + Wait + Sync>(
-    rt: &R,
-    alloc: Global,
-    left: Vec<u8>,
-) -> Result<bool, AllocError> {
-    let told = run_on(rt, alloc, "resume j", MemDisk::new(left, Vec::new(alloc)))?;
-    Ok(is_best(&told) || says(&told, NOT_BEGUN, 5))
+fn goes_on<R: Abort + Threads + Wait + Sync>(rt: &R, alloc: Global, left: &[u8]) -> bool {
+    let told = run_over(rt, alloc, "resume j", left);
+    is_best(&told) || says(&told, NOT_BEGUN, 5)
 }
 
 /// Whether a search that is cut off after so many calls prints the best solution exactly where that is before its last record, and goes
-/// on after each crash.
-fn cut_off<R: Threads + Wait + Sync>(
+/// on after the crash.
+fn cut_off<R: Abort + Threads + Wait + Sync>(
     rt: &R,
     alloc: Global,
     calls: u64,
-) -> Result<bool, AllocError> {
-    for fill in [b"".as_slice(), b"\x00", b"\x01", b"\x07"] {
-        let (told, left) = crashed(rt, alloc, SEARCH, Vec::new(alloc), calls, fill)?;
-        if is_best(&told) != (calls >= LAST_RECORD) || !goes_on(rt, alloc, left)? {
-            return Ok(false);
-        }
+    fill: &[u8],
+) -> bool {
+    let (best, left) = crashed(rt, alloc, SEARCH, Vec::new(alloc), calls, fill);
+    best == (calls >= LAST_RECORD) && goes_on(rt, alloc, left.as_slice())
+}
+
+/// What a crash puts where a sync is wanting.
+const FILLS: &[&[u8]] = &[b"", b"\x00", b"\x01", b"\x07"];
+
+/// It does so whatever the crash puts where a sync is wanting.
+fn cut_off_each<R: Abort + Threads + Wait + Sync>(rt: &R, alloc: Global, calls: u64) {
+    for fill in FILLS.iter().copied() {
+        let right = cut_off(rt, alloc, calls, fill);
+        assert!(rt; right, "after {calls}");
     }
-    Ok(true)
 }
 
 #[test]
-fn a_search_goes_on_after_each_crash(rt: HostRuntime) -> Result<(), Fail> {
+fn a_search_goes_on_after_each_crash(rt: HostRuntime) {
     for calls in 0..=ALL_CALLS {
-        let right = cut_off(&rt, rt.alloc(), calls)?;
-        assert!(rt; right, "after {calls}");
+        cut_off_each(&rt, rt.alloc(), calls);
     }
-    Ok(())
 }
 
-/// Whether what is left of a search that was cut off goes on after each further crash.
-fn cut_off_again<R: Threads + Wait + Sync>(
+/// Whether what was left of a search goes on after a further crash.
+fn cut_off_again<R: Abort + Threads + Wait + Sync>(
     rt: &R,
     alloc: Global,
+    left: &[u8],
     calls: u64,
-) -> Result<bool, AllocError> {
-    let (_, left) = crashed(rt, alloc, SEARCH, Vec::new(alloc), calls, b"\x07")?;
+) -> bool {
+    let file = left.to_vec(alloc).expect(rt, "a file");
+    let (_, again) = crashed(rt, alloc, "resume j", file, calls, b"\x07");
+    goes_on(rt, alloc, again.as_slice())
+}
+
+/// Each further crash of a search that was cut off after so many calls.
+fn cut_off_twice<R: Abort + Threads + Wait + Sync>(rt: &R, alloc: Global, calls: u64) {
+    let (_, left) = crashed(rt, alloc, SEARCH, Vec::new(alloc), calls, b"\x07");
     for more in 0..=ALL_CALLS {
-        let (_, again) = crashed(rt, alloc, "resume j", left.to_vec(alloc)?, more, b"\x07")?;
-        if !goes_on(rt, alloc, again)? {
-            return Ok(false);
-        }
+        let right = cut_off_again(rt, alloc, left.as_slice(), more);
+        assert!(rt; right, "after {calls} and {more}");
     }
-    Ok(true)
 }
 
 #[test]
-fn a_search_goes_on_after_two_crashes(rt: HostRuntime) -> Result<(), Fail> {
+fn a_search_goes_on_after_two_crashes(rt: HostRuntime) {
     for calls in 0..=ALL_CALLS {
-        let right = cut_off_again(&rt, rt.alloc(), calls)?;
-        assert!(rt; right, "after {calls}");
+        cut_off_twice(&rt, rt.alloc(), calls);
     }
-    Ok(())
 }

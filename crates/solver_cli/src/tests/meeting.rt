@@ -1,9 +1,7 @@
-use crate::run;
-use crate::tests::{THREE_ITEMS, words_of};
+use crate::tests::{THREE_ITEMS, run_between, says, source_of};
 use dd_disk::MemDisk;
-use dd_io::{MemSink, MemSource};
+use dd_io::MemSink;
 use std::sync::atomic::{AtomicU32, AtomicU64, Ordering};
-use std::test::Fail;
 use worker_gate::{Gate, Step};
 
 /// How often a held worker looks for the other one.
@@ -67,24 +65,18 @@ impl Gate for Meeting {
 }
 
 #[test]
-fn two_workers_meet(rt: HostRuntime) -> Result<(), Fail> {
+fn two_workers_meet(rt: HostRuntime) {
     let alloc = rt.alloc();
-    let words = words_of(alloc, "solve knapsack --width 1 --workers 2")?;
     let gate = Meeting::new();
-    let mut input = MemSource::new(THREE_ITEMS.as_bytes().to_vec(alloc)?, Vec::new(alloc));
-    let mut out = MemSink::new(alloc, Vec::new(alloc));
-    let disk = MemDisk::new(Vec::new(alloc), Vec::new(alloc));
-    let ended = run(
+    let told = run_between(
         &rt,
         alloc,
-        words.as_slice(),
-        &mut input,
-        &mut out,
-        disk,
+        "solve knapsack --width 1 --workers 2",
+        source_of(&rt, alloc, THREE_ITEMS.as_bytes(), &[]),
+        MemSink::new(alloc, Vec::new(alloc)),
+        MemDisk::new(Vec::new(alloc), Vec::new(alloc)),
         &gate,
     );
-    let text = "proved\nvalue 120\nassignment 0 1 1\n";
-    let told = (out.taken(), ended.status, gate.met.load(Ordering::SeqCst));
-    assert_eq!(rt; told, (text.as_bytes(), 0, 1));
-    Ok(())
+    let right = says(&told, "proved\nvalue 120\nassignment 0 1 1\n", 0);
+    assert_eq!(rt; (right, gate.met.load(Ordering::SeqCst)), (true, 1));
 }

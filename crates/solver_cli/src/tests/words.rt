@@ -1,18 +1,19 @@
 use solver_words::read_words;
-use std::alloc::{AllocError, Global};
-use std::test::Fail;
+use std::alloc::Global;
+use std::process::Abort;
 
 /// The words of a line, which `|` separates.
-fn words_of(alloc: Global, line: &str) -> Result<Vec<String>, AllocError> {
+fn words_of(rt: &impl Abort, alloc: Global, line: &str) -> Vec<String> {
     let mut words = Vec::new(alloc);
     for word in line.split('|') {
-        words.push(String::from_str(alloc, word)?)?;
+        let word = String::from_str(alloc, word).expect(rt, "a word");
+        words.push(word).expect(rt, "the words");
     }
-    Ok(words)
+    words
 }
 
 const DEFAULTS: &str =
-    "JobSettings { width: None, workers: 1, budget: 18446744073709551615, cutset: LastExactLayer, stats: false }";
+    "JobSettings { width: None, workers: 1, budget: 18446744073709551615, cutset: LastExactLayer, stats: false, within: 0 }";
 
 /// Words and what they ask for, or why they are refused.
 const ASKED: &[(&str, &str)] = &[
@@ -21,20 +22,20 @@ const ASKED: &[(&str, &str)] = &[
         "Ok(Solve { model: Knapsack, settings: DEFAULTS, journal: None, cover_words: None })",
     ),
     (
-        "solve|--width=64|--cover|maxcut|--workers|2|--budget=9|--cutset|lel|--journal=a=b|--cover-words|50|--stats",
-        "Ok(Solve { model: MaxCut, settings: JobSettings { width: Some(64), workers: 2, budget: 9, cutset: LastExactLayer, stats: true }, journal: Some(\"a=b\"), cover_words: Some(50) })",
+        "solve|--width=64|--cover|maxcut|--workers|2|--budget=9|--cutset|lel|--journal=a=b|--cover-words|50|--within|0|--stats",
+        "Ok(Solve { model: MaxCut, settings: JobSettings { width: Some(64), workers: 2, budget: 9, cutset: LastExactLayer, stats: true, within: 0 }, journal: Some(\"a=b\"), cover_words: Some(50) })",
     ),
     (
         "resume|j|--cutset=frontier",
-        "Ok(Resume { path: \"j\", settings: JobSettings { width: None, workers: 1, budget: 18446744073709551615, cutset: Frontier, stats: false } })",
+        "Ok(Resume { path: \"j\", settings: JobSettings { width: None, workers: 1, budget: 18446744073709551615, cutset: Frontier, stats: false, within: 0 } })",
     ),
     (
         "solve|max2sat|--cover",
         "Ok(Solve { model: MaxTwoSat, settings: DEFAULTS, journal: None, cover_words: Some(67108864) })",
     ),
     (
-        "solve|max2sat|--cover-words=5",
-        "Ok(Solve { model: MaxTwoSat, settings: DEFAULTS, journal: None, cover_words: None })",
+        "solve|max2sat|--cover-words=5|--within=1125899906842624",
+        "Ok(Solve { model: MaxTwoSat, settings: JobSettings { width: None, workers: 1, budget: 18446744073709551615, cutset: LastExactLayer, stats: false, within: 1125899906842624 }, journal: None, cover_words: None })",
     ),
     (
         "resume|--|-j",
@@ -49,6 +50,7 @@ const ASKED: &[(&str, &str)] = &[
     ("solve", "Err(Usage)"),
     ("help", "Err(Usage)"),
     ("solve|--help", "Err(Usage)"),
+    ("resume|j|--within=0", "Err(Usage)"),
     ("solve|knapsack|--stats|--stats", "Err(Usage)"),
     ("solve|knapsack|--width|-3", "Err(Usage)"),
     ("solve|knapsack|--width=", "Err(Usage)"),
@@ -66,24 +68,27 @@ const ASKED: &[(&str, &str)] = &[
         "Err(Cutset)",
     ),
     (
-        "solve|knapsack|--cutset=frontier|--cover-words=x",
+        "solve|knapsack|--cutset=frontier|--within=x|--cover-words=x",
         "Err(Number { option: \"cover-words\" })",
     ),
     ("generate|tsptw|0|x", "Err(Number { option: \"n\" })"),
     ("generate|knapsack|0|+1", "Err(Number { option: \"seed\" })"),
 ];
 
+/// What the words of a line ask for, as it is shown.
+fn asked(rt: &impl Abort, alloc: Global, line: &str) -> String {
+    let words = words_of(rt, alloc, line);
+    let answer = read_words(alloc, words.as_slice());
+    format!(in alloc; "{answer:?}").expect(rt, "a text")
+}
+
 #[test]
-fn lines_and_what_they_ask_for(rt: HostRuntime) -> Result<(), Fail> {
+fn lines_and_what_they_ask_for(rt: HostRuntime) {
+    let alloc = rt.alloc();
     for (line, wanted) in ASKED.iter().copied() {
-        let words = words_of(rt.alloc(), line)?;
-        let answer = read_words(rt.alloc(), words.as_slice());
-        let wanted = wanted.replace(rt.alloc(), "DEFAULTS", DEFAULTS)?;
-        assert_eq!(rt;
-            format!(in rt.alloc(); "{answer:?}")?.as_str(),
-            wanted.as_str(),
-            "{line}"
-        );
+        let shown = asked(&rt, alloc, line);
+        let wanted = wanted.replace(alloc, "DEFAULTS", DEFAULTS);
+        let wanted = wanted.expect(&rt, "a text");
+        assert_eq!(rt; shown.as_str(), wanted.as_str(), "{line}");
     }
-    Ok(())
 }

@@ -16,7 +16,7 @@ returns-clause-ends g c =
     let ended = c.search_from-ended.result.0 in
     let now = c.search_from-ended.result.1 in
     let searched = searched-here g.D.Disk meaning (g.P.DpModel.numbers c.deref.result.now) here (ap g.P.DpModel.numbers c.deref.ensures) c.new-kept.result board c.args.disk true kept.board kept.made (ap is_some kept.tail) now own c.args.search ended c.search_from-ended.ensures.searched in
-    ends g.D.Disk (meaning here) (own here) head c.args.search c.args.disk c.args.tail c.requires.ready now board.first (first-is (meaning here) c.args.search board c.args.start.desks c.requires.begun) c.requires.begun.good ended c.answer_of.result c.answer_of.ensures.answers searched
+    ends g.D.Disk (meaning here) (own here) head c.args.search c.requires.may.exact c.args.disk c.args.tail c.requires.ready now board.first (first-is (meaning here) c.args.search board c.args.start.desks c.requires.begun) c.requires.begun.good ended c.answer_of.result c.answer_of.ensures.answers searched
 
 pub returns-clause-left : goal.returns-clause-left
 returns-clause-left g c =
@@ -28,4 +28,4 @@ returns-clause-left g c =
     let board = c.args.start.board in
     let now = c.search_from-ended.result.1 in
     let keeps = keeps-here g.D.Disk meaning (g.P.DpModel.numbers c.deref.result.now) here (ap g.P.DpModel.numbers c.deref.ensures) c.new-kept.result board c.args.disk true kept.board kept.made (ap is_some kept.tail) now c.search_from-ended.ensures.keeps in
-    left g.D.Disk (meaning here) (own here) head c.args.search c.args.disk c.args.tail c.requires.ready now board.board.settings c.requires.begun.ready.asked.exact keeps
+    left g.D.Disk (meaning here) (own here) head c.args.search c.requires.may.exact c.args.disk c.args.tail c.requires.ready now board.board.settings c.requires.begun.ready.prepared.asked.distance keeps

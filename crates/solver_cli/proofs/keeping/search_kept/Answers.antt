@@ -24,5 +24,5 @@ returns-in-Err-clause-left g c =
     let m = arc_value c.args.start.model in
     let here = g.P.DpModel.numbers m in
     let now = c.begin_journal.new.disk in
-    left-begun-alone g.D.Disk (g.P.DpModel.meaning here) now (head_of g.P.Problem.theory c.args.name here) (laws_of g m)
+    left-begun-alone g.D.Disk (g.P.DpModel.meaning here) now (head_of g.P.Problem.theory c.args.name here) (laws_of g m) c.begin_journal.ensures.spared
     (subst (λ ns. BeginsSince g.D.Disk (head_of g.P.Problem.theory c.args.name ns) now) (ap g.P.DpModel.numbers c.deref.ensures) c.begin_journal.ensures.since)

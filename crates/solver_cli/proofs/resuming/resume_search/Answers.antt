@@ -26,8 +26,8 @@ returns-in-Ok-clause-goes_on g c =
     let ended = c.search_from-ended.result.0 in
     let now = c.search_from-ended.result.1 in
     let searched = searched-here g.D.Disk meaning (g.P.DpModel.numbers c.deref.result.now) here at c.new-kept.result board c.args.disk true kept.board kept.made (ap is_some kept.tail) now own c.args.search ended c.search_from-ended.ensures.searched in
-    let gone = gone-on g.D.Disk dp (own here) head records.records c.args.search c.args.disk c.args.tail c.requires.opened now board.first on.accepted (first-restored dp c.args.search records board start.desks on)
-    (first-good dp (laws_of g c.args.model) c.args.search records board start.desks c.requires.crew on) ended searched in
+    let gone = gone-on g.D.Disk dp (own here) head records.records c.args.search c.requires.may.exact c.args.disk c.args.tail c.requires.opened now board.first on.accepted (first-restored dp c.args.search records board start.desks on)
+    (first-good dp (laws_of g c.args.model) c.args.search records board start.desks c.requires.may.may c.requires.may.exact on) ended searched in
     subst (GoesOn g.D.Disk dp (own here) head records.records records.first c.args.search c.args.disk now) (sym c.report_of.ensures)
     (reported g.D.Disk dp (own here) head records.records c.args.search records.first c.args.disk now c.requires.coverless ended gone)
 
@@ -41,7 +41,7 @@ returns-in-Ok-clause-left g c =
     let board = c.in-Ok.field-0.board in
     let now = c.search_from-ended.result.1 in
     let keeps = keeps-here g.D.Disk meaning (g.P.DpModel.numbers c.deref.result.now) here at c.new-kept.result board c.args.disk true kept.board kept.made (ap is_some kept.tail) now c.search_from-ended.ensures.keeps in
-    leaves g.D.Disk (meaning here) (own here) (head_view c.args.head.now) c.args.records.now.records c.args.search c.args.disk c.args.tail c.requires.opened now board.board.settings c.in-Ok.ensures.goes_on.ready.asked.exact keeps
+    leaves g.D.Disk (meaning here) (own here) (head_view c.args.head.now) c.args.records.now.records c.args.search c.requires.may.exact c.args.disk c.args.tail c.requires.opened now board.board.settings c.in-Ok.ensures.goes_on.ready.prepared.asked.distance keeps
 
 pub returns-in-Err-clause-left : goal.returns-in-Err-clause-left
 returns-in-Err-clause-left g c = leaves-it g.D.Disk (head_view c.args.head.now) c.args.records.now.records c.args.disk c.args.tail c.requires.opened

@@ -13,6 +13,6 @@ loop-made-preserved g c =
       omega (arith, i.0, e.len),
       omega (arith, c.loop-made-test.true, c.loop-made.auto),
       omega (arith, i.2, e.capacity),
-      subst (λ (xs : List Desk). All D xs) (sym e.items) (All-push D c.loop-made.desks.items c.in_ok-prepare.field-0 i.3 c.in_ok-prepare.ensures.desk),
+      subst (λ (xs : List Desk). All D xs) (sym {A = List Desk} e.items) (All-push D c.loop-made.desks.items c.in_ok-prepare.field-0 i.3 c.in_ok-prepare.ensures.desk),
       i.4,
     )
