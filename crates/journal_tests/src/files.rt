@@ -1,15 +1,18 @@
 //! Journals in files: what is written, what is read back, and what each stop of a run leaves.
 
-ghost use Rattle.std.specs.Prelude.{◌≡◌, ◌<◌, ◌^◌, length, None, IfOk, IfSome, IsTrue};
+ghost use Rattle.std.specs.Prelude.{◌≡◌, ◌<◌, ◌^◌, length, false, None, IfSome, IsTrue};
 ghost use Rattle.journal_bytes.specs.Spelling.{HasSpelling};
 ghost use Rattle.journal_bytes.specs.Views.{record_view};
 ghost use Rattle.journal_file.specs.Settled.{IsReady};
 
+use crate::replaying::ITEMS;
 use dd_disk::{Disk, FileDisk, MemDisk};
-use journal_file::{AppendError, Child, Head, JournalError, Record, Tail, append, begin, reopen};
+use journal_file::{
+    AppendError, Child, Head, JournalError, Record, Records, Tail, append, begin, reopen,
+};
 use problem_names::ModelName;
-use std::alloc::{AllocError, Global};
-use std::test::Fail;
+use std::alloc::Global;
+use std::process::Abort;
 
 /// The journal of a search of the knapsack `3 10`, `60 5`, `50 4`, `70 6` by one worker with one decision a layer: its head,
 /// the solution 110, the root finished with two children, the first finished, the solution 120, the second finished.
@@ -42,53 +45,46 @@ const END: u64 = 389;
 /// How many records a file has, or why it is refused.
 type Count = Result<usize, JournalError>;
 
-/// The text of a head, the records as they print, and the end.
-type Journal = (Vec<u8>, String, u64);
-
-fn head_of_text(alloc: Global, text: &[u8]) -> Result<Head, AllocError>
-    ensures { IfOk result (λ head. head.text.items ≡ text.now) }
+/// The head of a journal of the knapsack with this text.
+pub(crate) fn head_of_text(rt: &impl Abort, alloc: Global, text: &[u8]) -> Head
+    ensures { result.text.items ≡ text.now }
 {
-    Ok(Head {
+    Head {
         model: ModelName::Knapsack,
-        text: Vec::from_slice(alloc, text)?,
-    })
+        text: Vec::from_slice(alloc, text).expect(rt, "memory"),
+    }
 }
 
-fn improve(alloc: Global, value: i64, decisions: &[u32]) -> Result<Record, AllocError>
+fn improve(rt: &impl Abort, alloc: Global, value: i64, decisions: &[u32]) -> Record
     requires { length decisions.now < 2 ^ 20 }
-    ensures { IfOk result (λ r. HasSpelling (record_view r)) }
+    ensures { HasSpelling (record_view result) }
 {
-    Ok(Record::Improve {
+    Record::Improve {
         value,
-        decisions: Vec::from_slice(alloc, decisions)?,
-    })
+        decisions: Vec::from_slice(alloc, decisions).expect(rt, "memory"),
+    }
 }
 
-fn child(alloc: Global, bound: i64, decision: u32) -> Result<Child, AllocError>
-    ensures none { IfOk result (λ c. c.replaced ≡ None) }
-    ensures one { IfOk result (λ c. length c.decisions.items ≡ 1) }
+fn child(rt: &impl Abort, alloc: Global, bound: i64, decision: u32) -> Child
+    ensures none { result.replaced ≡ None }
+    ensures one { length result.decisions.items ≡ 1 }
 {
-    Ok(Child {
+    Child {
         replaced: None,
         bound,
-        decisions: Vec::from_slice(alloc, &[decision])?,
-    })
+        decisions: Vec::from_slice(alloc, &[decision]).expect(rt, "memory"),
+    }
 }
 
-fn finish_with(
-    alloc: Global,
-    ticket: u64,
-    first: Child,
-    second: Child,
-) -> Result<Record, AllocError>
+fn finish_with(rt: &impl Abort, alloc: Global, ticket: u64, first: Child, second: Child) -> Record
     requires none { (first.replaced ≡ None) × (second.replaced ≡ None) }
     requires one { (length first.decisions.items ≡ 1) × (length second.decisions.items ≡ 1) }
-    ensures { IfOk result (λ r. HasSpelling (record_view r)) }
+    ensures { HasSpelling (record_view result) }
 {
-    let mut children = Vec::new(alloc);
-    children.push(first)?;
-    children.push(second)?;
-    Ok(Record::Finish { ticket, children })
+    let mut children = Vec::with_capacity(alloc, 2).expect(rt, "memory");
+    children.push_reserved(first);
+    children.push_reserved(second);
+    Record::Finish { ticket, children }
 }
 
 fn finish(alloc: Global, ticket: u64) -> Record
@@ -99,121 +95,153 @@ fn finish(alloc: Global, ticket: u64) -> Record
 }
 
 /// A record of that search, by its number.
-fn record(alloc: Global, number: usize) -> Result<Record, AllocError>
-    ensures { IfOk result (λ r. HasSpelling (record_view r)) }
+fn record(rt: &impl Abort, alloc: Global, number: usize) -> Record
+    ensures { HasSpelling (record_view result) }
 {
     match number {
-        0 => improve(alloc, 110, &[1, 1, 0]),
-        1 => finish_with(alloc, 0, child(alloc, 121, 1)?, child(alloc, 120, 0)?),
-        2 => Ok(finish(alloc, 1)),
-        3 => improve(alloc, 120, &[0, 1, 1]),
-        _ => Ok(finish(alloc, 2)),
+        0 => improve(rt, alloc, 110, &[1, 1, 0]),
+        1 => finish_with(
+            rt,
+            alloc,
+            0,
+            child(rt, alloc, 121, 1),
+            child(rt, alloc, 120, 0),
+        ),
+        2 => finish(alloc, 1),
+        3 => improve(rt, alloc, 120, &[0, 1, 1]),
+        _ => finish(alloc, 2),
     }
 }
 
-/// Adds a record, and tells whether it is acknowledged.
-fn add<D: Disk>(alloc: Global, disk: &mut D, tail: &mut Tail, entry: &Record) -> bool
-    requires ready { IsReady D.attached D.tells D.seen D.may_leave disk.old tail.old }
-    requires spelling { HasSpelling (record_view entry.now) }
+/// Adds a record of that search, and tells whether it is acknowledged.
+fn add<D: Disk>(
+    rt: &impl Abort,
+    alloc: Global,
+    disk: &mut D,
+    tail: &mut Tail,
+    number: usize,
+) -> bool
+    requires { IsReady D.attached D.tells D.seen D.may_leave disk.old tail.old }
     ensures { IsTrue result → IsReady D.attached D.tells D.seen D.may_leave disk.new tail.new }
 {
-    append(alloc, disk, tail, entry).is_ok()
+    append(alloc, disk, tail, &record(rt, alloc, number)).is_ok()
 }
 
 /// Begins the journal of that search.
-fn begun<D: Disk>(alloc: Global, disk: &mut D) -> Result<Option<Tail>, AllocError>
-    ensures { IfOk result (λ begun. IfSome begun (λ tail.
-        IsReady D.attached D.tells D.seen D.may_leave disk.new tail)) }
+fn begun<D: Disk>(rt: &impl Abort, alloc: Global, disk: &mut D) -> Option<Tail>
+    ensures { IfSome result (λ tail. IsReady D.attached D.tells D.seen D.may_leave disk.new tail) }
 {
-    let head = head_of_text(alloc, b"3 10\n60 5\n50 4\n70 6\n")?;
     if disk.attach("j").is_err() {
-        return Ok(None);
+        return None;
     }
-    Ok(begin(alloc, disk, &head).ok())
+    begin(alloc, disk, &head_of_text(rt, alloc, ITEMS)).ok()
 }
 
 /// Adds the records of that search, and tells how many were acknowledged.
-fn go_on<D: Disk>(alloc: Global, disk: &mut D, begun: Tail) -> Result<usize, AllocError>
+fn go_on<D: Disk>(rt: &impl Abort, alloc: Global, disk: &mut D, begun: Tail) -> usize
     requires { IsReady D.attached D.tells D.seen D.may_leave disk.old begun }
 {
     let mut tail = begun;
     for number in 0..5usize {
-        let entry = record(alloc, number)?;
-        if !add(alloc, disk, &mut tail, &entry) {
-            return Ok(number);
+        if !add(rt, alloc, disk, &mut tail, number) {
+            return number;
         }
     }
-    Ok(5)
+    5
 }
 
 /// Writes the journal of that search, and tells how many of its records behind the head were acknowledged.
-fn search<D: Disk>(alloc: Global, disk: &mut D) -> Result<Option<usize>, AllocError> {
-    let Some(tail) = begun(alloc, disk)? else {
-        return Ok(None);
-    };
-    Ok(Some(go_on(alloc, disk, tail)?))
+fn search<D: Disk>(rt: &impl Abort, alloc: Global, disk: &mut D) -> Option<usize> {
+    let tail = begun(rt, alloc, disk)?;
+    Some(go_on(rt, alloc, disk, tail))
 }
 
-/// A disk whose file has these bytes.
-fn disk_of(alloc: Global, bytes: Vec<u8>) -> Result<MemDisk, JournalError>
-    ensures { IfOk result (λ disk. IsTrue disk.is_attached) }
+/// Attaches the disk.
+fn attach(rt: &impl Abort, disk: &mut MemDisk)
+    ensures { IsTrue disk.new.is_attached }
 {
-    let mut disk = MemDisk::new(bytes, Vec::new(alloc));
-    match disk.attach("j") {
-        Ok(()) => Ok(disk),
-        Err(_) => Err(JournalError::Disk),
-    }
-}
-
-fn count(alloc: Global, bytes: Vec<u8>) -> Count {
-    let mut disk = disk_of(alloc, bytes)?;
-    let (_, records, _) = reopen(alloc, &mut disk)?;
-    Ok(records.len())
-}
-
-fn read_back(alloc: Global, bytes: Vec<u8>) -> Result<Journal, JournalError> {
-    let mut disk = disk_of(alloc, bytes)?;
-    let (head, records, tail) = reopen(alloc, &mut disk)?;
-    let printed = format!(in alloc; "{records:?}")?;
-    Ok((head.text, printed, tail.end))
+    disk.attach("j").expect(rt, "attached");
 }
 
 /// The bytes of that journal.
-fn search_bytes(alloc: Global) -> Result<Vec<u8>, Fail> {
-    Ok(hex::decode(alloc, SEARCH)?)
+fn search_bytes(rt: &impl Abort, alloc: Global) -> Vec<u8> {
+    hex::decode(alloc, SEARCH).expect(rt, "the journal")
+}
+
+/// The file has these bytes.
+fn has_bytes(rt: &impl Abort, found: &[u8], wanted: &[u8]) {
+    assert_eq!(rt; found, wanted);
+}
+
+/// All records are acknowledged, and then the file has the bytes of that journal.
+fn writes(rt: &impl Abort, alloc: Global, disk: &mut MemDisk) {
+    assert_eq!(rt; search(rt, alloc, disk), Some(5));
+    has_bytes(rt, disk.bytes(), search_bytes(rt, alloc).as_slice());
 }
 
 #[test]
-fn a_search_is_written_byte_for_byte(rt: HostRuntime) -> Result<(), Fail> {
+fn a_search_is_written_byte_for_byte(rt: HostRuntime) {
     let alloc = rt.alloc();
     let mut disk = MemDisk::new(Vec::new(alloc), Vec::new(alloc));
-    let acknowledged = search(alloc, &mut disk)?;
-    let bytes = search_bytes(alloc)?;
-    assert_eq!(rt; (acknowledged, disk.bytes()), (Some(5), bytes.as_slice()));
-    Ok(())
+    writes(&rt, alloc, &mut disk);
+}
+
+/// What a journal in a file of these bytes has.
+fn opened(rt: &impl Abort, alloc: Global, bytes: Vec<u8>) -> (Head, Records, Tail) {
+    let mut disk = MemDisk::new(bytes, Vec::new(alloc));
+    attach(rt, &mut disk);
+    reopen(alloc, &mut disk).expect(rt, "a journal")
+}
+
+/// The records print so.
+fn prints(rt: &impl Abort, alloc: Global, records: &Records, wanted: &str) {
+    let printed = format!(in alloc; "{records:?}").expect(rt, "memory");
+    assert_eq!(rt; printed.as_str(), wanted);
+}
+
+/// The journal has this text, and goes on here.
+fn has_text(rt: &impl Abort, head: &Head, tail: &Tail, wanted: (&[u8], u64)) {
+    assert_eq!(rt; (head.text.as_slice(), tail.end), wanted);
 }
 
 #[test]
-fn a_search_is_read_back(rt: HostRuntime) -> Result<(), Fail> {
+fn a_search_is_read_back(rt: HostRuntime) {
     let alloc = rt.alloc();
-    let (text, records, end) = read_back(alloc, search_bytes(alloc)?)?;
-    let wanted = (b"3 10\n60 5\n50 4\n70 6\n".as_slice(), RECORDS, END);
-    assert_eq!(rt; (text.as_slice(), records.as_str(), end), wanted);
-    Ok(())
+    let (head, records, tail) = opened(&rt, alloc, search_bytes(&rt, alloc));
+    has_text(&rt, &head, &tail, (ITEMS, END));
+    prints(&rt, alloc, &records, RECORDS);
 }
 
-/// What is read where the byte here is changed, and where the file ends before it.
-fn spoiled(alloc: Global, at: u64) -> Result<(Count, Count), Fail> {
-    let mut changed = search_bytes(alloc)?;
-    if let Some(byte) = changed.get_mut(at as usize) {
+/// How many records the file of the disk has.
+fn count(rt: &impl Abort, alloc: Global, disk: &mut MemDisk) -> Count {
+    attach(rt, disk);
+    let (_, records, _) = reopen(alloc, disk)?;
+    Ok(records.len())
+}
+
+/// How many records are in a file of these bytes.
+fn count_in(rt: &impl Abort, alloc: Global, bytes: Vec<u8>) -> Count {
+    let mut disk = MemDisk::new(bytes, Vec::new(alloc));
+    count(rt, alloc, &mut disk)
+}
+
+/// What is read where the byte here is changed.
+fn changed(rt: &impl Abort, alloc: Global, at: u64) -> Count {
+    let mut bytes = search_bytes(rt, alloc);
+    if let Some(byte) = bytes.get_mut(at as usize) {
         *byte ^= 0x55;
     }
-    let mut cut = search_bytes(alloc)?;
-    cut.truncate(at as usize);
-    Ok((count(alloc, changed), count(alloc, cut)))
+    count_in(rt, alloc, bytes)
 }
 
-/// What is wanted then, by the last gate that stands before, and by how many stand there or before.
+/// What is read where the file ends before the byte here.
+fn cut(rt: &impl Abort, alloc: Global, at: u64) -> Count {
+    let mut bytes = search_bytes(rt, alloc);
+    bytes.truncate(at as usize);
+    count_in(rt, alloc, bytes)
+}
+
+/// What is wanted of both, by the last gate that stands before, and by how many stand there or before.
 fn wanted(at: u64) -> (Count, Count) {
     let mut before = 0u64;
     let mut here = 0usize;
@@ -243,21 +271,30 @@ fn wanted(at: u64) -> (Count, Count) {
     (damaged, cut)
 }
 
+/// Both are told as wanted.
+fn tells(rt: &impl Abort, alloc: Global, at: u64) {
+    let told = (changed(rt, alloc, at), cut(rt, alloc, at));
+    assert_eq!(rt; told, wanted(at), "at {at}");
+}
+
 #[test]
-fn a_changed_byte_or_an_early_end_is_told(rt: HostRuntime) -> Result<(), Fail> {
-    let alloc = rt.alloc();
+fn a_changed_byte_or_an_early_end_is_told(rt: HostRuntime) {
     for at in 0..390u64 {
-        assert_eq!(rt; spoiled(alloc, at)?, wanted(at), "at {at}");
+        tells(&rt, rt.alloc(), at);
     }
-    Ok(())
+}
+
+/// What a crash of the disk leaves.
+fn left(rt: &impl Abort, alloc: Global, disk: MemDisk, fill: &[u8]) -> Count {
+    let mut crashed = disk.crash(fill).expect(rt, "memory");
+    count(rt, alloc, &mut crashed)
 }
 
 /// How many records are acknowledged where the disk stops after so many calls, and what a crash then leaves.
-fn stopped(alloc: Global, fill: &[u8], calls: u64) -> Result<(Option<usize>, Count), Fail> {
+fn stopped(rt: &impl Abort, alloc: Global, fill: &[u8], calls: u64) -> (Option<usize>, Count) {
     let mut disk = MemDisk::fused(Vec::new(alloc), calls);
-    let acknowledged = search(alloc, &mut disk)?;
-    let crashed = disk.crash(fill)?;
-    Ok((acknowledged, count(alloc, crashed.bytes().to_vec(alloc)?)))
+    let acknowledged = search(rt, alloc, &mut disk);
+    (acknowledged, left(rt, alloc, disk, fill))
 }
 
 /// A crash leaves what was acknowledged, or one record more.
@@ -270,59 +307,92 @@ fn leaves(acknowledged: Option<usize>, left: Count) -> bool {
     }
 }
 
-#[test]
-fn each_stop_leaves_what_was_acknowledged(rt: HostRuntime) -> Result<(), Fail> {
-    let alloc = rt.alloc();
-    for fill in [b"".as_slice(), &[0], &[1], &[7]] {
-        for calls in 0..30u64 {
-            let (acknowledged, left) = stopped(alloc, fill, calls)?;
-            let all = acknowledged == Some(5);
-            assert_eq!(rt;
-                (leaves(acknowledged, left), all),
-                (true, calls >= 29),
-                "after {calls}"
-            );
-        }
+/// A stop after so many calls leaves what was acknowledged, and that is all exactly from 29 calls on.
+fn stops(rt: &impl Abort, alloc: Global, fill: &[u8], calls: u64) {
+    let (acknowledged, left) = stopped(rt, alloc, fill, calls);
+    let found = (leaves(acknowledged, left), acknowledged == Some(5));
+    assert_eq!(rt; found, (true, calls >= 29), "after {calls}");
+}
+
+/// So does each stop up to there.
+fn stops_anywhere(rt: &impl Abort, alloc: Global, fill: &[u8]) {
+    for calls in 0..30u64 {
+        stops(rt, alloc, fill, calls);
     }
-    Ok(())
+}
+
+#[test]
+fn each_stop_leaves_what_was_acknowledged(rt: HostRuntime) {
+    stops_anywhere(&rt, rt.alloc(), b"");
+    stops_anywhere(&rt, rt.alloc(), &[0]);
+    stops_anywhere(&rt, rt.alloc(), &[1]);
+    stops_anywhere(&rt, rt.alloc(), &[7]);
 }
 
 /// Where a journal that begins in a file ends, or why it does not, and whether the file is then as it was.
-fn begun_in(alloc: Global, bytes: &[u8]) -> Result<(Result<u64, JournalError>, bool), Fail> {
-    let mut disk = disk_of(alloc, bytes.to_vec(alloc)?)?;
-    let head = head_of_text(alloc, b"0 5\n")?;
-    let end = begin(alloc, &mut disk, &head).map(|tail| tail.end);
-    Ok((end, disk.bytes() == bytes))
+type Beginning = (Result<u64, JournalError>, bool);
+
+/// Where a journal that begins on the disk ends.
+fn end_of_begun(rt: &impl Abort, alloc: Global, disk: &mut MemDisk) -> Result<u64, JournalError> {
+    attach(rt, disk);
+    let tail = begin(alloc, disk, &head_of_text(rt, alloc, b"0 5\n"))?;
+    Ok(tail.end)
+}
+
+/// How a journal begins in a file of these bytes.
+fn begun_in(rt: &impl Abort, alloc: Global, bytes: &[u8]) -> Beginning {
+    let file = bytes.to_vec(alloc).expect(rt, "memory");
+    let mut disk = MemDisk::new(file, Vec::new(alloc));
+    let end = end_of_begun(rt, alloc, &mut disk);
+    (end, disk.bytes() == bytes)
+}
+
+/// What a file has, and what a journal does that begins there.
+const BEGINNINGS: &[(&[u8], Beginning)] = &[
+    (b"", (Ok(51), false)),
+    (b"7", (Ok(51), false)),
+    (b"\x007", (Ok(51), false)),
+    (b"77", (Err(JournalError::Exists), true)),
+    (b"\x01\x01", (Err(JournalError::Exists), true)),
+];
+
+/// A journal begins so in a file of these bytes.
+fn begins(rt: &impl Abort, alloc: Global, bytes: &[u8], wanted: Beginning) {
+    assert_eq!(rt; begun_in(rt, alloc, bytes), wanted, "in {bytes:?}");
 }
 
 #[test]
-fn a_journal_begins_only_where_there_is_none(rt: HostRuntime) -> Result<(), Fail> {
-    let alloc = rt.alloc();
-    for (bytes, wanted) in [
-        (b"".as_slice(), (Ok(51), false)),
-        (b"7", (Ok(51), false)),
-        (b"\x007", (Ok(51), false)),
-        (b"77", (Err(JournalError::Exists), true)),
-        (b"\x01\x01", (Err(JournalError::Exists), true)),
-    ] {
-        assert_eq!(rt; begun_in(alloc, bytes)?, wanted, "in {bytes:?}");
+fn a_journal_begins_only_where_there_is_none(rt: HostRuntime) {
+    for (bytes, wanted) in BEGINNINGS.iter().copied() {
+        begins(&rt, rt.alloc(), bytes, wanted);
     }
-    Ok(())
 }
 
-#[test]
-fn no_record_stands_at_the_end_of_numbers(rt: HostRuntime) -> Result<(), Fail> {
-    let alloc = rt.alloc();
-    let mut disk = FileDisk::detached(&rt);
-    let Ok(()) = disk.attach("j") else {
-        return Err(Fail::new("not attached"));
-    };
+/// Adds a record whose next gate would stand at the end of numbers.
+fn add_at_the_end<D: Disk>(alloc: Global, disk: &mut D) -> Result<(), AppendError>
+    requires attached { IsTrue (D.attached disk.old) }
+    requires silent { D.tells disk.old ≡ false }
+    ensures { IsTrue (D.attached disk.new) }
+{
     let digest = [0; 32];
     let mut tail = Tail {
         end: u64::MAX - 50,
         digest,
     };
-    let added = append(alloc, &mut disk, &mut tail, &finish(alloc, 0));
+    append(alloc, disk, &mut tail, &finish(alloc, 0))
+}
+
+/// There is no room for such a record, and the file stays empty.
+fn keeps_off_the_end<D: Disk>(rt: &impl Abort, alloc: Global, disk: &mut D)
+    requires { D.tells disk.old ≡ false }
+{
+    disk.attach("j").expect(rt, "attached");
+    let added = add_at_the_end(alloc, disk);
     assert_eq!(rt; (added, disk.len()), (Err(AppendError::OutOfMemory), Ok(0)));
-    Ok(())
+}
+
+#[test]
+fn no_record_stands_at_the_end_of_numbers(rt: HostRuntime) {
+    let mut disk = FileDisk::detached(&rt);
+    keeps_off_the_end(&rt, rt.alloc(), &mut disk);
 }

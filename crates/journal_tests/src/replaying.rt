@@ -5,14 +5,22 @@ use journal_bytes::{Records, Refusal, read_journal, seal};
 use journal_file::JournalError;
 use journal_replay::replay;
 use knapsack::Knapsack;
-use search_core::Settings;
-use std::alloc::{AllocError, Global};
+use search_core::{Board, Cause, Settings};
+use std::alloc::Global;
 use std::process::Abort;
 use std::sync::Arc;
-use std::test::Fail;
 
 /// Three items in a room of 10, the root of which has the bound 121.
 pub(crate) const ITEMS: &[u8] = b"3 10\n60 5\n50 4\n70 6\n";
+
+/// A search by one worker.
+pub(crate) const SETTINGS: Settings = Settings {
+    workers: 1,
+    budget: 100,
+    table_limit: 4,
+    width: 1,
+    within: 0,
+};
 
 /// The kinds of records.
 const HEAD: u8 = 1;
@@ -135,8 +143,8 @@ const FIRST_REPLACES_OTHER: (u8, &[u8]) = (
     b"\x00\x00\x00\x00\x00\x00\x00\x01\x00\x00\x00\x01\x00\x00\x00\x00\x00\x00\x00\x02\x00\x00\x00\x00\x00\x00\x00\x79\x00\x00\x00\x02\x00\x00\x00\x01\x00\x00\x00\x00",
 );
 
-/// What is known of a board that is restored: the incumbent's value, the bound, and whether nothing is open.
-type Restored = (Option<i64>, Option<i64>, bool);
+/// What is known of a board: the incumbent's value, the bound, and whether nothing is open.
+type Known = (Option<i64>, Option<i64>, bool);
 
 /// The items as a problem.
 pub(crate) fn items(rt: &impl Abort, alloc: Global) -> Knapsack {
@@ -145,24 +153,32 @@ pub(crate) fn items(rt: &impl Abort, alloc: Global) -> Knapsack {
     model.expect(rt, "the items")
 }
 
+/// Adds a record with its right digest behind those of the file, and gives the digest.
+fn add(
+    rt: &impl Abort,
+    alloc: Global,
+    file: &mut Vec<u8>,
+    digest: &[u8; 32],
+    kind: u8,
+    body: &[u8],
+) -> [u8; 32] {
+    assert!(rt; body.len() < 100, "a short body");
+    let (bytes, next) = seal(alloc, digest, kind, body).expect(rt, "memory");
+    // The gate that is closed so far.
+    let _ = file.pop();
+    file.push(1).expect(rt, "memory");
+    file.extend_from_slice(&bytes).expect(rt, "memory");
+    next
+}
+
 /// A file of a head and of these records, with right digests.
-fn file_of(alloc: Global, records: &[(u8, &[u8])]) -> Result<Vec<u8>, AllocError> {
+fn file_of(rt: &impl Abort, alloc: Global, records: &[(u8, &[u8])]) -> Vec<u8> {
     let mut file = Vec::new(alloc);
-    let sealed = seal(alloc, &[0; 32], HEAD, HEAD_BODY)?;
-    let (bytes, mut digest) = sealed;
-    file.push(1)?;
-    file.extend_from_slice(&bytes)?;
-    for (kind, body) in records {
-        if body.len() < 100 {
-            let sealed = seal(alloc, &digest, *kind, body)?;
-            let (bytes, next) = sealed;
-            let _ = file.pop();
-            file.push(1)?;
-            file.extend_from_slice(&bytes)?;
-            digest = next;
-        }
+    let mut digest = add(rt, alloc, &mut file, &[0; 32], HEAD, HEAD_BODY);
+    for (kind, body) in records.iter().copied() {
+        digest = add(rt, alloc, &mut file, &digest, kind, body);
     }
-    Ok(file)
+    file
 }
 
 /// The problem, to be shared.
@@ -170,22 +186,25 @@ pub(crate) fn shared<M: DpModel>(alloc: Global, model: M) -> Result<Arc<M>, OutO
     Ok(Arc::new(alloc, model)?)
 }
 
+/// What is known of a board at its end, and its cause.
+pub(crate) fn last_known<M: DpModel>(board: Board<M>) -> (Known, Option<Cause>) {
+    let known = (board.incumbent_value(), board.bound(), board.is_explored());
+    let cause = board.cause();
+    // The call is proved in half the time that a drop at the end of the block takes.
+    drop(board);
+    (known, cause)
+}
+
 /// The board of records, or why they are refused.
 fn restored<M: DpModel>(
+    rt: &impl Abort,
     alloc: Global,
     model: M,
     records: &Records,
-) -> Result<Restored, JournalError> {
-    let settings = Settings {
-        workers: 1,
-        budget: 100,
-        table_limit: 4,
-        width: 1,
-        within: 0,
-    };
-    let model = shared(alloc, model)?;
-    let board = replay(alloc, records, model, settings)?;
-    Ok((board.incumbent_value(), board.bound(), board.is_explored()))
+) -> Result<Known, JournalError> {
+    let model = shared(alloc, model).expect(rt, "memory");
+    let board = replay(alloc, records, model, SETTINGS)?;
+    Ok(last_known(board).0)
 }
 
 /// The records of a file.
@@ -195,96 +214,103 @@ fn records_of(alloc: Global, file: &[u8]) -> Result<Records, Refusal> {
 }
 
 /// The board of a file's records over the items, or why they are refused.
-fn answer(
+fn answer(rt: &impl Abort, alloc: Global, records: &[(u8, &[u8])]) -> Result<Known, JournalError> {
+    let file = file_of(rt, alloc, records);
+    let records = records_of(alloc, &file)?;
+    restored(rt, alloc, items(rt, alloc), &records)
+}
+
+/// The records of a journal, and the board of them or why they are refused.
+const REPLAYS: &[(&[(u8, &[u8])], Result<Known, JournalError>)] = &[
+    (&[], Ok((None, Some(121), false))),
+    (&[IMPROVE_110], Ok((Some(110), Some(121), false))),
+    (&[IMPROVE_110, ROOT], Ok((Some(110), Some(121), false))),
+    (
+        &[IMPROVE_110, ROOT, FIRST],
+        Ok((Some(110), Some(120), false)),
+    ),
+    (
+        &[IMPROVE_110, ROOT, FIRST, IMPROVE_120, SECOND],
+        Ok((Some(120), Some(120), true)),
+    ),
+    (&[IMPROVE_120, ROOT_LOW], Ok((Some(120), Some(120), true))),
+    (&[ROOT_ALONE], Ok((None, None, true))),
+    (&[ROOT_TWICE], Ok((None, Some(121), false))),
+    (&[ROOT_TWICE, SECOND], Ok((None, None, true))),
+    (
+        &[ROOT_FARTHEST],
+        Ok((None, Some(0x4000_0000_0000_0000), false)),
+    ),
+    (&[ALL_ITEMS], Err(JournalError::NoSolution { offset: 67 })),
+    (&[SHORT], Err(JournalError::NoSolution { offset: 67 })),
+    (
+        &[ROOT, SHORT],
+        Err(JournalError::NoSolution { offset: 165 }),
+    ),
+    (&[IMPROVE_111], Err(JournalError::Malformed { offset: 67 })),
+    (
+        &[IMPROVE_110, IMPROVE_110],
+        Err(JournalError::Malformed { offset: 129 }),
+    ),
+    (
+        &[IMPROVE_120, IMPROVE_110],
+        Err(JournalError::Malformed { offset: 129 }),
+    ),
+    (&[FIRST], Err(JournalError::Malformed { offset: 67 })),
+    (
+        &[ROOT_ALONE, ROOT_ALONE],
+        Err(JournalError::Malformed { offset: 117 }),
+    ),
+    (
+        &[ROOT_TWICE, FIRST],
+        Err(JournalError::Malformed { offset: 165 }),
+    ),
+    (&[ROOT_WHOLE], Err(JournalError::Malformed { offset: 67 })),
+    (
+        &[ROOT_NO_PREFIX],
+        Err(JournalError::Malformed { offset: 67 }),
+    ),
+    (&[ROOT_FAR], Err(JournalError::Malformed { offset: 67 })),
+    (
+        &[ROOT_FAR_BELOW],
+        Err(JournalError::Malformed { offset: 67 }),
+    ),
+    (
+        &[ROOT_REPLACES_ITSELF],
+        Err(JournalError::Malformed { offset: 67 }),
+    ),
+    (
+        &[ROOT, FIRST_SAME],
+        Err(JournalError::Malformed { offset: 165 }),
+    ),
+    (
+        &[ROOT, FIRST_OTHER],
+        Err(JournalError::Malformed { offset: 165 }),
+    ),
+    (
+        &[ROOT, FIRST_REPLACES_OTHER],
+        Err(JournalError::Malformed { offset: 165 }),
+    ),
+];
+
+/// The records are replayed or refused so.
+fn replays(
     rt: &impl Abort,
     alloc: Global,
     records: &[(u8, &[u8])],
-) -> Result<Restored, JournalError> {
-    let file = file_of(alloc, records)?;
-    let records = records_of(alloc, &file)?;
-    restored(alloc, items(rt, alloc), &records)
+    wanted: Result<Known, JournalError>,
+) {
+    assert_eq!(rt;
+        answer(rt, alloc, records),
+        wanted,
+        "of {} records",
+        records.len()
+    );
 }
 
 #[test]
-fn records_are_replayed_or_refused(rt: HostRuntime) -> Result<(), Fail> {
-    let alloc = rt.alloc();
-    for (records, wanted) in [
-        ([].as_slice(), Ok((None, Some(121), false))),
-        (&[IMPROVE_110], Ok((Some(110), Some(121), false))),
-        (&[IMPROVE_110, ROOT], Ok((Some(110), Some(121), false))),
-        (
-            &[IMPROVE_110, ROOT, FIRST],
-            Ok((Some(110), Some(120), false)),
-        ),
-        (
-            &[IMPROVE_110, ROOT, FIRST, IMPROVE_120, SECOND],
-            Ok((Some(120), Some(120), true)),
-        ),
-        (&[IMPROVE_120, ROOT_LOW], Ok((Some(120), Some(120), true))),
-        (&[ROOT_ALONE], Ok((None, None, true))),
-        (&[ROOT_TWICE], Ok((None, Some(121), false))),
-        (&[ROOT_TWICE, SECOND], Ok((None, None, true))),
-        (
-            &[ROOT_FARTHEST],
-            Ok((None, Some(0x4000_0000_0000_0000), false)),
-        ),
-        (&[ALL_ITEMS], Err(JournalError::NoSolution { offset: 67 })),
-        (&[SHORT], Err(JournalError::NoSolution { offset: 67 })),
-        (
-            &[ROOT, SHORT],
-            Err(JournalError::NoSolution { offset: 165 }),
-        ),
-        (&[IMPROVE_111], Err(JournalError::Malformed { offset: 67 })),
-        (
-            &[IMPROVE_110, IMPROVE_110],
-            Err(JournalError::Malformed { offset: 129 }),
-        ),
-        (
-            &[IMPROVE_120, IMPROVE_110],
-            Err(JournalError::Malformed { offset: 129 }),
-        ),
-        (&[FIRST], Err(JournalError::Malformed { offset: 67 })),
-        (
-            &[ROOT_ALONE, ROOT_ALONE],
-            Err(JournalError::Malformed { offset: 117 }),
-        ),
-        (
-            &[ROOT_TWICE, FIRST],
-            Err(JournalError::Malformed { offset: 165 }),
-        ),
-        (&[ROOT_WHOLE], Err(JournalError::Malformed { offset: 67 })),
-        (
-            &[ROOT_NO_PREFIX],
-            Err(JournalError::Malformed { offset: 67 }),
-        ),
-        (&[ROOT_FAR], Err(JournalError::Malformed { offset: 67 })),
-        (
-            &[ROOT_FAR_BELOW],
-            Err(JournalError::Malformed { offset: 67 }),
-        ),
-        (
-            &[ROOT_REPLACES_ITSELF],
-            Err(JournalError::Malformed { offset: 67 }),
-        ),
-        (
-            &[ROOT, FIRST_SAME],
-            Err(JournalError::Malformed { offset: 165 }),
-        ),
-        (
-            &[ROOT, FIRST_OTHER],
-            Err(JournalError::Malformed { offset: 165 }),
-        ),
-        (
-            &[ROOT, FIRST_REPLACES_OTHER],
-            Err(JournalError::Malformed { offset: 165 }),
-        ),
-    ] {
-        assert_eq!(rt;
-            answer(&rt, alloc, records),
-            wanted,
-            "of {} records",
-            records.len()
-        );
+fn records_are_replayed_or_refused(rt: HostRuntime) {
+    for (records, wanted) in REPLAYS.iter().copied() {
+        replays(&rt, rt.alloc(), records, wanted);
     }
-    Ok(())
 }

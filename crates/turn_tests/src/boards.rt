@@ -1,5 +1,5 @@
 //! Two seats over a board of a knapsack.
-ghost use Rattle.std.specs.Prelude.{◌≡◌, [], map, IfOk};
+ghost use Rattle.std.specs.Prelude.{◌≡◌, [], map, None};
 ghost use Rattle.std.specs.List.{All, range_with_len};
 ghost use Rattle.board_lock.specs.Order.{NoLess};
 ghost use Rattle.board_lock.specs.Seats.{first_of, seats_of, seen_of, number_of};
@@ -8,28 +8,27 @@ ghost use Rattle.worker_gate.specs.Ready.{IsReadySeat};
 
 use board_lock::{NoTurn, Seat, Turn};
 use dd_disk::{Disk, MemDisk};
-use dp_model::{DpModel, OutOfMemory};
+use dp_model::DpModel;
 use frontier_journal::Kept;
 use knapsack::Knapsack;
 use search_core::{Board, Settings};
 use std::alloc::Global;
+use std::process::Abort;
 use std::sync::{Arc, Wait};
 use worker_gate::{Stopped, improve_one, open};
 
-/// A turn with two seats over the board at the start of a search, which is kept in no journal.
-pub fn open_board(
-    alloc: Global,
-    model: Knapsack,
-) -> Result<
-    (
-        Turn<Kept<Knapsack, MemDisk>>,
-        Vec<Seat<Kept<Knapsack, MemDisk>>>,
-    ),
-    OutOfMemory,
->
-    ensures idle { IfOk result (λ r. full_slots (first_of r.0).board.board.slots ≡ []) }
-    ensures ready { IfOk result (λ r. All (IsReadySeat r.0) r.1.items) }
-    ensures numbers { IfOk result (λ r. map number_of r.1.items ≡ range_with_len 0 (seats_of r.0)) }
+/// Three items in a room of 10.
+pub fn items(rt: &impl Abort, alloc: Global) -> Knapsack {
+    let model = knapsack::read(alloc, b"3 10\n60 5\n50 4\n70 6\n");
+    assert!(rt; model.is_ok(), "the items");
+    model.expect(rt, "the items")
+}
+
+/// The board at the start of a search by two workers.
+fn first_board<M: DpModel>(rt: &impl Abort, alloc: Global, model: M) -> Board<M>
+    ensures going { result.board.cause ≡ None }
+    ensures idle { full_slots result.board.slots ≡ [] }
+    ensures workers { result.board.settings.workers ≡ 2 }
 {
     let settings = Settings {
         workers: 2,
@@ -38,14 +37,37 @@ pub fn open_board(
         width: 1,
         within: 0,
     };
-    let board = Board::begin(alloc, Arc::new(alloc, model)?, settings)?;
+    let model = Arc::new(alloc, model).expect(rt, "memory");
+    Board::begin(alloc, model, settings).expect(rt, "memory")
+}
+
+/// The incumbent's value at the end.
+pub fn last_value<M: DpModel>(kept: Kept<M, MemDisk>) -> Option<i64> {
+    let (board, disk) = kept.into_parts();
+    let value = board.incumbent_value();
+    // The calls are proved in half the time that a drop at the end of the block takes.
+    drop(board);
+    drop(disk);
+    value
+}
+
+/// A turn over a board of a knapsack that is kept on a disk in memory.
+pub type BoardTurn = Turn<Kept<Knapsack, MemDisk>>;
+
+/// A seat of it.
+pub type BoardSeat = Seat<Kept<Knapsack, MemDisk>>;
+
+/// A turn with two seats over the board at the start of a search, which is kept in no journal.
+pub fn open_board(rt: &impl Abort, alloc: Global, model: Knapsack) -> (BoardTurn, Vec<BoardSeat>)
+    ensures idle { full_slots (first_of result.0).board.board.slots ≡ [] }
+    ensures ready { All (IsReadySeat result.0) result.1.items }
+    ensures numbers { map number_of result.1.items ≡ range_with_len 0 (seats_of result.0) }
+{
     let disk = MemDisk::new(Vec::new(alloc), Vec::new(alloc));
-    match open(alloc, Kept::new(board, disk, None), 2) {
-        Ok((turn, seats)) => Ok((turn, seats)),
-        Err(NoTurn { value, cause }) => {
-            let _ = value.into_parts();
-            Err(cause)
-        }
+    let kept = Kept::new(first_board(rt, alloc, model), disk, None);
+    match open(alloc, kept, 2) {
+        Ok(opened) => opened,
+        Err(NoTurn { .. }) => panic!(rt; "memory"),
     }
 }
 

@@ -1,6 +1,6 @@
-use crate::boards::{meet_over_board, open_board};
+use crate::boards::{items, last_value, meet_over_board, open_board};
 use crate::workers::{close, count_all, meet, open};
-use knapsack::read;
+use std::process::Abort;
 use std::test::Fail;
 
 #[test]
@@ -12,27 +12,31 @@ fn workers_count_to_the_limit(rt: HostRuntime) -> Result<(), Fail> {
     Ok(())
 }
 
+/// Both seats found 110, and so does who closes the turn.
+fn both_find(
+    rt: &impl Abort,
+    found: Option<(Option<i64>, Option<Option<i64>>)>,
+    left: Option<i64>,
+) {
+    assert!(rt; (found, left) == (Some((Some(110), Some(Some(110)))), Some(110)));
+}
+
 /// What a seat wrote and left, every later holder finds, and the closed turn gives.
 #[test]
 fn two_seats_over_a_counter(rt: HostRuntime) -> Result<(), Fail> {
     let (turn, mut seats) = open(rt.alloc(), 200, 2)?;
     let found = meet(&rt, &turn, seats.as_mut_slice(), 110);
     let counter = close(turn, seats);
-    let left = (found, counter.best());
-    assert!(rt; left == (Some((Some(110), Some(Some(110)))), Some(110)));
+    both_find(&rt, found, counter.best());
     Ok(())
 }
 
 /// The same over a board: what a seat offered and left, both seats find, and the closed turn gives.
 #[test]
-fn two_seats(rt: HostRuntime) -> Result<(), Fail> {
-    let Ok(model) = read(rt.alloc(), "3 10\n60 5\n50 4\n70 6\n".as_bytes()) else {
-        return Err(Fail::from("not an instance"));
-    };
-    let (turn, mut seats) = open_board(rt.alloc(), model)?;
+fn two_seats(rt: HostRuntime) {
+    let model = items(&rt, rt.alloc());
+    let (turn, mut seats) = open_board(&rt, rt.alloc(), model);
     let found = meet_over_board(&rt, rt.alloc(), &turn, seats.as_mut_slice(), &[1, 1, 0]);
-    let (board, _) = worker_gate::close(turn, seats).into_parts();
-    let left = (found, board.incumbent_value());
-    assert!(rt; left == (Some((Some(110), Some(Some(110)))), Some(110)));
-    Ok(())
+    let left = last_value(worker_gate::close(turn, seats));
+    both_find(&rt, found, left);
 }
