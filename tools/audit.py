@@ -127,6 +127,7 @@ def main():
         return
     rows = [("all that the clause of `run` says (`HasEnded`)", ["solver_jobs/Ended HasEnded"])]
     rows += [("`proved`, for any problem (`IsProved`)", ["solver_jobs/Reports IsProved"])]
+    rows += [("`proved within G`, for any problem (`IsProvedWithin`)", ["solver_jobs/Reports IsProvedWithin"])]
     rows += [("`infeasible` (`IsInfeasible`)", ["solver_jobs/Reports IsInfeasible"])]
     rows += [("`stopped` (`IsStopped`, `IsBounded`)", ["solver_jobs/Outcomes IsStopped", "solver_jobs/Outcomes IsBounded"])]
     rows += [("what a crash leaves of a journal (`HasKept`, `HasLeftBegun`, `LeavesAfterResume`)", JOURNALS)]
