@@ -240,7 +240,7 @@ module _ {D : Type 0} (on : Ghosts D) where
     at-end : (before : D) (old : List RecordView) (Leaves : List RecordView → D → Type 0) → on.faults before ≤ on.faults made → full_slots b.slots ≡ [] → (IsTrue (on.tells made) → HasRecords head old (on.seen made))
         → ((rs : List RecordView) → LeavesOnly on.moment on.left_since made now (HasFront head old rs) → Leaves rs now) → HasKept on dp head old Leaves before now b
     at-end before old Leaves faults idle reads leaves = record {
-      rose = λ stopped. ⊎_elim (λ (goes : Goes on dp b made now journal.0). absurd (goes.cause stopped)) (λ (h : HasStopped on dp b made now). omega (arith, faults, h.rose)) journal.1.state;
+      rose = λ stopped. ⊎_elim (λ (goes : Goes on dp b made now journal.0). absurd (goes.cause stopped)) (λ (h : HasStopped on dp b made now). record { begun = made; had = reads; later = faults; rose = h.rose }) journal.1.state;
       journal = λ tells.
           let w = written dp b made now journal.0 head old (reads (told-made tells)) journal.1 tells in
           record {
@@ -298,6 +298,13 @@ module _ {D : Type 0} (on : Ghosts D) where
 
     pub left-resumed : (before : D) (old : List RecordView) → (IsTrue (on.tells made) → HasRecords head old (on.seen made)) → IsFound head old made → IsUnwritten on made → LeavesAfterResume on before now
     left-resumed before old reads found unwritten = inr (left-behind old reads found unwritten)
+
+  -- what is kept since a later moment is kept since an earlier one
+  pub kept-before : (dp : Dp) (head : HeadView) (old : List RecordView) (Leaves : List RecordView → D → Type 0) (before made now : D) (b : BoardState) → on.faults before ≤ on.faults made → HasKept on dp head old Leaves made now b → HasKept on dp head old Leaves before now b
+  kept-before dp head old Leaves before made now b faults k = record {
+    rose = λ stopped. let f = k.rose stopped in record { begun = f.begun; had = f.had; later = omega (arith, faults, f.later); rose = f.rose };
+    journal = k.journal;
+  }
 
   -- ---- where no search has begun
 

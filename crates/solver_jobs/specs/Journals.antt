@@ -74,9 +74,16 @@ module _ {D : Type 0} (on : Ghosts D) where
     pub spent : AreSound dp (pos 0) old → b.cause ≡ None → IsTrue (is_budget_up b)
         → (b.settings.budget ≤ finished_after_all 0 added) ⊎ (2 ^ 64 - 2 ^ 29 < (replay_of dp (old ++ added)).next_ticket)
 
-  -- the board is kept: it is halted for the journal only where the disk has failed
+  -- a call of the disk has failed since a search began, at which the journal had this head and these records
+  pub record HasFailedSince (head : HeadView) (old : List RecordView) (before now : D) : Type 0 where
+    pub begun : D
+    pub had : IsTrue (on.tells begun) → HasRecords head old (on.seen begun)
+    pub later : on.faults before ≤ on.faults begun
+    pub rose : Rose (on.faults begun) (on.faults now)
+
+  -- the board is kept: it is halted for the journal only where the disk has failed since the search began
   pub record HasKept (dp : Dp) (head : HeadView) (old : List RecordView) (Leaves : List RecordView → D → Type 0) (before now : D) (b : BoardState) : Type 0 where
-    pub rose : b.cause ≡ Some Journal → Rose (on.faults before) (on.faults now)
+    pub rose : b.cause ≡ Some Journal → HasFailedSince head old before now
     pub journal : IsTrue (on.tells now) → IsJournaled dp head old Leaves now b
 
   -- why no journal is begun: the disk has failed, or the file has two or more bytes of which the first is not 0, and then nothing was written
