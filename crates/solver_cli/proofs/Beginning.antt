@@ -8,7 +8,6 @@ use Rattle.board_laws.specs.GoodBoard.{IsGood}
 use Rattle.board_laws.specs.Steps.{first_board}
 use Rattle.board_laws.specs.declared.settings.Settings.{Settings}
 use Rattle.journal_bytes.specs.Journal.{HeadView}
-use Rattle.journal_bytes.specs.Bodies.{RecordView}
 use Rattle.journal_bytes.specs.declared.tail.Tail.{Tail}
 use Rattle.solver_report.specs.declared.answer.Answer.{Answer}
 use Rattle.solver_report.specs.declared.answer.Answer.TheVariants as answers
@@ -20,7 +19,7 @@ use Rattle.solver_jobs.specs.Kept.{SolvesKept}
 use Rattle.solver_jobs.specs.Outcomes.{HasSearched}
 use Rattle.solver_jobs.specs.Over.{IsOver}
 use Rattle.solver_jobs.specs.declared.text_job.Search.{Search}
-use Rattle.solver_jobs.proofs.Journaled.{exact-over, ends-begun, left-begun, still-begins}
+use Rattle.solver_jobs.proofs.Journaled.{exact-over, ends-begun, kept-before, left-begun, still-begins}
 use Rattle.solver_cli.specs.Journals.{EndsBegun, HasBegunOn}
 use Rattle.solver_cli.specs.Searches.{IsAnswerTo, IsKeptOn, KeepsSome}
 use Rattle.solver_cli.proofs.Told.{Told, if-told, told-ends}
@@ -28,10 +27,6 @@ use Rattle.solver_cli.proofs.Searched.{ends-in-words, in-words}
 
 module _ {D : Type 0} (on : Ghosts D) (dp : Dp) (own : List ℕ → Option ℤ) (head : HeadView) (search : Search) where
   -- ---- the answers
-
-  -- a fault since a later moment is one since an earlier moment
-  earlier : (before made now : D) (old : List RecordView) (Leaves : List RecordView → D → Type 0) (b : BoardState) → on.faults before ≤ on.faults made → HasKept on dp head old Leaves made now b → HasKept on dp head old Leaves before now b
-  earlier before made now old Leaves b faults k = record { rose = λ stopped. let rose = k.rose stopped in omega (arith, faults, rose); journal = k.journal }
 
   -- what is told of a search that has begun
   abbrev HasBegunFrom : D → D → Outcome → Option Counts → Type 0
@@ -47,7 +42,7 @@ module _ {D : Type 0} (on : Ghosts D) (dp : Dp) (own : List ℕ → Option ℤ) 
   since-before before made now answer faults = ends-in-words dp search (HasBegunFrom made now) (HasBegunFrom before now)
       (λ outcome counts h. (
         h.0,
-        record { settings = h.1.settings; board = h.1.board; over = h.1.over; concluded = h.1.concluded; trusted = h.1.trusted; keeps = earlier before made now [] (LeavesBegun on head) h.1.board faults h.1.keeps },
+        record { settings = h.1.settings; board = h.1.board; over = h.1.over; concluded = h.1.concluded; trusted = h.1.trusted; keeps = kept-before on dp head [] (LeavesBegun on head) before made now h.1.board faults h.1.keeps },
       ))
       answer
 

@@ -39,7 +39,7 @@ use Rattle.solver_jobs.specs.Kept.{GoesOn, Resumes, ResumesJournal, WasResumed}
 use Rattle.solver_jobs.specs.Outcomes.{HasSearched}
 use Rattle.solver_jobs.specs.Over.{IsOver}
 use Rattle.solver_jobs.specs.declared.text_job.Search.{Search}
-use Rattle.solver_jobs.proofs.Journaled.{exact-over, ends-resumed, left-behind, none-behind, same-start, still-tells}
+use Rattle.solver_jobs.proofs.Journaled.{exact-over, ends-resumed, kept-before, left-behind, none-behind, same-start, still-tells}
 use Rattle.solver_cli.specs.Journals.{IsOpened, LeavesOpened, TouchesNothing}
 use Rattle.solver_cli.specs.Searches.{IsKeptOn, KeepsSome, report_of}
 use Rattle.solver_cli.specs.Starts.{AreAsked, GoesOnFrom}
@@ -95,7 +95,6 @@ module _ {D : Type 0} (on : Ghosts D) where
     reported first made now plain (Ok told) h = (h, coverless search.cover (is_final told.0) plain)
     reported first made now plain (Err e) h = tt
 
-    -- a fault since a later moment is one since an earlier moment
     gone-before : (before made now : D) → on.faults before ≤ on.faults made → (outcome : Outcome) (counts : Option Counts) → HasGoneOn made now outcome counts → HasGoneOn before now outcome counts
     gone-before before made now faults outcome counts (accepted, h) = (
       accepted,
@@ -105,7 +104,7 @@ module _ {D : Type 0} (on : Ghosts D) where
         over = h.over;
         concluded = h.concluded;
         trusted = h.trusted;
-        keeps = record { rose = λ stopped. let rose = h.keeps.rose stopped in omega (arith, faults, rose); journal = h.keeps.journal };
+        keeps = kept-before on dp head records (LeavesResumed on head records) before made now h.board faults h.keeps;
       },
     )
 
