@@ -5,6 +5,10 @@
 //! The crate stands on the standard library alone. Each call is one pass over its rows, takes no memory
 //! and gives exactly what its definition says. `BenefitLaws` has what follows for the problems above:
 //! a row has no gap to itself, gaps add up along a chain, and a gap bounds what any choices gain more.
+//!
+//! ```
+//! let far = gap(&[3, -1], &[1, 2]); // 2
+//! ```
 #![tactic(auto)]
 
 mod row;

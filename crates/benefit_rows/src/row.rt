@@ -105,7 +105,7 @@ fn distance_within(from: &[i64], to: &[i64], most: i64) -> Option<i64>
     if sizes > most { None } else { Some(sizes) }
 }
 
-/// Four benefits of a row.
+/// A block of a row: eight benefits.
 fn block_of(row: &[i64], block: usize) -> &[i64]
     requires { 8 * (block + 1) ≤ length row.now }
     ensures { result.now ≡ take 8 (drop (8 * block) row.now) }

@@ -8,7 +8,7 @@ use Rattle.dp_model.specs.Prefixes.{IsContinuation, gain_of}
 use Rattle.dp_model.specs.Subproblem.{IsOwn}
 use Rattle.dp_model.proofs.Members.{Has, one-of-has}
 use Rattle.dp_model.proofs.Paths.{value_of-append, completed}
-use Rattle.shared_fringe.specs.Tickets.{Ticketed}
+use Rattle.fringe.specs.Tickets.{Ticketed}
 use Rattle.board_laws.proofs.Lists.{one-map, one-mapped}
 use Rattle.board_laws.specs.Board.{prefixes, reach_of}
 use Rattle.dp_laws.specs.Floors.{ReachesBelow, IsFloor, Carries}

@@ -10,7 +10,7 @@ use Rattle.dp_model.proofs.Members.{Each-map, Each-then}
 use Rattle.dp_laws.specs.Antichains.{NeitherBegins, IsExtension}
 use Rattle.dp_laws.specs.Pairs.{EachTwo}
 use Rattle.dp_laws.proofs.Counting.{sum-map, pots-below, pots-positive}
-use Rattle.shared_fringe.specs.Tickets.{Ticketed}
+use Rattle.fringe.specs.Tickets.{Ticketed}
 use Rattle.board_laws.proofs.Lists.{two-map}
 use Rattle.board_laws.specs.Board.{prefixes}
 use Rattle.dp_laws.specs.Children.{AreApart}

@@ -6,9 +6,9 @@ use Rattle.dp_model.specs.Numbers.{is_above}
 use Rattle.dp_model.specs.Subproblem.{Subproblem}
 use Rattle.dp_model.proofs.Members.{Has, each-has, each-of-all, Has-filter, Has-filter-from}
 use Rattle.dp_laws.specs.Pairs.{EachTwo}
-use Rattle.shared_fringe.specs.Fringe.{is_same, AreDifferent}
-use Rattle.shared_fringe.specs.Tickets.{Ticketed, IsEarlier, without}
-use Rattle.shared_fringe.proofs.Rows.{same-none, same-others, different-turned}
+use Rattle.fringe.specs.Fringe.{is_same, AreDifferent}
+use Rattle.fringe.specs.Tickets.{Ticketed, IsEarlier, without}
+use Rattle.fringe.proofs.Rows.{same-none, same-others, different-turned}
 use Rattle.dominance_table.specs.Entries.{TableEntry}
 use Rattle.board_laws.proofs.Fates.{FatesHold, Replaces}
 use Rattle.board_laws.specs.Entering.{entering, replaced, is_among, without_all}

@@ -2,7 +2,7 @@
 use Rattle.std.proofs.Common.{◌≡◌, pos, List, [], ◌∷◌, map, Some, None, refl}
 use Rattle.dp_model.specs.Subproblem.{Subproblem}
 use Rattle.dp_model.proofs.Examples.{three_items}
-use Rattle.shared_fringe.specs.Tickets.{Ticketed}
+use Rattle.fringe.specs.Tickets.{Ticketed}
 use Rattle.dominance_table.specs.Entries.{TableEntry}
 use Rattle.board_laws.specs.Board.{BoardState}
 use Rattle.board_laws.specs.Fates.{fates_on, fate_of}

@@ -8,9 +8,9 @@ use Rattle.dp_model.specs.Numbers.{is_above}
 use Rattle.dp_model.specs.Subproblem.{Subproblem}
 use Rattle.dp_model.proofs.Members.{Has, Each-then, each-has}
 use Rattle.dp_laws.specs.Pairs.{EachTwo}
-use Rattle.shared_fringe.specs.Fringe.{is_same, same_at, same_open}
-use Rattle.shared_fringe.specs.Tickets.{Ticketed, IsEarlier}
-use Rattle.shared_fringe.proofs.Rows.{same-depth, same-row}
+use Rattle.fringe.specs.Fringe.{is_same, same_at, same_open}
+use Rattle.fringe.specs.Tickets.{Ticketed, IsEarlier}
+use Rattle.fringe.proofs.Rows.{same-depth, same-row}
 use Rattle.dominance_table.specs.Dominator.{entry_dominates, dominator, least}
 use Rattle.dominance_table.specs.Entries.{TableEntry}
 use Rattle.board_laws.specs.Entering.{let_in, entering, replaced, is_among}

@@ -13,8 +13,8 @@ use Rattle.dp_model.specs.Prefixes.{IsCompletion, IsMatched, Reaches, value_of, 
 use Rattle.dp_model.specs.Subproblem.{Subproblem, IsOwn, IsChild}
 use Rattle.dp_model.proofs.Members.{Each-then, Each-append, Each-map, each-has, each-of-all, one-of-has, Has-filter, Has-append-right}
 use Rattle.dp_laws.specs.Pairs.{EachTwo}
-use Rattle.shared_fringe.specs.Tickets.{Ticketed, IsEarlier}
-use Rattle.shared_fringe.proofs.Rows.{same-depth, same-row}
+use Rattle.fringe.specs.Tickets.{Ticketed, IsEarlier}
+use Rattle.fringe.proofs.Rows.{same-depth, same-row}
 use Rattle.dominance_table.specs.Dominator.{entry_dominates}
 use Rattle.dominance_table.specs.Entries.{TableEntry}
 use Rattle.board_laws.proofs.Carrying.{Deep, CarriesBy, carries-from, own-floor, option-self}

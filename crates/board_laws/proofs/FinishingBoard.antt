@@ -14,8 +14,8 @@ use Rattle.dp_model.proofs.Paths.{state_of-state}
 use Rattle.dp_model.specs.Gaps.{IsStateOf}
 use Rattle.dp_laws.specs.Pairs.{EachTwo}
 use Rattle.dp_laws.proofs.Lists.{each-filter, two-filter}
-use Rattle.shared_fringe.specs.Fringe.{AreDifferent}
-use Rattle.shared_fringe.specs.Tickets.{Ticketed, IsEarlier}
+use Rattle.fringe.specs.Fringe.{AreDifferent}
+use Rattle.fringe.specs.Tickets.{Ticketed, IsEarlier}
 use Rattle.dominance_table.specs.Entries.{TableEntry}
 use Rattle.board_laws.proofs.Carrying.{carries-from, option-self}
 use Rattle.board_laws.proofs.Counting.{children-below, pots-split}

@@ -11,7 +11,7 @@ use Rattle.dp_model.specs.Laws.{IsLawful}
 use Rattle.dp_model.specs.Numbers.{AtMost, add_some}
 use Rattle.dp_model.specs.Prefixes.{IsSolution, IsContinuation, value_of, gain_of}
 use Rattle.dp_laws.proofs.Counting.{pots-positive}
-use Rattle.shared_fringe.specs.Tickets.{Ticketed}
+use Rattle.fringe.specs.Tickets.{Ticketed}
 use Rattle.board_laws.specs.Board.{AreSettings, reach_of, value_held}
 use Rattle.board_laws.specs.GoodBoard.{IncumbentHolds, pot_of, share_of}
 use Rattle.board_laws.specs.Laws.{IsFirstGood}
@@ -102,7 +102,7 @@ first-begins dp within least laws =
 
 pub first-is-good : (dp : Dp) → IsLawful dp → (settings : Settings) → AreSettings settings → IsFirstGood dp settings
 first-is-good dp laws settings are =
-    let begins = first-begins dp settings.within are.within_least laws in
+    let begins = first-begins dp settings.within are.distance.least laws in
     record {
       board = fresh-board dp settings (first_incumbent dp) (first_open dp) (length (first_open dp)) are begins.opens;
       good = fresh-good dp settings 0 (first_incumbent dp) (first_open dp) (length (first_open dp)) begins.sound;

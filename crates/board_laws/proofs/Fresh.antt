@@ -10,8 +10,8 @@ use Rattle.dp_model.specs.Subproblem.{IsOwn}
 use Rattle.dp_laws.specs.Children.{AreApart}
 use Rattle.dp_laws.specs.Pairs.{EachTwo}
 use Rattle.dp_laws.proofs.Diagrams.Apart.{two-then}
-use Rattle.shared_fringe.specs.Fringe.{AreDifferent}
-use Rattle.shared_fringe.specs.Tickets.{Ticketed, IsEarlier}
+use Rattle.fringe.specs.Fringe.{AreDifferent}
+use Rattle.fringe.specs.Tickets.{Ticketed, IsEarlier}
 use Rattle.board_laws.specs.Board.{AreSettings, reach_of, value_held, full_slots, prefixes}
 use Rattle.board_laws.specs.GoodBoard.{IncumbentHolds, IsBoard, IsGood, pot_of, share_of}
 use Rattle.board_laws.specs.Restoring.{IsListSound}

@@ -12,7 +12,7 @@ use Rattle.dp_model.specs.Prefixes.{IsSolution, IsMatched, value_of}
 use Rattle.dp_model.specs.Subproblem.{Subproblem}
 use Rattle.std.proofs.lemmas.Bool.{and_parts}
 use Rattle.dp_laws.specs.Pairs.{EachTwo}
-use Rattle.shared_fringe.specs.Tickets.{Ticketed}
+use Rattle.fringe.specs.Tickets.{Ticketed}
 use Rattle.board_laws.proofs.Lists.{one-map}
 use Rattle.board_laws.proofs.With.{IsWith, each-out, each-in, one-out_of, one-in, two-out, two-in, sum-with}
 use Rattle.board_laws.specs.Board.{prefixes}

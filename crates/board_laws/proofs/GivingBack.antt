@@ -9,8 +9,8 @@ use Rattle.dp_model.specs.Lists.{Each}
 use Rattle.dp_model.specs.Numbers.{is_above, IsFar}
 use Rattle.dp_model.specs.Subproblem.{IsOwn}
 use Rattle.dp_model.proofs.Members.{Each-then}
-use Rattle.shared_fringe.specs.Pushing.{after_push}
-use Rattle.shared_fringe.specs.Tickets.{Ticketed}
+use Rattle.fringe.specs.Pushing.{after_push}
+use Rattle.fringe.specs.Tickets.{Ticketed}
 use Rattle.board_laws.proofs.Carrying.{Deep, CarriesBy, carries-from, option-self}
 use Rattle.board_laws.proofs.Finishing.{reaches-low}
 use Rattle.board_laws.proofs.Frontier.{not-above, tickets-flip, apart-flip}

@@ -9,8 +9,8 @@ use Rattle.dp_model.specs.Prefixes.{value_of}
 use Rattle.dp_model.specs.Subproblem.{IsOwn}
 use Rattle.dp_model.proofs.Members.{Each-then}
 use Rattle.dp_laws.proofs.Lists.{two-filter}
-use Rattle.shared_fringe.specs.Fringe.{AreDifferent}
-use Rattle.shared_fringe.specs.Tickets.{Ticketed, IsEarlier}
+use Rattle.fringe.specs.Fringe.{AreDifferent}
+use Rattle.fringe.specs.Tickets.{Ticketed, IsEarlier}
 use Rattle.board_laws.proofs.Carrying.{reach-rises, Deep, CarriesBy, carries-from}
 use Rattle.board_laws.proofs.Finishing.{reaches-low}
 use Rattle.board_laws.proofs.Frontier.{not-above}

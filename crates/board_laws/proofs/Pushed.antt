@@ -11,11 +11,11 @@ use Rattle.dp_model.specs.Subproblem.{IsOwn}
 use Rattle.dp_model.proofs.Members.{Each-then, Each-append, Has, each-has, one-of-has}
 use Rattle.dp_laws.specs.Pairs.{EachTwo}
 use Rattle.dp_laws.proofs.Lists.{each-filter, two-filter}
-use Rattle.shared_fringe.specs.Fringe.{same_open, AreDifferent}
-use Rattle.shared_fringe.specs.Pushing.{pushed_beside, after_push}
-use Rattle.shared_fringe.specs.Tickets.{Ticketed, IsEarlier, by_ticket, without}
-use Rattle.shared_fringe.proofs.Rows.{same-depth, same-row, same-none, same-others, different-turned}
-use Rattle.shared_fringe.proofs.Tickets.{tickets-by_ticket, two-by_ticket}
+use Rattle.fringe.specs.Fringe.{same_open, AreDifferent}
+use Rattle.fringe.specs.Pushing.{pushed_beside, after_push}
+use Rattle.fringe.specs.Tickets.{Ticketed, IsEarlier, by_ticket, without}
+use Rattle.fringe.proofs.Rows.{same-depth, same-row, same-none, same-others, different-turned}
+use Rattle.fringe.proofs.Tickets.{tickets-by_ticket, two-by_ticket}
 use Rattle.board_laws.proofs.Carrying.{Deep}
 use Rattle.board_laws.proofs.Fates.{Beats, found-one, same-ticket, int-more, int-less}
 use Rattle.board_laws.proofs.Finishing.{beats-deep}

@@ -15,11 +15,11 @@ use Rattle.board_laws.specs.Fates.{fate_of, fates_by, ticket_after}
 use Rattle.board_laws.specs.Pushes.{push_by, PushesAreFates, PutsAreEntries}
 use Rattle.board_laws.specs.declared.fate.Fate.{Fate}
 use Rattle.board_laws.specs.declared.fate.Fate.TheVariants.{Below, Kept, Dominated, Replaced, Entered}
-use Rattle.shared_fringe.specs.Fringe.{is_same, same_at, same_open}
-use Rattle.shared_fringe.specs.Pushing.{pushed_beside, after_push}
-use Rattle.shared_fringe.specs.Tickets.{Ticketed, IsEarlier, by_ticket, without}
+use Rattle.fringe.specs.Fringe.{is_same, same_at, same_open}
+use Rattle.fringe.specs.Pushing.{pushed_beside, after_push}
+use Rattle.fringe.specs.Tickets.{Ticketed, IsEarlier, by_ticket, without}
 use Rattle.dominance_table.specs.Entries.{TableEntry, after_put, is_full}
-use Rattle.shared_fringe.proofs.Rows.{same-depth, same-row, different-turned}
+use Rattle.fringe.proofs.Rows.{same-depth, same-row, different-turned}
 use Rattle.dp_laws.proofs.Restricted.Permutations.{two-append}
 
 -- what a push needs of a fate

@@ -12,11 +12,11 @@ use Rattle.board_laws.proofs.Counting.{pots-many}
 use Rattle.board_laws.proofs.Frontier.{MatchedBy, HeldBy, covers-by, matched-below}
 use Rattle.board_laws.proofs.Lists.{one-each, one-out}
 use Rattle.board_laws.specs.Board.{BoardState, incumbent_value, value_held, full_slots, frontier, reach, reach_of, is_explored}
-use Rattle.shared_fringe.specs.Bounds.{raised}
+use Rattle.fringe.specs.Bounds.{raised}
 use Rattle.board_laws.specs.Bound.{raised_by, board_bound, IsGreatestBound}
 use Rattle.board_laws.specs.GoodBoard.{IsGood, IncumbentHolds, IsBoard}
 use Rattle.board_laws.specs.Laws.{NoneExceedsTheBound, ExploredIsWithinReach, ExploredIsBest}
-use Rattle.shared_fringe.specs.Tickets.{Ticketed}
+use Rattle.fringe.specs.Tickets.{Ticketed}
 use Rattle.std.proofs.lemmas.Bool.Decides.{nat_tests}
 use Rattle.dp_model.specs.Solution.{Solution}
 use Rattle.dp_model.specs.Best.{IsBest}

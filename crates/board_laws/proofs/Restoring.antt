@@ -13,9 +13,9 @@ use Rattle.dp_model.proofs.Members.{Each-then}
 use Rattle.dp_laws.specs.Children.{AreApart}
 use Rattle.dp_laws.specs.Pairs.{EachTwo}
 use Rattle.dp_laws.proofs.Reaches.{covers-carried}
-use Rattle.shared_fringe.specs.Fringe.{AreDifferent}
-use Rattle.shared_fringe.specs.Pushing.{after_push}
-use Rattle.shared_fringe.specs.Tickets.{Ticketed, IsEarlier}
+use Rattle.fringe.specs.Fringe.{AreDifferent}
+use Rattle.fringe.specs.Pushing.{after_push}
+use Rattle.fringe.specs.Tickets.{Ticketed, IsEarlier}
 use Rattle.board_laws.specs.Board.{reach_of, value_held, prefixes}
 use Rattle.board_laws.specs.GoodBoard.{pot_of, share_of}
 use Rattle.board_laws.specs.Laws.{RestoredBoardsKeep}

@@ -8,8 +8,8 @@ use Rattle.dp_model.specs.Laws.{IsLawful}
 use Rattle.dp_model.specs.Numbers.{OptionAtMost, is_above, AtMost}
 use Rattle.dp_model.specs.Prefixes.{value_of}
 use Rattle.dp_laws.proofs.Reaches.{at-most-raised}
-use Rattle.shared_fringe.specs.Firsts.{first_taken}
-use Rattle.shared_fringe.specs.Tickets.{Ticketed}
+use Rattle.fringe.specs.Firsts.{first_taken}
+use Rattle.fringe.specs.Tickets.{Ticketed}
 use Rattle.board_laws.specs.Runs.Step.{Take, Improve, Finish, GiveBack, Halt}
 use Rattle.board_laws.proofs.Carrying.{option-self}
 use Rattle.board_laws.proofs.FinishingBoard.{finish-keeps}

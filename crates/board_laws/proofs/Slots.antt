@@ -1,7 +1,7 @@
 -- Slots that are filled and emptied, and the open list by place and by ticket.
 use Rattle.std.proofs.Common.{◌≡◌, ℕ, zero, suc, ◌≤◌, List, [], ◌∷◌, length, set, true, false, cond, nat_lt, Option, Some, None, sym, ap, subst, arith}
 use Rattle.std.specs.List.{slice_get}
-use Rattle.shared_fringe.specs.Tickets.{Ticketed, by_ticket}
+use Rattle.fringe.specs.Tickets.{Ticketed, by_ticket}
 use Rattle.board_laws.proofs.With.{IsWith, with-here, with-there}
 use Rattle.board_laws.specs.Board.{full_slots, slot_content}
 

@@ -10,11 +10,11 @@ use Rattle.dp_model.specs.Subproblem.{IsOwn}
 use Rattle.dp_model.proofs.Members.{Each-then}
 use Rattle.dp_laws.specs.Pairs.{EachTwo}
 use Rattle.dp_laws.proofs.Lists.{each-filter, two-filter}
-use Rattle.shared_fringe.specs.Fringe.{AreDifferent}
-use Rattle.shared_fringe.specs.Tickets.{Ticketed, IsEarlier, without}
-use Rattle.shared_fringe.proofs.Tickets.{without-later}
+use Rattle.fringe.specs.Fringe.{AreDifferent}
+use Rattle.fringe.specs.Tickets.{Ticketed, IsEarlier, without}
+use Rattle.fringe.proofs.Tickets.{without-later}
 use Rattle.board_laws.proofs.Carrying.{Deep, CarriesBy, carries-from, option-self}
-use Rattle.shared_fringe.proofs.Takings.{first_taken-is}
+use Rattle.fringe.proofs.Takings.{first_taken-is}
 use Rattle.board_laws.proofs.Frontier.{each-moved, one-moved, two-moved, sum-moved, tickets-flip, apart-flip}
 use Rattle.board_laws.proofs.Lists.{one-each, one-out}
 use Rattle.board_laws.proofs.Slots.{filled, full-few}
@@ -29,7 +29,7 @@ use Rattle.board_laws.specs.declared.cause.Cause.{Cause}
 use Rattle.board_laws.specs.declared.cause.Cause.TheVariants.{Budget}
 use Rattle.board_laws.specs.declared.taken.Taken.{Taken}
 use Rattle.board_laws.specs.declared.taken.Taken.TheVariants.{Sub, WaitForOthers, Finished, Halted}
-use Rattle.shared_fringe.specs.Firsts.{first_taken}
+use Rattle.fringe.specs.Firsts.{first_taken}
 use Rattle.board_laws.proofs.Differing.{or-parts}
 
 -- Moving one member between slots and open ones.

@@ -1,18 +1,19 @@
 -- The board as data.
-use Rattle.std.specs.Prelude.{ℕ, ◌+◌, ◌^◌, ◌≤◌, ℤ, pos, ◌+ℤ◌, ◌≤ℤ◌, Bool, List, [], ◌∷◌, ◌++◌, map, length, nat_eq, slice_get, Option, Some, None}
+use Rattle.std.specs.Prelude.{ℕ, ◌+◌, ◌≤◌, ℤ, ◌+ℤ◌, Bool, List, [], ◌∷◌, ◌++◌, map, length, nat_eq, slice_get, Option, Some, None}
+use Rattle.dp_model.specs.Distances.{IsDistance}
 use Rattle.dp_model.specs.Solution.{Solution}
-use Rattle.shared_fringe.specs.Tickets.{Ticketed}
+use Rattle.dp_model.specs.declared.limits.TheConstants.{MOST_WORKERS}
+use Rattle.fringe.specs.Tickets.{Ticketed}
 use Rattle.dominance_table.specs.Entries.{TableEntry}
 use Rattle.board_laws.specs.declared.cause.Cause.{Cause}
 use Rattle.board_laws.specs.declared.settings.Settings.{Settings}
 
--- the settings of a search: from 1 to 16 workers, a width of at least 1, and a distance from 0 to 2^50
+-- the settings of a search: some workers and no more than may be, a width of at least 1, and a distance
 pub record AreSettings (s : Settings) : Type 0 where
   pub some_workers : 1 ≤ s.workers
-  pub few_workers : s.workers ≤ 16
+  pub few_workers : s.workers ≤ MOST_WORKERS
   pub some_width : 1 ≤ s.width
-  pub within_least : pos 0 ≤ℤ s.within
-  pub within_most : s.within ≤ℤ pos (2 ^ 50)
+  pub distance : IsDistance s.within
 
 -- the incumbent, the open subproblems in order of ticket, a slot for each worker, the entries of the dominance table in order of
 -- ticket, the settings, the counts and the cause of a halt
@@ -27,10 +28,12 @@ pub record BoardState : Type 0 where
   pub next_ticket : ℕ
   pub cause : Option Cause
 
+-- the value of a solution, or none
 abbrev pub value_held : Option Solution → Option ℤ
 value_held None = None
 value_held (Some best) = Some best.value
 
+-- the incumbent's value, or none
 abbrev pub incumbent_value : BoardState → Option ℤ
 incumbent_value b = value_held b.incumbent
 
@@ -54,6 +57,7 @@ abbrev pub slot_content : Option (Option Ticketed) → Option Ticketed
 slot_content None = None
 slot_content (Some slot) = slot
 
+-- what a worker's slot has
 abbrev pub slot_at : BoardState → ℕ → Option Ticketed
 slot_at b who = slot_content (slice_get b.slots who)
 

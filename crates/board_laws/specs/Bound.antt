@@ -2,8 +2,8 @@
 use Rattle.std.specs.Prelude.{◌≡◌, ℤ, ◌⊎◌, List, [], ◌∷◌, Option, Some}
 use Rattle.dp_model.specs.Lists.{Each, OneOf}
 use Rattle.dp_model.specs.Numbers.{AtMost, OptionAtMost}
-use Rattle.shared_fringe.specs.Bounds.{raised}
-use Rattle.shared_fringe.specs.Tickets.{Ticketed}
+use Rattle.fringe.specs.Bounds.{raised}
+use Rattle.fringe.specs.Tickets.{Ticketed}
 use Rattle.board_laws.specs.Board.{BoardState, reach, frontier}
 
 -- the greatest of an option and the bounds of a list

@@ -2,12 +2,13 @@
 use Rattle.std.specs.Prelude.{ℕ, Bool, false, not, ◌||◌, cond, List, [], ◌∷◌, ◌++◌, length, filter, nat_eq}
 use Rattle.dp_model.specs.Dp.{Dp}
 use Rattle.dp_model.specs.Subproblem.{Subproblem}
-use Rattle.shared_fringe.specs.Tickets.{Ticketed}
+use Rattle.fringe.specs.Tickets.{Ticketed}
 use Rattle.dominance_table.specs.Dominator.{entry_of_state}
 use Rattle.dominance_table.specs.Entries.{TableEntry}
 use Rattle.board_laws.specs.declared.fate.Fate.{Fate}
 use Rattle.board_laws.specs.declared.fate.Fate.TheVariants.{Below, Kept, Dominated, Replaced, Entered}
 
+-- the open ones after a child with this fate
 abbrev pub let_in : Subproblem → Fate → List Ticketed → List Ticketed
 let_in c Below os = os
 let_in c (Kept by) os = os
@@ -21,6 +22,7 @@ entering [] fs = []
 entering (c ∷ cs) [] = []
 entering (c ∷ cs) (f ∷ fs) = let_in c f (entering cs fs)
 
+-- the tickets of those that children replace
 abbrev pub put_out : Fate → List ℕ → List ℕ
 put_out Below ts = ts
 put_out (Kept by) ts = ts
@@ -33,6 +35,7 @@ abbrev pub replaced : List Fate → List ℕ
 replaced [] = []
 replaced (f ∷ fs) = put_out f (replaced fs)
 
+-- whether the ticket is in the list
 abbrev pub is_among : ℕ → List ℕ → Bool
 is_among t [] = false
 is_among t (s ∷ ts) = nat_eq t s || is_among t ts

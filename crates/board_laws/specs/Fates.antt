@@ -3,22 +3,25 @@ use Rattle.std.specs.Prelude.{ℕ, ◌+◌, ℤ, cond, int_le, List, [], ◌∷�
 use Rattle.dp_model.specs.Dp.{Dp}
 use Rattle.dp_model.specs.Numbers.{is_above}
 use Rattle.dp_model.specs.Subproblem.{Subproblem}
-use Rattle.shared_fringe.specs.Fringe.{same_open}
-use Rattle.shared_fringe.specs.Tickets.{Ticketed}
+use Rattle.fringe.specs.Fringe.{same_open}
+use Rattle.fringe.specs.Tickets.{Ticketed}
 use Rattle.dominance_table.specs.Dominator.{dominator}
 use Rattle.dominance_table.specs.Entries.{TableEntry}
 use Rattle.board_laws.specs.declared.fate.Fate.{Fate}
 use Rattle.board_laws.specs.declared.fate.Fate.TheVariants.{Below, Kept, Dominated, Replaced, Entered}
 use Rattle.board_laws.specs.Board.{BoardState, reach}
 
+-- a child enters, beside the others or in the place of one
 abbrev pub enters_at : ℕ → Option Ticketed → Fate
 enters_at ticket None = Entered ticket
 enters_at ticket (Some o) = Replaced ticket o.ticket
 
+-- the fate, unless an entry of the table dominates the child
 abbrev pub unless_dominated : Fate → Option ℕ → Fate
 unless_dominated fate None = fate
 unless_dominated fate (Some by) = Dominated by
 
+-- the fate, unless an open one of the same state has no less value
 abbrev pub unless_kept : Fate → Subproblem → Option Ticketed → Fate
 unless_kept fate c None = fate
 unless_kept fate c (Some o) = cond (int_le c.value o.subproblem.value) (Kept o.ticket) fate
@@ -38,6 +41,7 @@ ticket_after ticket (Dominated by) = ticket
 ticket_after ticket (Replaced own old) = ticket + 1
 ticket_after ticket (Entered own) = ticket + 1
 
+-- the next ticket after fates
 abbrev pub tickets_after : ℕ → List Fate → ℕ
 tickets_after ticket [] = ticket
 tickets_after ticket (f ∷ fs) = tickets_after (ticket_after ticket f) fs

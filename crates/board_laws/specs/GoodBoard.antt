@@ -4,13 +4,14 @@ use Rattle.dp_model.specs.Solution.{Solution, IsSolutionWith}
 use Rattle.dp_model.specs.Counts.{pot, tree}
 use Rattle.dp_model.specs.Cover.{Covers, IsHeld}
 use Rattle.dp_model.specs.Dp.{Dp}
+use Rattle.dp_model.specs.declared.limits.TheConstants.{MOST_WIDTH, MOST_WORKERS}
 use Rattle.dp_model.specs.Gaps.{IsStateOf}
 use Rattle.dp_model.specs.Lists.{Each}
 use Rattle.dp_model.specs.Numbers.{IsFar, is_above}
 use Rattle.dp_model.specs.Subproblem.{IsOwn}
 use Rattle.dp_laws.specs.Pairs.{EachTwo}
-use Rattle.shared_fringe.specs.Fringe.{AreDifferent}
-use Rattle.shared_fringe.specs.Tickets.{Ticketed, IsEarlier}
+use Rattle.fringe.specs.Fringe.{AreDifferent}
+use Rattle.fringe.specs.Tickets.{Ticketed, IsEarlier}
 use Rattle.dominance_table.specs.Dominator.{IsRankOf}
 use Rattle.dominance_table.specs.Entries.{TableEntry}
 use Rattle.board_laws.specs.declared.cause.Cause.TheVariants.{Budget}
@@ -54,7 +55,7 @@ pub record IsBoard (dp : Dp) (b : BoardState) : Type 0 where
   pub slots : length b.slots ≡ b.settings.workers
   pub out : b.finished + length (full_slots b.slots) ≤ b.taken
   pub budget : b.taken ≤ b.settings.budget
-  pub room : 1 ≤ length (full_slots b.slots) → b.next_ticket + 2 ^ 24 * length (full_slots b.slots) ≤ 2 ^ 64 - 2 ^ 28
+  pub room : 1 ≤ length (full_slots b.slots) → b.next_ticket + MOST_WIDTH * length (full_slots b.slots) ≤ 2 ^ 64 - MOST_WIDTH * MOST_WORKERS
   pub cause : b.cause ≢ Some Budget
 
 -- the floor of an entry beside open and checked-out subproblems
@@ -65,6 +66,7 @@ HasFloor dp reach os e = IsFloor dp reach (prefixes os) e.depth e.row e.value
 abbrev pub pot_of : Dp → Ticketed → ℕ
 pot_of dp o = pot dp o.subproblem.decisions
 
+-- how many prefixes begin with that of a subproblem and are longer
 abbrev pub share_of : Dp → Ticketed → ℕ
 share_of dp o = pot_of dp o - 1
 

@@ -6,7 +6,7 @@ use Rattle.dp_model.specs.Dp.{Dp}
 use Rattle.dp_model.specs.Numbers.{AtMost, is_above}
 use Rattle.dp_model.specs.Prefixes.{IsSolution, value_of}
 use Rattle.dp_model.specs.Subproblem.{Subproblem}
-use Rattle.shared_fringe.specs.Tickets.{Ticketed}
+use Rattle.fringe.specs.Tickets.{Ticketed}
 use Rattle.board_laws.specs.declared.cause.Cause.{Cause}
 use Rattle.board_laws.specs.declared.fate.Fate.{Fate}
 use Rattle.board_laws.specs.declared.settings.Settings.{Settings}
@@ -24,12 +24,15 @@ pub record KeepsBoard (dp : Dp) (b later : BoardState) : Type 0 where
   pub board : IsBoard dp b → IsBoard dp later
   pub good : IsBoard dp b → IsGood dp b → IsGood dp later
 
+-- Take keeps a board, and a good one
 abbrev pub TakeKeeps : Dp → Type 0
 TakeKeeps dp = (b : BoardState) (who : ℕ) → slice_get b.slots who ≡ Some None → KeepsBoard dp b (after_take b who)
 
+-- Improve keeps a board, and a good one
 abbrev pub ImproveKeeps : Dp → Type 0
 ImproveKeeps dp = (b : BoardState) (best : Solution) → IncumbentHolds dp (Some best) → is_above (incumbent_value b) best.value ≡ true → KeepsBoard dp b (improved b best)
 
+-- Finish keeps a board, and a good one
 abbrev pub FinishKeeps : Dp → Type 0
 FinishKeeps dp = (b : BoardState) (who : ℕ) (threshold : Option ℤ) (cs : List Subproblem) (fs : List Fate) → MayFinish dp b who threshold cs fs → KeepsBoard dp b (finished_by dp b who cs)
 
@@ -38,6 +41,7 @@ pub record GiveBackKeeps (dp : Dp) : Type 0 where
   pub board : (b : BoardState) (who : ℕ) → IsBoard dp b → IsBoard dp (given_back b who)
   pub good : (b : BoardState) (who : ℕ) → IsSome b.cause → IsBoard dp b → IsGood dp b → IsGood dp (given_back b who)
 
+-- Halt keeps a board, and a good one
 abbrev pub HaltKeeps : Dp → Type 0
 HaltKeeps dp = (b : BoardState) (cause : Cause) → KeepsBoard dp b (halted b cause)
 
@@ -46,6 +50,7 @@ pub record IsFirstGood (dp : Dp) (settings : Settings) : Type 0 where
   pub board : IsBoard dp (first_board dp settings)
   pub good : IsGood dp (first_board dp settings)
 
+-- the first board of settings is a good one
 abbrev pub FirstBoardsAreGood : Dp → Type 0
 FirstBoardsAreGood dp = (settings : Settings) → AreSettings settings → IsFirstGood dp settings
 
@@ -54,6 +59,7 @@ pub record RestoredKeeps (dp : Dp) (settings : Settings) (best : Option Solution
   pub board : IsBoard dp (restored_board settings best os next)
   pub good : (finished : ℕ) → IsListSound dp settings.within finished best os next → IsGood dp (restored_board settings best os next)
 
+-- a board that is restored is one, and a good one where what it is restored from is sound
 abbrev pub RestoredBoardsKeep : Dp → Type 0
 RestoredBoardsKeep dp = (settings : Settings) (best : Option Solution) (os : List Ticketed) (next : ℕ) → AreSettings settings → MayRestore dp best os next → RestoredKeeps dp settings best os next
 
@@ -63,6 +69,7 @@ pub record StepKeeps (dp : Dp) (b : BoardState) (step : Step) : Type 0 where
   pub follows : IsLaterInRun b (after dp b step)
   pub others : (who : ℕ) → worker_of step ≢ Some who → slot_at (after dp b step) who ≡ slot_at b who
 
+-- each allowed step keeps a board, and a good one
 abbrev pub StepsKeep : Dp → Type 0
 StepsKeep dp = (b : BoardState) (step : Step) → May dp b step → StepKeeps dp b step
 
@@ -71,6 +78,7 @@ pub record RunKeeps (dp : Dp) (b last : BoardState) : Type 0 where
   pub keeps : KeepsBoard dp b last
   pub follows : IsLaterInRun b last
 
+-- each run keeps a board, and a good one
 abbrev pub RunsKeep : Dp → Type 0
 RunsKeep dp = (b : BoardState) (steps : List Step) (last : BoardState) → IsRun dp b steps last → RunKeeps dp b last
 

@@ -4,8 +4,8 @@ use Rattle.dp_model.specs.Dp.{Dp}
 use Rattle.dp_model.specs.Lists.{Each}
 use Rattle.dp_model.specs.Subproblem.{Subproblem}
 use Rattle.dp_laws.specs.Pairs.{EachTwo}
-use Rattle.shared_fringe.specs.Pushing.{after_push}
-use Rattle.shared_fringe.specs.Tickets.{Ticketed, IsEarlier}
+use Rattle.fringe.specs.Pushing.{after_push}
+use Rattle.fringe.specs.Tickets.{Ticketed, IsEarlier}
 use Rattle.dominance_table.specs.Entries.{TableEntry, TableView, after_put}
 use Rattle.board_laws.specs.declared.fate.Fate.{Fate}
 use Rattle.board_laws.specs.declared.fate.Fate.TheVariants.{Below, Kept, Dominated, Replaced, Entered}

@@ -4,8 +4,8 @@ use Rattle.dp_model.specs.Solution.{Solution}
 use Rattle.dp_model.specs.Dp.{Dp}
 use Rattle.dp_model.specs.Numbers.{is_above, add_some}
 use Rattle.dp_model.specs.Subproblem.{Subproblem}
-use Rattle.shared_fringe.specs.Pushing.{after_push}
-use Rattle.shared_fringe.specs.Tickets.{Ticketed}
+use Rattle.fringe.specs.Pushing.{after_push}
+use Rattle.fringe.specs.Tickets.{Ticketed}
 use Rattle.board_laws.specs.declared.cause.Cause.{Cause}
 use Rattle.board_laws.specs.declared.cause.Cause.TheVariants.{Budget, Memory, Journal}
 use Rattle.board_laws.specs.declared.fate.Fate.{Fate}
@@ -36,6 +36,7 @@ finished_by dp b who cs = finished_with dp b who cs (fates_on dp b cs)
 abbrev pub back_among : Option ℤ → Ticketed → List Ticketed → List Ticketed
 back_among reach o os = cond (is_above reach o.subproblem.bound) (after_push o os) os
 
+-- the board with what a slot had open again
 abbrev pub given_back_from : BoardState → ℕ → Option Ticketed → BoardState
 given_back_from b who None = b
 given_back_from b who (Some o) = record b { open_ones = back_among (reach b) o b.open_ones; slots = slice_set b.slots who None }
@@ -59,6 +60,7 @@ halted b cause = record b { cause = cause_after b.cause cause }
 abbrev pub root_bound : Dp → Option ℤ
 root_bound dp = add_some dp.root_value (dp.rough 0 dp.root)
 
+-- the root with its rough bound, or none
 abbrev pub root_with : Dp → Option ℤ → Option Subproblem
 root_with dp None = None
 root_with dp (Some bound) = Some (record { decisions = []; row = dp.root; value = dp.root_value; bound = bound })
@@ -72,6 +74,7 @@ abbrev pub root_opened : Option Subproblem → List Ticketed
 root_opened None = []
 root_opened (Some c) = record { ticket = 0; subproblem = c } ∷ []
 
+-- so many empty slots
 abbrev pub empty_slots : ℕ → List (Option Ticketed)
 empty_slots zero = []
 empty_slots (suc n) = None ∷ empty_slots n

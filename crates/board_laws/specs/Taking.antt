@@ -1,8 +1,8 @@
 -- Which open subproblem is taken, and what Take answers.
 use Rattle.std.specs.Prelude.{ℕ, ◌+◌, ◌-◌, ◌^◌, Bool, cond, ◌||◌, List, [], ◌∷◌, nat_eq, nat_lt, slice_set, Option, Some, None}
 use Rattle.dp_model.specs.Subproblem.{Subproblem}
-use Rattle.shared_fringe.specs.Firsts.{first_taken, IsFirstTaken}
-use Rattle.shared_fringe.specs.Tickets.{without, Ticketed}
+use Rattle.fringe.specs.Firsts.{first_taken, IsFirstTaken}
+use Rattle.fringe.specs.Tickets.{without, Ticketed}
 use Rattle.board_laws.specs.declared.cause.Cause.{Cause}
 use Rattle.board_laws.specs.declared.cause.Cause.TheVariants.{Budget}
 use Rattle.board_laws.specs.declared.taken.Taken.{Taken}
@@ -18,10 +18,12 @@ HasFirst os (Some o) = IsFirstTaken os o
 abbrev pub is_budget_up : BoardState → Bool
 is_budget_up b = nat_eq b.taken b.settings.budget || nat_lt (2 ^ 64 - 2 ^ 29) b.next_ticket
 
+-- what Take answers where no cause is held
 abbrev pub take_open : BoardState → List Ticketed → Taken
 take_open b [] = WaitForOthers
 take_open b (o ∷ os) = cond (is_budget_up b) (Halted Budget) Sub
 
+-- what Take answers
 abbrev pub take_unless : BoardState → Option Cause → Taken
 take_unless b (Some cause) = Halted cause
 take_unless b None = take_open b b.open_ones
@@ -30,6 +32,7 @@ take_unless b None = take_open b b.open_ones
 abbrev pub take_gives : BoardState → Taken
 take_gives b = cond (is_explored b) Finished (take_unless b b.cause)
 
+-- the board with a subproblem moved into a slot
 abbrev pub checked_out : BoardState → ℕ → Option Ticketed → BoardState
 checked_out b who None = b
 checked_out b who (Some o) = record b { open_ones = without o.ticket b.open_ones; slots = slice_set b.slots who (Some o); taken = b.taken + 1 }
@@ -45,6 +48,7 @@ after_answer b who (Halted cause) = b
 abbrev pub after_take : BoardState → ℕ → BoardState
 after_take b who = after_answer b who (take_gives b)
 
+-- what the copy holds after Take
 abbrev pub copy_of : Subproblem → Option Ticketed → Subproblem
 copy_of c None = c
 copy_of c (Some o) = o.subproblem

@@ -1,6 +1,6 @@
 //! The board of a branch and bound search as plain data, with its steps, and the laws of boards and of runs.
 //!
-//! It stands on `dp_model`, on the laws of `dp_laws`, and on `shared_fringe` and `dominance_table` for the lists of open
+//! It stands on `dp_model`, on the laws of `dp_laws`, and on `fringe` and `dominance_table` for the lists of open
 //! subproblems and of table entries. A board is the incumbent, the open subproblems with their tickets, a slot for each worker,
 //! the entries of the dominance table, the settings, the counts and the cause of a halt. What is left out of a search is what is
 //! at most its reach: the incumbent's value and the distance that the settings allow.

@@ -26,6 +26,7 @@ abbrev pub rest_of : Option ℤ → ℤ → Option ℤ
 rest_of None value = None
 rest_of (Some best) value = Some (best -ℤ value)
 
+-- the greater of two numbers, where none is less than every number
 abbrev pub greater_of : Option ℤ → Option ℤ → Option ℤ
 greater_of None b = b
 greater_of (Some a) None = Some a
@@ -76,10 +77,12 @@ with_arcs_at place arcs [] = []
 with_arcs_at zero arcs (row ∷ rows) = record { bound = row.bound; words = row.words; arcs = Some arcs } ∷ rows
 with_arcs_at (suc place) arcs (row ∷ rows) = row ∷ with_arcs_at place arcs rows
 
+-- the arcs of the first node of a layer
 abbrev pub arcs_of_first : List DdNode → List DdArc
 arcs_of_first [] = []
 arcs_of_first (node ∷ nodes) = node.arcs
 
+-- whether each node of a layer waits for a diagram of its own
 abbrev pub all_wait : Option ℤ → List DdNode → Bool
 all_wait best [] = true
 all_wait best (node ∷ nodes) = leads_above best node && all_wait best nodes
@@ -98,6 +101,7 @@ explored_layer dp best q d rows j =
     (with_arcs_at q.place (map (moved (length (layer_of rows (j + 1)))) (arcs_of_first (layer_of d.layers 0))) (layer_of rows j))
     (layer_of rows j ++ map (row_for dp best d.first_reduced j (length (layer_of rows (j + 1)))) (layer_of (needed_layers best (length q.prefix) d d.first_reduced) (j - length q.prefix))))
 
+-- all layers of the cover with the diagram put in
 abbrev pub explored : Dp → Option ℤ → Waiting → DdLayers → List (List CoverRow) → List (List CoverRow)
 explored dp best q d rows = map (explored_layer dp best q d rows) (below (dp.vars + 1))
 
@@ -116,6 +120,7 @@ waiting_after best q d rows (Some depth) = waiting_in best (length (layer_of row
 abbrev pub start_cover : Dp → Option ℤ → List (List CoverRow)
 start_cover dp best = (record { bound = rest_of best dp.root_value; words = dp.root; arcs = None } ∷ []) ∷ replicate dp.vars []
 
+-- the root waits where there is something to decide
 abbrev pub start_waiting : Dp → List Waiting
 start_waiting dp = cond (nat_eq dp.vars 0) [] (record { place = 0; prefix = [] } ∷ [])
 

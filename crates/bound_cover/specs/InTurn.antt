@@ -32,6 +32,7 @@ abbrev pub begun_with : Option Why → Option ℤ → LayerTests
 begun_with None claim = record { claim = claim; count = 0; here = []; why = None }
 begun_with (Some why) claim = record { claim = None; count = 0; here = []; why = Some why }
 
+-- the tests before the first layer: those of the assignment and its value
 abbrev pub begun : Dp → Option ℤ → ℤ → List ℕ → LayerTests
 begun dp best within x = begun_with (solution_fault dp best x) (claim_of best within)
 

@@ -28,6 +28,7 @@ abbrev pub spans_from : ℕ → ℕ → List Head → List Span
 spans_from words_from arcs_from [] = []
 spans_from words_from arcs_from (head ∷ heads) = span_of words_from arcs_from head ∷ spans_from head.words_to head.arcs_to heads
 
+-- the spans of all heads
 abbrev pub spans : List Head → List Span
 spans heads = spans_from 0 0 heads
 
@@ -36,6 +37,7 @@ abbrev pub end_of_words : ℕ → List Head → ℕ
 end_of_words from [] = from
 end_of_words from (head ∷ heads) = end_of_words head.words_to heads
 
+-- where the arcs of all heads end
 abbrev pub end_of_arcs : ℕ → List Head → ℕ
 end_of_arcs from [] = from
 end_of_arcs from (head ∷ heads) = end_of_arcs head.arcs_to heads
@@ -107,6 +109,7 @@ to_row_fault dp k i gain step bound d (Some next) =
 abbrev pub place_from : ℕ → ℕ → ℕ → Option ℕ
 place_from row end start = cond (nat_lt row (end - start)) (Some (start + row)) None
 
+-- the place among all rows of a row of a layer, or none where there is none
 abbrev pub place_at : List ℕ → ℕ → ℕ → ℕ → Option ℕ
 place_at starts rows layer row = option_and_then (place_from row (unwrap_or (slice_get starts (layer + 1)) rows)) (slice_get starts layer)
 

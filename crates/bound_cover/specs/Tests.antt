@@ -32,6 +32,7 @@ abbrev pub are_states : Dp → ℕ → List CoverRow → Bool
 are_states dp k [] = true
 are_states dp k (row ∷ rows) = is_state_row dp k row.words && are_states dp k rows
 
+-- whether an arc stands for the decision
 abbrev pub lists : ℕ → List CoverArc → Bool
 lists d [] = false
 lists d (arc ∷ arcs) = nat_eq arc.decision d || lists d arcs
@@ -51,6 +52,7 @@ abbrev pub with_listed : List ℕ → List CoverArc → List ℕ
 with_listed allowed [] = allowed
 with_listed allowed (arc ∷ arcs) = put_in arc.decision (with_listed allowed arcs)
 
+-- the decisions that are tested: those that are allowed and those that are listed
 abbrev pub tested : Dp → ℕ → List ℤ → List CoverArc → List ℕ
 tested dp k words arcs = with_listed (filter (dp.allowed k words) (below (dp.choices k))) arcs
 
@@ -72,6 +74,7 @@ abbrev pub arc_fault : Dp → ℕ → ℕ → List CoverRow → CoverRow → ℕ
 arc_fault dp k i next row d None = unless (is_at_most (add_some (dp.gain k row.words d) (dp.rough (k + 1) (dp.step k row.words d))) row.bound) (Arc k i d)
 arc_fault dp k i next row d (Some place) = row_arc_fault dp k i row d (slice_get next place)
 
+-- a decision that is allowed has an arc, which passes
 abbrev pub listed_fault : Dp → ℕ → ℕ → List CoverRow → CoverRow → ℕ → Option CoverArc → Option Why
 listed_fault dp k i next row d None = Some (Target k i d)
 listed_fault dp k i next row d (Some arc) = arc_fault dp k i next row d arc.target
@@ -81,6 +84,7 @@ abbrev pub decision_fault : Dp → ℕ → ℕ → List CoverRow → CoverRow �
 decision_fault dp k i next row arcs d =
     cond (nat_lt d (dp.choices k) && dp.allowed k row.words d) (listed_fault dp k i next row d (arc_for d arcs)) (Some (Target k i d))
 
+-- the first failure of decisions
 abbrev pub decisions_fault : Dp → ℕ → ℕ → List CoverRow → CoverRow → List CoverArc → List ℕ → Option Why
 decisions_fault dp k i next row arcs [] = None
 decisions_fault dp k i next row arcs (d ∷ ds) = first_of (decision_fault dp k i next row arcs d) (decisions_fault dp k i next row arcs ds)

@@ -9,6 +9,7 @@ use Rattle.bound_cover.specs.declared.cover.Verdict.TheVariants.{Accepted, Refus
 use Rattle.bound_cover.specs.Covers.{CoverRow}
 use Rattle.bound_cover.specs.Tests.{is_at_most, unless, first_of, is_state_row, row_fault}
 
+-- the first layer, or no rows
 abbrev pub first_layer : List (List CoverRow) → List CoverRow
 first_layer [] = []
 first_layer (layer ∷ more) = layer
@@ -55,6 +56,7 @@ worth_from dp k s (d ∷ ds) =
 abbrev pub worth : Dp → List ℕ → Option ℤ
 worth dp x = add_some dp.root_value (worth_from dp 0 dp.root x)
 
+-- the value of the assignment is the reported one
 abbrev pub value_fault : Option ℤ → ℤ → Option Why
 value_fault None best = Some Assignment
 value_fault (Some value) best = unless (int_le value best && int_le best value) Value
@@ -74,6 +76,7 @@ abbrev pub checked : Dp → Option ℤ → ℤ → List ℕ → List (List Cover
 checked dp best within x layers =
     cond (nat_eq (length layers) (dp.vars + 1)) (first_of (solution_fault dp best x) (cover_fault dp (claim_of best within) layers)) (Some Layers)
 
+-- accepted where no test fails
 abbrev pub verdict_of : Option Why → Verdict
 verdict_of None = Accepted
 verdict_of (Some why) = Refused why

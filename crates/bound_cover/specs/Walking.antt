@@ -28,6 +28,7 @@ abbrev pub step_fault : Dp → ℕ → ℕ → List CoverRow → CoverRow → �
 step_fault dp k i next row d allowed None = cond allowed (Some (Target k i d)) None
 step_fault dp k i next row d allowed (Some arc) = cond allowed (arc_fault dp k i next row d arc.target) (Some (Target k i d))
 
+-- the decision of an arc
 abbrev pub decision_of : Option CoverArc → Option ℕ
 decision_of None = None
 decision_of (Some arc) = Some arc.decision

@@ -1,15 +1,16 @@
 //! The checker of covers: what `check_rows` and `check` need beside a cover and a model.
 
-ghost use Rattle.std.specs.Prelude.{◌≡◌, ◌<◌, ◌-◌, ◌^◌, pos, ◌≤ℤ◌, IfOk, length};
+ghost use Rattle.std.specs.Prelude.{◌≡◌, ◌<◌, ◌-◌, ◌^◌, pos, IfOk, length};
+ghost use Rattle.dp_model.specs.Distances.{IsDistance};
 ghost use Rattle.bound_cover.specs.Verdicts.{checked_rows, verdict};
 ghost use Rattle.bound_cover.specs.InTurn.{begun, taken, concluded};
 ghost use Rattle.bound_cover.specs.Proved.{IsReportedBest, IsReportedWithin};
 ghost use Rattle.bound_cover.specs.declared.cover.Verdict.TheVariants.{Accepted};
 
+use crate::checks::{check, check_rows, claim_of, solution_fault};
 use crate::cover::{Verdict, Why};
 use crate::layer_tests::{LayerTests, last_fault, layer_fault};
 use crate::storing::Cover;
-use crate::testing::{check, check_rows, claim_of, solution_fault};
 use dp_model::{DpModel, OutOfMemory};
 use std::alloc::Global;
 use std::marker::Model;
@@ -66,7 +67,7 @@ impl Checker {
     /// solutions is at most `within` above it: with a distance of 0 it is the value. Where no value is reported, there is no
     /// feasible solution.
     ///
-    /// The checker was prepared for the model, and the distance is from 0 to 2^50. It takes no memory.
+    /// The checker was prepared for the model, and `within` is a distance. It takes no memory.
     pub fn check<M: DpModel>(
         &mut self,
         model: &M,
@@ -76,8 +77,7 @@ impl Checker {
         cover: &Cover,
     ) -> Verdict
         requires prepared { self.old.words ≡ (M.meaning (M.numbers model.now)).words }
-        requires least { pos 0 ≤ℤ within }
-        requires most { within ≤ℤ pos (2 ^ 50) }
+        requires distance { IsDistance within }
         ensures verdict { result ≡ verdict (M.meaning (M.numbers model.now)) best within assignment.now cover.now }
         ensures near { result ≡ Accepted → IsReportedWithin (M.meaning (M.numbers model.now)) assignment.now best within }
         ensures sound { result ≡ Accepted → within ≡ pos 0 → IsReportedBest (M.meaning (M.numbers model.now)) assignment.now best }
@@ -95,7 +95,7 @@ impl Checker {
     }
     /// Begins the tests of a cover whose layers come one after another: tests the assignment and its value.
     ///
-    /// The checker was prepared for the model, and the distance is from 0 to 2^50. It takes no memory.
+    /// The checker was prepared for the model, and `within` is a distance. It takes no memory.
     pub fn begin<M: DpModel>(
         &mut self,
         alloc: Global,
@@ -105,8 +105,7 @@ impl Checker {
         assignment: &[u32],
     ) -> LayerTests
         requires prepared { self.old.words ≡ (M.meaning (M.numbers model.now)).words }
-        requires least { pos 0 ≤ℤ within }
-        requires most { within ≤ℤ pos (2 ^ 50) }
+        requires distance { IsDistance within }
         ensures begun { result ≡ begun (M.meaning (M.numbers model.now)) best within assignment.now }
         ensures same { self.new ≡ self.old }
     {

@@ -4,9 +4,9 @@ ghost use Rattle.std.specs.Prelude.{◌≡◌, ◌<◌, [], length};
 ghost use Rattle.bound_cover.specs.Exploring.{layer_of};
 ghost use Rattle.bound_cover.specs.InTurn.{root_fault, pair_fault, layer_fault, last_rows_fault};
 
+use crate::checks::{Rows, are_states, has_root, rows_fault};
 use crate::cover::Why;
 use crate::storing::{Cover, RowRef};
-use crate::testing::{Rows, are_states, has_root, rows_fault};
 use dp_model::DpModel;
 
 /// What is kept behind some layers of a cover: what no feasible solution may exceed, how many they are, the last one, and the first

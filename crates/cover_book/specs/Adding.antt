@@ -16,6 +16,7 @@ abbrev pub added_layer : Dp → Option ℤ → DdLayers → ℕ → List (List C
 added_layer dp claim d end rows j =
     cond (nat_lt d.first j && nat_lt j end) (layer_of rows j ++ map (row_for dp claim d.first_reduced j (length (layer_of rows (j + 1)))) (layer_in d j)) (layer_of rows j)
 
+-- the rows after a diagram is put in, layer by layer
 pub record AreAdded (dp : Dp) (claim : Option ℤ) (d : DdLayers) (end : ℕ) (old new : List (List CoverRow)) : Type 0 where
   pub long : length new ≡ length old
   pub layers : (j : ℕ) → layer_of new j ≡ added_layer dp claim d end old j

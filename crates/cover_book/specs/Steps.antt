@@ -22,6 +22,7 @@ pub record HasOwnCut (dp : Dp) (d : DdLayers) (depth : ℕ) : Type 0 where
   pub last : depth - 1 ≤ last_of d
   pub own : AreOwnAt dp d (depth - 1)
 
+-- the nodes at the cut, where there is one, are prefixes of their own
 abbrev pub CutIsOwn : Dp → DdLayers → Option ℕ → Type 0
 CutIsOwn dp d None = Unit {0}
 CutIsOwn dp d (Some depth) = HasOwnCut dp d depth
@@ -32,6 +33,7 @@ pub record IsDiagramFor (dp : Dp) (claim : Option ℤ) (row : WaitingRow) (d : D
   pub shorter : length row.sub.subproblem.decisions < dp.vars
   pub diagram : IsDiagram dp row.sub.subproblem.decisions width claim d
 
+-- a diagram for the row that waits
 abbrev pub IsDiagramAt : Dp → Option ℤ → Option WaitingRow → DdLayers → Type 0
 IsDiagramAt dp claim None d = ⊥
 IsDiagramAt dp claim (Some row) d = IsDiagramFor dp claim row d
@@ -51,6 +53,7 @@ pub record IsPutIn (dp : Dp) (claim : Option ℤ) (row : Waiting) (d : DdLayers)
   pub cover : new ≡ explored dp claim row d rows
   pub rest : new_waiting ≡ waiting ++ waiting_after claim row d rows d.first_reduced
 
+-- the diagram is put in for the row that waits
 abbrev pub IsPutAt : Dp → Option ℤ → Option WaitingRow → DdLayers → List (List CoverRow) → List Waiting → List (List CoverRow) → List Waiting → Type 0
 IsPutAt dp claim None d rows waiting new new_waiting = ⊥
 IsPutAt dp claim (Some row) d rows waiting new new_waiting = IsPutIn dp claim (waiting_row row) d rows waiting new new_waiting

@@ -16,6 +16,7 @@ pub record IsOnTheWay (dp : Dp) (claim : Option ℤ) (next : ℕ) (rows : List (
   pub own : AreOwn dp waiting
   pub draft : HoldsAll dp claim → IsDraft dp claim rows (drop next (waiting_of waiting))
 
+-- an exploration that began at the root and has gone some steps
 abbrev pub IsUnderWay : Dp → Exploration → Type 0
 IsUnderWay dp e = IsOnTheWay dp e.claim e.next e.rows.items e.waiting.items
 

@@ -8,6 +8,7 @@ use Rattle.relaxed_dd.specs.Shown.{layer_in}
 use Rattle.bound_cover.specs.Exploring.{Waiting}
 use Rattle.cover_book.specs.declared.waiting.WaitingRow.{WaitingRow}
 
+-- a row that waits, as the rules see it
 abbrev pub waiting_row : WaitingRow → Waiting
 waiting_row w = record { place = w.place; prefix = w.sub.subproblem.decisions }
 
@@ -28,6 +29,7 @@ pub record IsOwnNode (dp : Dp) (node : DdNode) : Type 0 where
   pub exact : node.exact ≡ true
   pub own : IsOwn dp (sub_of node)
 
+-- there is a node, and it is a prefix of its own
 abbrev pub IsOwnAt : Dp → Option DdNode → Type 0
 IsOwnAt dp None = ⊥
 IsOwnAt dp (Some node) = IsOwnNode dp node

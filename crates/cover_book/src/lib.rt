@@ -5,6 +5,10 @@
 //! the arcs of the diagram's root, and each further node gets a row, of which those of the last exact layer wait that lead above the
 //! claim. Once no row waits, `finish` writes the cover. Where no feasible solution exceeds the claim, the checker's `check_rows` then
 //! answers `None`, so that the checker accepts the cover with every best solution. `explore_whole` makes such a cover from nothing.
+//!
+//! ```
+//! let cover = explore_whole(alloc, &model, claim_of(Some(120), 0))?;
+//! ```
 #![tactic(auto)]
 
 mod adding;

@@ -1,7 +1,7 @@
 -- A chain of tokens, step by step: what it gives where a part was read, and where there was a fault.
 use Rattle.std.proofs.Common.{◌≡◌, ℕ, suc, ◌+◌, ◌-◌, ◌<◌, ◌≤◌, Bool, true, false, ◌∙◌, sym, refl, arith}
 use Rattle.std.specs.Prelude.{Result, Ok, Err}
-use Rattle.dd_text.specs.Text.{TextState}
+use Rattle.tokens.specs.Text.{TextState}
 use Rattle.cover_text.specs.Grammar.{CoverError, part_then, passed_then, until, Fails}
 use Rattle.cover_text.specs.declared.cover_error.CoverError.TheVariants.{Text, Word, OutOfMemory}
 

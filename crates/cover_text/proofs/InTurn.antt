@@ -1,10 +1,10 @@
 -- Sections that are tested as they are read give the verdict on the cover that they are read as.
 use Rattle.std.proofs.Common.{◌≡◌, ℕ, zero, suc, Bool, true, false, cond, List, [], ◌∷◌, ◌++◌, length, ℤ, Option, refl, sym, ◌∙◌, ap, arith}
 use Rattle.std.specs.Prelude.{⊤, Result, Ok, Err, codes, decimal}
-use Rattle.dd_text.specs.Text.{TextState, text_start, finish_at}
-use Rattle.dd_text.specs.declared.place.Place.{Place}
-use Rattle.dd_text.specs.declared.text_error.TextError.{TextError}
-use Rattle.dd_text.specs.declared.comment.Comment.TheVariants.{Never}
+use Rattle.tokens.specs.Text.{TextState, text_start, finish_at}
+use Rattle.tokens.specs.declared.place.Place.{Place}
+use Rattle.tokens.specs.declared.text_error.TextError.{TextError}
+use Rattle.tokens.specs.declared.comment.Comment.TheVariants.{Never}
 use Rattle.dp_model.specs.Dp.{Dp}
 use Rattle.bound_cover.specs.Covers.{CoverRow}
 use Rattle.bound_cover.specs.InTurn.{begun, taken, all_taken, concluded}

@@ -8,5 +8,6 @@ pub mod PrintedLengths
 pub mod RoundTrip
 pub mod PrintedHeads
 pub mod OutputsRead
-pub mod PassingWritten
+pub mod Writing
 pub mod InTurn
+pub mod EachName

@@ -5,17 +5,18 @@ use Rattle.std.specs.List.{list_all}
 use Rattle.std.proofs.Math.Seq.{take-append_seam, drop-append_seam}
 use Rattle.std.proofs.lemmas.Bool.{and_parts, not-true}
 use Rattle.std.proofs.lemmas.Bool.Decides.{nat_tests}
-use Rattle.dd_text.specs.Text.{is_blank, is_solid}
-use Rattle.dd_text.specs.Decimal.{decimal_of}
-use Rattle.dd_text.proofs.Digits.{is_printed}
+use Rattle.tokens.specs.Text.{is_blank, is_solid}
+use Rattle.tokens.specs.Decimal.{decimal_of}
+use Rattle.tokens.proofs.Digits.{is_printed}
 use Rattle.dp_model.specs.Lists.{Each}
 use Rattle.bound_cover.specs.Covers.{CoverRow}
 use Rattle.problem_names.specs.ModelNames as names
 use Rattle.problem_names.specs.declared.ModelName.{ModelName}
-use Rattle.problem_names.specs.declared.ModelName.TheVariants.{Knapsack, MaxCut, MaxTwoSat, TspWindows}
+use Rattle.cover_text.proofs.EachName.{for_each}
 use Rattle.cover_text.specs.Heads.{ClaimView}
 use Rattle.cover_text.specs.Instances.{behind_lines, parted}
-use Rattle.cover_text.specs.Outputs.{spaced, CountsView, printed_lines, proved_text, claim_lines, counts_lines, cover_lines, printed_output, IsDistance, IsToldClaim, MayBeCounts}
+use Rattle.cover_text.specs.Outputs.{spaced, CountsView, printed_lines, proved_text, claim_lines, counts_lines, cover_lines, printed_output, IsToldClaim, MayBeCounts}
+use Rattle.dp_model.specs.Distances.{IsDistance}
 use Rattle.cover_text.specs.Printed.{printed_cover}
 use Rattle.cover_text.specs.Texts.{text_of}
 use Rattle.cover_text.specs.Written.{IsWritten}
@@ -73,10 +74,9 @@ behind-counts (Some counts) more l told =
 
 behind-cover : (model : ModelName) (size : ℕ) (more : List ℕ) → size < 2 ^ 32
     → behind_lines (suc (suc zero)) (codes "cover" ++ (32 ∷ (names.text_of model ++ (10 ∷ (codes "instance" ++ (32 ∷ (decimal size ++ (10 ∷ more)))))))) ≡ behind_lines zero more
-behind-cover Knapsack size more few = over-number zero (pos size) (10 ∷ more) (omega arith)
-behind-cover MaxCut size more few = over-number zero (pos size) (10 ∷ more) (omega arith)
-behind-cover MaxTwoSat size more few = over-number zero (pos size) (10 ∷ more) (omega arith)
-behind-cover TspWindows size more few = over-number zero (pos size) (10 ∷ more) (omega arith)
+behind-cover model size more few =
+    over-solid (suc zero) (names.text_of model) (10 ∷ (codes "instance" ++ (32 ∷ (decimal size ++ (10 ∷ more))))) (for_each (λ name. list_all is_solid (names.text_of name)) refl model)
+    ∙ over-number zero (pos size) (10 ∷ more) (omega arith)
 
 behind-none : (more : List ℕ) → behind_lines zero more ≡ more
 behind-none [] = refl

@@ -1,10 +1,12 @@
 -- A cover, row by row and layer by layer.
-use Rattle.std.proofs.Common.{◌≡◌, ℕ, zero, suc, ◌+◌, ◌<◌, ℤ, List, [], ◌∷◌, ◌++◌, length, drop, refl, ap, sym, ◌∙◌, append_assoc, arith}
+use Rattle.std.proofs.Common.{◌≡◌, ℕ, zero, suc, ◌+◌, ◌<◌, ℤ, List, [], ◌∷◌, ◌++◌, length, drop, refl, ap, sym, subst, ◌∙◌, append_assoc, arith}
 use Rattle.std.specs.Prelude.{Option, Some, option_map, slice_get, flat_map}
 use Rattle.bound_cover.specs.Covers.{CoverRow}
 use Rattle.bound_cover.specs.Exploring.{layer_of}
 use Rattle.bound_cover.specs.declared.cover.CoverArc.{CoverArc}
+use Rattle.dp_model.specs.Lists.{Each}
 use Rattle.cover_text.specs.Printed.{printed_row, printed_layer, printed_layers}
+use Rattle.cover_text.specs.Written.{IsKeptRow, IsKeptLayer}
 
 -- the row at a place stands first among those from there on
 pub row_at : (rows : List CoverRow) (i : ℕ) (bound : Option ℤ) (words : List ℤ) (arcs : Option (List CoverArc)) → option_map (λ r. r.bound) (slice_get rows i) ≡ Some bound
@@ -44,3 +46,14 @@ pub layers_from : (layers : List (List CoverRow)) (k : ℕ) (before after whole 
 layers_from layers k before after whole below printed so_far =
     let rest = printed_layers (k + 1) (drop (k + 1) layers) in
     ap (λ bytes. bytes ++ rest) printed ∙ (append_assoc before (printed_layer k (layer_of layers k)) rest ∙ (ap (λ left. before ++ printed_layers k left) (sym (layer_at layers k below)) ∙ so_far))
+
+-- one row more that is kept
+pub kept_from : (rows : List CoverRow) (i : ℕ) (bound : Option ℤ) (words : List ℤ) (arcs : Option (List CoverArc)) → option_map (λ r. r.bound) (slice_get rows i) ≡ Some bound
+    → option_map (λ r. r.words) (slice_get rows i) ≡ Some words → option_map (λ r. r.arcs) (slice_get rows i) ≡ Some arcs
+    → IsKeptRow (record { bound = bound; words = words; arcs = arcs }) → (Each IsKeptRow (drop i rows) → Each IsKeptRow rows) → Each IsKeptRow (drop (i + 1) rows) → Each IsKeptRow rows
+kept_from rows i bound words arcs b w a fits so_far rest = so_far (subst (Each IsKeptRow) (sym (row_at rows i bound words arcs b w a)) (fits, rest))
+
+-- one layer more that is kept
+pub kept_layers_from : (layers : List (List CoverRow)) (k : ℕ) → k < length layers → IsKeptLayer (layer_of layers k)
+    → (Each IsKeptLayer (drop k layers) → Each IsKeptLayer layers) → Each IsKeptLayer (drop (k + 1) layers) → Each IsKeptLayer layers
+kept_layers_from layers k below fits so_far rest = so_far (subst (Each IsKeptLayer) (sym (layer_at layers k below)) (fits, rest))

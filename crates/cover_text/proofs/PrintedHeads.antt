@@ -1,28 +1,29 @@
 -- What is read of the printed lines before the instance, and on which line it stands.
 use Rattle.std.proofs.Common.{◌≡◌, ℕ, ◌+◌, ◌-◌, ◌<◌, ◌≤◌, ◌^◌, pos, negsuc, neg_ℤ, Bool, true, false, List, [], ◌∷◌, ◌++◌, length, ℤ, refl, sym, ap, ◌∙◌, subst, arith, rules, nat_eq, lit<}
-use Rattle.std.specs.Prelude.{codes, decimal, Option, Some, None, Ok, ◌||◌, ◌==◌, nat_abs, nat_le, ◌≤ℤ◌, int_lt}
+use Rattle.std.specs.Prelude.{codes, decimal, Option, Some, None, Ok, ◌||◌, ◌&&◌, ◌==◌, nat_abs, nat_le, nat_lt, ◌≤ℤ◌, int_lt}
 use Rattle.std.specs.Str.{all_ascii_digits}
 use Rattle.std.specs.List.{list_all}
-use Rattle.std.proofs.lemmas.Bool.{and_parts, and_right, not-true}
+use Rattle.std.proofs.lemmas.Bool.{and_parts, and_right, ltb-true, not-true}
 use Rattle.std.proofs.lemmas.Bool.Decides.{nat_tests}
 use Rattle.std.proofs.lemmas.Int.{ints}
 use Rattle.std.proofs.lemmas.Fmt.{digits_decimal, decimal_nonempty, length-decimal-le}
 use Rattle.std.proofs.lemmas.Str.Parse.{IsNumeralModel, numerals_by_fold}
-use Rattle.dd_text.specs.Text.{TextState, text_start, is_blank, is_solid, place_after, is_passed, is_inside_after, skip, at_token, place_of, after_token, ends_line, value_after}
-use Rattle.dd_text.specs.declared.comment.Comment.TheVariants.{Never}
-use Rattle.dd_text.specs.declared.place.Place.{Place}
-use Rattle.dd_text.specs.Decimal.{decimal_of}
-use Rattle.dd_text.proofs.Digits.{is_printed}
-use Rattle.dd_text.proofs.Printing.{before_start, ends_line_LF, ends_line_number}
-use Rattle.dd_text.proofs.Repeats.{fold_pushes}
+use Rattle.tokens.specs.Text.{TextState, text_start, is_blank, is_solid, place_after, is_passed, is_inside_after, skip, at_token, place_of, after_token, ends_line, value_after}
+use Rattle.tokens.specs.declared.comment.Comment.TheVariants.{Never}
+use Rattle.tokens.specs.declared.place.Place.{Place}
+use Rattle.tokens.specs.Decimal.{decimal_of}
+use Rattle.tokens.proofs.Digits.{is_printed}
+use Rattle.tokens.proofs.Printing.{before_start, ends_line_LF, ends_line_number}
+use Rattle.tokens.proofs.Repeats.{fold_pushes}
 use Rattle.dp_model.specs.Lists.{Each}
 use Rattle.problem_names.specs.ModelNames as names
 use Rattle.problem_names.specs.declared.ModelName.{ModelName}
-use Rattle.problem_names.specs.declared.ModelName.TheVariants.{Knapsack, MaxCut, MaxTwoSat, TspWindows}
 use Rattle.cover_text.specs.Grammar.{until}
 use Rattle.cover_text.specs.Heads.{ClaimView, decision_at, distance_at, solution_at, claim_at, is_count, count_at, counts_at, name_at, size_at, head_at}
-use Rattle.cover_text.specs.Outputs.{spaced, CountsView, MayBeCounts, IsDistance}
+use Rattle.cover_text.specs.Outputs.{spaced, CountsView, MayBeCounts}
+use Rattle.dp_model.specs.Distances.{IsDistance}
 use Rattle.cover_text.specs.Written.{IsWord}
+use Rattle.cover_text.proofs.EachName.{for_each}
 use Rattle.cover_text.proofs.PrintedTokens.{IsAt, IsAhead, Gives, BeginsBlank, behind_blank, PassesWord, passes_word, passes_fixed, passes_number, passes_small, until_reads, until_ended}
 
 -- ---- lines
@@ -271,20 +272,23 @@ counts-on line (Some counts) more s fits on =
 
 -- ---- the cover's lines
 
-name-on : (line : ℕ) (model : ModelName) (more : List ℕ) (s : TextState) → BeginsBlank more → IsOn line (32 ∷ (names.text_of model ++ more)) s → Gives (IsOn line more) (name_at s) model
+-- a word that begins with a byte of ASCII, and has no blank
+abbrev stands-alone : List ℕ → Bool
+stands-alone [] = false
+stands-alone (w ∷ ws) = list_all is_solid (w ∷ ws) && nat_lt w 128
+
+name-in : (line : ℕ) (word : List ℕ) (model : ModelName) (more : List ℕ) (s : TextState) → stands-alone word ≡ true → names.model_named word ≡ Some model → BeginsBlank more
+    → IsOn line (32 ∷ (word ++ more)) s → Gives (IsOn line more) (name_at s) model
 unfolding name_at
-name-on line Knapsack more s blank on =
-    let word = word-on line 107 (codes "napsack") more s refl (lit< tt) blank (same-line line 107 (codes "napsack" ++ more) s refl on) in
-    record { state = after_token s; is = rw word.word_is.value refl; there = word.on }
-name-on line MaxCut more s blank on =
-    let word = word-on line 109 (codes "axcut") more s refl (lit< tt) blank (same-line line 109 (codes "axcut" ++ more) s refl on) in
-    record { state = after_token s; is = rw word.word_is.value refl; there = word.on }
-name-on line MaxTwoSat more s blank on =
-    let word = word-on line 109 (codes "ax2sat") more s refl (lit< tt) blank (same-line line 109 (codes "ax2sat" ++ more) s refl on) in
-    record { state = after_token s; is = rw word.word_is.value refl; there = word.on }
-name-on line TspWindows more s blank on =
-    let word = word-on line 116 (codes "sptw") more s refl (lit< tt) blank (same-line line 116 (codes "sptw" ++ more) s refl on) in
-    record { state = after_token s; is = rw word.word_is.value refl; there = word.on }
+name-in line [] model more s alone named blank on = absurd (cc)
+name-in line (w ∷ ws) model more s alone named blank on =
+    let parts = and_parts _ _ alone in
+    let first = (and_parts _ _ parts.0).0 in
+    let word = word-on line w ws more s parts.0 (ltb-true w 128 parts.1) blank (same-line line w (ws ++ more) s first on) in
+    record { state = after_token s; is = rw (word.word_is.value, named) refl; there = word.on }
+
+name-on : (line : ℕ) (model : ModelName) (more : List ℕ) (s : TextState) → BeginsBlank more → IsOn line (32 ∷ (names.text_of model ++ more)) s → Gives (IsOn line more) (name_at s) model
+name-on line model more s blank on = name-in line (names.text_of model) model more s (for_each (λ name. stands-alone (names.text_of name)) refl model) (names.name_again model) blank on
 
 size-on : (line size : ℕ) (more : List ℕ) (s : TextState) → size < 2 ^ 32 → IsOn line (32 ∷ (decimal size ++ (10 ∷ more))) s → size_at s ≡ Ok (record { bytes = size; line = line }, after_token s)
 unfolding size_at

@@ -2,11 +2,11 @@
 use Rattle.std.proofs.Common.{◌≡◌, ℕ, ◌-◌, ◌<◌, ◌≤◌, ◌^◌, pos, negsuc, neg_ℤ, true, false, List, [], ◌∷◌, ◌++◌, length, ℤ, refl, ap, ◌∙◌, subst, arith, append_assoc, inl, inr, lit<}
 use Rattle.std.specs.Prelude.{codes, Option, Some, None, Ok, ◌≤ℤ◌, nat_abs, ◌⊎◌, flat_map}
 use Rattle.std.proofs.lemmas.Int.{ints}
-use Rattle.dd_text.specs.Text.{TextState, number_of, ends_line, after_token}
-use Rattle.dd_text.specs.Decimal.{decimal_of}
-use Rattle.dd_text.specs.Printed.{IsBefore}
-use Rattle.dd_text.proofs.Printing.{ends_line_LF, ends_line_number}
-use Rattle.dd_text.proofs.Repeats.{fold_pushes}
+use Rattle.tokens.specs.Text.{TextState, number_of, ends_line, after_token}
+use Rattle.tokens.specs.Decimal.{decimal_of}
+use Rattle.tokens.specs.Printed.{IsBefore}
+use Rattle.tokens.proofs.Printing.{ends_line_LF, ends_line_number}
+use Rattle.tokens.proofs.Repeats.{fold_pushes}
 use Rattle.dp_model.specs.Lists.{Each}
 use Rattle.bound_cover.specs.Clamping.{IsWritable}
 use Rattle.bound_cover.specs.Covers.{CoverRow}

@@ -5,14 +5,14 @@ use Rattle.std.specs.List.{list_all}
 use Rattle.std.proofs.lemmas.Bool.{and_parts}
 use Rattle.std.proofs.lemmas.Bool.Decides.{nat_tests}
 use Rattle.std.proofs.lemmas.Int.{ints}
-use Rattle.dd_text.specs.Text.{TextState, is_blank, is_solid, token, place_of, number_of, number_at, word_in, word_at, after_token}
-use Rattle.dd_text.specs.declared.place.Place.{Place}
-use Rattle.dd_text.specs.declared.text_error.TextError.TheVariants.{NotAscii}
-use Rattle.dd_text.specs.Decimal.{decimal_of}
-use Rattle.dd_text.specs.Printed.{IsBefore}
-use Rattle.dd_text.specs.declared.comment.Comment.TheVariants.{Never}
-use Rattle.dd_text.proofs.Digits.{is_printed, number_of-decimal_of}
-use Rattle.dd_text.proofs.Printing.{before_behind, reads_number, reads_word}
+use Rattle.tokens.specs.Text.{TextState, is_blank, is_solid, token, place_of, number_of, number_at, word_in, word_at, after_token}
+use Rattle.tokens.specs.declared.place.Place.{Place}
+use Rattle.tokens.specs.declared.text_error.TextError.TheVariants.{NotAscii}
+use Rattle.tokens.specs.Decimal.{decimal_of}
+use Rattle.tokens.specs.Printed.{IsBefore}
+use Rattle.tokens.specs.declared.comment.Comment.TheVariants.{Never}
+use Rattle.tokens.proofs.Digits.{is_printed, number_of-decimal_of}
+use Rattle.tokens.proofs.Printing.{before_behind, reads_number, reads_word}
 use Rattle.dp_model.specs.Lists.{Each}
 use Rattle.problem_names.specs.ModelNames.{word_same}
 use Rattle.cover_text.specs.Grammar.{CoverError, until, stands, fixed_at, small_at}

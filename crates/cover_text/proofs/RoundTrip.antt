@@ -1,11 +1,11 @@
 -- A printed cover is read as that cover.
 use Rattle.std.proofs.Common.{◌≡◌, ℕ, zero, suc, ◌+◌, ◌<◌, ◌≤◌, ◌^◌, pos, false, List, [], ◌∷◌, ◌++◌, length, length-append, refl, sym, ap, ◌∙◌, subst, arith, append_assoc, append-nil, lit<}
 use Rattle.std.specs.Prelude.{codes, decimal, Ok, fold, flat_map}
-use Rattle.dd_text.specs.Text.{TextState, text_start, after_token}
-use Rattle.dd_text.specs.Printed.{IsBefore}
-use Rattle.dd_text.specs.declared.comment.Comment.TheVariants.{Never}
-use Rattle.dd_text.proofs.Digits.{is_printed}
-use Rattle.dd_text.proofs.Printing.{before_start, finishes}
+use Rattle.tokens.specs.Text.{TextState, text_start, after_token}
+use Rattle.tokens.specs.Printed.{IsBefore}
+use Rattle.tokens.specs.declared.comment.Comment.TheVariants.{Never}
+use Rattle.tokens.proofs.Digits.{is_printed}
+use Rattle.tokens.proofs.Printing.{before_start, finishes}
 use Rattle.dp_model.specs.Lists.{Each}
 use Rattle.bound_cover.specs.Covers.{CoverRow}
 use Rattle.bound_cover.specs.Stored.{with_row}

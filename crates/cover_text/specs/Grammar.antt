@@ -1,8 +1,8 @@
 -- Grammars of covers, as chains: a token, and what is read behind it. No grammar answers want of memory.
 use Rattle.std.specs.Prelude.{◌≡◌, ℕ, zero, suc, ◌-◌, ◌^◌, List, ℤ, pos, nat_abs, Bool, false, cond, Result, Ok, Err}
-use Rattle.dd_text.specs.declared.text_error.TextError.{TextError}
-use Rattle.dd_text.specs.declared.place.Place.{Place}
-use Rattle.dd_text.specs.Text.{TextState, number_at, word_at, finish_at, after_token, token, place_of}
+use Rattle.tokens.specs.declared.text_error.TextError.{TextError}
+use Rattle.tokens.specs.declared.place.Place.{Place}
+use Rattle.tokens.specs.Text.{TextState, number_at, word_at, finish_at, after_token, token, place_of}
 use Rattle.problem_names.specs.ModelNames.{word_same}
 pub use Rattle.cover_text.specs.declared.cover_error.CoverError.{CoverError}
 use Rattle.cover_text.specs.declared.cover_error.CoverError.TheVariants.{Text, Word, OutOfMemory}
@@ -51,6 +51,7 @@ stands word s = word_same (token s) word
 unfoldable pub fixed_at : List ℕ → TextState → Result TextState CoverError
 fixed_at wanted s = word_then s (λ w t. cond (word_same w wanted) (Ok t) (Err (Word (place_of s))))
 
+-- the fault at a place where a word is read that may not stand there
 abbrev pub wrong_word : Place → Result (List ℕ) TextError → CoverError
 wrong_word place (Ok w) = Word place
 wrong_word place (Err e) = Text e

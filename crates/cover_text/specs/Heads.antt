@@ -1,8 +1,9 @@
 -- The lines before the instance: the report, perhaps taken and finished, cover MODEL, instance BYTES.
 use Rattle.std.specs.Prelude.{ℕ, ◌-◌, ◌^◌, List, [], ◌∷◌, ◌++◌, length, ℤ, pos, neg_ℤ, Bool, not, ◌&&◌, nat_le, nat_eq, cond, codes, Option, Some, None, Result, Ok, Err}
 use Rattle.std.specs.Str.{all_ascii_digits}
-use Rattle.dd_text.specs.Text.{TextState, text_start, ends_line, place_of}
-use Rattle.dd_text.specs.declared.comment.Comment.TheVariants.{Never}
+use Rattle.tokens.specs.Text.{TextState, text_start, ends_line, place_of}
+use Rattle.tokens.specs.declared.comment.Comment.TheVariants.{Never}
+use Rattle.dp_model.specs.declared.limits.TheConstants.{MOST_DISTANCE}
 use Rattle.problem_names.specs.ModelNames.{word_same, model_named}
 use Rattle.problem_names.specs.declared.ModelName.{ModelName}
 use Rattle.cover_text.specs.declared.head.Claim.{Claim}
@@ -17,14 +18,17 @@ pub record ClaimView : Type 0 where
   pub within : ℤ
   pub assignment : List ℕ
 
+-- what stands before the instance
 pub record HeadView : Type 0 where
   pub claim : ClaimView
   pub model : ModelName
   pub size : Size
 
+-- a claim as its readers see it
 abbrev pub claim_in : Claim → ClaimView
 claim_in c = record { best = c.best; within = c.within; assignment = c.assignment.items }
 
+-- a head as its readers see it
 abbrev pub head_in : Head → HeadView
 head_in h = record { claim = claim_in h.claim; model = h.model; size = h.size }
 
@@ -32,12 +36,12 @@ head_in h = record { claim = claim_in h.claim; model = h.model; size = h.size }
 unfoldable pub decision_at : List ℕ → TextState → Result (List ℕ × TextState) CoverError
 decision_at decisions s = part_then (small_at s) (λ d t. Ok (decisions ++ d ∷ [], t))
 
--- the distance from 0 to 2^50 behind the word within, or 0 where the word value stands in its place; and what stands behind value
+-- the distance after the word within, or 0 where the word value stands in its place; and what stands behind value
 unfoldable pub distance_at : TextState → Result (ℤ × TextState) CoverError
 distance_at s = word_then s (λ w t.
     cond (word_same w (codes "value")) (Ok (pos 0, t))
     (cond (word_same w (codes "within"))
-    (number_then (pos 0) (pos (2 ^ 50)) t (λ within u.
+    (number_then (pos 0) (pos MOST_DISTANCE) t (λ within u.
     passed_then (fixed_at (codes "value") u) (λ v.
     Ok (within, v))))
     (Err (Word (place_of s)))))
@@ -61,6 +65,7 @@ claim_at most s = word_then s (λ w t.
 abbrev pub is_count : List ℕ → Bool
 is_count w = not (nat_eq (length w) 0) && nat_le (length w) 20 && all_ascii_digits w
 
+-- a number of the lines taken and finished
 unfoldable pub count_at : TextState → Result TextState CoverError
 count_at s = word_then s (λ w t. cond (is_count w) (Ok t) (Err (Word (place_of s))))
 
@@ -75,6 +80,7 @@ counts_at s = word_then s (λ w t.
     fixed_at (codes "cover") x))))
     (Err (Word (place_of s)))))
 
+-- what was named, or the fault
 abbrev pub name_or : {A : Type 0} → CoverError → Option A → TextState → Result (A × TextState) CoverError
 name_or fault None t = Err fault
 name_or fault (Some name) t = Ok (name, t)

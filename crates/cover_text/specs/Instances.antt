@@ -1,9 +1,9 @@
 -- The bytes of the instance, which begin behind a line's end, and the places behind them.
 use Rattle.std.specs.Prelude.{ℕ, zero, suc, ◌+◌, ◌-◌, ◌^◌, min, List, [], ◌∷◌, length, take, drop, nat_le, nat_eq, cond, Result, Ok, Err}
-use Rattle.dd_text.specs.declared.place.Place.{Place}
-use Rattle.dd_text.specs.declared.text_error.TextError.{TextError}
-use Rattle.dd_text.specs.Text.{place_after}
-use Rattle.dd_text.specs.declared.text_error.TextError.TheVariants.{NotNumber, OutOfRange, EndOfText, Trailing, NotAscii}
+use Rattle.tokens.specs.declared.place.Place.{Place}
+use Rattle.tokens.specs.declared.text_error.TextError.{TextError}
+use Rattle.tokens.specs.Text.{place_after}
+use Rattle.tokens.specs.declared.text_error.TextError.TheVariants.{NotNumber, OutOfRange, EndOfText, Trailing, NotAscii}
 use Rattle.cover_text.specs.Grammar.{CoverError}
 use Rattle.cover_text.specs.declared.cover_error.CoverError.TheVariants.{Text, Word, OutOfMemory}
 
@@ -18,6 +18,7 @@ abbrev pub place_behind : Place → List ℕ → Place
 place_behind p [] = p
 place_behind p (b ∷ bs) = place_behind (place_after b p) bs
 
+-- the place behind all bytes of a text
 abbrev pub end_place : List ℕ → Place
 end_place bytes = place_behind (record { line = 1; column = 1 }) bytes
 
@@ -35,6 +36,7 @@ moved_place origin p =
     (record { line = origin.line; column = min (origin.column + (p.column - 1)) (2 ^ 32 - 1) })
     (record { line = min (origin.line + (p.line - 1)) (2 ^ 32 - 1); column = p.column })
 
+-- the same fault at a place behind another text
 abbrev pub moved_text : Place → TextError → TextError
 moved_text origin (NotNumber p) = NotNumber (moved_place origin p)
 moved_text origin (OutOfRange p) = OutOfRange (moved_place origin p)

@@ -1,7 +1,8 @@
 -- A whole output as it is printed: the report, perhaps the counts, the lines of the cover, the instance, and the sections.
-use Rattle.std.specs.Prelude.{◌≡◌, ℕ, ◌<◌, ◌^◌, ℤ, pos, ◌≤ℤ◌, int_lt, cond, List, [], ◌∷◌, ◌++◌, length, flat_map, codes, decimal, Option, Some, None, Ok}
+use Rattle.std.specs.Prelude.{◌≡◌, ℕ, ◌<◌, ◌^◌, ℤ, pos, int_lt, cond, List, [], ◌∷◌, ◌++◌, length, flat_map, codes, decimal, Option, Some, None, Ok}
 use Rattle.bound_cover.specs.Covers.{CoverRow}
-use Rattle.dd_text.specs.Decimal.{decimal_of}
+use Rattle.tokens.specs.Decimal.{decimal_of}
+use Rattle.dp_model.specs.Distances.{IsDistance}
 use Rattle.dp_model.specs.Lists.{Each}
 use Rattle.problem_names.specs.ModelNames as names
 use Rattle.problem_names.specs.declared.ModelName.{ModelName}
@@ -50,11 +51,6 @@ abbrev pub printed_output : ClaimView → Option CountsView → ModelName → Li
 printed_output claim counts model instance cover =
     printed_lines (claim_lines claim.best claim.within claim.assignment) ++ (printed_lines (counts_lines counts) ++ printed_whole model instance cover)
 
--- a distance from 0 to 2^50
-pub record IsDistance (within : ℤ) : Type 0 where
-  pub least : pos 0 ≤ℤ within
-  pub most : within ≤ℤ pos (2 ^ 50)
-
 -- a value of 64 bits with a distance and decisions of 32 bits; where there is none there are no decisions, and the distance is 0
 abbrev pub IsToldClaim : Option ℤ → ℤ → List ℕ → Type 0
 IsToldClaim None within x = (within ≡ pos 0) × (x ≡ [])
@@ -65,6 +61,7 @@ pub record AreToldCounts (counts : CountsView) : Type 0 where
   pub taken : counts.taken < 2 ^ 64
   pub finished : counts.finished < 2 ^ 64
 
+-- counts that may be told, or none
 abbrev pub MayBeCounts : Option CountsView → Type 0
 MayBeCounts None = Unit {0}
 MayBeCounts (Some counts) = AreToldCounts counts

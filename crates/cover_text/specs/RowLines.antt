@@ -1,6 +1,6 @@
 -- The line of a row: BOUND ; WORDS, or BOUND ; WORDS ; ARCS.
 use Rattle.std.specs.Prelude.{ℕ, ◌-◌, ◌^◌, List, [], ◌∷◌, ◌++◌, ℤ, pos, neg_ℤ, Bool, ◌||◌, cond, codes, Option, Some, None, Result, Ok, Err}
-use Rattle.dd_text.specs.Text.{TextState, ends_line}
+use Rattle.tokens.specs.Text.{TextState, ends_line}
 use Rattle.bound_cover.specs.Covers.{CoverRow}
 use Rattle.bound_cover.specs.Stored.{with_row}
 use Rattle.bound_cover.specs.declared.cover.CoverArc.{CoverArc}

@@ -1,7 +1,7 @@
 -- The sections of a cover: layer K ROWS, then so many lines of rows; end.
 use Rattle.std.specs.Prelude.{ℕ, List, [], ◌∷◌, ◌++◌, length, codes, decimal, Result, Ok}
-use Rattle.dd_text.specs.Text.{TextState, text_start}
-use Rattle.dd_text.specs.declared.comment.Comment.TheVariants.{Never}
+use Rattle.tokens.specs.Text.{TextState, text_start}
+use Rattle.tokens.specs.declared.comment.Comment.TheVariants.{Never}
 use Rattle.bound_cover.specs.Covers.{CoverRow}
 use Rattle.cover_text.specs.Grammar.{CoverError, part_then, passed_then, end_then, until, never, stands, fixed_at, small_at}
 use Rattle.cover_text.specs.RowLines.{row_into}

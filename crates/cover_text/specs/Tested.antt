@@ -1,7 +1,7 @@
 -- The sections of a cover, each tested with the one before it as it is read.
 use Rattle.std.specs.Prelude.{ℕ, ℤ, List, [], length, codes, Option, Result, Ok}
-use Rattle.dd_text.specs.Text.{TextState, text_start}
-use Rattle.dd_text.specs.declared.comment.Comment.TheVariants.{Never}
+use Rattle.tokens.specs.Text.{TextState, text_start}
+use Rattle.tokens.specs.declared.comment.Comment.TheVariants.{Never}
 use Rattle.dp_model.specs.Dp.{Dp}
 use Rattle.bound_cover.specs.InTurn.{begun, taken, concluded}
 use Rattle.bound_cover.specs.declared.cover.Verdict.{Verdict}

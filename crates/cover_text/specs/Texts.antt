@@ -1,7 +1,7 @@
 -- The whole text: the lines before the instance, the instance, the sections.
 use Rattle.std.specs.Prelude.{ℕ, ◌-◌, List, length, take, ℤ, Option, Result, Ok, Err}
 use Rattle.dp_model.specs.Dp.{Dp}
-use Rattle.dd_text.specs.declared.place.Place.{Place}
+use Rattle.tokens.specs.declared.place.Place.{Place}
 use Rattle.problem_names.specs.declared.ModelName.{ModelName}
 use Rattle.bound_cover.specs.Covers.{CoverRow}
 use Rattle.bound_cover.specs.Verdicts.{verdict}
@@ -13,6 +13,7 @@ use Rattle.cover_text.specs.Sections.{sections_at}
 use Rattle.cover_text.specs.Heads.{head_at}
 use Rattle.cover_text.specs.Instances.{parted, end_place, moved}
 
+-- what a text of a cover holds
 pub record CoverTextView : Type 0 where
   pub model : ModelName
   pub best : Option ℤ
@@ -21,6 +22,7 @@ pub record CoverTextView : Type 0 where
   pub instance : List ℕ
   pub cover : List (List CoverRow)
 
+-- a text as its readers see it
 abbrev pub text_in : CoverText → CoverTextView
 text_in t = record { model = t.model; best = t.best; within = t.within; assignment = t.assignment.items; instance = t.instance.items; cover = t.cover }
 
@@ -48,6 +50,7 @@ pub record OpenView : Type 0 where
   pub before : List ℕ
   pub behind : List ℕ
 
+-- an open cover as its readers see it
 abbrev pub opened_in : OpenCover → OpenView
 opened_in o = record { model = o.model; best = o.best; within = o.within; assignment = o.assignment.items; instance = o.instance.now; before = o.before.now; behind = o.behind.now }
 

@@ -1,8 +1,8 @@
 ghost use Rattle.std.specs.Prelude.{◌≡◌};
 ghost use Rattle.cover_text.specs.declared.cover_error.CoverError.TheVariants.{Text, OutOfMemory};
 
-use dd_text::{Place, TextError};
 use std::alloc::{AllocError, AllocFailed};
+use tokens::{Place, TextError};
 
 /// Why the text of a cover could not be read.
 #[derive(Clone, Copy, Debug, PartialEq, Eq)]

@@ -2,11 +2,11 @@
 
 ghost use Rattle.std.specs.Prelude.{◌≡◌};
 ghost use Rattle.problem_names.specs.ModelNames.{word_same};
-ghost use Rattle.dd_text.specs.Text.{token};
+ghost use Rattle.tokens.specs.Text.{token};
 ghost use Rattle.cover_text.specs.Grammar.{Reads, fixed_at, early_end, small_at};
 
 use crate::cover_error::CoverError;
-use dd_text::Tokens;
+use tokens::Tokens;
 
 /// Whether a token is this word.
 #[inline]

@@ -2,21 +2,19 @@
 
 ghost use Rattle.std.specs.Prelude.{◌≡◌, ◌<◌, ◌-◌, ◌^◌, length, IfOk};
 ghost use Rattle.std.specs.Str.{all_ascii_digits};
+ghost use Rattle.dp_model.specs.Distances.{IsDistance};
 ghost use Rattle.problem_names.specs.ModelNames.{model_named};
-ghost use Rattle.dd_text.specs.Text.{ends_line, text_start};
-ghost use Rattle.dd_text.specs.declared.comment.Comment.TheVariants.{Never};
+ghost use Rattle.tokens.specs.Text.{ends_line, text_start};
+ghost use Rattle.tokens.specs.declared.comment.Comment.TheVariants.{Never};
 ghost use Rattle.cover_text.specs.Grammar.{Reads, until};
 ghost use Rattle.cover_text.specs.Heads.{claim_in, claim_at, counts_at, decision_at, distance_at, head_in, head_at, is_count, count_at, name_at, size_at, solution_at};
-ghost use Rattle.cover_text.specs.Outputs.{IsDistance};
 
 use crate::cover_error::CoverError;
 use crate::fixed::{is_word, next_small, pass_word};
-use dd_text::{Comment, Tokens};
+use dp_model::MOST_DISTANCE;
 use problem_names::ModelName;
 use std::alloc::Global;
-
-/// The greatest distance.
-const MOST_WITHIN: i64 = 1 << 50;
+use tokens::{Comment, Tokens};
 
 /// The reported value, distance and assignment.
 #[derive(Debug, Drop)]
@@ -83,7 +81,7 @@ fn read_distance(tokens: &mut Tokens<'_>) -> Result<i64, CoverError>
     if !is_word(word, b"within") {
         return Err(CoverError::Word(place));
     }
-    let within = tokens.next_number(0, MOST_WITHIN)?;
+    let within = tokens.next_number(0, MOST_DISTANCE as i64)?;
     pass_word(tokens, b"value")?;
     Ok(within)
 }

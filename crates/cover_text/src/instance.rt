@@ -4,7 +4,7 @@ ghost use Rattle.std.specs.Prelude.{◌≡◌, ◌<◌, ◌≤◌, ◌-◌, ◌^
 ghost use Rattle.cover_text.specs.Instances.{behind_lines, end_place, parted, moved, moved_text, moved_place};
 
 use crate::cover_error::CoverError;
-use dd_text::{Place, TextError};
+use tokens::{Place, TextError};
 
 /// A text in three parts: up to the instance, the instance, and what stands behind it.
 #[derive(Clone, Copy, Debug)]

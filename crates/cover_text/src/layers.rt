@@ -10,9 +10,9 @@ use crate::cover_error::CoverError;
 use crate::fixed::{next_small, pass_word};
 use crate::rows::read_row;
 use bound_cover::{Cover, CoverBuilder};
-use dd_text::{Comment, Tokens};
 use itoa::Buffer;
 use std::alloc::Global;
+use tokens::{Comment, Tokens};
 
 /// Reads so many rows into the last layer.
 #[tactic(auto, using(crate::proofs::Chains::until_steps))]

@@ -1,13 +1,16 @@
 //! The sections of a cover, printed.
 
 ghost use Rattle.std.specs.Prelude.{◌≡◌, ◌<◌, ◌++◌, length, decimal, flat_map, option_map, OnOk};
+ghost use Rattle.dp_model.specs.Lists.{Each};
+ghost use Rattle.bound_cover.specs.Clamping.{AreWritable};
 ghost use Rattle.bound_cover.specs.Exploring.{layer_of};
 ghost use Rattle.cover_text.specs.Printed.{printed_bound, printed_number, printed_target, printed_arc, printed_arcs, printed_row, printed_layer, printed_layers, printed_cover};
+ghost use Rattle.cover_text.specs.Written.{AreArcs, IsArc, IsKeptLayer, IsKeptRow, IsTarget, IsWord, IsWritten};
 
 use bound_cover::{Cover, CoverArc};
-use dd_text::{push_number, push_text};
 use dp_model::{DpModel, OutOfMemory};
 use itoa::Buffer;
+use tokens::{push_number, push_text};
 
 /// Appends a bound.
 fn push_bound(out: &mut Vec<u8>, bound: Option<i64>) -> Result<(), OutOfMemory>
@@ -21,7 +24,8 @@ fn push_bound(out: &mut Vec<u8>, bound: Option<i64>) -> Result<(), OutOfMemory>
 
 /// Appends a space and a number.
 fn push_behind(out: &mut Vec<u8>, number: i64) -> Result<(), OutOfMemory>
-    ensures { OnOk result (out.new.items ≡ out.old.items ++ printed_number number) }
+    ensures pushed { OnOk result (out.new.items ≡ out.old.items ++ printed_number number) }
+    ensures fits { OnOk result (IsWord number) }
 {
     push_text(out, " ")?;
     push_number(out, number)
@@ -29,7 +33,8 @@ fn push_behind(out: &mut Vec<u8>, number: i64) -> Result<(), OutOfMemory>
 
 /// Appends the words of a row.
 fn push_words(out: &mut Vec<u8>, words: &[i64]) -> Result<(), OutOfMemory>
-    ensures { OnOk result (out.new.items ≡ out.old.items ++ flat_map printed_number words.now) }
+    ensures pushed { OnOk result (out.new.items ≡ out.old.items ++ flat_map printed_number words.now) }
+    ensures fits { OnOk result (Each IsWord words.now) }
 {
     for word in words {
         push_behind(out, *word)?;
@@ -39,7 +44,8 @@ fn push_words(out: &mut Vec<u8>, words: &[i64]) -> Result<(), OutOfMemory>
 
 /// Appends the target of an arc.
 fn push_target(out: &mut Vec<u8>, target: Option<u32>) -> Result<(), OutOfMemory>
-    ensures { OnOk result (out.new.items ≡ out.old.items ++ printed_target target) }
+    ensures pushed { OnOk result (out.new.items ≡ out.old.items ++ printed_target target) }
+    ensures fits { OnOk result (IsTarget target) }
 {
     match target {
         None => push_text(out, " r"),
@@ -49,7 +55,8 @@ fn push_target(out: &mut Vec<u8>, target: Option<u32>) -> Result<(), OutOfMemory
 
 /// Appends an arc.
 fn push_arc(out: &mut Vec<u8>, arc: CoverArc) -> Result<(), OutOfMemory>
-    ensures { OnOk result (out.new.items ≡ out.old.items ++ printed_arc arc) }
+    ensures pushed { OnOk result (out.new.items ≡ out.old.items ++ printed_arc arc) }
+    ensures fits { OnOk result (IsArc arc) }
 {
     push_behind(out, i64::from(arc.decision))?;
     push_target(out, arc.target)
@@ -57,7 +64,8 @@ fn push_arc(out: &mut Vec<u8>, arc: CoverArc) -> Result<(), OutOfMemory>
 
 /// Appends the arcs of a row.
 fn push_arc_list(out: &mut Vec<u8>, arcs: &[CoverArc]) -> Result<(), OutOfMemory>
-    ensures { OnOk result (out.new.items ≡ out.old.items ++ flat_map printed_arc arcs.now) }
+    ensures pushed { OnOk result (out.new.items ≡ out.old.items ++ flat_map printed_arc arcs.now) }
+    ensures fits { OnOk result (Each IsArc arcs.now) }
 {
     for arc in arcs {
         push_arc(out, *arc)?;
@@ -67,7 +75,8 @@ fn push_arc_list(out: &mut Vec<u8>, arcs: &[CoverArc]) -> Result<(), OutOfMemory
 
 /// Appends the arc part of a row, where it has one.
 fn push_arcs(out: &mut Vec<u8>, arcs: Option<&[CoverArc]>) -> Result<(), OutOfMemory>
-    ensures { OnOk result (out.new.items ≡ out.old.items ++ printed_arcs (option_map (λ a. a.now) arcs.entry)) }
+    ensures pushed { OnOk result (out.new.items ≡ out.old.items ++ printed_arcs (option_map (λ a. a.now) arcs.entry)) }
+    ensures fits { OnOk result (AreArcs (option_map (λ a. a.now) arcs.entry)) }
 {
     match arcs {
         None => Ok(()),
@@ -85,7 +94,8 @@ fn push_row(
     words: &[i64],
     arcs: Option<&[CoverArc]>,
 ) -> Result<(), OutOfMemory>
-    ensures { OnOk result (out.new.items ≡ out.old.items ++ printed_row (record { bound = bound; words = words.now; arcs = option_map (λ a. a.now) arcs.entry })) }
+    ensures pushed { OnOk result (out.new.items ≡ out.old.items ++ printed_row (record { bound = bound; words = words.now; arcs = option_map (λ a. a.now) arcs.entry })) }
+    ensures fits { OnOk result (IsKeptRow (record { bound = bound; words = words.now; arcs = option_map (λ a. a.now) arcs.entry })) }
 {
     push_bound(out, bound)?;
     push_text(out, " ;")?;
@@ -97,7 +107,8 @@ fn push_row(
 /// Appends the lines of a layer's rows.
 fn push_rows(out: &mut Vec<u8>, cover: &Cover, layer: usize) -> Result<(), OutOfMemory>
     requires { layer < length cover.now }
-    ensures { OnOk result (out.new.items ≡ out.old.items ++ flat_map printed_row (layer_of cover.now layer)) }
+    ensures pushed { OnOk result (out.new.items ≡ out.old.items ++ flat_map printed_row (layer_of cover.now layer)) }
+    ensures fits { OnOk result (Each IsKeptRow (layer_of cover.now layer)) }
 {
     for row in 0..cover.rows(layer) {
         push_row(
@@ -121,7 +132,8 @@ fn push_count(out: &mut Vec<u8>, count: usize) -> Result<(), OutOfMemory>
 /// Appends the section of a layer.
 fn push_layer(out: &mut Vec<u8>, cover: &Cover, layer: usize) -> Result<(), OutOfMemory>
     requires { layer < length cover.now }
-    ensures { OnOk result (out.new.items ≡ out.old.items ++ printed_layer layer (layer_of cover.now layer)) }
+    ensures pushed { OnOk result (out.new.items ≡ out.old.items ++ printed_layer layer (layer_of cover.now layer)) }
+    ensures fits { OnOk result (IsKeptLayer (layer_of cover.now layer)) }
 {
     push_text(out, "layer ")?;
     push_count(out, layer)?;
@@ -133,7 +145,8 @@ fn push_layer(out: &mut Vec<u8>, cover: &Cover, layer: usize) -> Result<(), OutO
 
 /// Appends the sections of the layers.
 fn push_layers(out: &mut Vec<u8>, cover: &Cover) -> Result<(), OutOfMemory>
-    ensures { OnOk result (out.new.items ≡ out.old.items ++ printed_layers 0 cover.now) }
+    ensures pushed { OnOk result (out.new.items ≡ out.old.items ++ printed_layers 0 cover.now) }
+    ensures fits { OnOk result (Each IsKeptLayer cover.now) }
 {
     for layer in 0..cover.layers() {
         push_layer(out, cover, layer)?;
@@ -142,13 +155,19 @@ fn push_layers(out: &mut Vec<u8>, cover: &Cover) -> Result<(), OutOfMemory>
 }
 
 /// Appends the sections of a cover, from `layer 0` to `end`. It fails only for want of memory.
+///
+/// `read_cover` reads them as the cover again where each bound is none or from -2^62 to 2^62 (`pushed_is_read`).
+#[tactic(auto, using(crate::proofs::Writing::written))]
 pub fn push_cover<M: DpModel>(
     out: &mut Vec<u8>,
     _model: &M,
     cover: &Cover,
 ) -> Result<(), OutOfMemory>
-    ensures { OnOk result (out.new.items ≡ out.old.items ++ printed_cover cover.now) }
+    ensures pushed { OnOk result (out.new.items ≡ out.old.items ++ printed_cover cover.now) }
+    ensures written { OnOk result (AreWritable cover.now → IsWritten cover.now) }
 {
+    // What the cover keeps of its layers.
+    let _ = cover.layers();
     push_layers(out, cover)?;
     push_text(out, "end\n")
 }

@@ -1,9 +1,9 @@
 //! The text of a cover, read.
 
-ghost use Rattle.std.specs.Prelude.{◌≡◌, ◌<◌, ◌≤◌, ◌-◌, ◌^◌, ◌++◌, pos, ◌≤ℤ◌, length, vec_len, IfOk};
+ghost use Rattle.std.specs.Prelude.{◌≡◌, ◌<◌, ◌≤◌, ◌-◌, ◌^◌, ◌++◌, length, vec_len, IfOk};
+ghost use Rattle.dp_model.specs.Distances.{IsDistance};
 ghost use Rattle.cover_text.specs.Grammar.{Reads};
 ghost use Rattle.cover_text.specs.Instances.{end_place, moved};
-ghost use Rattle.cover_text.specs.Outputs.{IsDistance};
 ghost use Rattle.cover_text.specs.Texts.{cover_behind, opened, opened_in, text_in, text_of, verdict_behind};
 
 use crate::cover_error::CoverError;
@@ -44,8 +44,7 @@ impl<'t> OpenCover<'t> {
     pub fn check<M: DpModel>(&self, alloc: Global, model: &M) -> Result<Verdict, CoverError>
         requires before { length self.now.before.now < 2 ^ 32 - 1 }
         requires behind { length self.now.behind.now < 2 ^ 32 - 1 }
-        requires least { pos 0 ≤ℤ self.now.within }
-        requires most { self.now.within ≤ℤ pos (2 ^ 50) }
+        requires distance { IsDistance self.now.within }
         ensures { Reads (λ v. v) result (verdict_behind (M.meaning (M.numbers model.now)) (opened_in self.now)) }
     {
         let assignment = self.assignment.as_slice();

@@ -1,7 +1,7 @@
 //! The lines of rows, read.
 
 ghost use Rattle.std.specs.Prelude.{◌≡◌, [], ◌+◌, ◌<◌, ◌-◌, ◌^◌, ℤ, cond, length, Option, Some, None, OnOk, false};
-ghost use Rattle.dd_text.specs.Text.{ends_line};
+ghost use Rattle.tokens.specs.Text.{ends_line};
 ghost use Rattle.bound_cover.specs.Stored.{last_layer};
 ghost use Rattle.cover_text.specs.Grammar.{Reads, until};
 ghost use Rattle.cover_text.specs.RowLines.{bound_at, semicolon_at, state_word_at, ends_words, arc_at, target_at, arcs_at, row_into};
@@ -9,7 +9,7 @@ ghost use Rattle.cover_text.specs.RowLines.{bound_at, semicolon_at, state_word_a
 use crate::cover_error::CoverError;
 use crate::fixed::{early_end, next_small, pass_word};
 use bound_cover::{CoverArc, CoverBuilder};
-use dd_text::Tokens;
+use tokens::Tokens;
 
 const MOST_BOUND: i64 = 1 << 62;
 

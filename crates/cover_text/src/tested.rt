@@ -1,6 +1,7 @@
 //! The sections of layers, tested as they are read.
 
-ghost use Rattle.std.specs.Prelude.{◌≡◌, ◌<◌, ◌+◌, ◌-◌, ◌^◌, [], pos, ◌≤ℤ◌, length, codes, OnOk};
+ghost use Rattle.std.specs.Prelude.{◌≡◌, ◌<◌, ◌+◌, ◌-◌, ◌^◌, [], length, codes, OnOk};
+ghost use Rattle.dp_model.specs.Distances.{IsDistance};
 ghost use Rattle.cover_text.specs.Grammar.{Reads, until, stands};
 ghost use Rattle.cover_text.specs.Sections.{numbered_at};
 ghost use Rattle.cover_text.specs.Tested.{tested_at, tested_sections};
@@ -9,9 +10,9 @@ use crate::cover_error::CoverError;
 use crate::fixed::pass_word;
 use crate::layers::read_numbered;
 use bound_cover::{Checker, Cover, CoverBuilder, LayerTests, Verdict};
-use dd_text::{Comment, Tokens};
 use dp_model::DpModel;
 use std::alloc::Global;
+use tokens::{Comment, Tokens};
 
 /// Reads the section of the layer of this number alone, into the memory of a cover that is not needed any more.
 #[tactic(auto, using(crate::proofs::Chains::part_fails))]
@@ -85,8 +86,7 @@ pub(crate) fn test_sections<M: DpModel>(
     bytes: &[u8],
 ) -> Result<Verdict, CoverError>
     requires length { length bytes.now < 2 ^ 32 - 1 }
-    requires least { pos 0 ≤ℤ within }
-    requires most { within ≤ℤ pos (2 ^ 50) }
+    requires distance { IsDistance within }
     ensures { Reads (λ v. v) result (tested_sections (M.meaning (M.numbers model.now)) best within assignment.now bytes.now) }
 {
     let mut checker = Checker::prepare(alloc, model)?;

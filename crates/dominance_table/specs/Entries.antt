@@ -57,6 +57,7 @@ pub record HasRoom (words limit room len capacity cells cells_capacity : ℕ) : 
 abbrev pub entry_at : List Entry → ℕ → Entry
 entry_at entries i = slice_index_or entries i (record { depth = 0; bucket = 0; rank = None; value = pos 0; ticket = 0 })
 
+-- the row at a place
 abbrev pub row_at : List ℤ → ℕ → ℕ → List ℤ
 row_at cells words place = take words (drop (place * words) cells)
 

@@ -17,21 +17,27 @@ pub record GroupsView : Type 0 where
 abbrev pub RunHeads : Type 0
 RunHeads = IndexMap ℕ Ends (BuildHasherDefault FoldHasher)
 
+-- the run at a place
 abbrev pub run_at : List Run → ℕ → Run
 run_at runs i = slice_index_or runs i (record { depth = 0; bucket = 0; end = 0; fold = 0; next = 0 })
 
+-- its fold
 abbrev pub fold_at : List Run → ℕ → ℕ
 fold_at runs i = (run_at runs i).fold
 
+-- where the next run of its fold stands
 abbrev pub next_at : List Run → ℕ → ℕ
 next_at runs i = (run_at runs i).next
 
+-- its depth
 abbrev pub depth_at : List Run → ℕ → ℕ
 depth_at runs i = (run_at runs i).depth
 
+-- its bucket
 abbrev pub bucket_at : List Run → ℕ → ℕ
 bucket_at runs i = (run_at runs i).bucket
 
+-- where it ends
 abbrev pub end_at : List Run → ℕ → ℕ
 end_at runs i = (run_at runs i).end
 
@@ -44,6 +50,7 @@ start_at runs (suc i) = end_at runs i
 abbrev pub group_fold : ℕ → ℕ → ℕ
 group_fold depth bucket = fold_of depth (cast_signed w64 bucket ∷ [])
 
+-- the last run of a fold, or none
 abbrev pub last_in : Option Ends → Option ℕ
 last_in None = None
 last_in (Some e) = Some e.last

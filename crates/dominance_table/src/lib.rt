@@ -12,6 +12,13 @@
 //! Entries of one depth and bucket that were put one after another are a run, and the runs of one fold of depth and bucket are in a
 //! chain, in the order of their puts. Depth and bucket are compared once at each run, so the answers are exact, and a search goes
 //! over consecutive entries. Where no ticket was put after a greater one, the first entry that dominates is the answer.
+//!
+//! ```
+//! let mut table = Table::new(alloc, words, 1 << 20);
+//! table.reserve(1)?;
+//! table.put_state(&model, depth, &row, value, ticket);
+//! let better = table.dominator(&model, depth, &other, value);
+//! ```
 #![tactic(auto)]
 
 mod dominating;

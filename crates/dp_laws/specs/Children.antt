@@ -1,8 +1,9 @@
 -- The children of a prefix: how two of them differ, how deep they stand, how long their list is, and when they are sound.
-use Rattle.std.specs.Prelude.{◌≡◌, ℕ, ◌+◌, ◌*◌, ◌^◌, ◌≤◌, nat_eq, ℤ, Bool, false, ◌&&◌, List, [], length, map, sum_by, Option, Some, None, option_map, ◌⊎◌}
+use Rattle.std.specs.Prelude.{◌≡◌, ℕ, ◌+◌, ◌*◌, ◌≤◌, nat_eq, ℤ, Bool, false, ◌&&◌, List, [], length, map, sum_by, Option, Some, None, option_map, ◌⊎◌}
 use Rattle.dp_model.specs.Solution.{Solution}
 use Rattle.dp_model.specs.Cover.{IsHeld}
 use Rattle.dp_model.specs.Dp.{Dp}
+use Rattle.dp_model.specs.declared.limits.TheConstants.{MOST_WIDTH}
 use Rattle.dp_model.specs.Lists.{Each, OneOf}
 use Rattle.dp_model.specs.Numbers.{AtMost, OptionAtMost, IsFar}
 use Rattle.dp_model.specs.Prefixes.{IsCompletion, IsMatched, value_of}
@@ -42,6 +43,7 @@ pub record IsCompletionWith (dp : Dp) (p x : List ℕ) (v : ℤ) : Type 0 where
   pub completion : IsCompletion dp p x
   pub value : v ≡ value_of dp x
 
+-- a found solution is a completion of the prefix with its value
 abbrev pub FoundCompletes : Dp → List ℕ → Option Solution → Type 0
 FoundCompletes dp p None = Unit {0}
 FoundCompletes dp p (Some best) = IsCompletionWith dp p best.decisions best.value
@@ -66,7 +68,7 @@ pub record AreSound (dp : Dp) (p : List ℕ) (t : Option ℤ) (found : Option So
 -- children that may take the place of p where all that is at most a reach, as the incumbent's value, is left out: not too
 -- many, with bounds of a bounded size, and sound for the reach
 pub record AreChildren (dp : Dp) (reach : Option ℤ) (p : List ℕ) (cs : List Subproblem) : Type 0 where
-  pub few : length cs ≤ 2 ^ 24
+  pub few : length cs ≤ MOST_WIDTH
   pub own : Each (IsChild dp p) cs
   pub apart : EachTwo AreApart cs
   pub differ : EachTwo DifferInPlace cs
@@ -77,4 +79,4 @@ pub record AreChildren (dp : Dp) (reach : Option ℤ) (p : List ℕ) (cs : List 
 -- sound children may take the place of p where threshold and found solution are at most the reach
 abbrev pub SoundChildrenFollow : Dp → Type 0
 SoundChildrenFollow dp = (reach t : Option ℤ) (found : Option Solution) (p : List ℕ) (cs : List Subproblem) → OptionAtMost t reach → OptionAtMost (found_value found) reach
-    → length cs ≤ 2 ^ 24 → Each (λ c. IsFar c.bound) cs → AreSound dp p t found cs → AreChildren dp reach p cs
+    → length cs ≤ MOST_WIDTH → Each (λ c. IsFar c.bound) cs → AreSound dp p t found cs → AreChildren dp reach p cs

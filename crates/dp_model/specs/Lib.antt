@@ -16,3 +16,4 @@ pub mod Subproblem
 pub mod Decided
 pub mod Walked
 pub mod Solution
+pub mod Distances

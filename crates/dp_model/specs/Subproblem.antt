@@ -4,6 +4,7 @@ use Rattle.dp_model.specs.Dp.{Dp}
 use Rattle.dp_model.specs.Decisions.{begins}
 use Rattle.dp_model.specs.Prefixes.{IsPrefix, state_of, value_of}
 
+-- decisions, their state and value, and a bound
 pub record Subproblem : Type 0 where
   pub decisions : List ℕ
   pub row : List ℤ

@@ -3,6 +3,11 @@
 //! It stands on std alone. `Draws` is a linear congruential generator modulo 2^31, of which a draw gives the upper 15 bits: the same
 //! seed gives the same numbers everywhere. `specs/Draws.antt` says which, and what steps that draw make one after another, so that
 //! each problem says what it makes of its draws and nothing more.
+//!
+//! ```
+//! let mut draws = Draws::from_seed(7);
+//! let weight = 1 + draws.draw() % 100;
+//! ```
 #![tactic(auto)]
 
 ghost use Rattle.std.specs.Prelude.{◌≡◌, ◌<◌, ◌^◌};

@@ -15,6 +15,7 @@ pub record IsChildReady (dp : Dp) (k : ℕ) (node : DdNode) : Type 0 where
   pub cells : length node.row ≡ dp.words
   pub far : (bound : ℤ) → bound_of dp k node ≡ Some bound → IsFar bound
 
+-- there is a node, and it may become a child
 abbrev pub IsChildReadyAt : Dp → ℕ → Option DdNode → Type 0
 IsChildReadyAt dp k None = ⊥
 IsChildReadyAt dp k (Some node) = IsChildReady dp k node
@@ -43,6 +44,7 @@ pub record IsFirstExact (layer : List DdNode) (place : ℕ) : Type 0 where
   pub exact : node.exact ≡ true
   pub first : first_exact layer ≡ Some (solution_of node)
 
+-- the place of the first exact node, or none where no node is exact
 abbrev pub FindsExact : List DdNode → Option ℕ → Type 0
 FindsExact layer None = first_exact layer ≡ None
 FindsExact layer (Some place) = IsFirstExact layer place
@@ -52,6 +54,7 @@ pub record HasCut (dp : Dp) (d : DdLayers) (room reduced : ℕ) : Type 0 where
   pub positive : 1 ≤ reduced
   pub cut : IsCut dp d (reduced - 1) room
 
+-- the nodes at the cut, where there is one, may become children
 abbrev pub CutIsReady : Dp → DdLayers → ℕ → Option ℕ → Type 0
 CutIsReady dp d room None = Unit {0}
 CutIsReady dp d room (Some reduced) = HasCut dp d room reduced

@@ -45,6 +45,7 @@ pub record IsShown (s : Solution) (f : Found) : Type 0 where
   pub value : f.value ≡ s.value
   pub decisions : f.decisions.now ≡ s.decisions
 
+-- what is shown is the solution, or none where there is none
 abbrev pub ShowsSolution : Option Solution → Option Found → Type 0
 ShowsSolution None None = Unit {0}
 ShowsSolution None (Some f) = ⊥

@@ -6,6 +6,7 @@ use Rattle.dp_model.specs.Subproblem.{Subproblem}
 use Rattle.dp_laws.specs.Diagrams.Cutsets.{ChildAt}
 use Rattle.exact_cutset.specs.declared.child.Child.{Child}
 
+-- where a child stands, with its bound
 abbrev pub child_place : Child → ChildAt
 child_place c = record { depth = c.depth; place = c.node; bound = c.bound }
 

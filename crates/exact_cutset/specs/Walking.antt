@@ -47,6 +47,7 @@ pub record IsWalkable (dp : Dp) (d : DdLayers) (wide room : ℕ) : Type 0 where
 abbrev pub border_at : Dp → DdLayers → ℕ → ℕ → DdNode → Option ChildAt
 border_at dp d depth i node = cond (is_border (layer_in d (depth + 1)) node) (option_map (λ bound. record { depth = depth; place = i; bound = bound }) (bound_of dp depth node)) None
 
+-- with a further child, where the node is one
 abbrev pub with_border : DdLayers → Option ChildAt → ChildrenView → ChildrenView
 with_border d None v = v
 with_border d (Some c) v = with_child d c v
@@ -92,6 +93,7 @@ pub record IsTakenExact (dp : Dp) (d : DdLayers) (depth i : ℕ) (x : DdNode) (a
   pub free_is : free ≡ (clear && not (is_some (border_at dp d depth i x)))
   pub new_is : new ≡ cond clear (with_border d (border_at dp d depth i x) old) old
 
+-- what a walk does at a node of a layer
 pub record IsTakenNode (dp : Dp) (d : DdLayers) (depth i : ℕ) (above : List Bool) (old new : ChildrenView) (free : Bool) : Type 0 where
   pub node : DdNode
   pub is : node_at d depth i ≡ Some node
@@ -125,6 +127,7 @@ pub record IsMarkedFree (d : DdLayers) (depth : ℕ) (above : List Bool) (node :
   pub stems : StemsAt d depth place (Some node)
   pub at : slice_get above place ≡ Some free
 
+-- whether all arcs of a node are free
 abbrev pub IsFreeNode : DdLayers → ℕ → List Bool → Option DdNode → Bool → Type 0
 IsFreeNode d depth above None free = ⊥
 IsFreeNode d depth above (Some node) free = (node.exact ≡ false → free ≡ false) × (node.exact ≡ true → IsMarkedFree d depth above node free)

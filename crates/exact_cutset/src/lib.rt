@@ -5,6 +5,12 @@
 //! They are those that `dp_laws` defines on the diagram's layers, whose laws say that no completion that counts is lost. It looks at
 //! each node and each arc once at most, and takes no memory; the list is prepared once. `subs` gives the children as subproblems
 //! of their own.
+//!
+//! ```
+//! let mut list = Children::prepare(alloc, &model, width, CutKind::LastExactLayer)?;
+//! let diagram = relaxed(&mut space, &model, &sub, None);
+//! children(&model, &diagram, CutKind::LastExactLayer, &mut list);
+//! ```
 #![tactic(auto)]
 
 mod appending;

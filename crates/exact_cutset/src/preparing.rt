@@ -1,4 +1,5 @@
 ghost use Rattle.std.specs.Prelude.{◌≡◌, ◌<◌, ◌≤◌, ◌*◌, ◌^◌, IfOk};
+ghost use Rattle.dp_model.specs.declared.limits.TheConstants.{MOST_WIDTH};
 ghost use Rattle.layer_build.specs.Layers.{IsWidth};
 ghost use Rattle.exact_cutset.specs.Prepared.{AreEnoughChildren, IsListPreparedFor, IsListPrepared, room_for};
 
@@ -11,7 +12,7 @@ use std::alloc::Global;
 /// How many nodes a layer above the last one has at most: as many as the width, and the one below the first as many as choices.
 fn widest<M: DpModel>(model: &M, width: usize) -> usize
     ensures enough { AreEnoughChildren (M.meaning (M.numbers model.now)) width (M.meaning (M.numbers model.now)).vars result }
-    ensures few { width ≤ 2 ^ 24 → result ≤ 2 ^ 24 }
+    ensures few { width ≤ MOST_WIDTH → result ≤ MOST_WIDTH }
 {
     let mut widest = width;
     'layers: for k in 0..model.vars() {
@@ -22,7 +23,7 @@ fn widest<M: DpModel>(model: &M, width: usize) -> usize
 
 /// How many children of the kind a diagram leaves at most whose layers have so many nodes.
 fn room_for<M: DpModel>(model: &M, kind: CutKind, wide: usize) -> usize
-    requires { wide ≤ 2 ^ 24 }
+    requires { wide ≤ MOST_WIDTH }
     ensures room { result ≡ room_for (M.meaning (M.numbers model.now)) kind wide }
     ensures few { result ≤ 2 ^ 34 }
 {
@@ -42,7 +43,7 @@ fn prepare_list<M: DpModel>(
 ) -> Result<Listed, OutOfMemory>
     requires width { IsWidth (M.meaning (M.numbers model.now)) width }
     requires enough { AreEnoughChildren (M.meaning (M.numbers model.now)) width (M.meaning (M.numbers model.now)).vars wide }
-    requires few { wide ≤ 2 ^ 24 }
+    requires few { wide ≤ MOST_WIDTH }
     ensures prepared { IfOk result (λ c. IsListPreparedFor (M.meaning (M.numbers model.now)) width kind c) }
     ensures wide { IfOk result (λ c. c.wide ≡ wide) }
 {

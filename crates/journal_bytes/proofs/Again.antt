@@ -9,10 +9,10 @@ use Rattle.std.proofs.lemmas.List.{append-nil}
 use Rattle.std.proofs.lemmas.Nat.{from_be_bytes-to_be_bytes_4, from_be_bytes-to_be_bytes_8}
 use Rattle.std.proofs.lemmas.Int.{to_z-of_z, ints}
 use Rattle.problem_names.specs.declared.ModelName.{ModelName}
-use Rattle.problem_names.specs.declared.ModelName.TheVariants.{Knapsack, MaxCut, MaxTwoSat, TspWindows}
+use Rattle.problem_names.specs.ModelNames.{byte_of, byte_again}
 use Rattle.journal_bytes.specs.Bodies.{number_at, many, decisions_at, child_at, ticket_of, improve_of, finish_of, record_of, ChildView, RecordView, Improve, Finish}
 use Rattle.journal_bytes.specs.Journal.{HeadView, model_at, text_of, head_of}
-use Rattle.journal_bytes.specs.Spelling.{head_bytes, numbers, decision_bytes, number_of_ticket, child_bytes, record_bytes, record_kind, ChildFits, RecordFits, byte_of_model}
+use Rattle.journal_bytes.specs.Spelling.{head_bytes, numbers, decision_bytes, number_of_ticket, child_bytes, record_bytes, record_kind, ChildFits, RecordFits}
 
 pub word_again : (n : ℕ) (rest : List ℕ) → n < 2 ^ 32 → number_at w32 (to_be_bytes w32 n ++ rest) ≡ Some (n, rest)
 word_again n rest lt =
@@ -51,12 +51,9 @@ improve_again value ds fits =
     let same : cast_signed w64 (cast_unsigned w64 value) ≡ value = to_z-of_z w64 value fits.0 in
     rw (first, second, same) refl
 
-model_again : (m : ModelName) (rest : List ℕ) → model_at (byte_of_model m ∷ rest) ≡ Some (m, rest)
+model_again : (m : ModelName) (rest : List ℕ) → model_at (byte_of m ∷ rest) ≡ Some (m, rest)
 unfolding model_at
-model_again Knapsack rest = refl
-model_again MaxCut rest = refl
-model_again MaxTwoSat rest = refl
-model_again TspWindows rest = refl
+model_again m rest = rw (byte_again m, model_at) refl
 
 text_again : (text : List ℕ) → length text < 2 ^ 32 → text_of (to_be_bytes w32 (length text) ++ text) ≡ Some text
 unfolding text_of
@@ -67,7 +64,7 @@ text_again text fits =
 pub head_again : (h : HeadView) → length h.text < 2 ^ 32 → head_of (record { kind = 1; body = head_bytes h }) ≡ Ok h
 unfolding head_of head_bytes
 head_again h fits =
-    let first = word_again 1 (byte_of_model h.model ∷ (to_be_bytes w32 (length h.text) ++ h.text)) (omega arith) in
+    let first = word_again 1 (byte_of h.model ∷ (to_be_bytes w32 (length h.text) ++ h.text)) (omega arith) in
     rw (first, model_again h.model (to_be_bytes w32 (length h.text) ++ h.text), text_again h.text fits) refl
 
 pub child_again : (c : ChildView) (rest : List ℕ) → ChildFits c → child_at (child_bytes c ++ rest) ≡ Some (c, rest)

@@ -15,6 +15,7 @@ pub record ChildView : Type 0 where
   pub bound : ℤ
   pub decisions : List ℕ
 
+-- a better solution with its value, or a subproblem that is finished, with its children
 pub data RecordView : Type 0 where
   Improve : ℤ → List ℕ → RecordView
   Finish : ℕ → List ChildView → RecordView
@@ -24,6 +25,7 @@ pub record RecordsView : Type 0 where
   pub first : ℕ
   pub records : List RecordView
 
+-- a number of this width, and the bytes behind it
 abbrev pub number_at : Width → List ℕ → Option (ℕ × List ℕ)
 number_at w bytes = if nat_lt (length bytes) (byte_len w) then None else Some (from_be_bytes w (take (byte_len w) bytes), drop (byte_len w) bytes)
 
@@ -41,9 +43,11 @@ decisions_at bytes = do
   count ← number_at w32 bytes
   many (number_at w32) count.0 count.1
 
+-- a ticket, or none for the greatest number
 abbrev pub ticket_of : ℕ → Option ℕ
 ticket_of n = if n == 2 ^ 64 - 1 then None else Some n
 
+-- a child, and the bytes behind it
 unfoldable pub child_at : List ℕ → Option (ChildView × List ℕ)
 child_at bytes = do
   replaced ← number_at w64 bytes
@@ -58,6 +62,7 @@ improve_of body = do
   decisions ← decisions_at value.1
   if length decisions.1 == 0 then Some (Improve (cast_signed w64 value.0) decisions.0) else None
 
+-- a finished subproblem
 unfoldable pub finish_of : List ℕ → Option RecordView
 finish_of body = do
   ticket ← number_at w64 body

@@ -7,9 +7,11 @@ use Rattle.journal_bytes.specs.declared.body.BodyError.{BodyError}
 use Rattle.journal_bytes.specs.declared.body.BodyError.TheVariants as errors
 use Rattle.journal_bytes.specs.Bodies.{ChildView, RecordView, Improve, Finish}
 
+-- a child as its readers see it
 abbrev pub child_view : Child → ChildView
 child_view c = record { replaced = c.replaced; bound = c.bound; decisions = c.decisions.items }
 
+-- a record as its readers see it
 abbrev pub record_view : Record → RecordView
 record_view (records.Improve value decisions) = Improve value decisions.items
 record_view (records.Finish ticket children) = Finish ticket (map child_view children.items)
@@ -19,6 +21,7 @@ abbrev pub Fails : {Y : Type 0} → BodyError → Option Y → Type 0
 Fails errors.OutOfMemory read = Unit {0}
 Fails errors.Malformed read = read ≡ None
 
+-- what is read is what stands there, and an error is its cause
 abbrev pub Gives : {X Y : Type 0} → (X → Y) → Result X BodyError → Option Y → Type 0
 Gives view (Ok x) read = read ≡ Some (view x)
 Gives view (Err e) read = Fails e read

@@ -5,6 +5,9 @@ ghost use Rattle.journal_bytes.specs.Found.{found};
 use crate::sealing::digest_over;
 use std::alloc::{AllocError, Global};
 
+/// How many bytes a record takes in the file beside its body: its gate, its kind, the length of the body and the digest.
+pub const FRAME_OVERHEAD: usize = 38;
+
 /// A record as the file has it.
 #[derive(Debug, Drop)]
 pub(crate) struct Frame {
@@ -28,19 +31,19 @@ pub(crate) struct Found {
 pub(crate) fn sound_frame(before: &[u8; 32], bytes: &[u8]) -> Option<(usize, [u8; 32])>
     ensures sound { IfSome result (λ r. is_sound before.now bytes.now ≡ true) }
     ensures size { IfSome result (λ r. r.0 ≡ body_length bytes.now) }
-    ensures within { IfSome result (λ r. 38 + r.0 < length bytes.now) }
+    ensures within { IfSome result (λ r. FRAME_OVERHEAD + r.0 < length bytes.now) }
     ensures digest { IfSome result (λ r. r.1 ≡ digest_of before.now (frame_at bytes.now)) }
     ensures damaged { IfNone result (is_sound before.now bytes.now ≡ false) }
 {
-    if bytes.len() < 39 {
+    if bytes.len() <= FRAME_OVERHEAD {
         return None;
     }
     let size = u32::from_be_bytes([bytes[2], bytes[3], bytes[4], bytes[5]]) as usize;
-    if bytes.len() <= 38 + size {
+    if bytes.len() <= FRAME_OVERHEAD + size {
         return None;
     }
     let digest = digest_over(before, bytes[1], &bytes[6..6 + size]);
-    if bytes[6 + size..38 + size] == digest[..] {
+    if bytes[6 + size..FRAME_OVERHEAD + size] == digest[..] {
         Some((size, digest))
     } else {
         None
@@ -79,7 +82,7 @@ pub(crate) fn read_frames(alloc: Global, file: &[u8]) -> Result<Found, AllocErro
             body: rest[6..6 + size].to_vec(alloc)?,
         })?;
         digest = next;
-        at += 38 + size;
+        at += FRAME_OVERHEAD + size;
     }
     Ok(Found {
         frames,

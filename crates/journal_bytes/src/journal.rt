@@ -6,7 +6,7 @@ ghost use Rattle.journal_bytes.specs.Views.{record_view};
 ghost use Rattle.journal_bytes.specs.Journal.{behind_head, placed_at, head_of, head_view, model_at, text_of, or_malformed, records_from, journal_in, journal_of, journal_view, Gives};
 
 use crate::body::{BodyError, record_of, u32_at};
-use crate::frames::{Found, Frame, read_frames};
+use crate::frames::{FRAME_OVERHEAD, Found, Frame, read_frames};
 use crate::{Head, Record, Records, Refusal, Tail};
 use problem_names::ModelName;
 use std::alloc::Global;
@@ -27,13 +27,12 @@ fn model_in(bytes: &[u8]) -> Result<(ModelName, &[u8]), Refusal>
     ensures { Gives (λ x. (x.0, x.1.now)) result (or_malformed 0 (model_at bytes.now)) }
 {
     let malformed = Refusal::Malformed { offset: 0 };
-    match bytes {
-        [] => Err(malformed),
-        [1, rest @ ..] => Ok((ModelName::Knapsack, rest)),
-        [2, rest @ ..] => Ok((ModelName::MaxCut, rest)),
-        [3, rest @ ..] => Ok((ModelName::MaxTwoSat, rest)),
-        [4, rest @ ..] => Ok((ModelName::TspWindows, rest)),
-        _ => Err(malformed),
+    let [first, rest @ ..] = bytes else {
+        return Err(malformed);
+    };
+    match ModelName::of_byte(*first) {
+        Some(model) => Ok((model, rest)),
+        None => Err(malformed),
     }
 }
 
@@ -85,7 +84,7 @@ fn records_in(alloc: Global, start: u64, frames: &[Frame]) -> Result<Vec<Record>
             Ok(record) => records.push(record)?,
             Err(e) => return Err(placed(e, at)),
         }
-        let Some(next) = at.checked_add(38 + one.body.len() as u64) else {
+        let Some(next) = at.checked_add((FRAME_OVERHEAD + one.body.len()) as u64) else {
             return Err(Refusal::OutOfMemory);
         };
         at = next;
@@ -113,7 +112,7 @@ fn journal_from(alloc: Global, read: Found) -> Result<(Head, Records, Tail), Ref
         return Err(Refusal::Damaged { offset: end as u64 });
     };
     let head = head_in(alloc, first)?;
-    let start = 38 + first.body.len() as u64;
+    let start = (FRAME_OVERHEAD + first.body.len()) as u64;
     let records = records_in(alloc, start, rest)?;
     if !is_whole {
         return Err(Refusal::Damaged { offset: end as u64 });

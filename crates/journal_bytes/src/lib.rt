@@ -5,6 +5,10 @@
 //! reads a file up to the first closed gate, or gives the first cause for which it is refused; what it reads is spelled so.
 //! `head_body` and `record_body` give the one spelling of a body, which reads back as the same head or record, and `seal`
 //! what stands behind its gate. The crate touches no file. It stands on `sha2`, and on `problem_names` for a head's problem.
+//!
+//! ```
+//! let (head, records, tail) = read_journal(alloc, &file)?;
+//! ```
 #![tactic(auto)]
 
 mod body;
@@ -20,6 +24,7 @@ mod tail;
 mod tests;
 mod writing;
 
+pub use frames::FRAME_OVERHEAD;
 pub use head::Head;
 pub use journal::read_journal;
 pub use record::{Child, Record};

@@ -3,24 +3,11 @@ ghost use Rattle.std.specs.List.{flat_map, AllByRecursion};
 ghost use Rattle.std.specs.Int.{w32, w64, to_be_bytes, cast_unsigned};
 ghost use Rattle.journal_bytes.specs.Bodies.{Improve, Finish, record_of};
 ghost use Rattle.journal_bytes.specs.Journal.{head_of, head_view};
-ghost use Rattle.journal_bytes.specs.Spelling.{byte_of_model, head_bytes, numbers, decision_bytes, child_bytes, record_bytes, number_of_ticket, record_kind, record_size, HasSpelling, IsTicket, ChildFits, RecordFits};
+ghost use Rattle.journal_bytes.specs.Spelling.{head_bytes, numbers, decision_bytes, child_bytes, record_bytes, number_of_ticket, record_kind, record_size, HasSpelling, IsTicket, ChildFits, RecordFits};
 ghost use Rattle.journal_bytes.specs.Views.{child_view, record_view};
 
 use crate::{Child, Head, Record};
-use problem_names::ModelName;
 use std::alloc::{AllocError, Global};
-
-/// The byte of a problem.
-fn model_byte(model: ModelName) -> u8
-    ensures { result ≡ byte_of_model model }
-{
-    match model {
-        ModelName::Knapsack => 1,
-        ModelName::MaxCut => 2,
-        ModelName::MaxTwoSat => 3,
-        ModelName::TspWindows => 4,
-    }
-}
 
 /// The body of a head.
 ///
@@ -38,7 +25,7 @@ pub fn head_body(alloc: Global, head: &Head) -> Result<Vec<u8>, AllocError>
 {
     let mut body = Vec::new(alloc);
     body.extend_from_slice(&1u32.to_be_bytes())?;
-    body.push(model_byte(head.model))?;
+    body.push(head.model.byte())?;
     body.extend_from_slice(&(head.text.len() as u32).to_be_bytes())?;
     body.extend_from_slice(&head.text)?;
     Ok(body)

@@ -1,11 +1,11 @@
 -- What an append leaves, step by step, over any disk.
 use Rattle.std.proofs.Common.{◌≡◌, ◌≢◌, inl, ℕ, ◌+◌, List, [], ◌∷◌, ◌++◌, length, drop, refl, sym, ◌∙◌, ap, subst, arith, length-append}
 use Rattle.std.specs.List.{AllByRecursion}
-use Rattle.dd_disk.specs.Disk.{Holds, Torn, Only, LeavesOnly}
+use Rattle.disk.specs.Disk.{Holds, Torn, Only, LeavesOnly}
 use Rattle.journal_bytes.specs.declared.tail.Tail.{Tail}
 use Rattle.journal_bytes.specs.Frames.{Frame, Fits, digest_of, sealed, no_digest, spelled, digest_after, frames_of, ReadsAs, IsBeforeOrAfter}
 use Rattle.journal_file.specs.Settled.{IsSettled}
-use Rattle.dd_disk.proofs.Runs.{started, then, weaker}
+use Rattle.disk.proofs.Runs.{started, then, weaker}
 use Rattle.journal_bytes.proofs.Reading.{reads_as, fit-push, spelled-push, digest-push, length-digest_of}
 use Rattle.journal_file.proofs.Images as images
 

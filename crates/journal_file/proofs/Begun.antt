@@ -2,7 +2,7 @@
 use Rattle.std.proofs.Common.{◌≡◌, ◌≢◌, inl, inr, ⊎_elim, ℕ, suc, ◌-◌, ◌^◌, ◌<◌, ◌≤◌, Bool, true, false, List, [], ◌∷◌, ◌++◌, length, get_or, Option, Some, None, Err, refl, sym, ◌∙◌, ap, subst, arith}
 use Rattle.std.specs.Prelude.{IsSome, IfSome}
 use Rattle.std.proofs.lemmas.Bool.{cases_lt}
-use Rattle.dd_disk.specs.Disk.{FirstSync, Torn, Only, LeavesOnly}
+use Rattle.disk.specs.Disk.{FirstSync, AtFirstSync, Torn, Only, LeavesOnly}
 use Rattle.journal_bytes.specs.declared.refusal.Refusal.TheVariants.{NotBegun}
 use Rattle.journal_bytes.specs.declared.tail.Tail.{Tail}
 use Rattle.journal_bytes.specs.Frames.{Frame, no_digest, frames_of, ReadsAs, IsBeforeOrAfter}
@@ -10,7 +10,7 @@ use Rattle.journal_file.specs.Settled.{IsSettled, IsOpen}
 use Rattle.journal_bytes.specs.Journal.{HeadView, journal_in, journal_of, HasRecords}
 use Rattle.journal_bytes.specs.Spelling.{head_frame}
 use Rattle.journal_file.specs.Beginning.{IsProbed, BeganAt, LeavesSince, MayBegin, IsBegun}
-use Rattle.dd_disk.proofs.Runs.{then, weaker}
+use Rattle.disk.proofs.Runs.{then, weaker}
 use Rattle.journal_bytes.proofs.Found.{reading_shut}
 use Rattle.journal_bytes.proofs.Journals.{only_head}
 use Rattle.journal_bytes.proofs.Ended.{short_file, long_file}
@@ -56,13 +56,18 @@ pub closed_settled : (file : List ℕ) (may_leave : List ℕ → Type 0) (tail :
 closed_settled [] may_leave tail some closed end digest only = absurd (omega arith)
 closed_settled (a ∷ file) may_leave tail some closed end digest only = settled (a ∷ file) may_leave tail [] file tt (λ i. closed i ∷ file) end digest only
 
-pub since_start : {A : Type 0} (mid new : Option A) (P Q : A → Type 0) → IsSome mid → ((s : A) → mid ≡ Some s → new ≡ Some s) → IfSome mid P → ((s : A) → P s → Q s) → IfSome new Q
-since_start None new P Q some stays has then = absurd cc
-since_start (Some s) new P Q some stays has then = subst (λ o. IfSome o Q) (sym (stays s refl)) (then s has)
+pub counted : (mid new : Option FirstSync) (few many : ℕ) → IsSome mid → ((s : FirstSync) → mid ≡ Some s → new ≡ Some s) → few ≤ many → IfSome mid (λ s. s.faults ≤ few) → IfSome new (λ s. s.faults ≤ many)
+counted None new few many some stays more has = absurd cc
+counted (Some s) new few many some stays more has = subst (λ o. IfSome o (λ (s : FirstSync). s.faults ≤ many)) (sym (stays s refl)) (omega (arith, has, more))
 
-pub if_some_map : {A : Type 0} (o : Option A) (P Q : A → Type 0) → IfSome o P → ((s : A) → P s → Q s) → IfSome o Q
-if_some_map None P Q has then = tt
-if_some_map (Some s) P Q has then = then s has
+module _ (before : List ℕ) where
+  pub since_start : (mid new : Option FirstSync) (seen now : List ℕ) (P Q : FirstSync → Type 0) → IsSome mid → ((s : FirstSync) → mid ≡ Some s → new ≡ Some s) → AtFirstSync mid before seen P → ((s : FirstSync) → P s → Q s) → AtFirstSync new before now Q
+  since_start None new seen now P Q some stays has then = absurd cc
+  since_start (Some s) new seen now P Q some stays has then = subst (λ o. AtFirstSync o before now Q) (sym (stays s refl)) (then s has)
+
+  pub at_first : (o : Option FirstSync) (now : List ℕ) (P Q : FirstSync → Type 0) → AtFirstSync o before now P → ((s : FirstSync) → P s → Q s) → AtFirstSync o before now Q
+  at_first None now P Q has then = has
+  at_first (Some s) now P Q has then = then s has
 
 module _ {D : Type 0} (moment : D → ℕ) (left_since : D → ℕ → List ℕ → Type 0) (h : HeadView) where
   abbrev pub NotYet : List ℕ → Type 0

@@ -3,7 +3,7 @@ use Rattle.std.proofs.Common.{◌≡◌, ◌≢◌, inl, inr, ℕ, ◌+◌, ◌<
 use Rattle.std.specs.List.{AllByRecursion}
 use Rattle.std.proofs.lemmas.Bool.{cases_eq}
 use Rattle.std.proofs.lemmas.List.{take_at, drop_at, drop_more}
-use Rattle.dd_disk.specs.Disk.{Holds, Torn}
+use Rattle.disk.specs.Disk.{Holds, Torn}
 use Rattle.journal_bytes.specs.Frames.{Frame, Fits, sealed, no_digest, spelled, digest_after, ReadsAs, IsBeforeOrAfter}
 use Rattle.journal_bytes.proofs.Reading.{reads_as, spelled-push, fit-push}
 

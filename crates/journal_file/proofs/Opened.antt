@@ -1,6 +1,6 @@
 -- What was read of a journal.
 use Rattle.std.proofs.Common.{◌≡◌, ◌⊎◌, inl, inr, ℕ, List, Bool, Result, Ok, Err, refl, sym, ap, subst, ◌∙◌}
-use Rattle.dd_disk.specs.Disk.{Only}
+use Rattle.disk.specs.Disk.{Only}
 use Rattle.journal_bytes.specs.declared.head.Head.{Head}
 use Rattle.journal_bytes.specs.declared.tail.Tail.{Tail}
 use Rattle.journal_bytes.specs.Bodies.{RecordsView}

@@ -1,13 +1,13 @@
 -- What an append leaves, by records.
 use Rattle.std.proofs.Common.{◌≡◌, ◌⊎◌, inl, inr, ⊎_elim, ℕ, List, [], ◌∷◌, ◌++◌, Some, Result, Ok, Err, sym, subst}
 use Rattle.std.specs.Prelude.{OnOk}
-use Rattle.dd_disk.specs.Disk.{Only, LeavesOnly}
+use Rattle.disk.specs.Disk.{Only, LeavesOnly}
 use Rattle.journal_bytes.specs.declared.tail.Tail.{Tail}
 use Rattle.journal_bytes.specs.Bodies.{RecordView, record_of}
 use Rattle.journal_bytes.specs.Frames.{Frame, frames_of, ReadsAs, IsBeforeOrAfter}
 use Rattle.journal_bytes.specs.Journal.{HeadView, JournalView, HasRecords}
 use Rattle.journal_file.specs.Settled.{IsSettled, IsOpen}
-use Rattle.dd_disk.proofs.Runs.{started, weaker}
+use Rattle.disk.proofs.Runs.{started, weaker}
 use Rattle.journal_bytes.proofs.Journals.{same_records, one_more}
 use Rattle.journal_file.proofs.Appending.{settled_reads}
 

@@ -1,7 +1,7 @@
 -- How a journal begins.
 use Rattle.std.specs.Prelude.{◌≡◌, ◌⊎◌, ◌≤◌, ℕ, Bool, true, false, List, [], length, get_or, Err}
 use Rattle.journal_bytes.specs.declared.refusal.Refusal.TheVariants.{NotBegun}
-use Rattle.dd_disk.specs.Disk.{FirstSync}
+use Rattle.disk.specs.Disk.{FirstSync}
 use Rattle.journal_bytes.specs.Journal.{HeadView, HasRecords, journal_of}
 
 -- whether the file has two bytes or more, of which the first is 0; else it has fewer

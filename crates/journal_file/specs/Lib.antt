@@ -1,7 +1,7 @@
 pub mod Beginning
 pub mod Refusing
 pub mod Settled
-pub use Rattle.dd_disk.specs.Disk
+pub use Rattle.disk.specs.Disk
 pub use Rattle.journal_bytes.specs.Bodies
 pub use Rattle.journal_bytes.specs.Ends
 pub use Rattle.journal_bytes.specs.Frames

@@ -1,6 +1,6 @@
 -- A journal on a disk to which a record may be added.
 use Rattle.std.specs.Prelude.{ℕ, List, Bool, IsTrue}
-use Rattle.dd_disk.specs.Disk.{Only}
+use Rattle.disk.specs.Disk.{Only}
 use Rattle.journal_bytes.specs.declared.tail.Tail.{Tail}
 use Rattle.journal_bytes.specs.Bodies.{RecordView}
 use Rattle.journal_bytes.specs.Ends.{EndsAt}

@@ -1,6 +1,6 @@
 ghost use Rattle.std.specs.Prelude.{◌≡◌, ◌⊎◌, ◌≤◌, ◌<◌, ◌+◌, ◌^◌, ◌++◌, [], ◌∷◌, ℕ, List, length, Some, IsTrue, OnOk, OnErr, IsErrOf};
-ghost use Rattle.dd_disk.specs.Counts.{Rose};
-ghost use Rattle.dd_disk.specs.Disk.{FirstSync, Keeps, LeavesOnly};
+ghost use Rattle.disk.specs.Counts.{Rose};
+ghost use Rattle.disk.specs.Disk.{FirstSync, Keeps, LeavesOnly};
 ghost use Rattle.journal_bytes.specs.Bodies.{RecordView};
 ghost use Rattle.journal_bytes.specs.Frames.{frames_of, IsBeforeOrAfter};
 ghost use Rattle.journal_bytes.specs.Journal.{HeadView, HasRecords};
@@ -10,8 +10,8 @@ ghost use Rattle.journal_file.specs.Settled.{IsSettled, IsOpen};
 
 use crate::AppendError;
 use crate::steps::write_synced;
-use dd_disk::Disk;
-use journal_bytes::{Record, Tail, record_body, seal};
+use disk::Disk;
+use journal_bytes::{FRAME_OVERHEAD, Record, Tail, record_body, seal};
 use std::alloc::Global;
 
 /// Adds a record of a kind and a body.
@@ -37,9 +37,9 @@ pub(crate) fn append_frame<D: Disk>(
     ensures tail { OnErr result (tail.new ≡ tail.old) }
     ensures faults { D.faults disk.old ≤ D.faults disk.new }
     ensures start { (s : FirstSync) → D.start disk.old ≡ Some s → D.start disk.new ≡ Some s }
-    ensures keeps { Keeps D.attached D.tells disk.old disk.new }
+    ensures keeps { Keeps D.attached D.tells D.names D.found disk.old disk.new }
 {
-    let size = 38 + body.len() as u64;
+    let size = (FRAME_OVERHEAD + body.len()) as u64;
     if tail.end >= u64::MAX - size {
         return Err(AppendError::OutOfMemory);
     }
@@ -88,7 +88,7 @@ pub fn append<D: Disk>(
     ensures tail { OnErr result (tail.new ≡ tail.old) }
     ensures faults { D.faults disk.old ≤ D.faults disk.new }
     ensures start { (s : FirstSync) → D.start disk.old ≡ Some s → D.start disk.new ≡ Some s }
-    ensures keeps { Keeps D.attached D.tells disk.old disk.new }
+    ensures keeps { Keeps D.attached D.tells D.names D.found disk.old disk.new }
 {
     let body = record_body(alloc, entry)?;
     append_frame(alloc, disk, tail, entry.kind(), &body)

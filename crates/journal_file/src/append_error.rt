@@ -1,7 +1,7 @@
 ghost use Rattle.std.specs.Prelude.{◌≡◌};
 ghost use Rattle.journal_file.specs.declared.append_error.AppendError.TheVariants.{Disk, OutOfMemory};
 
-use dd_disk::DiskFailed;
+use disk::DiskFailed;
 use std::alloc::AllocError;
 
 /// Why a record was not added.

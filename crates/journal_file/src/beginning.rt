@@ -1,6 +1,6 @@
 ghost use Rattle.std.specs.Prelude.{◌≡◌, ◌⊎◌, ◌≤◌, ◌<◌, ◌^◌, [], ℕ, List, length, Some, None, Err, get_or, is_err, IsTrue, IsSome, IfSome, IfOk, OnOk, IfErr, IsErrOf};
-ghost use Rattle.dd_disk.specs.Counts.{Rose, Counts};
-ghost use Rattle.dd_disk.specs.Disk.{FirstSync, Only, Keeps, LeavesOnly};
+ghost use Rattle.disk.specs.Counts.{Rose, Counts};
+ghost use Rattle.disk.specs.Disk.{FirstSync, AtFirstSync, Only, Keeps, LeavesOnly};
 ghost use Rattle.journal_bytes.specs.Journal.{journal_of, head_view, HasRecords};
 ghost use Rattle.journal_bytes.specs.declared.refusal.Refusal.TheVariants.{NotBegun};
 ghost use Rattle.journal_file.specs.Settled.{IsOpen};
@@ -10,7 +10,7 @@ ghost use Rattle.journal_file.specs.Refusing.{KeepsFromBeginning};
 use crate::adding::append_frame;
 use crate::steps::{probe, write_synced};
 use crate::{AppendError, JournalError};
-use dd_disk::{Disk, DiskFailed};
+use disk::{Disk, DiskFailed};
 use journal_bytes::{Head, Tail, head_body};
 use std::alloc::Global;
 
@@ -25,7 +25,7 @@ fn close_first<D: Disk>(disk: &mut D, has_gate: bool) -> Result<(), DiskFailed>
     ensures any_moment { IsTrue (D.tells disk.old) → LeavesOnly D.moment D.left_since disk.old disk.new
         (λ c. journal_of c ≡ Err NotBegun) }
     ensures start { (s : FirstSync) → D.start disk.old ≡ Some s → D.start disk.new ≡ Some s }
-    ensures keeps { Keeps D.attached D.tells disk.old disk.new }
+    ensures keeps { Keeps D.attached D.tells D.names D.found disk.old disk.new }
     ensures faults { Counts (is_err result) (D.faults disk.old) (D.faults disk.new) }
 {
     if has_gate {
@@ -52,7 +52,7 @@ fn add_head<D: Disk>(
     ensures start { (s : FirstSync) → D.start disk.old ≡ Some s → D.start disk.new ≡ Some s }
     ensures disk { IsErrOf result AppendError.Disk → Rose (D.faults disk.old) (D.faults disk.new) }
     ensures faults { D.faults disk.old ≤ D.faults disk.new }
-    ensures keeps { Keeps D.attached D.tells disk.old disk.new }
+    ensures keeps { Keeps D.attached D.tells D.names D.found disk.old disk.new }
 {
     let body = head_body(alloc, head)?;
     close_first(disk, has_gate)?;
@@ -79,23 +79,22 @@ pub fn begin<D: Disk>(alloc: Global, disk: &mut D, head: &Head) -> Result<Tail, 
 
     // Its sync finds the file as it was, and from then on a crash at any moment leaves no journal, or this head alone.
     ensures since { IsTrue (D.tells disk.old) → D.start disk.old ≡ None →
-        IfSome (D.start disk.new) (λ s. (s.content ≡ D.seen disk.old) × (MayBegin s.content →
+        AtFirstSync (D.start disk.new) (D.seen disk.old) (D.seen disk.new) (λ s. (s.content ≡ D.seen disk.old) × (MayBegin s.content →
         LeavesSince D.moment D.left_since s disk.new (IsBegun (head_view head.now)))) }
     ensures began { OnOk result (D.start disk.old ≡ None → IsSome (D.start disk.new)) }
+    ensures counted { D.start disk.old ≡ None → IfSome (D.start disk.new) (λ s. s.faults ≤ D.faults disk.new) }
 
     // Where the file has something else, it is left as it was, whatever is answered.
     ensures exists { IsErrOf result JournalError.Exists → IsTrue (D.tells disk.old) →
         (2 ≤ length (D.seen disk.old)) × ¬ (get_or (D.seen disk.old) 0 0 ≡ 0) × (D.seen disk.new ≡ D.seen disk.old) }
-    ensures untouched { IsErrOf result JournalError.Exists → IsTrue (D.tells disk.old) → D.start disk.old ≡ None →
-        IfSome (D.start disk.new) (λ s. BeganAt D.moment D.left_since s disk.new (D.seen disk.old)) }
     ensures began_exists { IsErrOf result JournalError.Exists → D.start disk.old ≡ None → IsSome (D.start disk.new) }
     ensures begins { OnOk result (IsTrue (D.tells disk.old) → MayBegin (D.seen disk.old)) }
     ensures spared { IsTrue (D.tells disk.old) → D.start disk.old ≡ None →
-        IfSome (D.start disk.new) (λ s. MayBegin s.content ⊎ BeganAt D.moment D.left_since s disk.new s.content) }
+        AtFirstSync (D.start disk.new) (D.seen disk.old) (D.seen disk.new) (λ s. MayBegin s.content ⊎ BeganAt D.moment D.left_since s disk.new s.content) }
     ensures disk { IsErrOf result JournalError.Disk → Rose (D.faults disk.old) (D.faults disk.new) }
     ensures errors { IfErr result KeepsFromBeginning }
     ensures faults { D.faults disk.old ≤ D.faults disk.new }
-    ensures keeps { Keeps D.attached D.tells disk.old disk.new }
+    ensures keeps { Keeps D.attached D.tells D.names D.found disk.old disk.new }
 {
     let has_gate = probe(disk)?;
     Ok(add_head(alloc, disk, has_gate, head)?)

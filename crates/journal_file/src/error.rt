@@ -3,7 +3,7 @@ ghost use Rattle.journal_file.specs.declared.error.JournalError.TheVariants.{Dis
 ghost use Rattle.journal_file.specs.Refusing.{error_of, error_of_append};
 
 use crate::AppendError;
-use dd_disk::DiskFailed;
+use disk::DiskFailed;
 use journal_bytes::Refusal;
 use std::alloc::AllocError;
 

@@ -3,8 +3,13 @@
 //! `begin` writes a head into a file that has no journal, `reopen` reads a journal and finds where it goes on, `append` adds a
 //! record. A crash at any moment of a call leaves a file that reads as the records from before it, or as these and the new one;
 //! once the call is Ok, only as the latter. A record is written behind a closed gate and put on the disk before its gate is
-//! opened, so no crash leaves a part of one. The crate knows no search: it stands on `dd_disk` for what a crash may leave, and
+//! opened, so no crash leaves a part of one. The crate knows no search: it stands on `disk` for what a crash may leave, and
 //! on `journal_bytes` for what bytes read as.
+//!
+//! ```
+//! let (head, records, mut tail) = reopen(alloc, &mut disk)?;
+//! append(alloc, &mut disk, &mut tail, &Record::Improve { value, decisions })?;
+//! ```
 #![tactic(auto)]
 
 mod adding;

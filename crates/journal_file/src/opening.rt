@@ -1,13 +1,13 @@
 ghost use Rattle.std.specs.Prelude.{◌≡◌, ◌⊎◌, ◌≤◌, ◌<◌, ◌-◌, ◌^◌, length, None, IsSome, IfSome, IsTrue, IfOk, OnOk, IfErr, IsErrOf};
-ghost use Rattle.dd_disk.specs.Counts.{Rose};
-ghost use Rattle.dd_disk.specs.Disk.{Only, Keeps, LeavesOnly};
+ghost use Rattle.disk.specs.Counts.{Rose};
+ghost use Rattle.disk.specs.Disk.{AtFirstSync, Only, Keeps, LeavesOnly};
 ghost use Rattle.journal_file.specs.Beginning.{BeganAt};
 ghost use Rattle.journal_file.specs.Refusing.{WasOpened, IsRefusal};
 ghost use Rattle.journal_file.specs.Settled.{IsOpen};
 
 use crate::JournalError;
 use crate::steps::fetch;
-use dd_disk::Disk;
+use disk::Disk;
 use journal_bytes::{Head, Records, Tail, read_journal};
 use std::alloc::Global;
 
@@ -36,12 +36,14 @@ pub fn reopen<D: Disk>(alloc: Global, disk: &mut D) -> Result<(Head, Records, Ta
 
     // From its sync on a crash leaves what was read. Where bytes were read, accepted or refused, the sync was done.
     ensures start { IsTrue (D.tells disk.old) → D.start disk.old ≡ None →
-        IfSome (D.start disk.new) (λ s. BeganAt D.moment D.left_since s disk.new (D.seen disk.old)) }
+        AtFirstSync (D.start disk.new) (D.seen disk.old) (D.seen disk.new)
+        (λ s. BeganAt D.moment D.left_since s disk.new (D.seen disk.old)) }
     ensures began { OnOk result (D.start disk.old ≡ None → IsSome (D.start disk.new)) }
+    ensures counted { D.start disk.old ≡ None → IfSome (D.start disk.new) (λ s. s.faults ≤ D.faults disk.new) }
     ensures began_refused { IfErr result (λ e. IsRefusal e → D.start disk.old ≡ None → IsSome (D.start disk.new)) }
     ensures disk { IsErrOf result JournalError.Disk → Rose (D.faults disk.old) (D.faults disk.new) }
     ensures faults { D.faults disk.old ≤ D.faults disk.new }
-    ensures keeps { Keeps D.attached D.tells disk.old disk.new }
+    ensures keeps { Keeps D.attached D.tells D.names D.found disk.old disk.new }
 {
     let file = fetch(alloc, disk)?;
     let journal = read_journal(alloc, &file)?;

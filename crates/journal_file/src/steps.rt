@@ -1,12 +1,12 @@
 ghost use Rattle.std.specs.Prelude.{◌≡◌, ◌⊎◌, ◌≤◌, ◌+◌, ℕ, List, length, Some, None, IsSome, IfSome, get_or, is_err, IsTrue, IsErrOf, IfOk, IfErr, OnOk};
-ghost use Rattle.dd_disk.specs.Counts.{Rose, Counts};
-ghost use Rattle.dd_disk.specs.Disk.{FirstSync, Holds, Torn, Only, Keeps, LeavesOnly};
+ghost use Rattle.disk.specs.Counts.{Rose, Counts};
+ghost use Rattle.disk.specs.Disk.{FirstSync, AtFirstSync, Holds, Torn, Only, Keeps, LeavesOnly};
 ghost use Rattle.journal_file.specs.declared.error.JournalError.{JournalError};
 ghost use Rattle.journal_file.specs.Beginning.{IsProbed, BeganAt};
 ghost use Rattle.journal_file.specs.Refusing.{KeepsFromBeginning};
 
 use crate::error::JournalError;
-use dd_disk::{Disk, DiskFailed};
+use disk::{Disk, DiskFailed};
 use std::alloc::Global;
 
 /// Writes, and puts it on the disk.
@@ -18,7 +18,7 @@ pub(crate) fn write_synced<D: Disk>(disk: &mut D, at: u64, bytes: &[u8]) -> Resu
     ensures durable { OnOk result (IsTrue (D.tells disk.old) → Only (D.seen disk.new) (D.may_leave disk.new)) }
     ensures any_moment { IsTrue (D.tells disk.old) → LeavesOnly D.moment D.left_since disk.old disk.new (Torn at (length bytes.now) (D.seen disk.old)) }
     ensures start { (s : FirstSync) → D.start disk.old ≡ Some s → D.start disk.new ≡ Some s }
-    ensures keeps { Keeps D.attached D.tells disk.old disk.new }
+    ensures keeps { Keeps D.attached D.tells D.names D.found disk.old disk.new }
     ensures faults { Counts (is_err result) (D.faults disk.old) (D.faults disk.new) }
 {
     disk.write_at(at, bytes)?;
@@ -32,9 +32,11 @@ pub(crate) fn fetch<D: Disk>(alloc: Global, disk: &mut D) -> Result<Vec<u8>, Jou
     ensures durable { OnOk result (IsTrue (D.tells disk.old) → Only (D.seen disk.old) (D.may_leave disk.new)) }
     ensures seen { D.seen disk.new ≡ D.seen disk.old }
     ensures any_moment { IsTrue (D.tells disk.old) → LeavesOnly D.moment D.left_since disk.old disk.new (λ c. D.may_leave disk.old c ⊎ (c ≡ D.seen disk.old)) }
-    ensures start { IsTrue (D.tells disk.old) → D.start disk.old ≡ None → IfSome (D.start disk.new) (λ s. BeganAt D.moment D.left_since s disk.new (D.seen disk.old)) }
+    ensures start { IsTrue (D.tells disk.old) → D.start disk.old ≡ None → AtFirstSync (D.start disk.new) (D.seen disk.old) (D.seen disk.new)
+        (λ s. BeganAt D.moment D.left_since s disk.new (D.seen disk.old)) }
     ensures began { OnOk result (D.start disk.old ≡ None → IsSome (D.start disk.new)) }
-    ensures keeps { Keeps D.attached D.tells disk.old disk.new }
+    ensures counted { D.start disk.old ≡ None → IfSome (D.start disk.new) (λ s. s.faults ≤ D.faults disk.new) }
+    ensures keeps { Keeps D.attached D.tells D.names D.found disk.old disk.new }
     ensures faults { D.faults disk.old ≤ D.faults disk.new }
     ensures errors { IfErr result (λ e. (e ≡ JournalError.Disk) ⊎ (e ≡ JournalError.OutOfMemory)) }
     ensures disk { IsErrOf result JournalError.Disk → Rose (D.faults disk.old) (D.faults disk.new) }
@@ -55,10 +57,12 @@ pub(crate) fn probe<D: Disk>(disk: &mut D) -> Result<bool, JournalError>
     ensures durable { OnOk result (IsTrue (D.tells disk.old) → Only (D.seen disk.new) (D.may_leave disk.new)) }
     ensures seen { D.seen disk.new ≡ D.seen disk.old }
     ensures any_moment { IsTrue (D.tells disk.old) → LeavesOnly D.moment D.left_since disk.old disk.new (λ c. D.may_leave disk.old c ⊎ (c ≡ D.seen disk.old)) }
-    ensures start { IsTrue (D.tells disk.old) → D.start disk.old ≡ None → IfSome (D.start disk.new) (λ s. BeganAt D.moment D.left_since s disk.new (D.seen disk.old)) }
+    ensures start { IsTrue (D.tells disk.old) → D.start disk.old ≡ None → AtFirstSync (D.start disk.new) (D.seen disk.old) (D.seen disk.new)
+        (λ s. BeganAt D.moment D.left_since s disk.new (D.seen disk.old)) }
     ensures began { OnOk result (D.start disk.old ≡ None → IsSome (D.start disk.new)) }
+    ensures counted { D.start disk.old ≡ None → IfSome (D.start disk.new) (λ s. s.faults ≤ D.faults disk.new) }
     ensures began_exists { IsErrOf result JournalError.Exists → D.start disk.old ≡ None → IsSome (D.start disk.new) }
-    ensures keeps { Keeps D.attached D.tells disk.old disk.new }
+    ensures keeps { Keeps D.attached D.tells D.names D.found disk.old disk.new }
     ensures faults { D.faults disk.old ≤ D.faults disk.new }
     ensures disk { IsErrOf result JournalError.Disk → Rose (D.faults disk.old) (D.faults disk.new) }
     ensures errors { IfErr result KeepsFromBeginning }

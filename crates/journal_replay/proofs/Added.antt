@@ -8,7 +8,7 @@ use Rattle.dp_model.proofs.Members.{Each-then, Each-append}
 use Rattle.dp_laws.specs.Pairs.{EachTwo}
 use Rattle.dp_laws.proofs.Lists.{each-filter, two-filter}
 use Rattle.dp_laws.proofs.Restricted.Permutations.{two-append}
-use Rattle.shared_fringe.specs.Tickets.{Ticketed, IsEarlier}
+use Rattle.fringe.specs.Tickets.{Ticketed, IsEarlier}
 use Rattle.board_laws.proofs.Lists.{sum-filter}
 use Rattle.journal_bytes.specs.Bodies.{ChildView}
 use Rattle.journal_replay.specs.Replay.{Replayed, child_of, unless_replaced, with_child, with_children}

@@ -6,10 +6,10 @@ use Rattle.dp_model.specs.Lists.{Each}
 use Rattle.dp_model.specs.Numbers.{is_above}
 use Rattle.dp_model.proofs.Members.{each-of-all}
 use Rattle.dp_laws.proofs.Lists.{each-filter}
-use Rattle.shared_fringe.specs.Fringe.{same_open}
-use Rattle.shared_fringe.specs.Pushing.{pushed_beside, after_push}
-use Rattle.shared_fringe.specs.Tickets.{Ticketed, IsEarlier, by_ticket, without}
-use Rattle.shared_fringe.proofs.Tickets.{each-by_ticket}
+use Rattle.fringe.specs.Fringe.{same_open}
+use Rattle.fringe.specs.Pushing.{pushed_beside, after_push}
+use Rattle.fringe.specs.Tickets.{Ticketed, IsEarlier, by_ticket, without}
+use Rattle.fringe.proofs.Tickets.{each-by_ticket}
 use Rattle.dp_laws.specs.Pairs.{EachTwo}
 use Rattle.dp_laws.specs.Children.{AreApart}
 use Rattle.dp_model.specs.Cover.{Covers, IsHeld}

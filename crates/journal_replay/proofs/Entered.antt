@@ -6,8 +6,8 @@ use Rattle.dp_model.specs.Lists.{Each}
 use Rattle.dp_model.specs.Prefixes.{state_of}
 use Rattle.dp_model.specs.Subproblem.{Subproblem, IsOwn}
 use Rattle.dp_model.proofs.Members.{Has}
-use Rattle.shared_fringe.specs.Fringe.{is_same}
-use Rattle.shared_fringe.specs.Tickets.{Ticketed}
+use Rattle.fringe.specs.Fringe.{is_same}
+use Rattle.fringe.specs.Tickets.{Ticketed}
 use Rattle.dominance_table.specs.Entries.{TableEntry}
 use Rattle.board_laws.specs.Entering.{entering, replaced, is_among}
 use Rattle.board_laws.specs.declared.fate.Fate.{Fate}

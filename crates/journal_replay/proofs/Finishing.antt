@@ -8,7 +8,7 @@ use Rattle.dp_model.specs.Subproblem.{Subproblem, IsOwn, IsChild}
 use Rattle.dp_model.proofs.Members.{Each-then, Each-append, each-has, each-of-all, Has-filter-from}
 use Rattle.dp_laws.specs.Children.{DifferInPlace}
 use Rattle.dp_laws.specs.Pairs.{EachTwo}
-use Rattle.shared_fringe.specs.Tickets.{Ticketed}
+use Rattle.fringe.specs.Tickets.{Ticketed}
 use Rattle.board_laws.specs.Board.{BoardState, full_slots, frontier, reach}
 use Rattle.board_laws.specs.Entering.{entering, replaced, is_among, without_all}
 use Rattle.board_laws.specs.Fates.{fate_of, fates_on, tickets_after}

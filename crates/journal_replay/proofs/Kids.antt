@@ -9,9 +9,9 @@ use Rattle.dp_model.proofs.Members.{Has, Each-then, Each-append}
 use Rattle.dp_laws.specs.Children.{DifferInPlace}
 use Rattle.dp_laws.specs.Pairs.{EachTwo}
 use Rattle.dp_laws.proofs.Lists.{each-filter}
-use Rattle.shared_fringe.specs.Fringe.{is_same}
-use Rattle.shared_fringe.specs.Tickets.{Ticketed, IsEarlier}
-use Rattle.shared_fringe.proofs.Rows.{same-depth, same-row}
+use Rattle.fringe.specs.Fringe.{is_same}
+use Rattle.fringe.specs.Tickets.{Ticketed, IsEarlier}
+use Rattle.fringe.proofs.Rows.{same-depth, same-row}
 use Rattle.board_laws.proofs.Fates.{same-ticket}
 use Rattle.board_laws.proofs.Lists.{one-each, one-out}
 use Rattle.journal_bytes.specs.Bodies.{ChildView}

@@ -8,8 +8,8 @@ use Rattle.dp_model.specs.Lists.{Each}
 use Rattle.dp_model.specs.Solution.{Solution}
 use Rattle.dp_model.specs.Subproblem.{SubView}
 use Rattle.dp_model.proofs.Members.{Each-then}
-use Rattle.shared_fringe.specs.Tickets.{Ticketed, without}
-use Rattle.shared_fringe.proofs.Tickets.{without-later}
+use Rattle.fringe.specs.Tickets.{Ticketed, without}
+use Rattle.fringe.proofs.Tickets.{without-later}
 use Rattle.journal_replay.specs.Places.{listed_from}
 use Rattle.journal_replay.specs.Replay.{Replayed, listed_at, taken_off}
 use Rattle.journal_replay.proofs.Tickets.{at-none}

@@ -8,7 +8,7 @@ use Rattle.dp_model.specs.Numbers.{IsFar}
 use Rattle.dp_model.specs.Subproblem.{IsOwn, IsChild}
 use Rattle.dp_model.proofs.Members.{Each-then}
 use Rattle.dp_laws.proofs.Lists.{each-filter, two-filter}
-use Rattle.shared_fringe.specs.Tickets.{Ticketed, IsEarlier}
+use Rattle.fringe.specs.Tickets.{Ticketed, IsEarlier}
 use Rattle.board_laws.specs.Board.{AreSettings, full_slots}
 use Rattle.board_laws.specs.GoodBoard.{IncumbentHolds}
 use Rattle.board_laws.specs.Steps.{empty_slots, first_open}
@@ -74,7 +74,7 @@ abbrev plain : Settings
 plain = record { workers = 1; budget = 0; table_limit = 0; width = 1; within = pos 0 }
 
 are-plain : AreSettings plain
-are-plain = record { some_workers = omega arith; few_workers = omega arith; some_width = omega arith; within_least = omega (arith, ints); within_most = omega (arith, ints) }
+are-plain = record { some_workers = omega arith; few_workers = omega arith; some_width = omega arith; distance = record { least = omega (arith, ints); most = omega (arith, ints) } }
 
 pub start-restores : (dp : Dp) → IsLawful dp → MayRestoreFrom dp (replay_start dp)
 start-restores dp laws =

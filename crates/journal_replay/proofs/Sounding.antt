@@ -13,7 +13,7 @@ use Rattle.dp_laws.specs.Children.{AreApart}
 use Rattle.dp_laws.specs.Pairs.{EachTwo}
 use Rattle.dp_laws.proofs.Lists.{each-filter}
 use Rattle.dp_laws.proofs.Reaches.{at-most-raised}
-use Rattle.shared_fringe.specs.Tickets.{Ticketed}
+use Rattle.fringe.specs.Tickets.{Ticketed}
 use Rattle.board_laws.specs.Board.{BoardState, reach, reach_of, value_held, frontier, prefixes}
 use Rattle.board_laws.specs.Fates.{fates_on}
 use Rattle.board_laws.specs.Finishing.{MayFinish}

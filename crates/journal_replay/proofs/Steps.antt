@@ -11,8 +11,8 @@ use Rattle.dp_model.specs.Solution.{Solution}
 use Rattle.dp_model.specs.Subproblem.{Subproblem}
 use Rattle.dp_model.proofs.Members.{Each-append}
 use Rattle.dp_laws.specs.Pairs.{EachTwo}
-use Rattle.shared_fringe.specs.Firsts.{first_taken}
-use Rattle.shared_fringe.specs.Tickets.{Ticketed, IsEarlier, without}
+use Rattle.fringe.specs.Firsts.{first_taken}
+use Rattle.fringe.specs.Tickets.{Ticketed, IsEarlier, without}
 use Rattle.board_laws.specs.Board.{BoardState, full_slots, frontier, incumbent_value, reach, reach_of, slot_at, value_held}
 use Rattle.board_laws.specs.Fates.{fates_on}
 use Rattle.board_laws.specs.Finishing.{MayFinish}

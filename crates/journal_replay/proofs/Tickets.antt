@@ -5,7 +5,7 @@ use Rattle.std.proofs.lemmas.Bool.Decides.{nat_tests}
 use Rattle.dp_model.specs.Lists.{Each}
 use Rattle.dp_model.proofs.Members.{Has, each-has}
 use Rattle.dp_laws.specs.Pairs.{EachTwo}
-use Rattle.shared_fringe.specs.Tickets.{Ticketed, IsEarlier, without}
+use Rattle.fringe.specs.Tickets.{Ticketed, IsEarlier, without}
 use Rattle.journal_replay.specs.Replay.{listed_at}
 
 -- what is found is listed, under that ticket

@@ -5,11 +5,12 @@ use Rattle.dp_model.specs.Numbers.{IsFar, is_above}
 use Rattle.dp_model.specs.Prefixes.{IsSolution}
 use Rattle.dp_model.specs.Solution.{IsSolutionWith}
 use Rattle.dp_model.specs.Subproblem.{Subproblem, IsChild}
-use Rattle.shared_fringe.specs.Fringe.{is_same}
-use Rattle.shared_fringe.specs.Tickets.{Ticketed}
+use Rattle.fringe.specs.Fringe.{is_same}
+use Rattle.fringe.specs.Tickets.{Ticketed}
 use Rattle.board_laws.specs.Board.{value_held}
 use Rattle.journal_bytes.specs.Bodies.{ChildView, RecordView, Improve, Finish}
 use Rattle.journal_bytes.specs.Spelling.{record_size}
+use Rattle.journal_bytes.specs.declared.frames.TheConstants.{FRAME_OVERHEAD}
 use Rattle.journal_file.specs.declared.error.JournalError.{JournalError}
 use Rattle.journal_file.specs.declared.error.JournalError.TheVariants as errors
 use Rattle.journal_replay.specs.Replay.{Replayed, listed_at, child_of, with_child, taken_off, after_record, replay_start}
@@ -78,7 +79,7 @@ IsWrong dp s at r errors.OutOfMemory = ⊥
 -- the error is for the first of the records from this offset on that may not follow where it stands
 abbrev pub IsFirstWrong : Dp → Replayed → ℕ → List RecordView → JournalError → Type 0
 IsFirstWrong dp s at [] e = ⊥
-IsFirstWrong dp s at (r ∷ rs) e = IsWrong dp s at r e ⊎ (MayFollow dp s r × IsFirstWrong dp (after_record dp s r) (at + (38 + record_size r)) rs e)
+IsFirstWrong dp s at (r ∷ rs) e = IsWrong dp s at r e ⊎ (MayFollow dp s r × IsFirstWrong dp (after_record dp s r) (at + (FRAME_OVERHEAD + record_size r)) rs e)
 
 -- so the records are refused, unless memory ran out
 abbrev pub AreRefused : Dp → Replayed → ℕ → List RecordView → JournalError → Type 0

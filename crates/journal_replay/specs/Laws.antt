@@ -26,6 +26,7 @@ pub record FirstBoardFollows (dp : Dp) (settings : Settings) : Type 0 where
   pub beside : IsReplayOf dp (replay_start dp) (first_board dp settings)
   pub sound : IsSoundState dp settings.within 0 (replay_start dp)
 
+-- a first board stands beside no records
 abbrev pub FirstBoardsFollow : Dp → Type 0
 FirstBoardsFollow dp = (settings : Settings) → AreSettings settings → FirstBoardFollows dp settings
 
@@ -41,6 +42,7 @@ pub record StepIsRecorded (dp : Dp) (s : Replayed) (b : BoardState) (step : Step
   pub sound : (n : ℕ) → IsGood dp b → IsSoundState dp b.settings.within n s →
       IfSome (record_of_step dp b step) (λ r. IsSoundState dp b.settings.within (finished_after n r) (after_record dp s r))
 
+-- after an allowed step and its record a board stands beside its records again
 abbrev pub StepsAreRecorded : Dp → Type 0
 StepsAreRecorded dp = (s : Replayed) (b : BoardState) (step : Step) → IsBoard dp b → IsReplayOf dp s b → May dp b step → StepIsRecorded dp s b step
 
@@ -60,5 +62,6 @@ pub record AreJoined (dp : Dp) (s : Replayed) (rs more : List RecordView) : Type
       → AreSoundFrom dp within n s (rs ++ more)
   pub sound_front : (within : ℤ) (n : ℕ) → AreSoundFrom dp within n s (rs ++ more) → AreSoundFrom dp within n s rs
 
+-- records behind records are replayed one after the other
 abbrev pub RecordsJoin : Dp → Type 0
 RecordsJoin dp = (s : Replayed) (rs more : List RecordView) → AreJoined dp s rs more

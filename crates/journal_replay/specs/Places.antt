@@ -4,7 +4,7 @@ use Rattle.std.specs.Prelude.{◌≡◌, ℕ, ◌+◌, ◌^◌, ℤ, pos, int_le
 use Rattle.dp_model.specs.Dp.{Dp}
 use Rattle.dp_model.specs.Numbers.{IsFar}
 use Rattle.dp_model.specs.Subproblem.{SubView, Subproblem, IsChild}
-use Rattle.shared_fringe.specs.Tickets.{Ticketed}
+use Rattle.fringe.specs.Tickets.{Ticketed}
 use Rattle.journal_bytes.specs.Bodies.{ChildView, RecordView}
 use Rattle.journal_file.specs.declared.error.JournalError.{JournalError}
 use Rattle.journal_file.specs.declared.error.JournalError.TheVariants as errors

@@ -4,7 +4,7 @@ use Rattle.dp_model.specs.Dp.{Dp}
 use Rattle.dp_model.specs.Prefixes.{state_of, value_of}
 use Rattle.dp_model.specs.Solution.{Solution}
 use Rattle.dp_model.specs.Subproblem.{Subproblem}
-use Rattle.shared_fringe.specs.Tickets.{Ticketed, without}
+use Rattle.fringe.specs.Tickets.{Ticketed, without}
 use Rattle.board_laws.specs.declared.settings.Settings.{Settings}
 use Rattle.board_laws.specs.Board.{BoardState}
 use Rattle.board_laws.specs.Restoring.{MayRestore, restored_board}

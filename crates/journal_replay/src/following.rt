@@ -15,7 +15,7 @@ use crate::children::{add_children, walk_into};
 use crate::state::{Best, State};
 use crate::verdict::Verdict;
 use dp_model::{DpModel, OutOfMemory};
-use journal_bytes::{Child, Record};
+use journal_bytes::{Child, FRAME_OVERHEAD, Record};
 use journal_file::JournalError;
 use std::alloc::Global;
 
@@ -156,9 +156,9 @@ fn body_size(entry: &Record) -> Option<u64>
 
 /// The offset of the gate behind a record, or `None` where it is too great to be counted.
 fn offset_behind(offset: u64, entry: &Record) -> Option<u64>
-    ensures { IfSome result (λ next. next ≡ offset + (38 + record_size (record_view entry.now))) }
+    ensures { IfSome result (λ next. next ≡ offset + (FRAME_OVERHEAD + record_size (record_view entry.now))) }
 {
-    let frame = body_size(entry)?.checked_add(38)?;
+    let frame = body_size(entry)?.checked_add(FRAME_OVERHEAD as u64)?;
     offset.checked_add(frame)
 }
 

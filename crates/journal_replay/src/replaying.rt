@@ -5,16 +5,16 @@ ghost use Rattle.std.specs.Arc.{arc_value};
 ghost use Rattle.dp_model.specs.Dp.{Dp};
 ghost use Rattle.board_laws.specs.Board.{AreSettings};
 ghost use Rattle.board_laws.specs.GoodBoard.{IncumbentHolds};
-ghost use Rattle.search_core.specs.Opened.{solution_in};
+ghost use Rattle.board.specs.Opened.{solution_in};
 ghost use Rattle.journal_replay.specs.Accepting.{AreAccepted, AreRefused};
 ghost use Rattle.journal_replay.specs.Replay.{MayRestoreFrom, replay_of, replay_start, restored_from};
 
 use crate::following::{Rows, follow_all};
 use crate::state::{Best, State};
+use board::{Board, Settings, root_sub};
 use dp_model::{DpModel, OutOfMemory};
 use journal_bytes::Records;
 use journal_file::JournalError;
-use search_core::{Board, Settings, root_sub};
 use std::alloc::Global;
 use std::sync::Arc;
 

@@ -4,7 +4,7 @@ ghost use Rattle.std.specs.Prelude.{◌≡◌, ◌∷◌, ◌++◌, [], ◌+◌,
 ghost use Rattle.dp_laws.specs.Children.{is_at};
 ghost use Rattle.dp_model.specs.Rows.{row_same};
 ghost use Rattle.dp_model.specs.Subproblem.{SubView};
-ghost use Rattle.search_core.specs.Opened.{ticketed};
+ghost use Rattle.board.specs.Opened.{ticketed};
 ghost use Rattle.journal_replay.specs.Accepting.{is_like};
 ghost use Rattle.journal_replay.specs.Places.{listed_from};
 ghost use Rattle.journal_replay.specs.Replay.{listed_at, taken_off};

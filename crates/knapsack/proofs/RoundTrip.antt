@@ -3,14 +3,14 @@ use Rattle.std.proofs.Common.{◌≡◌, ℕ, ◌≤◌, ◌^◌, true, false, c
 use Rattle.std.specs.Prelude.{Result, Ok, fold, flat_map}
 use Rattle.std.specs.List.{list_all}
 use Rattle.std.proofs.lemmas.Bool.{and_parts, eqb-true}
-use Rattle.dd_text.specs.Text.{TextState, is_blank, text_start, after_token}
-use Rattle.dd_text.specs.Decimal.{decimal_of}
-use Rattle.dd_text.specs.Grammar.{times}
-use Rattle.dd_text.specs.Printed.{IsBefore, ReadsPart}
-use Rattle.dd_text.specs.declared.comment.Comment.TheVariants.{Never}
-use Rattle.dd_text.specs.declared.instance_error.InstanceError.{InstanceError}
-use Rattle.dd_text.proofs.Printing.{before_start, before_behind, reads_natural, passes_natural, finishes, ends_line_LF, ends_line_number}
-use Rattle.dd_text.proofs.Repeats.{fold_pushes, times_reads}
+use Rattle.tokens.specs.Text.{TextState, is_blank, text_start, after_token}
+use Rattle.tokens.specs.Decimal.{decimal_of}
+use Rattle.tokens.specs.Grammar.{times}
+use Rattle.tokens.specs.Printed.{IsBefore, ReadsPart}
+use Rattle.tokens.specs.declared.comment.Comment.TheVariants.{Never}
+use Rattle.tokens.specs.declared.instance_error.InstanceError.{InstanceError}
+use Rattle.tokens.proofs.Printing.{before_start, before_behind, reads_natural, passes_natural, finishes, ends_line_LF, ends_line_number}
+use Rattle.tokens.proofs.Repeats.{fold_pushes, times_reads}
 use Rattle.knapsack.specs.declared.item.Item.{Item}
 use Rattle.knapsack.specs.Instance.{Instance, is_small, is_small_item}
 use Rattle.knapsack.specs.Limits.{IsSmallItem}

@@ -11,3 +11,5 @@ pub mod Reading
 pub mod Printing
 -- what an `impl` cites and no clause
 pub mod Laws
+-- the problem of the program
+pub mod Theory

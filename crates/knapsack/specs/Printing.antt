@@ -1,7 +1,7 @@
 -- The canonical text of an instance.
 use Rattle.std.specs.Prelude.{ℕ, pos, List, [], ◌∷◌, ◌++◌, cond, nat_eq, length}
 use Rattle.std.specs.List.{flat_map}
-use Rattle.dd_text.specs.Decimal.{decimal_of}
+use Rattle.tokens.specs.Decimal.{decimal_of}
 use Rattle.knapsack.specs.declared.item.Item.{Item}
 use Rattle.knapsack.specs.Instance.{Instance}
 

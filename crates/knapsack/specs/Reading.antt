@@ -1,11 +1,11 @@
 -- The grammar of an instance's text.
 use Rattle.std.specs.Prelude.{ℕ, ◌^◌, List, [], ◌∷◌, ◌++◌, Result, Ok, Err, if◌then◌else◌}
-use Rattle.dd_text.specs.Text.{TextState, text_start, ends_line, place_of}
-use Rattle.dd_text.specs.Grammar.{part_then, times, end_then}
-use Rattle.dd_text.specs.Naturals.{natural_then}
-use Rattle.dd_text.specs.declared.instance_error.InstanceError.{InstanceError}
-use Rattle.dd_text.specs.declared.comment.Comment.TheVariants.{Never}
-use Rattle.dd_text.specs.declared.instance_error.InstanceFault.TheVariants.{Trailing}
+use Rattle.tokens.specs.Text.{TextState, text_start, ends_line, place_of}
+use Rattle.tokens.specs.Grammar.{part_then, times, end_then}
+use Rattle.tokens.specs.Naturals.{natural_then}
+use Rattle.tokens.specs.declared.instance_error.InstanceError.{InstanceError}
+use Rattle.tokens.specs.declared.comment.Comment.TheVariants.{Never}
+use Rattle.tokens.specs.declared.instance_error.InstanceFault.TheVariants.{Trailing}
 use Rattle.knapsack.specs.declared.item.Item.{Item}
 use Rattle.knapsack.specs.Instance.{Instance}
 

@@ -8,6 +8,7 @@ use Rattle.knapsack.specs.declared.running.Run.{Run}
 use Rattle.knapsack.specs.Instance.{is_small_item}
 use Rattle.knapsack.specs.Placed.{kept_from}
 
+-- an item that is not there
 abbrev pub no_item : Item
 no_item = record { profit = 0; weight = 0; copies = 0 }
 

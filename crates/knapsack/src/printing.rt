@@ -6,8 +6,8 @@ ghost use Rattle.std.specs.List.{flat_map};
 
 use crate::instance::Knapsack;
 use crate::item::Item;
-use dd_text::{push_number, push_text};
 use std::alloc::{AllocError, Global};
+use tokens::{push_number, push_text};
 
 /// Appends the copies of an item behind a space, where they are not one.
 fn push_copies(out: &mut Vec<u8>, copies: u32) -> Result<(), AllocError>

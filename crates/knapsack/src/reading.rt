@@ -1,14 +1,14 @@
 ghost use Rattle.std.specs.Prelude.{◌≡◌, ◌-◌, ◌^◌, ◌+◌, ◌<◌, ◌≤◌, length, true, Ok, Err, OnOk, IfOk};
 ghost use Rattle.std.specs.List.{list_all};
-ghost use Rattle.dd_text.specs.Grammar.{Reads, times};
+ghost use Rattle.tokens.specs.Grammar.{Reads, times};
 ghost use Rattle.knapsack.specs.Instance.{is_small_item};
 ghost use Rattle.knapsack.specs.Shown.{instance_in};
 ghost use Rattle.knapsack.specs.Reading.{copies_at, item_behind, instance_text};
 
 use crate::instance::Knapsack;
 use crate::item::Item;
-use dd_text::{Comment, InstanceError, InstanceFault, ReadModelError, Tokens};
 use std::alloc::Global;
+use tokens::{Comment, InstanceError, InstanceFault, ReadModelError, Tokens};
 
 /// Reads the copies of an item, which are one where the line ends.
 #[tactic(auto, unfolding(crate::specs::Reading::copies_at))]
@@ -29,7 +29,7 @@ fn next_copies(tokens: &mut Tokens) -> Result<u32, ReadModelError>
 }
 
 /// Reads an item behind others.
-#[tactic(auto, unfolding(crate::specs::Reading::item_behind), using(dd_text::proofs::Chains::part_fails))]
+#[tactic(auto, unfolding(crate::specs::Reading::item_behind), using(tokens::proofs::Chains::part_fails))]
 fn next_item(tokens: &mut Tokens, items: &mut Vec<Item>) -> Result<(), ReadModelError>
     requires { list_all is_small_item items.old.items ≡ true }
     ensures reads { Reads (λ _. (items.new.items, tokens.new)) result (item_behind items.old.items tokens.old) }
@@ -48,7 +48,7 @@ fn next_item(tokens: &mut Tokens, items: &mut Vec<Item>) -> Result<(), ReadModel
 }
 
 /// Reads so many items behind others.
-#[tactic(auto, using(dd_text::proofs::Chains::times_steps))]
+#[tactic(auto, using(tokens::proofs::Chains::times_steps))]
 fn next_items(count: u64, tokens: &mut Tokens, items: &mut Vec<Item>) -> Result<(), ReadModelError>
     requires { list_all is_small_item items.old.items ≡ true }
     ensures reads { Reads (λ _. (items.new.items, tokens.new)) result (times item_behind count items.old.items tokens.old) }
@@ -67,7 +67,7 @@ fn next_items(count: u64, tokens: &mut Tokens, items: &mut Vec<Item>) -> Result<
 /// The first fault in reading order is answered, with its place: `EndOfText` where a number is missing, `NotAscii` and
 /// `NotNumber` for a token that is none, `OutOfRange` for a number outside the limits, `Trailing` for a further token on
 /// the line of the copies, and `Trailing` or `NotAscii` for one behind the last item. `OutOfMemory` where there was none.
-#[tactic(auto, unfolding(crate::specs::Reading::instance_at), using(dd_text::proofs::Chains::part_fails))]
+#[tactic(auto, unfolding(crate::specs::Reading::instance_at), using(tokens::proofs::Chains::part_fails))]
 pub fn read(alloc: Global, bytes: &[u8]) -> Result<Knapsack, ReadModelError>
     requires { length bytes.now < 2 ^ 32 - 1 }
     ensures { Reads instance_in result (instance_text bytes.now) }

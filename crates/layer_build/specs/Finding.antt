@@ -25,5 +25,6 @@ IsFoundAs (Some x) (Some value) decisions = (value ≡ x.value) × (decisions �
 abbrev pub StaysButPath : SpaceView → SpaceView → Type 0
 StaysButPath old new = new ≡ record old { path = new.path }
 
+-- once the borrow is over, the workspace is as it was but for a path
 abbrev pub StaysSeen : MutBor SpaceView → Fml
 StaysSeen s = follows_so the_row the_row s.ghost_name none (λ _ _. ⊤) (λ n. StaysButPath s.now n)

@@ -11,5 +11,6 @@ pub record StaysAs (dp : Dp) (old new : SpaceView) : Type 0 where
   pub prepared : IsPreparedFor dp new
   pub width : new.width ≡ old.width
 
+-- once the borrow is over, the workspace is prepared for the program
 abbrev pub StaysPrepared : Dp → MutBor SpaceView → Fml
 StaysPrepared dp s = follows_so the_row the_row s.ghost_name none (λ _ _. ⊤) (λ n. StaysAs dp s.now n)

@@ -28,6 +28,7 @@ place_of vars first depth = cond (nat_eq depth (first + 1)) vars depth
 abbrev pub place_above : ℕ → ℕ → ℕ → ℕ
 place_above vars first last = cond (nat_eq last first) (vars + 1) (place_of vars first (last - 1))
 
+-- the layer at a depth
 abbrev pub layer_in : Stack → ℕ → LayerView
 layer_in s depth = cond (nat_eq depth s.last) s.newest (slice_index_or s.layers.items (place_of s.vars s.first depth) no_layer)
 

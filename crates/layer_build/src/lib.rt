@@ -11,6 +11,12 @@
 //! nodes out of it give theirs back. `drop_above` gives back those of the layers above the last one, and `begin` all of them;
 //! `beam` gives back what it takes. Only `prepare` takes memory, and the region gets its size there. `greatest_width` is the
 //! greatest width whose layers stay within the cost formula.
+//!
+//! ```
+//! let mut space = Workspace::prepare(alloc, &model, 100)?;
+//! space.begin(&model, &sub);
+//! space.expand_layer(&model);
+//! ```
 #![tactic(auto)]
 
 mod ending;

@@ -3,13 +3,7 @@
 ghost use Rattle.std.specs.Prelude.{◌≡◌, ◌*◌, ◌≤◌};
 ghost use Rattle.dp_laws.specs.Width.{cost_below, IsGreatestWidth};
 
-use dp_model::DpModel;
-
-/// No layer is wider.
-const WIDEST: u64 = 1 << 24;
-
-/// The layers of one width cost no more, in units of 8 bytes.
-const MOST: u64 = 1 << 25;
+use dp_model::{DpModel, MOST_COST, MOST_WIDTH};
 
 /// What one node of each layer costs, in units of 8 bytes: four for each arc, and its row.
 fn cost<M: DpModel>(model: &M) -> u64
@@ -27,9 +21,9 @@ fn cost<M: DpModel>(model: &M) -> u64
 fn width_within<M: DpModel>(model: &M) -> u32
     ensures { IsGreatestWidth (M.meaning (M.numbers model.now)) result }
 {
-    match MOST.checked_div(cost(model)) {
-        Some(width) => width.min(WIDEST) as u32,
-        None => WIDEST as u32,
+    match MOST_COST.checked_div(cost(model)) {
+        Some(width) => width.min(u64::from(MOST_WIDTH)) as u32,
+        None => MOST_WIDTH,
     }
 }
 

@@ -1,4 +1,5 @@
 -- A layer is extended, decision by decision and member by member.
+use Rattle.std.specs.Int.{IsPowerOfTwo}
 use Rattle.std.proofs.Common.{◌≡◌, ℕ, zero, suc, ◌+◌, ◌<◌, ◌≤◌, ◌≢◌, ℤ, pos, ◌+ℤ◌, nat_eq, true, false, cond, List, [], ◌∷◌, ◌++◌, length, map, set, drop, get_or, None, replicate, ◌⊎◌, refl, sym, ap, subst, ◌∙◌, arith, add-one, IsTrue, length-append, inl, inr}
 use Rattle.std.proofs.lemmas.Bool.Decides.{nat_tests}
 use Rattle.std.proofs.lemmas.Int.{ints}
@@ -309,14 +310,14 @@ moved-at dp k old region new members i spot ways s all less x same is given =
     moved old region new (member_rows members) (get_or members i no_member) (drop (i + 1) members) spot ways s (each-here (IsMemberOf dp k old) members i no_member all less).held.live
     (subst (λ ps. HasExchanged old (member_rows members) region (ps ++ spot ∷ rows_of ways)) next x) (subst (AreSame old region) next same) is given
 
-pub members-start : (dp : Dp) (k : ℕ) (above : RegionView) (live : ℕ) (members : List Member) (row : ℕ → List ℤ) (folds next : List ℕ) (size : ℕ) → 0 < size
+pub members-start : (dp : Dp) (k : ℕ) (above : RegionView) (live : ℕ) (members : List Member) (row : ℕ → List ℤ) (folds next : List ℕ) (size : ℕ) → IsPowerOfTwo size
     → AreExtended dp k 0 above live members row [] folds (replicate size 0) next
-members-start dp k above live members row folds next size some = record {
+members-start dp k above live members row folds next size power = record {
   joined = record {
     table = record {
       folds_size = omega arith;
       next_size = omega arith;
-      some = (let e : length (replicate {A = ℕ} size 0) ≡ size = length-replicate size 0 in omega arith);
+      slots = subst IsPowerOfTwo (sym (length-replicate {A = ℕ} size 0)) power;
       folds_are = λ i less. absurd (omega arith);
       heads_are = λ slot less. get_or-replicate size slot 0 0 (let e : length (replicate {A = ℕ} size 0) ≡ size = length-replicate size 0 in omega arith);
       next_are = λ i less. absurd (omega arith);

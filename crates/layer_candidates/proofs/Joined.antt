@@ -115,7 +115,7 @@ module _ (row row2 : ℕ → List ℤ) (ways : List Way) (same : (i : ℕ) → i
   table-same live folds heads next t = record {
     folds_size = t.folds_size;
     next_size = t.next_size;
-    some = t.some;
+    slots = t.slots;
     folds_are = λ k less. t.folds_are k less ∙ ap (λ r. fold_of 0 (drop live r)) (sym (same k less));
     heads_are = t.heads_are;
     next_are = t.next_are;

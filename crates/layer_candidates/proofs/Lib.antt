@@ -4,6 +4,7 @@ pub mod Tops
 pub mod Joined
 pub mod Extended
 pub mod Sorted
+mod Powers
 pub mod Pruned
 pub mod Descended
 pub mod Layered

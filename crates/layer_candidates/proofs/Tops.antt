@@ -1,4 +1,5 @@
 -- The last place that passes, and the table.
+use Rattle.std.specs.Int.{IsPowerOfTwo}
 use Rattle.std.proofs.Common.{◌≡◌, ◌≢◌, ℕ, zero, suc, ◌-◌, ◌<◌, ◌≤◌, nat_eq, ℤ, Bool, true, false, List, length, get_or, set, refl, sym, ap, subst, ◌∙◌, ◌⊎◌, inl, inr, arith}
 use Rattle.std.proofs.lemmas.Bool.Decides.{nat_tests}
 use Rattle.std.proofs.lemmas.List.{get_or-set_same, get_or-set_other, length-set}
@@ -110,7 +111,7 @@ inserted row live count fold folds heads next t in_folds in_next less is =
     record {
       folds_size = let e = length-set folds count fold in omega arith;
       next_size = let e = length-set next count (get_or heads at 0) in omega arith;
-      some = let e = t.some in omega arith;
+      slots = subst IsPowerOfTwo (sym same) t.slots;
       folds_are = λ k h. folded k (last_or k count h);
       heads_are = λ slot h. subst (λ (j : ℕ). get_or (set heads at (suc count)) slot 0 ≡ top (has_slot (set folds count fold) j slot) (suc count)) (sym same) (head slot (subst (λ (j : ℕ). slot < j) same h) (either slot at));
       next_are = λ k h. subst (λ (j : ℕ). get_or (set next count (get_or heads at 0)) k 0 ≡ top (has_slot (set folds count fold) j (slot_of (get_or (set folds count fold) k 0) j)) k) (sym same) (nexted k (last_or k count h));

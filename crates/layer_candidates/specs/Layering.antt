@@ -1,4 +1,5 @@
 -- A layer is made from the one above it.
+use Rattle.std.specs.Int.{IsPowerOfTwo}
 use Rattle.std.specs.Prelude.{◌≡◌, ℕ, ◌+◌, ◌*◌, ◌^◌, ◌<◌, ◌≤◌, ℤ, List, [], length, Option, IsPermutation, IsSortedBy, vec_len, vec_capacity}
 use Rattle.dp_model.specs.Dp.{Dp}
 use Rattle.dp_laws.specs.Restricted.Extensions.{candidates, all_joined}
@@ -19,7 +20,7 @@ pub record HasMemory (words count : ℕ) (c : Candidates) : Type 0 where
   pub ways : count ≤ vec_capacity c.ways
   pub folds : count ≤ vec_len c.folds
   pub next : count ≤ vec_len c.next
-  pub heads : 0 < vec_len c.heads
+  pub heads : IsPowerOfTwo (vec_len c.heads)
   pub keys : count ≤ vec_capacity c.keys
   pub kept : count ≤ vec_capacity c.kept
   pub leaders : 16 ≤ vec_capacity c.leaders

@@ -20,6 +20,7 @@ member_rows ms = map (λ (m : Member). m.row) ms
 abbrev pub member_as : (ℕ → List ℕ) → RegionView → Member → Reached
 member_as paths region m = record { decisions = paths m.step; row = held_row region m.row; value = m.value }
 
+-- members with their paths and rows
 abbrev pub members_as : (ℕ → List ℕ) → RegionView → List Member → List Reached
 members_as paths region ms = map (member_as paths region) ms
 

@@ -20,6 +20,7 @@ keyed paths region ways key = record {
   value = key.value;
 }
 
+-- the ways of keys, with their paths and rows
 abbrev pub all_keyed : (ℕ → List ℕ) → RegionView → List Way → List Key → List Reached
 all_keyed paths region ways keys = map (keyed paths region ways) keys
 

@@ -1,4 +1,5 @@
 -- A table whose chains run through the places of the rows. Rows are compared from the first live cell on.
+use Rattle.std.specs.Int.{IsPowerOfTwo}
 use Rattle.std.specs.Prelude.{◌≡◌, ◌≢◌, ◌⊎◌, ℕ, zero, suc, ◌+◌, ◌-◌, ◌<◌, ◌≤◌, nat_eq, ℤ, Bool, true, cond, List, length, slice_index_or, bit_and}
 use Rattle.layer_candidates.specs.Rows.{live_at}
 use Rattle.dp_model.specs.Folds.{fold_of}
@@ -20,7 +21,7 @@ has_slot folds size slot k = nat_eq (slot_of (slice_index_or folds k 0) size) sl
 pub record IsTable (row : ℕ → List ℤ) (live count : ℕ) (folds heads next : List ℕ) : Type 0 where
   pub folds_size : count ≤ length folds
   pub next_size : count ≤ length next
-  pub some : 0 < length heads
+  pub slots : IsPowerOfTwo (length heads)
   pub folds_are : (k : ℕ) → k < count → slice_index_or folds k 0 ≡ fold_of 0 (live_at row live k)
   pub heads_are : (slot : ℕ) → slot < length heads → slice_index_or heads slot 0 ≡ top (has_slot folds (length heads) slot) count
   pub next_are : (k : ℕ) → k < count → slice_index_or next k 0 ≡ top (has_slot folds (length heads) (slot_of (slice_index_or folds k 0) (length heads))) k

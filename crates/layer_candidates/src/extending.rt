@@ -1,5 +1,6 @@
 //! The members of a layer are extended by each allowed decision, and of each state the best way is kept.
 
+ghost use Rattle.std.specs.Int.{IsPowerOfTwo};
 ghost use Rattle.std.specs.Prelude.{◌≡◌, ℕ, ◌+◌, ◌*◌, ◌<◌, ◌≤◌, ◌+ℤ◌, [], ◌∷◌, List, length, vec_capacity, is_some, IsNone, IsSome, IfSome, IsTrue};
 ghost use Rattle.dp_model.specs.Decisions.{below};
 ghost use Rattle.dp_model.specs.Lists.{Each};
@@ -182,7 +183,7 @@ pub fn extend_layer<M: DpModel>(
     requires members { Each (IsMemberOf (M.meaning (M.numbers model.now)) k region.old) members.now }
     requires live { AreLive region.old (member_rows members.now) }
     requires spare { length members.now * (M.meaning (M.numbers model.now)).choices k + 1 ≤ region.old.spare }
-    requires slots { 0 < length heads.old }
+    requires slots { IsPowerOfTwo (length heads.old) }
     requires room { HasWayRoom (length members.now * (M.meaning (M.numbers model.now)).choices k) (vec_capacity ways.old) folds.old next.old }
     ensures distinct { AreDistinct (M.meaning (M.numbers model.now)) (k + 1) (way_row region.new ways.new.items) ways.new.items }
     ensures list { (paths : ℕ → List ℕ) → all_reached paths (way_row region.new ways.new.items) ways.new.items ≡ all_joined [] (candidates (M.meaning (M.numbers model.now)) k (members_as paths region.old members.now)) }

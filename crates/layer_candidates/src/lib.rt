@@ -7,6 +7,11 @@
 //! It stands on `dp_model`, `dp_laws` and `row_region`, and each layer is proved to be the one that is defined in `dp_laws` on
 //! plain lists of prefixes. States stand as rows of a region that the caller owns: a row that no way, key or member has any more
 //! is given back in the call that lets it go, and a beam gives back all rows that it took. No call but `prepare` takes memory.
+//!
+//! ```
+//! // The way to the last layer with at most `width` members a layer, or that there is none.
+//! let found = beam.beam(&mut region, &model, prefix, &row, value, width, None, &mut decisions);
+//! ```
 #![tactic(auto)]
 
 mod beam;

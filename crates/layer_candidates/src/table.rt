@@ -1,5 +1,6 @@
 //! The table of the rows that are kept. Rows are compared from the first live cell on.
 
+ghost use Rattle.std.specs.Int.{IsPowerOfTwo};
 ghost use Rattle.std.specs.Prelude.{◌≡◌, ℕ, ◌+◌, ◌^◌, ◌<◌, ◌≤◌, ℤ, List, ◌↔◌, length, replicate, slice_index_or, IsTrue};
 ghost use Rattle.dp_model.specs.Lists.{Each};
 ghost use Rattle.layer_candidates.specs.Rows.{live_at};
@@ -12,20 +13,21 @@ use crate::rows::{live_cells_of, same_row};
 use crate::way::Way;
 use row_region::Region;
 
-/// The slot of a fold among so many.
+/// The slot of a fold among so many, a power of two: each of them is the slot of some folds.
 fn slot(fold: u64, size: usize) -> usize
-    requires { 0 < size }
+    requires { IsPowerOfTwo size }
     ensures slot { result ≡ slot_of fold size }
     ensures within { result < size }
 {
     fold as usize & (size - 1)
 }
 
-/// How many of the slots that there are serve for so many rows: no fewer than the rows, of which mostly a part is made.
+/// How many of the slots that there are serve for so many rows: a power of two, and no fewer than the rows, of which mostly a part is
+/// made.
 pub fn slots_for(rows: usize, slots: usize) -> usize
-    requires some { 0 < slots }
+    requires power { IsPowerOfTwo slots }
     requires small { rows + 1 < 2 ^ 32 }
-    ensures some { 0 < result }
+    ensures power { IsPowerOfTwo result }
     ensures within { result ≤ slots }
 {
     rows.next_power_of_two().min(slots)
@@ -93,7 +95,7 @@ pub fn insert(count: usize, fold: u64, folds: &mut [u64], heads: &mut [u32], nex
     requires small { count + 1 < 2 ^ 32 }
     requires folds { count < length folds.old }
     requires next { count < length next.old }
-    requires heads { 0 < length heads.old }
+    requires heads { IsPowerOfTwo (length heads.old) }
     ensures table { (row : ℕ → List ℤ) (live : ℕ) → IsTable row live count folds.old heads.old next.old → fold ≡ fold_of 0 (live_at row live count) → IsTable row live (count + 1) folds.new heads.new next.new }
     ensures heads_len { length heads.new ≡ length heads.old }
 {

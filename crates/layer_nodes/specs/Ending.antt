@@ -26,6 +26,7 @@ abbrev pub MayFollow : Option ℤ → Type 0
 MayFollow None = Unit {0}
 MayFollow (Some s) = IsBetween 3100 3100 s
 
+-- there is a suffix, which may follow
 abbrev pub IsThere : Option (Option ℤ) → Type 0
 IsThere None = ⊥
 IsThere (Some suffix) = MayFollow suffix
@@ -55,6 +56,7 @@ ended_last layer = record layer { nodes = map at_end layer.nodes }
 abbrev pub suffixes_in : List Node → List (Option ℤ)
 suffixes_in nodes = map (λ (node : Node). node.suffix) nodes
 
+-- the arcs of a node
 abbrev pub arcs_in : List DdArc → Node → List DdArc
 arcs_in arcs node = take node.arcs (drop node.first_arc arcs)
 
@@ -68,5 +70,6 @@ pub record MayEnd (arcs : List DdArc) (suffixes : List (Option ℤ)) (node : Nod
 abbrev pub ended_in : List DdArc → List (Option ℤ) → Node → Node
 ended_in arcs suffixes node = record node { suffix = greatest (lengths suffixes (arcs_in arcs node)) }
 
+-- a node of the last layer
 abbrev pub at_end_in : Node → Node
 at_end_in node = record node { suffix = Some (pos 0) }

@@ -1,4 +1,5 @@
 -- How a layer lies in memory.
+use Rattle.std.specs.Int.{IsPowerOfTwo}
 use Rattle.std.specs.Prelude.{ℕ, ◌+◌, ◌^◌, ◌<◌, ◌≤◌, ℤ, List, length, map, take, drop}
 use Rattle.dp_model.specs.Lists.{Each}
 use Rattle.dp_laws.specs.declared.arc.DdArc.{DdArc}
@@ -49,7 +50,7 @@ pub record HasExpansion (room ways folds heads next keys exact places : ℕ) : T
   pub small : room + 1 < 2 ^ 32
   pub ways_hold : room ≤ ways
   pub folds_hold : room ≤ folds
-  pub some_heads : 0 < heads
+  pub slots : IsPowerOfTwo heads
   pub next_hold : room ≤ next
   pub keys_hold : room ≤ keys
   pub exact_hold : room ≤ exact

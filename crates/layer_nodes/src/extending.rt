@@ -1,5 +1,6 @@
 //! The nodes of a layer are extended by each allowed decision: the ways to the next layer, their marks, and the arcs to them.
 
+ghost use Rattle.std.specs.Int.{IsPowerOfTwo};
 ghost use Rattle.std.specs.Prelude.{◌≡◌, ℕ, ◌+◌, ◌*◌, ◌^◌, ◌<◌, ◌≤◌, [], ◌∷◌, ◌++◌, List, length, vec_capacity, IsTrue};
 ghost use Rattle.dp_model.specs.Decisions.{below};
 ghost use Rattle.dp_model.specs.Lists.{Each};
@@ -182,7 +183,7 @@ pub fn extend_layer<M: DpModel>(
     requires words { region.old.words ≡ (M.meaning (M.numbers model.now)).words }
     requires cells { length from.old ≡ (M.meaning (M.numbers model.now)).words }
     requires members { Each (IsMemberOf (M.meaning (M.numbers model.now)) k region.old) (members_from 0 nodes.old) }
-    requires slots { 0 < length heads.old }
+    requires slots { IsPowerOfTwo (length heads.old) }
     requires few_nodes { length nodes.old < 2 ^ 32 }
     requires spare { length nodes.old * (M.meaning (M.numbers model.now)).choices k + 1 ≤ region.old.spare }
     requires room { HasWayRoom (length nodes.old * (M.meaning (M.numbers model.now)).choices k) (vec_capacity ways.old) folds.old next.old }

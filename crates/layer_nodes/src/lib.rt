@@ -11,6 +11,11 @@
 //!
 //! It stands on `dp_model`, `dp_laws`, `layer_candidates` and `row_region`. Each step is proved to be the one that is defined in
 //! `dp_laws` on plain lists of nodes. Only the `prepare` calls take memory.
+//!
+//! ```
+//! let mut next = Layer::prepare(alloc, words, nodes, arcs, &region)?;
+//! expand(&model, depth, Strikes::Nothing, &mut region, &mut above, &mut next, &mut expansion);
+//! ```
 #![tactic(auto)]
 
 mod ending;

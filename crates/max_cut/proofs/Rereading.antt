@@ -10,13 +10,13 @@ use Rattle.std.proofs.Math.Seq.{take-add}
 use Rattle.std.proofs.lemmas.List.Elements.{All-take, All-drop, All-head, All-tail}
 use Rattle.benefit_rows.specs.Benefits.{size_of}
 use Rattle.dp_model.specs.NumberLaws.{int_le-from}
-use Rattle.dd_text.specs.Text.{TextState, text_start, number_at, place_of, after_token}
-use Rattle.dd_text.specs.declared.comment.Comment.{Comment}
-use Rattle.dd_text.specs.declared.place.Place.{Place}
-use Rattle.dd_text.specs.Grammar.{times}
-use Rattle.dd_text.specs.Decimal.{decimal_of}
-use Rattle.dd_text.specs.Printed.{IsBefore}
-use Rattle.dd_text.proofs.Printing.{before_start, passes_number, passes_natural, finishes}
+use Rattle.tokens.specs.Text.{TextState, text_start, number_at, place_of, after_token}
+use Rattle.tokens.specs.declared.comment.Comment.{Comment}
+use Rattle.tokens.specs.declared.place.Place.{Place}
+use Rattle.tokens.specs.Grammar.{times}
+use Rattle.tokens.specs.Decimal.{decimal_of}
+use Rattle.tokens.specs.Printed.{IsBefore}
+use Rattle.tokens.proofs.Printing.{before_start, passes_number, passes_natural, finishes}
 use Rattle.max_cut.specs.Graph.{Graph, IsGraph, IsWeight, pairs_of, row_start, row_of, weights_from}
 use Rattle.max_cut.specs.Laws.Graph.{row_start-next, row_within, length-row_of, weights_from-split, weights_from-none, pairs_of-most}
 use Rattle.max_cut.specs.Program.{zeros}

@@ -4,8 +4,8 @@ use Rattle.std.proofs.lemmas.Fmt.{length-decimal-le}
 use Rattle.std.specs.List.{All}
 use Rattle.std.proofs.lemmas.List.{length-append}
 use Rattle.std.proofs.lemmas.List.Elements.{All-take, All-drop, All-head, All-tail}
-use Rattle.dd_text.specs.Decimal.{decimal_of}
-use Rattle.dd_text.proofs.Lengths.{number_short}
+use Rattle.tokens.specs.Decimal.{decimal_of}
+use Rattle.tokens.proofs.Lengths.{number_short}
 use Rattle.max_cut.specs.Graph.{Graph, IsGraph, IsWeight, row_start, row_of, weights_from}
 use Rattle.max_cut.specs.Laws.Graph.{length-row_of, weights_from-split, pairs_of-most}
 use Rattle.max_cut.specs.EdgeLines.{is_none, edges_in, spaced, ended, edge_line, row_lines, lines_from, text_of}

@@ -1,6 +1,6 @@
 -- The canonical text of a graph.
 use Rattle.std.specs.Prelude.{ℕ, zero, suc, ◌+◌, ℤ, pos, int_le, List, [], ◌∷◌, ◌++◌, Bool, ◌&&◌, if◌then◌else◌}
-use Rattle.dd_text.specs.Decimal.{decimal_of}
+use Rattle.tokens.specs.Decimal.{decimal_of}
 use Rattle.max_cut.specs.Graph.{Graph, row_of}
 
 -- whether no edge stands
@@ -16,6 +16,7 @@ edges_in (w ∷ ws) = (if is_none w then 0 else 1) + edges_in ws
 abbrev pub spaced : ℕ → List ℕ
 spaced n = decimal_of (pos n) ++ 32 ∷ []
 
+-- a number and the end of its line
 abbrev pub ended : ℤ → List ℕ
 ended z = decimal_of z ++ 10 ∷ []
 

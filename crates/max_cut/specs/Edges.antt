@@ -1,14 +1,14 @@
 -- The text of a graph: how many vertices and how many edges, then for each edge two vertices and a weight.
 use Rattle.std.specs.Prelude.{ℕ, ◌+◌, ◌-◌, ◌^◌, ℤ, pos, negsuc, ◌+ℤ◌, int_le, nat_abs, List, slice_index_or, slice_set, ◌==◌, nat_lt, if◌then◌else◌, Result, Ok, Err}
 use Rattle.benefit_rows.specs.Benefits.{size_of}
-use Rattle.dd_text.specs.Text.{TextState, text_start, number_at, place_of, after_token}
-use Rattle.dd_text.specs.declared.comment.Comment.TheVariants.{Never}
-use Rattle.dd_text.specs.declared.place.Place.{Place}
-use Rattle.dd_text.specs.declared.text_error.TextError.{TextError}
-use Rattle.dd_text.specs.declared.text_error.TextError.TheVariants.{NotNumber, OutOfRange, EndOfText, Trailing, NotAscii}
-use Rattle.dd_text.specs.declared.instance_error.InstanceError.{InstanceError}
-use Rattle.dd_text.specs.Grammar.{of_text, number_then, end_then, part_then, times}
-use Rattle.dd_text.specs.declared.instance_error.InstanceFault.TheVariants.{Vertex, Limit}
+use Rattle.tokens.specs.Text.{TextState, text_start, number_at, place_of, after_token}
+use Rattle.tokens.specs.declared.comment.Comment.TheVariants.{Never}
+use Rattle.tokens.specs.declared.place.Place.{Place}
+use Rattle.tokens.specs.declared.text_error.TextError.{TextError}
+use Rattle.tokens.specs.declared.text_error.TextError.TheVariants.{NotNumber, OutOfRange, EndOfText, Trailing, NotAscii}
+use Rattle.tokens.specs.declared.instance_error.InstanceError.{InstanceError}
+use Rattle.tokens.specs.Grammar.{of_text, number_then, end_then, part_then, times}
+use Rattle.tokens.specs.declared.instance_error.InstanceFault.TheVariants.{Vertex, Limit}
 use Rattle.max_cut.specs.Graph.{Graph, pairs_of, row_start}
 use Rattle.max_cut.specs.Program.{zeros}
 

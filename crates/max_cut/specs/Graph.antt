@@ -18,6 +18,7 @@ pairs_of (suc n) = n + pairs_of n
 abbrev pub IsWeight : ℤ → Type 0
 IsWeight w = size_of w ≤ℤ pos 500000000
 
+-- at most 1024 vertices, with a weight for each pair
 pub record IsGraph (g : Graph) : Type 0 where
   pub few : g.vertices ≤ 1024
   pub whole : length g.weights ≡ pairs_of g.vertices

@@ -7,3 +7,5 @@ pub mod Shown
 pub mod Generating
 -- what an `impl` cites and no clause
 pub mod Laws
+-- the problem of the program
+pub mod Theory

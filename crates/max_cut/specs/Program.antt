@@ -59,6 +59,7 @@ is_within [] (r ∷ rs) = false
 is_within (s ∷ ss) [] = false
 is_within (s ∷ ss) (r ∷ rs) = int_le (size_of s) r && is_within ss rs
 
+-- maximum cut as a dynamic program
 abbrev pub program_of : Graph → Dp
 program_of g = record {
   vars = g.vertices;

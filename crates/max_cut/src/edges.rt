@@ -2,15 +2,15 @@
 
 ghost use Rattle.std.specs.Prelude.{◌≡◌, ◌≢◌, ◌<◌, ◌≤◌, pos, ◌+ℤ◌, int_le, false, OnOk, IfOk, MatchOption};
 ghost use Rattle.benefit_rows.specs.Benefits.{size_of};
-ghost use Rattle.dd_text.specs.Grammar.{Reads, times};
+ghost use Rattle.tokens.specs.Grammar.{Reads, times};
 ghost use Rattle.max_cut.specs.Graph.{IsGraph, IsWeight, pairs_of};
 ghost use Rattle.max_cut.specs.Program.{zeros};
 ghost use Rattle.max_cut.specs.Edges.{edge_at, place_among, vertex_at, with_edge};
 
 use crate::layers::place_of_pair;
 use benefit_rows::size;
-use dd_text::{InstanceError, InstanceFault, Place, ReadModelError, TextError, Tokens};
 use std::alloc::Global;
+use tokens::{InstanceError, InstanceFault, Place, ReadModelError, TextError, Tokens};
 
 const GREATEST_WEIGHT: i64 = 500_000_000;
 
@@ -43,7 +43,7 @@ pub(crate) fn read_totals(
 }
 
 /// Reads so many edges, and adds their weights to the totals of their pairs.
-#[tactic(auto, using(dd_text::proofs::Chains::times_steps))]
+#[tactic(auto, using(tokens::proofs::Chains::times_steps))]
 fn read_edges(
     tokens: &mut Tokens<'_>,
     vertices: usize,
@@ -61,7 +61,7 @@ fn read_edges(
 }
 
 /// Reads an edge, and adds its weight to the total of its pair.
-#[tactic(auto, unfolding(crate::specs::Edges::edge_at), using(dd_text::proofs::Chains::part_fails))]
+#[tactic(auto, unfolding(crate::specs::Edges::edge_at), using(tokens::proofs::Chains::part_fails))]
 fn read_edge(
     tokens: &mut Tokens<'_>,
     vertices: usize,

@@ -3,13 +3,18 @@
 //!
 //! `MaxCut` is such an instance, as a dynamic program of `dp_model` that meets its laws: layer `k` puts
 //! vertex `k` on a side, and a state has the net benefit of T for each later vertex, a row of
-//! `benefit_rows`. `read` and `print` are its text, by `dd_text`, and `value_of` weighs a cut in the
+//! `benefit_rows`. `read` and `print` are its text, by `tokens`, and `value_of` weighs a cut in the
 //! problem's own words.
 //!
 //! Promised, each in the contract of its call: the instance that a text spells, or its first fault with
 //! its place; the canonical text, which reads as the instance; the weight across, or none exactly where
 //! the sides are no cut; and that the feasible solutions of the program are the cuts, with their values.
 //! Only want of memory has no stated cause.
+//!
+//! ```
+//! let model = read(alloc, b"3 2\n1 2 5\n2 3 -4\n")?;
+//! let text = print(alloc, &model)?;
+//! ```
 #![tactic(auto)]
 
 mod edges;
@@ -20,6 +25,7 @@ mod limits;
 mod lines;
 mod model;
 mod printing;
+mod problem;
 mod reading;
 mod rests;
 mod sides;

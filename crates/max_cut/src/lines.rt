@@ -5,8 +5,8 @@ ghost use Rattle.max_cut.specs.Graph.{IsGraph};
 ghost use Rattle.max_cut.specs.EdgeLines.{edge_line, edges_in, ended, is_none, lines_from, row_lines, spaced};
 
 use crate::layers::row_of_pairs;
-use dd_text::{push_number, push_text};
 use std::alloc::AllocError;
+use tokens::{push_number, push_text};
 
 /// How many weights are other than 0.
 pub(crate) fn count_edges(weights: &[i64]) -> usize

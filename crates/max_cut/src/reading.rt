@@ -1,14 +1,14 @@
 //! The text of an instance, read.
 
 ghost use Rattle.std.specs.Prelude.{◌^◌, ◌<◌, ◌-◌, length};
-ghost use Rattle.dd_text.specs.Grammar.{Reads};
+ghost use Rattle.tokens.specs.Grammar.{Reads};
 ghost use Rattle.max_cut.specs.Edges.{instance_text};
 ghost use Rattle.max_cut.specs.Shown.{instance_in};
 
 use crate::edges::read_totals;
 use crate::instance::MaxCut;
-use dd_text::{Comment, ReadModelError, Tokens};
 use std::alloc::Global;
+use tokens::{Comment, ReadModelError, Tokens};
 
 const MOST_VERTICES: i64 = 1024;
 
@@ -20,7 +20,7 @@ const MOST_EDGES: i64 = 1_048_576;
 /// Numbers outside their range are `OutOfRange`: 0 to 1,024 vertices, 0 to `2^20` edges, weights of at most
 /// 500,000,000 in size. A number that is no vertex is `Vertex`. `Limit` comes at the weight after which
 /// the total of a pair exceeds 500,000,000 in size. The first fault is answered, with its place.
-#[tactic(auto, unfolding(crate::specs::Edges::instance_at), using(dd_text::proofs::Chains::part_fails))]
+#[tactic(auto, unfolding(crate::specs::Edges::instance_at), using(tokens::proofs::Chains::part_fails))]
 pub fn read(alloc: Global, bytes: &[u8]) -> Result<MaxCut, ReadModelError>
     requires { length bytes.now < 2 ^ 32 - 1 }
     ensures { Reads instance_in result (instance_text bytes.now) }

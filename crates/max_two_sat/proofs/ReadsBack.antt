@@ -3,15 +3,15 @@ use Rattle.std.proofs.Common.{◌≡◌, ℕ, ◌^◌, ◌≤◌, pos, ◌+ℤ�
 use Rattle.std.specs.Prelude.{Result, Ok, fold}
 use Rattle.std.specs.List.{flat_map}
 use Rattle.std.proofs.lemmas.Int.{ints}
-use Rattle.dd_text.specs.declared.comment.Comment.{Comment}
-use Rattle.dd_text.specs.Text.{TextState, text_start, opens_comment, after_token}
-use Rattle.dd_text.specs.Decimal.{decimal_of}
-use Rattle.dd_text.specs.Grammar.{times}
-use Rattle.dd_text.specs.Printed.{IsBefore, ReadsPart}
-use Rattle.dd_text.specs.declared.comment.Comment.TheVariants.{LetterC}
-use Rattle.dd_text.specs.declared.instance_error.InstanceError.{InstanceError}
-use Rattle.dd_text.proofs.Printing.{before_start, before_behind, passes_natural, reads_natural, reads_word, no_token_before, ends_line_LF}
-use Rattle.dd_text.proofs.Repeats.{times_reads}
+use Rattle.tokens.specs.declared.comment.Comment.{Comment}
+use Rattle.tokens.specs.Text.{TextState, text_start, opens_comment, after_token}
+use Rattle.tokens.specs.Decimal.{decimal_of}
+use Rattle.tokens.specs.Grammar.{times}
+use Rattle.tokens.specs.Printed.{IsBefore, ReadsPart}
+use Rattle.tokens.specs.declared.comment.Comment.TheVariants.{LetterC}
+use Rattle.tokens.specs.declared.instance_error.InstanceError.{InstanceError}
+use Rattle.tokens.proofs.Printing.{before_start, before_behind, passes_natural, reads_natural, reads_word, no_token_before, ends_line_LF}
+use Rattle.tokens.proofs.Repeats.{times_reads}
 use Rattle.max_two_sat.specs.Clauses.{Gathered, gathered_with, nothing_gathered}
 use Rattle.max_two_sat.specs.Instance.{Instance}
 use Rattle.max_two_sat.specs.Limits.{IsWithinLimits}

@@ -4,11 +4,11 @@ use Rattle.std.specs.Prelude.{Ok, Option, Some, None, nat_abs, neg_ℤ, ◌==◌
 use Rattle.std.specs.Fmt.{digits}
 use Rattle.std.proofs.lemmas.Int.{ints}
 use Rattle.std.proofs.lemmas.Bool.{eqb-true}
-use Rattle.dd_text.specs.Text.{TextState, is_blank, token, after_token, number_at, number_in, number_of, place_of}
-use Rattle.dd_text.specs.declared.place.Place.{Place}
-use Rattle.dd_text.specs.Decimal.{decimal_of}
-use Rattle.dd_text.specs.Printed.{IsBefore, ReadsPart}
-use Rattle.dd_text.proofs.Printing.{passes_number}
+use Rattle.tokens.specs.Text.{TextState, is_blank, token, after_token, number_at, number_in, number_of, place_of}
+use Rattle.tokens.specs.declared.place.Place.{Place}
+use Rattle.tokens.specs.Decimal.{decimal_of}
+use Rattle.tokens.specs.Printed.{IsBefore, ReadsPart}
+use Rattle.tokens.proofs.Printing.{passes_number}
 use Rattle.dp_model.specs.NumberLaws.{int_lt-fails}
 use Rattle.max_two_sat.specs.declared.clause.Literal.{Literal}
 use Rattle.max_two_sat.specs.declared.clause.Literals.{Literals}

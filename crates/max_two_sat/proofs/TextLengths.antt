@@ -5,8 +5,8 @@ use Rattle.std.specs.List.{flat_map}
 use Rattle.std.proofs.lemmas.Fmt.{length-decimal-le}
 use Rattle.std.proofs.lemmas.Int.{ints}
 use Rattle.std.proofs.lemmas.List.{length-append}
-use Rattle.dd_text.specs.Decimal.{decimal_of}
-use Rattle.dd_text.proofs.Lengths.{number_short, parts_short}
+use Rattle.tokens.specs.Decimal.{decimal_of}
+use Rattle.tokens.proofs.Lengths.{number_short, parts_short}
 use Rattle.max_two_sat.specs.declared.clause.Literal.{Literal}
 use Rattle.max_two_sat.specs.declared.clause.Literals.{Literals}
 use Rattle.max_two_sat.specs.declared.clause.Literals.TheVariants.{Empty, One, Two}

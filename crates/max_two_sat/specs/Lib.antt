@@ -16,3 +16,5 @@ pub mod Drafted
 pub mod Printed
 -- what an `impl` cites and no clause
 pub mod Laws
+-- the problem of the program
+pub mod Theory

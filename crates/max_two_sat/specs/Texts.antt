@@ -1,11 +1,11 @@
 -- The texts of instances, with the first fault in reading order and its place.
 use Rattle.std.specs.Prelude.{ℕ, zero, suc, ◌-◌, ◌^◌, ℤ, pos, negsuc, neg_ℤ, ◌+ℤ◌, Bool, true, false, ◌&&◌, nat_eq, ◌==◌, int_lt, int_le, nat_abs, List, [], ◌∷◌, length, codes, Option, Some, None, Result, Ok, Err, if◌then◌else◌}
 use Rattle.std.specs.List.{starts_with}
-use Rattle.dd_text.specs.Text.{TextState, token, place_of, ends_line}
-use Rattle.dd_text.specs.declared.instance_error.InstanceError.{InstanceError}
-use Rattle.dd_text.specs.declared.instance_error.InstanceFault.{InstanceFault}
-use Rattle.dd_text.specs.Grammar.{number_then, word_then, part_then, times}
-use Rattle.dd_text.specs.declared.instance_error.InstanceFault.TheVariants.{Count, Limit, ThreeLiterals, Hard, Word}
+use Rattle.tokens.specs.Text.{TextState, token, place_of, ends_line}
+use Rattle.tokens.specs.declared.instance_error.InstanceError.{InstanceError}
+use Rattle.tokens.specs.declared.instance_error.InstanceFault.{InstanceFault}
+use Rattle.tokens.specs.Grammar.{number_then, word_then, part_then, times}
+use Rattle.tokens.specs.declared.instance_error.InstanceFault.TheVariants.{Count, Limit, ThreeLiterals, Hard, Word}
 use Rattle.max_two_sat.specs.declared.clause.Literal.{Literal}
 use Rattle.max_two_sat.specs.declared.clause.Literals.{Literals}
 use Rattle.max_two_sat.specs.declared.clause.Literals.TheVariants.{Empty, One, Two}

@@ -1,18 +1,18 @@
 //! The first line of a text, read.
 
 ghost use Rattle.std.specs.Prelude.{◌≡◌, ◌^◌, ◌≤◌, true, IfOk};
-ghost use Rattle.dd_text.specs.Grammar.{Reads};
+ghost use Rattle.tokens.specs.Grammar.{Reads};
 ghost use Rattle.max_two_sat.specs.Texts.{form_at, header_at, is_word, letter_at, top_at};
 
 use crate::header::{Form, Header};
-use dd_text::{InstanceError, InstanceFault, ReadModelError, Tokens};
+use tokens::{InstanceError, InstanceFault, ReadModelError, Tokens};
 
 const MOST_VARIABLES: i64 = 1_024;
 
 const MOST_CLAUSES: i64 = 1_048_576;
 
 /// Reads the first line: the word `p`, the form, the number of variables, that of clauses, and perhaps a top weight.
-#[tactic(auto, unfolding(crate::specs::Texts::header_at), using(dd_text::proofs::Chains::part_fails))]
+#[tactic(auto, unfolding(crate::specs::Texts::header_at), using(tokens::proofs::Chains::part_fails))]
 pub(crate) fn read_header(tokens: &mut Tokens<'_>) -> Result<Header, ReadModelError>
     ensures read { Reads (λ h. (h, tokens.new)) result (header_at tokens.old) }
     ensures variables { IfOk result (λ h. h.variables ≤ 1024) }

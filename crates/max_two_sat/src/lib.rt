@@ -4,12 +4,17 @@
 //! `MaxTwoSat` is an instance, `read` and `print` are its texts, and `value_of` is the weight that an assignment satisfies, by the
 //! problem's own words. It implements `DpModel` of the crate dp_model: layer `k` gives variable `k` its value, and a state has for
 //! each later variable the net benefit of making it true, among the clauses that are decided but for it. The crate stands on dp_model,
-//! dd_text and benefit_rows.
+//! tokens and benefit_rows.
 //!
 //! Promised, each in the contract of its call: `read` answers the instance exactly where the text is in the grammar, and otherwise its
 //! first fault with its place; `print` gives the canonical text, which reads as the same instance; the program meets the six laws of
 //! dp_model and its gaps add up along chains; and a list of decisions is a feasible solution exactly where `value_of` gives a value,
 //! which is the same. Only want of memory has no stated cause.
+//!
+//! ```
+//! let model = read(alloc, b"p wcnf 2 1\n3 1 -2 0\n")?;
+//! let text = print(alloc, &model)?;
+//! ```
 #![tactic(auto)]
 
 mod clause;
@@ -22,6 +27,7 @@ mod limits;
 mod lines;
 mod model;
 mod printing;
+mod problem;
 mod reading;
 mod reading_clauses;
 mod row;

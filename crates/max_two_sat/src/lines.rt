@@ -8,8 +8,8 @@ ghost use Rattle.max_two_sat.specs.Printed.{line_of, literal_text, literals_text
 
 use crate::clause::{Literal, Literals};
 use crate::weights::{PairWeights, UnitWeights};
-use dd_text::{push_number, push_text};
 use std::alloc::AllocError;
+use tokens::{push_number, push_text};
 
 /// How many of the unit weights are above zero.
 pub(crate) fn count_units(units: &[UnitWeights]) -> usize

@@ -2,8 +2,8 @@
 
 ghost use Rattle.std.specs.Prelude.{◌≡◌, ◌^◌, ◌≤◌, ◌++◌, length, IfOk, OnOk, Ok};
 ghost use Rattle.std.specs.List.{flat_map};
-ghost use Rattle.dd_text.specs.Text.{text_start};
-ghost use Rattle.dd_text.specs.declared.comment.Comment.TheVariants.{LetterC};
+ghost use Rattle.tokens.specs.Text.{text_start};
+ghost use Rattle.tokens.specs.declared.comment.Comment.TheVariants.{LetterC};
 ghost use Rattle.max_two_sat.specs.Instance.{rows_of};
 ghost use Rattle.max_two_sat.specs.Texts.{instance_at};
 ghost use Rattle.max_two_sat.specs.Lines.{rows_lines};
@@ -13,8 +13,8 @@ ghost use Rattle.max_two_sat.specs.Printed.{first_line_of, line_of, text_of};
 use crate::clause::{Literal, Literals};
 use crate::instance::MaxTwoSat;
 use crate::lines::{count_pairs, count_units, push_clause, push_row, push_units, weighs};
-use dd_text::{push_number, push_text};
 use std::alloc::{AllocError, Global};
+use tokens::{push_number, push_text};
 
 /// The canonical text, which reads as the instance: `p wcnf V C`, then a line for each weight above 0. The tautologies stand first, as
 /// clauses on the first variable and its negation, then by variable those of the positive and of the negative literal, then by pair
@@ -28,6 +28,7 @@ pub fn print(alloc: Global, model: &MaxTwoSat) -> Result<Vec<u8>, AllocError>
     Ok(text)
 }
 
+/// Makes the canonical text.
 fn printed(alloc: Global, model: &MaxTwoSat) -> Result<Vec<u8>, AllocError>
     ensures { IfOk result (λ v. v.items ≡ text_of (instance_in model.now)) }
 {

@@ -1,9 +1,9 @@
 //! The text of an instance, read.
 
 ghost use Rattle.std.specs.Prelude.{◌-◌, ◌^◌, ◌<◌, length};
-ghost use Rattle.dd_text.specs.Text.{text_start};
-ghost use Rattle.dd_text.specs.Grammar.{Reads};
-ghost use Rattle.dd_text.specs.declared.comment.Comment.TheVariants.{LetterC};
+ghost use Rattle.tokens.specs.Text.{text_start};
+ghost use Rattle.tokens.specs.Grammar.{Reads};
+ghost use Rattle.tokens.specs.declared.comment.Comment.TheVariants.{LetterC};
 ghost use Rattle.max_two_sat.specs.Shown.{instance_in};
 ghost use Rattle.max_two_sat.specs.Texts.{instance_at};
 
@@ -11,8 +11,8 @@ use crate::draft::Draft;
 use crate::first_line::read_header;
 use crate::instance::MaxTwoSat;
 use crate::reading_clauses::{ends_clauses, fault_here, read_clauses};
-use dd_text::{Comment, InstanceFault, ReadModelError, Tokens};
 use std::alloc::Global;
+use tokens::{Comment, InstanceFault, ReadModelError, Tokens};
 
 /// Reads an instance. Lines that begin with `c` are comments.
 ///
@@ -21,7 +21,7 @@ use std::alloc::Global;
 /// stands before them. A third literal is `ThreeLiterals`; a weight that reaches the top is `Hard`; `Limit` comes at the weight after
 /// which the total exceeds `2^48`. A token that begins with `%` where a clause could begin ends the text. `Count` comes where fewer
 /// clauses stand than were announced, and at the first token behind them. The first fault is answered, with its place.
-#[tactic(auto, unfolding(crate::specs::Texts::instance_at), using(dd_text::proofs::Chains::part_fails))]
+#[tactic(auto, unfolding(crate::specs::Texts::instance_at), using(tokens::proofs::Chains::part_fails))]
 pub fn read(alloc: Global, bytes: &[u8]) -> Result<MaxTwoSat, ReadModelError>
     requires { length bytes.now < 2 ^ 32 - 1 }
     ensures { Reads instance_in result (instance_at (text_start LetterC bytes.now)) }

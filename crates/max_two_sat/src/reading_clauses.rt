@@ -1,9 +1,9 @@
 //! The clauses of a text, read one after another.
 
 ghost use Rattle.std.specs.Prelude.{◌≡◌, ◌+◌, ◌^◌, ◌<◌, ◌≤◌, true, pos, negsuc, ◌≤ℤ◌, IfOk, OnOk};
-ghost use Rattle.dd_text.specs.Text.{place_of};
-ghost use Rattle.dd_text.specs.Grammar.{Reads, times};
-ghost use Rattle.dd_text.specs.declared.read_model_error.ReadModelError.TheVariants.{Text};
+ghost use Rattle.tokens.specs.Text.{place_of};
+ghost use Rattle.tokens.specs.Grammar.{Reads, times};
+ghost use Rattle.tokens.specs.declared.read_model_error.ReadModelError.TheVariants.{Text};
 ghost use Rattle.max_two_sat.specs.Clauses.{FitsLiterals};
 ghost use Rattle.max_two_sat.specs.Drafted.{gathered_in};
 ghost use Rattle.max_two_sat.specs.Room.{FitsOption, FormGives, IsGathered, IsGathering};
@@ -12,12 +12,12 @@ ghost use Rattle.max_two_sat.specs.Texts.{behind_first, clause_at, end_of_clause
 use crate::clause::{Literal, Literals};
 use crate::draft::Draft;
 use crate::header::{Form, Header};
-use dd_text::{InstanceError, InstanceFault, ReadModelError, Tokens};
+use tokens::{InstanceError, InstanceFault, ReadModelError, Tokens};
 
 const MOST_WEIGHT: i64 = 1 << 48;
 
 /// Reads as many clauses as the header counts.
-#[tactic(auto, using(dd_text::proofs::Chains::times_steps))]
+#[tactic(auto, using(tokens::proofs::Chains::times_steps))]
 pub(crate) fn read_clauses(
     tokens: &mut Tokens<'_>,
     header: Header,
@@ -37,7 +37,7 @@ pub(crate) fn read_clauses(
 }
 
 /// Reads a clause.
-#[tactic(auto, unfolding(crate::specs::Texts::clause_at), using(dd_text::proofs::Chains::part_fails))]
+#[tactic(auto, unfolding(crate::specs::Texts::clause_at), using(tokens::proofs::Chains::part_fails))]
 fn read_clause(
     tokens: &mut Tokens<'_>,
     header: Header,
@@ -94,7 +94,7 @@ fn reaches(top: Option<i64>, weight: i64) -> bool
 }
 
 /// Reads the literals of a clause and the zero behind them.
-#[tactic(auto, unfolding(crate::specs::Texts::literals_at), using(dd_text::proofs::Chains::part_fails))]
+#[tactic(auto, unfolding(crate::specs::Texts::literals_at), using(tokens::proofs::Chains::part_fails))]
 fn read_literals(tokens: &mut Tokens<'_>, variables: usize) -> Result<Literals, ReadModelError>
     requires { variables ≤ 1024 }
     ensures read { Reads (λ literals. (literals, tokens.new)) result (literals_at variables tokens.old) }
@@ -107,7 +107,7 @@ fn read_literals(tokens: &mut Tokens<'_>, variables: usize) -> Result<Literals, 
 }
 
 /// Reads what stands behind the first literal of a clause.
-#[tactic(auto, unfolding(crate::specs::Texts::behind_first), using(dd_text::proofs::Chains::part_fails))]
+#[tactic(auto, unfolding(crate::specs::Texts::behind_first), using(tokens::proofs::Chains::part_fails))]
 fn read_second(
     tokens: &mut Tokens<'_>,
     variables: usize,
@@ -128,7 +128,7 @@ fn read_second(
 }
 
 /// Reads the zero behind two literals.
-#[tactic(auto, unfolding(crate::specs::Texts::end_of_clause), using(dd_text::proofs::Chains::part_fails))]
+#[tactic(auto, unfolding(crate::specs::Texts::end_of_clause), using(tokens::proofs::Chains::part_fails))]
 fn read_end(tokens: &mut Tokens<'_>, variables: usize) -> Result<(), ReadModelError>
     requires { variables ≤ 1024 }
     ensures { Reads (λ _. (true, tokens.new)) result (end_of_clause variables tokens.old) }

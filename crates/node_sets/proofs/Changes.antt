@@ -8,7 +8,7 @@ use Rattle.node_sets.specs.Sets.{IsWord, AreWords, HasMembers, row_word, has}
 use Rattle.node_sets.proofs.Bits.{on, on_zero}
 use Rattle.node_sets.proofs.Words.{has-on, IsWord-pos, row_word-set_same, row_word-set_other}
 
-changed_members : (row : List ℤ) (v w : ℕ) (after : Bool) → v / 32 < length row → on w (v % 32) ≡ after → ((k : ℕ) → k < 32 → k ≢ v % 32 → on w k ≡ on (row_word row (v / 32)) k) → (u : ℕ) → has (set row (v / 32) (pos w)) u ≡ cond (nat_eq u v) after (has row u)
+pub changed_members : (row : List ℤ) (v w : ℕ) (after : Bool) → v / 32 < length row → on w (v % 32) ≡ after → ((k : ℕ) → k < 32 → k ≢ v % 32 → on w k ≡ on (row_word row (v / 32)) k) → (u : ℕ) → has (set row (v / 32) (pos w)) u ≡ cond (nat_eq u v) after (has row u)
 changed_members row v w after l here others u =
     elim (cases_eq (u / 32) (v / 32)) [
       | inl e ↦ (elim (cases_eq (u % 32) (v % 32)) [

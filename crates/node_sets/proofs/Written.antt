@@ -1,15 +1,27 @@
 -- Rows that are written whole.
-use Rattle.std.proofs.Common.{◌≡◌, ◌≢◌, ℕ, ◌+◌, ◌*◌, ◌/◌, ◌%◌, ◌^◌, ◌<◌, ◌≤◌, ℤ, pos, Bool, true, false, not, ◌&&◌, ◌||◌, nat_eq, nat_lt, List, length, get_or, set, refl, sym, ap, ap₂, ◌∙◌, arith, inl, inr, bit_and, bit_or, eq-eqb, below_more, get_or-set_same, get_or-set_other}
+use Rattle.std.proofs.Common.{◌≡◌, ◌≢◌, ℕ, ◌+◌, ◌*◌, ◌/◌, ◌%◌, ◌^◌, ◌<◌, ◌≤◌, ℤ, pos, Bool, true, false, cond, not, ◌&&◌, ◌||◌, nat_eq, nat_lt, List, length, get_or, set, refl, sym, ap, ap₂, ◌∙◌, arith, inl, inr, bit_and, bit_or, eq-eqb, below_more, get_or-set_same, get_or-set_other, length-set}
 use Rattle.std.specs.Int.{bit_not, w32}
 use Rattle.std.proofs.lemmas.Bool.{cases_eq, cases_lt, false≢true, ne_eqb, lt-ltb, le-ltb}
 use Rattle.std.proofs.lemmas.List.{ext_get_or}
 use Rattle.std.proofs.lemmas.Nat.Bits.{bit_at_set_same, bit_at_set_other}
-use Rattle.node_sets.specs.Sets.{AreWords, row_word, has, row_of}
+use Rattle.node_sets.specs.Sets.{AreWords, HasMembers, row_word, has, row_of}
 use Rattle.node_sets.specs.declared.pairing.Pairing.TheVariants.{Difference}
 use Rattle.node_sets.proofs.Bits.{on, on_zero, on_or, same_word}
-use Rattle.node_sets.proofs.Words.{has_in, cell_is, row_word-lt}
+use Rattle.node_sets.proofs.Words.{has_in, cell_is, row_word-lt, AreWords-set}
 use Rattle.node_sets.proofs.Pairings.{made_bits, made_small}
-use Rattle.node_sets.proofs.Made.{length-row_of, AreWords-row_of, has-row_of}
+use Rattle.node_sets.proofs.Changes.{changed_members}
+use Rattle.node_sets.proofs.Made.{length-row_of, AreWords-row_of, has-row_of, row_is}
+
+-- one more of the numbers below a limit
+pub below_one_more : (row now : List ℤ) (v : ℕ) → ((u : ℕ) → has row u ≡ nat_lt u v) → ((u : ℕ) → has now u ≡ (has row u || nat_eq u v)) → (u : ℕ) → has now u ≡ nat_lt u (v + 1)
+below_one_more row now v h g u =
+    g u ∙ ap (λ b. b || nat_eq u v) (h u) ∙ elim (cases_lt u v) [
+      | inl l ↦ ap (λ a. a || nat_eq u v) (lt-ltb u v l) ∙ sym (lt-ltb u (v + 1) (omega arith))
+      | inr l ↦ (elim (cases_eq u v) [
+        | inl s ↦ ap₂ ◌||◌ (le-ltb u v l) (eq-eqb u v s) ∙ sym (lt-ltb u (v + 1) (omega arith))
+        | inr s ↦ ap₂ ◌||◌ (le-ltb u v l) (ne_eqb u v s) ∙ sym (le-ltb u (v + 1) (omega arith))
+      ])
+    ]
 
 -- one more number
 pub others_more : (row now : List ℤ) (v : ℕ) → 1 ≤ v → ((u : ℕ) → has row u ≡ (nat_lt u v && not (nat_eq u 0))) → ((u : ℕ) → has now u ≡ (has row u || nat_eq u v)) → (u : ℕ) → has now u ≡ (nat_lt u (v + 1) && not (nat_eq u 0))
@@ -77,3 +89,38 @@ bit_of_one v i j e l =
 
 pub bit_of_none : (v i j : ℕ) → i ≢ v / 32 → j < 32 → on 0 j ≡ nat_eq (32 * i + j) v
 bit_of_none v i j n l = on_zero j ∙ sym (ne_eqb (32 * i + j) v (λ s. n (omega arith)))
+
+-- a row of which one number was taken out
+remove_members : (row : List ℤ) (v a : ℕ) → v < 32 * length row → a ≡ row_word row (v / 32) → a < 2 ^ 32
+    → HasMembers (set row (v / 32) (pos (bit_and a (bit_not w32 (1 * 2 ^ (v % 32) % 2 ^ 32))))) (λ u. has row u && not (nat_eq u v))
+remove_members row v a l e p u =
+    changed_members row v (bit_and a (bit_not w32 (1 * 2 ^ (v % 32) % 2 ^ 32))) false (omega arith)
+    (bits (v % 32) (omega arith) ∙ gone (on a (v % 32)) (nat_eq (32 * (v / 32) + v % 32) v) (eq-eqb (32 * (v / 32) + v % 32) v (omega arith)))
+    (λ k m n. bits k m ∙ kept (on a k) (nat_eq (32 * (v / 32) + k) v) (ne_eqb (32 * (v / 32) + k) v (λ s. n (omega arith))) ∙ ap (λ x. on x k) e) u
+    ∙ without (nat_eq u v) (has row u)
+  where
+    bits : (j : ℕ) → j < 32 → on (bit_and a (bit_not w32 (1 * 2 ^ (v % 32) % 2 ^ 32))) j ≡ (on a j && not (nat_eq (32 * (v / 32) + j) v))
+    bits j n = made_bits Difference a (1 * 2 ^ (v % 32) % 2 ^ 32) j (omega arith) n ∙ ap (λ y. on a j && not y) (bit_of_one v (v / 32) j refl n)
+
+    gone : (x y : Bool) → y ≡ true → (x && not y) ≡ false
+    gone true true s = refl
+    gone false true s = refl
+    gone x false s = absurd (false≢true s)
+
+    kept : (x y : Bool) → y ≡ false → (x && not y) ≡ x
+    kept true false s = refl
+    kept false false s = refl
+    kept x true s = absurd (false≢true (sym s))
+
+    without : (same member : Bool) → cond same false member ≡ (member && not same)
+    without true true = refl
+    without true false = refl
+    without false true = refl
+    without false false = refl
+
+pub remove_row : (row now : List ℤ) (v a : ℕ) → AreWords row → v < 32 * length row → a ≡ row_word row (v / 32) → a < 2 ^ 32
+    → now ≡ set row (v / 32) (pos (bit_and a (bit_not w32 (1 * 2 ^ (v % 32) % 2 ^ 32)))) → now ≡ row_of (length row) (λ u. has row u && not (nat_eq u v))
+remove_row row now v a cells l e p is =
+    is ∙ row_is (set row (v / 32) (pos (bit_and a (bit_not w32 (1 * 2 ^ (v % 32) % 2 ^ 32))))) (length row) (λ u. has row u && not (nat_eq u v))
+    (AreWords-set row (v / 32) (bit_and a (bit_not w32 (1 * 2 ^ (v % 32) % 2 ^ 32))) cells (made_small Difference a (1 * 2 ^ (v % 32) % 2 ^ 32) p (omega arith)))
+    (length-set row (v / 32) _) (remove_members row v a l e p)

@@ -33,6 +33,7 @@ abbrev pub is_word : ℤ → Bool
 is_word (pos n) = nat_lt n 4294967296
 is_word (negsuc n) = false
 
+-- whether each cell is a word
 abbrev pub are_words : List ℤ → Bool
 are_words [] = true
 are_words (cell ∷ row) = is_word cell && are_words row
@@ -52,6 +53,7 @@ unfoldable pub word_of : (ℕ → Bool) → ℕ → ℕ → ℕ
 word_of test first zero = 0
 word_of test first (suc k) = word_of test first k + cond (test (first + k)) (2 ^ k) 0
 
+-- the words of the numbers from a first one on that pass a test
 abbrev pub rows_from : ℕ → ℕ → (ℕ → Bool) → List ℤ
 rows_from zero first test = []
 rows_from (suc words) first test = pos (word_of test first 32) ∷ rows_from words (first + 32) test

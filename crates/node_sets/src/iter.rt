@@ -33,9 +33,9 @@ impl<'a> Model for Members<'a> {
     ghost invariant = { λ m. IsRest m.row.now m.spot.word m.spot.from m.spot.bits };
 }
 
-// The first word, or 0 where there is none.
+/// The first word, or 0 where there is none.
 #[inline]
-fn first_word(row: &[i64]) -> u32
+pub fn first_word(row: &[i64]) -> u32
     requires { AreWords row.now }
     ensures { result ≡ sets.row_word row.now 0 }
 {

@@ -1,6 +1,6 @@
 //! One member of a set.
 
-ghost use Rattle.std.specs.Prelude.{◌≡◌, ◌+◌, ◌*◌, ◌<◌, ◌||◌, false, nat_eq, length};
+ghost use Rattle.std.specs.Prelude.{◌≡◌, ◌+◌, ◌*◌, ◌<◌, ◌&&◌, ◌||◌, not, false, nat_eq, length};
 ghost use Rattle.node_sets.specs.Sets.{AreWords, HasMembers, has, row_of};
 
 use crate::word::{put, word};
@@ -23,6 +23,17 @@ pub fn insert(row: &mut [i64], v: usize)
 {
     let with = word(row, v / 32) | 1u32 << (v % 32);
     put(row, v / 32, with);
+}
+
+/// Takes `v` out.
+#[inline]
+pub fn remove(row: &mut [i64], v: usize)
+    requires cells { AreWords row.old }
+    requires within { v < 32 * length row.old }
+    ensures { row.new ≡ row_of (length row.old) (λ u. has row.old u && not (nat_eq u v)) }
+{
+    let rest = word(row, v / 32) & !(1u32 << (v % 32));
+    put(row, v / 32, rest);
 }
 
 /// Leaves the row without members. What its cells held before does not matter.

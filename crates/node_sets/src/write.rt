@@ -16,6 +16,17 @@ pub fn write_one(row: &mut [i64], v: usize)
     insert(row, v);
 }
 
+/// Writes the set of all numbers below `n`. What the cells held before does not matter.
+pub fn write_below(row: &mut [i64], n: usize)
+    requires { n ≤ 32 * length row.old }
+    ensures { row.new ≡ row_of (length row.old) (λ u. nat_lt u n) }
+{
+    clear(row);
+    'numbers: for v in 0..n {
+        insert(row, v);
+    }
+}
+
 /// Writes the set of all numbers below `n` but 0. What the cells held before does not matter.
 pub fn write_others(row: &mut [i64], n: usize)
     requires within { n ≤ 32 * length row.old }

@@ -1,12 +1,12 @@
-//! The problems that the program knows, by the words that name them in commands and texts.
+//! The problems that the program knows: the word of each one in commands and texts, its byte in journals, and the sizes of which its
+//! instances are drawn.
 //!
-//! It stands on std alone, and no theory stands on it: a further problem changes this list and what offers all problems behind
-//! one interface. `ModelName::text` is the word of a problem, and `ModelName::named` the problem of a word, none exactly
-//! where it is the word of no problem.
+//! It stands on std alone, and no theory stands on it. A further problem has a variant here, with a line in `ALL` and in each of
+//! `text`, `byte` and `sizes` and the definitions that these cite.
 #![tactic(auto)]
 
-ghost use Rattle.std.specs.Prelude.{◌≡◌};
-ghost use Rattle.problem_names.specs.ModelNames.{text_of, model_named, Names};
+ghost use Rattle.std.specs.Prelude.{◌≡◌, ◌≤◌, ◌<◌, IfSome};
+ghost use Rattle.problem_names.specs.ModelNames.{text_of, byte_of, sizes_of, model_named, model_of_byte, Names};
 
 /// The problems that the program knows.
 #[derive(Clone, Copy, Debug, PartialEq, Eq, Hash)]
@@ -15,15 +15,24 @@ pub enum ModelName {
     MaxCut,
     MaxTwoSat,
     TspWindows,
+    OneMachine,
+}
+
+/// The sizes of which instances are drawn.
+#[derive(Clone, Copy, Debug, PartialEq, Eq)]
+pub struct Sizes {
+    pub least: u32,
+    pub most: u32,
 }
 
 impl ModelName {
     /// Every problem.
-    pub const ALL: [ModelName; 4] = [
+    pub const ALL: [ModelName; 5] = [
         ModelName::Knapsack,
         ModelName::MaxCut,
         ModelName::MaxTwoSat,
         ModelName::TspWindows,
+        ModelName::OneMachine,
     ];
 
     /// The word that names the problem in commands and texts.
@@ -35,7 +44,34 @@ impl ModelName {
             ModelName::MaxCut => "maxcut",
             ModelName::MaxTwoSat => "max2sat",
             ModelName::TspWindows => "tsptw",
+            ModelName::OneMachine => "tardiness",
         }
+    }
+
+    /// The byte of the problem in the head of a journal.
+    pub fn byte(self) -> u8
+        ensures { result ≡ byte_of self }
+    {
+        match self {
+            ModelName::Knapsack => 1,
+            ModelName::MaxCut => 2,
+            ModelName::MaxTwoSat => 3,
+            ModelName::TspWindows => 4,
+            ModelName::OneMachine => 5,
+        }
+    }
+
+    /// The sizes of which instances of the problem are drawn, or `None` where none is drawn.
+    pub fn sizes(self) -> Option<Sizes>
+        ensures { result ≡ sizes_of self }
+    {
+        let (least, most) = match self {
+            ModelName::Knapsack => (0, 1000),
+            ModelName::MaxCut | ModelName::MaxTwoSat => (0, 1024),
+            ModelName::TspWindows => (1, 300),
+            ModelName::OneMachine => (0, 100),
+        };
+        Some(Sizes { least, most })
     }
 
     /// The problem whose word this is, and none exactly where it is the word of no problem.
@@ -45,6 +81,16 @@ impl ModelName {
         ensures exactly { Names word.now result }
     {
         found_by(word)
+    }
+
+    /// The problem whose byte this is, and none exactly where it is the byte of no problem.
+    pub fn of_byte(byte: u8) -> Option<ModelName>
+        ensures { result ≡ model_of_byte byte }
+    {
+        ModelName::ALL
+            .iter()
+            .copied()
+            .find(|name| name.byte() == byte)
     }
 }
 

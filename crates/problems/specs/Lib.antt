@@ -1,6 +1,2 @@
-pub mod Theory
-pub mod Cuts
-pub mod Knapsacks
-pub mod Satisfiability
-pub mod Tours
+pub use Rattle.problem_theory.specs.Theory
 pub mod Theories

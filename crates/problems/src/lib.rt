@@ -1,20 +1,10 @@
-//! The problems that the program solves, behind one interface: reading an instance, printing it, drawing it from a seed, and what a
-//! solution is in the problem's own words.
+//! The problems that the program solves, each by its name.
 //!
-//! It stands on `dp_model`, `dd_text` and the crates of the problems. To add a problem, give it a theory with a
-//! line in `theory_of`, and an `impl Problem`.
+//! It stands on `problem_names`, on `problem_theory` for the interface, and on the crates of the problems. `by_name` is the one place
+//! where a problem is chosen: it calls a function for the problem of a name. A new problem has a line in `by_name`, and in
+//! `specs/Theories.antt`.
 #![tactic(auto)]
 
-mod cuts;
-mod knapsacks;
-mod problem;
-mod satisfiability;
+pub mod choosing;
 #[cfg(test)]
 mod tests;
-mod tours;
-
-pub use knapsack::Knapsack;
-pub use max_cut::MaxCut;
-pub use max_two_sat::MaxTwoSat;
-pub use problem::Problem;
-pub use tsp_windows::TspWindows;

@@ -2,17 +2,18 @@
 
 mod cuts;
 mod knapsacks;
+mod orders;
 mod satisfiability;
 mod tours;
 
 ghost use Rattle.std.specs.Prelude.{◌≡◌, true};
 ghost use Rattle.dp_model.specs.Gaps.{IsStateOf};
 
-use crate::Problem;
-use dd_text::{InstanceError, InstanceFault, Place, ReadModelError};
 use dp_model::walk;
+use problem_theory::{InstanceRefusal, Problem, ReadInstanceError};
 use std::alloc::Global;
 use std::process::Abort;
+use tokens::{InstanceError, InstanceFault, Place};
 
 /// A text of an instance, and what is known of it.
 pub struct Sample {
@@ -58,7 +59,11 @@ pub struct Pair {
 }
 
 /// The instance of a short text.
-fn instance<P: Problem>(rt: &impl Abort, alloc: Global, text: &[u8]) -> Result<P, ReadModelError> {
+fn instance<P: Problem>(
+    rt: &impl Abort,
+    alloc: Global,
+    text: &[u8],
+) -> Result<P, ReadInstanceError> {
     assert!(rt; text.len() < 1000);
     P::read(alloc, text)
 }
@@ -127,7 +132,7 @@ pub fn refuses<P: Problem>(rt: &impl Abort, alloc: Global, refusals: &[Refusal])
 fn is_refused<P: Problem>(rt: &impl Abort, alloc: Global, refusal: &Refusal) {
     let (text, fault, line, column) = *refusal;
     let place = Place { line, column };
-    let error = ReadModelError::Text(InstanceError { fault, place });
+    let error = ReadInstanceError::Refused(InstanceRefusal::Text(InstanceError { fault, place }));
     let found = instance::<P>(rt, alloc, text).err();
     assert_eq!(rt; (text, found), (text, Some(error)));
 }

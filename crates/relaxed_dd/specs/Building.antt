@@ -39,6 +39,7 @@ pub record IsStarted (dp : Dp) (s : SpaceView) : Type 0 where
 abbrev pub compiled_from : Dp → Option ℤ → SpaceView → List (List DdNode)
 compiled_from dp t s = compiled dp (length s.prefix) s.width t (length s.prefix) (dp.vars - length s.prefix) (start_layer (reached dp s.prefix))
 
+-- the workspace has the layers of the rules
 pub record HasCompiled (dp : Dp) (t : Option ℤ) (old new : SpaceView) : Type 0 where
   pub space : new ≡ record old {
     layers = compiled_from dp t old;

@@ -3,6 +3,11 @@
 //!
 //! It stands on `layer_build`, in whose workspace the layers are made. The diagram is the one that the rules of `dp_laws`
 //! define on plain lists of nodes. No call takes memory.
+//!
+//! ```
+//! let diagram = relaxed(&mut space, &model, &sub, None);
+//! let bound = diagram.suffix(diagram.first_depth(), 0);
+//! ```
 #![tactic(auto)]
 
 mod building;

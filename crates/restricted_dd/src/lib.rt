@@ -2,6 +2,10 @@
 //!
 //! It stands on `layer_build`, in whose workspace `layer_candidates` makes the layers. The beam is the one that is defined on
 //! plain lists of prefixes. No call takes memory.
+//!
+//! ```
+//! let found = restricted(&mut space, &model, &sub, None);
+//! ```
 #![tactic(auto)]
 
 mod compiling;

@@ -17,8 +17,10 @@ cells_row = vec_row i64 global_row ghosts
 abbrev pub written : ℕ → ℕ → List ℤ → List ℤ → List ℤ
 written at words cells ws = take at cells ++ (refilled words (take words (drop at cells)) ws ++ drop words (drop at cells))
 
+-- what is written through r is the whole vector
 abbrev pub LendsWhole : MutBor (Vec ℤ Global) → MutBor (List ℤ) → Fml
 LendsWhole v r = Lends cells_row (Array i64 0) v r (with_items v.now)
 
+-- what is written through r is this part of the vector
 abbrev pub LendsPart : MutBor (Vec ℤ Global) → ℕ → ℕ → MutBor (List ℤ) → Fml
 LendsPart v at words r = Lends cells_row (Array i64 0) v r (λ ws. with_items v.now (written at words v.now.items ws))

@@ -8,6 +8,14 @@
 //! gives one with whatever stands in it; `give` frees one live row; `row` reads it, `cells` reads all rows as one slice,
 //! `row_mut` lends a row to be written, and what is left in it is the row from then on; no call changes another row. Only `new`
 //! and `grow` take memory; a `grow` that fails changes nothing.
+//!
+//! ```
+//! let mut region = Region::new(alloc, words, rows)?;
+//! if let Some(id) = region.take() {
+//!     region.row_mut(id)[0] = 7;
+//!     region.give(id);
+//! }
+//! ```
 #![tactic(auto)]
 
 mod parting;

@@ -1,16 +1,16 @@
 -- A kept board after moves.
 use Rattle.std.proofs.Common.{◌≡◌, ℕ, ℤ, List, [], ◌∷◌, is_some, sym, ap, subst, ◌∙◌}
-use Rattle.dd_disk.specs.declared.disk.Disk.{Ghosts}
+use Rattle.disk.specs.declared.disk.Disk.{Ghosts}
 use Rattle.dp_model.specs.Dp.{Dp}
-use Rattle.board_lock.specs.History.{Moved, HasMoved}
+use Rattle.turn.specs.History.{Moved, HasMoved}
 use Rattle.board_laws.specs.GoodBoard.{IsGood}
-use Rattle.frontier_journal.specs.Kept.{IsKept}
-use Rattle.frontier_journal.specs.Moves.{IsMove}
-use Rattle.frontier_journal.specs.View.{KeptView, tag_of}
-use Rattle.frontier_journal.specs.declared.tag.KeptTag.{KeptTag}
-use Rattle.search_core.specs.View.{BoardView, tag_of as board_tag_of}
-use Rattle.search_core.specs.declared.tag.BoardTag.{BoardTag}
-use Rattle.worker_gate.specs.Later.{IsLater, NoRoundFollows, IsComplete}
+use Rattle.kept_board.specs.Kept.{IsKept}
+use Rattle.kept_board.specs.Moves.{IsMove}
+use Rattle.kept_board.specs.View.{KeptView, tag_of}
+use Rattle.kept_board.specs.declared.tag.KeptTag.{KeptTag}
+use Rattle.board.specs.View.{BoardView, tag_of as board_tag_of}
+use Rattle.board.specs.declared.tag.BoardTag.{BoardTag}
+use Rattle.search_workers.specs.Later.{IsLater, NoRoundFollows, IsComplete}
 use Rattle.solver_cli.specs.Searches.{HasExplored, IsKeptOn}
 
 module _ {D : Type 0} (on : Ghosts D) (meaning : List ℤ → Dp) where

@@ -6,3 +6,5 @@ pub mod Told
 pub mod Over
 pub mod Beginning
 pub mod GoingOn
+pub mod Drawn
+pub mod Left

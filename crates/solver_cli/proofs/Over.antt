@@ -1,25 +1,25 @@
 -- A board some rounds after the one that a search goes on from, from which no round can follow.
 use Rattle.std.proofs.Common.{◌≡◌, ℕ, ℤ, ◌≤◌, [], List, Option, is_some, Result, IfOk, Vec, Global, sym, ap, subst, ◌∙◌}
 use Rattle.std.specs.declared.alloc.AllocError.{AllocError}
-use Rattle.dd_disk.specs.declared.disk.Disk.{Ghosts}
+use Rattle.disk.specs.declared.disk.Disk.{Ghosts}
 use Rattle.dp_model.specs.Counts.{tree}
 use Rattle.dp_model.specs.Dp.{Dp}
 use Rattle.board_laws.specs.Board.{BoardState, full_slots}
 use Rattle.board_laws.specs.GoodBoard.{IsGood}
 use Rattle.board_laws.specs.declared.settings.Settings.{Settings}
-use Rattle.worker_gate.specs.Later.{IsLater, NoRoundFollows, IsComplete}
-use Rattle.worker_gate.specs.declared.desk.Desk.{Desk}
-use Rattle.frontier_journal.specs.View.{KeptView}
-use Rattle.search_core.specs.View.{BoardView}
-use Rattle.search_core.specs.declared.tag.BoardTag.{BoardTag}
-use Rattle.solver_jobs.specs.Outcomes.{HasSearched, IsConcluded}
-use Rattle.solver_jobs.specs.Over.{IsOver}
-use Rattle.solver_jobs.specs.declared.text_job.Search.{Search}
+use Rattle.search_workers.specs.Later.{IsLater, NoRoundFollows, IsComplete}
+use Rattle.search_workers.specs.declared.desk.Desk.{Desk}
+use Rattle.kept_board.specs.View.{KeptView}
+use Rattle.board.specs.View.{BoardView}
+use Rattle.board.specs.declared.tag.BoardTag.{BoardTag}
+use Rattle.answers.specs.Outcomes.{HasSearched, IsConcluded}
+use Rattle.answers.specs.Over.{IsOver}
+use Rattle.solver_words.specs.declared.job.JobSettings.{JobSettings}
 use Rattle.solver_cli.specs.Searches.{HasExplored, IsKeptOn}
 use Rattle.solver_cli.specs.Starts.{AreAsked, IsReadyFor}
 use Rattle.solver_cli.proofs.Told.{Told, if-told}
 
-is_over : (dp : Dp) (search : Search) (first b : BoardState) → AreAsked dp search first.settings → full_slots first.slots ≡ [] → b.settings ≡ first.settings → IsLater dp first b → NoRoundFollows b → (IsGood dp first → IsComplete dp b) → IsOver dp search first b
+is_over : (dp : Dp) (search : JobSettings) (first b : BoardState) → AreAsked dp search first.settings → full_slots first.slots ≡ [] → b.settings ≡ first.settings → IsLater dp first b → NoRoundFollows b → (IsGood dp first → IsComplete dp b) → IsOver dp search first b
 is_over dp search first b asked idle same later ended complete =
     let budget : b.settings.budget ≡ search.budget = ap (λ (s : Settings). s.budget) same ∙ asked.budget in
     record {
@@ -34,7 +34,7 @@ is_over dp search first b asked idle same later ended complete =
       complete = λ good few. complete good (subst (λ n. tree dp ≤ n) (sym budget) few);
     }
 
-module _ {D : Type 0} (on : Ghosts D) (dp : Dp) (search : Search) (first : KeptView D) (now : D) (b : BoardView) (e : HasExplored on dp first now b) where
+module _ {D : Type 0} (on : Ghosts D) (dp : Dp) (search : JobSettings) (first : KeptView D) (now : D) (b : BoardView) (e : HasExplored on dp first now b) where
   same-first : b.first ≡ first.board.first
   same-first = ap (λ (t : BoardTag). t.first) e.tag
 

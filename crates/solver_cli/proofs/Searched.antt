@@ -8,13 +8,13 @@ use Rattle.solver_report.specs.declared.answer.Answer.{Answer}
 use Rattle.solver_report.specs.declared.answer.Answer.TheVariants as answers
 use Rattle.solver_report.specs.declared.answer.Counts.{Counts}
 use Rattle.solver_report.specs.declared.answer.Outcome.{Outcome}
-use Rattle.solver_jobs.specs.Answers.{Ends}
-use Rattle.solver_jobs.specs.Outcomes.{HasSearched, IsConcluded}
-use Rattle.solver_jobs.specs.Over.{IsOver}
-use Rattle.solver_jobs.specs.declared.text_job.Search.{Search}
+use Rattle.answers.specs.Answers.{Ends}
+use Rattle.answers.specs.Outcomes.{HasSearched, IsConcluded}
+use Rattle.answers.specs.Over.{IsOver}
+use Rattle.solver_words.specs.declared.job.JobSettings.{JobSettings}
 
 -- by how its first board is made, what is trusted for that to be good, and what its last board keeps
-pub in-words : (dp : Dp) (own : List ℕ → Option ℤ) (search : Search) (f : BoardState) (first : Settings → BoardState) (Trusted : Type 0) (Keeps Other : BoardState → Type 0) → f ≡ first f.settings → (Trusted → IsGood dp f)
+pub in-words : (dp : Dp) (own : List ℕ → Option ℤ) (search : JobSettings) (f : BoardState) (first : Settings → BoardState) (Trusted : Type 0) (Keeps Other : BoardState → Type 0) → f ≡ first f.settings → (Trusted → IsGood dp f)
     → ((b : BoardState) → IsOver dp search f b → Keeps b → Other b) → (outcome : Outcome) (counts : Option Counts) → HasSearched dp own (λ settings. f) (IsGood dp f) search Keeps outcome counts → HasSearched dp own first Trusted search Other outcome counts
 in-words dp own search f first Trusted Keeps Other is good other outcome counts h = record {
   settings = f.settings;
@@ -26,7 +26,7 @@ in-words dp own search f first Trusted Keeps Other is good other outcome counts 
 }
 
 -- what is told in other words is an answer in other words
-pub ends-in-words : (dp : Dp) (search : Search) (Has Other : Outcome → Option Counts → Type 0) → ((outcome : Outcome) (counts : Option Counts) → Has outcome counts → Other outcome counts) → (answer : Answer) → Ends dp search Has answer → Ends dp search Other answer
+pub ends-in-words : (dp : Dp) (search : JobSettings) (Has Other : Outcome → Option Counts → Type 0) → ((outcome : Outcome) (counts : Option Counts) → Has outcome counts → Other outcome counts) → (answer : Answer) → Ends dp search Has answer → Ends dp search Other answer
 ends-in-words dp search Has Other f (answers.Searched outcome counts) h = (f outcome counts h.0, h.1)
 ends-in-words dp search Has Other f (answers.Covered outcome counts cover) h = (f outcome counts h.0, h.1)
 ends-in-words dp search Has Other f answer h = h

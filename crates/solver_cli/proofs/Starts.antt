@@ -13,38 +13,38 @@ use Rattle.journal_replay.specs.Accepting.{AreAccepted}
 use Rattle.journal_replay.specs.Replay.{replay_of, restored_from}
 use Rattle.layer_build.specs.declared.workspace.PrepareError.{PrepareError}
 use Rattle.layer_build.specs.declared.workspace.PrepareError.TheVariants as preparing
-use Rattle.search_core.specs.View.{BoardView}
-use Rattle.solver_jobs.specs.Answers.{MaySearch}
-use Rattle.solver_jobs.specs.Widths.{IsAskedWidth}
-use Rattle.solver_jobs.specs.declared.text_job.Search.{Search}
+use Rattle.board.specs.View.{BoardView}
+use Rattle.solver_words.specs.Possible.{MaySearch}
+use Rattle.answers.specs.Widths.{IsAskedWidth}
+use Rattle.solver_words.specs.declared.job.JobSettings.{JobSettings}
 use Rattle.solver_report.specs.declared.answer.Answer.{Answer}
 use Rattle.solver_report.specs.declared.answer.Answer.TheVariants as answers
-use Rattle.worker_gate.specs.declared.desk.Desk.{Desk}
+use Rattle.search_workers.specs.declared.desk.Desk.{Desk}
 use Rattle.solver_cli.specs.Desks.{AreAllDesks, AreCrew}
 use Rattle.solver_cli.specs.Starts.{AreAsked, ArePrepared, DoesNotGoOn, GoesOnFrom, HasBegun, IsReadyFor, IsUnready, settings_for, unprepared}
+use Rattle.dp_model.specs.Distances.{IsDistance}
 use Rattle.solver_cli.proofs.Widths.{refused}
 
 -- settings as a search may ask for them are settings of a board
-pub are-settings : (dp : Dp) (search : Search) (settings : Settings) → MaySearch search → AreAsked dp search settings → AreSettings settings
+pub are-settings : (dp : Dp) (search : JobSettings) (settings : Settings) → MaySearch search → AreAsked dp search settings → AreSettings settings
 are-settings dp search settings may asked = record {
   some_workers = subst (λ n. 1 ≤ n) (sym asked.crew) may.some_workers;
   few_workers = subst (λ n. n ≤ 16) (sym asked.crew) may.few_workers;
   some_width = asked.wide.fits.positive;
-  within_least = subst (λ z. pos 0 ≤ℤ z) (sym asked.distance) may.least;
-  within_most = subst (λ z. z ≤ℤ pos (2 ^ 50)) (sym asked.distance) may.most;
+  distance = subst IsDistance (sym asked.distance) (may.distance);
 }
 
-module _ (dp : Dp) (search : Search) where
+module _ (dp : Dp) (search : JobSettings) where
   -- ---- settings and desks
 
   module _ (w : ℕ) (asked : IsAskedWidth dp search.width w) where
-    pub all-prepared : (desks : Vec Desk Global) → AreCrew dp w search.workers desks → (settings : Settings) → settings ≡ settings_for search w → ArePrepared dp search settings desks
+    pub all-prepared : (desks : Vec Desk Global) → AreCrew dp w search.workers search.cutset desks → (settings : Settings) → settings ≡ settings_for search w → ArePrepared dp search settings desks
     all-prepared desks crew settings named =
         subst (λ (s : Settings). ArePrepared dp search s desks) (sym named)
-        (record { asked = record { crew = refl; budget = refl; distance = refl; wide = record { asked = asked; fits = crew.fits } }; count = crew.count; each = crew.prepared })
+        (record { asked = record { crew = refl; budget = refl; distance = refl; wide = record { asked = asked; fits = crew.fits } }; count = crew.count; each = crew.prepared; kinds = crew.kinds })
 
     -- without desks
-    pub unready : IsLawful dp → (e : PrepareError) → AreAllDesks dp w search.workers (Err e) → IsUnready dp search (unprepared e)
+    pub unready : IsLawful dp → (e : PrepareError) → AreAllDesks dp w search.workers search.cutset (Err e) → IsUnready dp search (unprepared e)
     unready laws preparing.Width never = refused dp laws search.width w asked never
     unready laws preparing.OutOfMemory none = tt
 

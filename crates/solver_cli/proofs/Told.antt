@@ -1,23 +1,23 @@
 -- What is answered to a search, from how it ended.
 use Rattle.std.proofs.Common.{◌≡◌, ℕ, ℤ, List, Bool, false, Option, is_some, Result, Ok, Err, IfOk, Vec, Global, sym, subst, ap, ◌∙◌}
 use Rattle.std.specs.declared.alloc.AllocError.{AllocError}
-use Rattle.dd_disk.specs.declared.disk.Disk.{Ghosts}
+use Rattle.disk.specs.declared.disk.Disk.{Ghosts}
 use Rattle.dp_model.specs.Dp.{Dp}
 use Rattle.board_laws.specs.Board.{BoardState}
 use Rattle.board_laws.specs.GoodBoard.{IsGood}
 use Rattle.board_laws.specs.Steps.{first_board}
-use Rattle.frontier_journal.specs.View.{KeptView}
-use Rattle.search_core.specs.View.{BoardView}
+use Rattle.kept_board.specs.View.{KeptView}
+use Rattle.board.specs.View.{BoardView}
 use Rattle.solver_report.specs.declared.answer.Answer.{Answer}
 use Rattle.solver_report.specs.declared.answer.Counts.{Counts}
 use Rattle.solver_report.specs.declared.answer.Outcome.{Outcome}
-use Rattle.solver_jobs.specs.Answers.{AreSized, Ends, HasSearchedFromStart, KeepsNone, Solves}
-use Rattle.solver_jobs.specs.Outcomes.{HasSearched, IsTrueOf}
-use Rattle.solver_jobs.specs.Over.{IsOver}
-use Rattle.solver_jobs.specs.declared.text_job.Search.{Search}
-use Rattle.solver_jobs.proofs.Ending.{report-ends, counted-sized}
-use Rattle.solver_jobs.proofs.Journaled.{has-none}
-use Rattle.worker_gate.specs.declared.desk.Desk.{Desk}
+use Rattle.answers.specs.Answers.{AreSized, Ends, HasSearchedFromStart, KeepsNone, Solves}
+use Rattle.answers.specs.Outcomes.{HasSearched, IsTrueOf}
+use Rattle.answers.specs.Over.{IsOver}
+use Rattle.solver_words.specs.declared.job.JobSettings.{JobSettings}
+use Rattle.answers.proofs.Ending.{report-ends, counted-sized}
+use Rattle.answers.proofs.Journaled.{has-none}
+use Rattle.search_workers.specs.declared.desk.Desk.{Desk}
 use Rattle.solver_cli.specs.Searches.{IsAnswerTo, IsKeptOn, KeepsSome}
 use Rattle.solver_cli.specs.Starts.{HasBegun}
 use Rattle.solver_cli.proofs.Searched.{in-words}
@@ -31,18 +31,18 @@ if-told P Q f (Ok told) p = f told p
 if-told P Q f (Err e) p = tt
 
 -- what is answered to it
-pub told-ends : (dp : Dp) (search : Search) (Has : Outcome → Option Counts → Type 0) (ended : Result Told AllocError) (answer : Answer) → IsAnswerTo search ended answer → IfOk ended (λ told. Has told.0 told.1) → Ends dp search Has answer
+pub told-ends : (dp : Dp) (search : JobSettings) (Has : Outcome → Option Counts → Type 0) (ended : Result Told AllocError) (answer : Answer) → IsAnswerTo search ended answer → IfOk ended (λ told. Has told.0 told.1) → Ends dp search Has answer
 told-ends dp search Has (Ok told) answer said has = report-ends dp search Has told.0 told.1 answer said has
 told-ends dp search Has (Err e) answer said has = subst (Ends dp search Has) (sym said) tt
 
-module _ (dp : Dp) (own : List ℕ → Option ℤ) (search : Search) (f : BoardState) (Keeps : BoardState → Type 0) where
+module _ (dp : Dp) (own : List ℕ → Option ℤ) (search : JobSettings) (f : BoardState) (Keeps : BoardState → Type 0) where
   -- a search from a good board on tells what is true, and counts of 64 bits
   pub told-true : IsGood dp f → (ended : Result Told AllocError) → IfOk ended (λ told. HasSearched dp own (λ settings. f) (IsGood dp f) search Keeps told.0 told.1) → IfOk ended (λ told. IsTrueOf dp own search.budget told.0)
   told-true good (Ok told) h = h.concluded.ends good
   told-true good (Err e) h = tt
 
   pub told-sized : (ended : Result Told AllocError) → IfOk ended (λ told. HasSearched dp own (λ settings. f) (IsGood dp f) search Keeps told.0 told.1) → IfOk ended (λ told. AreSized told.1)
-  told-sized (Ok told) h = counted-sized h.board search.stats told.1 h.concluded.counted
+  told-sized (Ok told) h = counted-sized dp h.board search.stats told.1 h.concluded.kept h.concluded.counted
   told-sized (Err e) h = tt
 
   -- a search from the start on
@@ -52,7 +52,7 @@ module _ (dp : Dp) (own : List ℕ → Option ℤ) (search : Search) (f : BoardS
   from-start Other is good other (Err e) h = tt
 
 -- the first board of a search from the start
-pub first-is : (dp : Dp) (search : Search) (board : BoardView) (desks : Vec Desk Global) → HasBegun dp search board desks → board.first ≡ first_board dp board.first.settings
+pub first-is : (dp : Dp) (search : JobSettings) (board : BoardView) (desks : Vec Desk Global) → HasBegun dp search board desks → board.first ≡ first_board dp board.first.settings
 first-is dp search board desks begun = begun.ready.first ∙ (begun.board ∙ ap (λ (x : BoardState). first_board dp x.settings) (sym begun.ready.first))
 
 module _ {D : Type 0} (on : Ghosts D) where
@@ -61,12 +61,12 @@ module _ {D : Type 0} (on : Ghosts D) where
   none-kept dp made now b k = has-none on dp b made now k.tail k.same k.kept
 
   -- a search by the numbers of an instance, from a kept board
-  abbrev pub SearchedBy : (List ℤ → Dp) → (List ℤ → List ℕ → Option ℤ) → Search → List ℤ → BoardState → Bool → D → D → Result Told AllocError → Type 0
+  abbrev pub SearchedBy : (List ℤ → Dp) → (List ℤ → List ℕ → Option ℤ) → JobSettings → List ℤ → BoardState → Bool → D → D → Result Told AllocError → Type 0
   SearchedBy meaning own search ns f has made now ended = IfOk ended (λ told. HasSearched (meaning ns) (own ns) (λ settings. f) (IsGood (meaning ns) f) search (IsKeptOn on (meaning ns) has made now) told.0 told.1)
 
   module _ (meaning : List ℤ → Dp) (ns here : List ℤ) (at : ns ≡ here) (kept : KeptView D) (board : BoardView) (disk : D) (has : Bool) (shown : kept.board ≡ board) (made : kept.made ≡ disk) (same : is_some kept.tail ≡ has) (now : D) where
     -- what it gives, by what the board was made of
-    pub searched-here : (own : List ℤ → List ℕ → Option ℤ) (search : Search) (ended : Result Told AllocError) → SearchedBy meaning own search ns kept.board.first (is_some kept.tail) kept.made now ended → SearchedBy meaning own search here board.first has disk now ended
+    pub searched-here : (own : List ℤ → List ℕ → Option ℤ) (search : JobSettings) (ended : Result Told AllocError) → SearchedBy meaning own search ns kept.board.first (is_some kept.tail) kept.made now ended → SearchedBy meaning own search here board.first has disk now ended
     searched-here own search ended h =
         subst (λ n. SearchedBy meaning own search n board.first has disk now ended) at
         (subst (λ (b : BoardView). SearchedBy meaning own search ns b.first has disk now ended) shown
@@ -79,7 +79,7 @@ module _ {D : Type 0} (on : Ghosts D) where
         (subst (λ d. KeepsSome on (meaning ns) has d now kept.board.board.settings) made (subst (λ x. KeepsSome on (meaning ns) x kept.made now kept.board.board.settings) same k)))
 
   -- with no journal
-  pub none-solves : (dp : Dp) (own : List ℕ → Option ℤ) (search : Search) (board : BoardView) (desks : Vec Desk Global) (disk now : D) → HasBegun dp search board desks → (ended : Result Told AllocError) (answer : Answer) → IsAnswerTo search ended answer
+  pub none-solves : (dp : Dp) (own : List ℕ → Option ℤ) (search : JobSettings) (board : BoardView) (desks : Vec Desk Global) (disk now : D) → HasBegun dp search board desks → (ended : Result Told AllocError) (answer : Answer) → IsAnswerTo search ended answer
       → IfOk ended (λ told. HasSearched dp own (λ settings. board.first) (IsGood dp board.first) search (IsKeptOn on dp false disk now) told.0 told.1) → Solves dp own search answer
   none-solves dp own search board desks disk now begun ended answer said h =
       told-ends dp search (HasSearchedFromStart dp own search KeepsNone) ended answer said

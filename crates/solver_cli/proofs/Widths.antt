@@ -6,7 +6,7 @@ use Rattle.dp_model.specs.Laws.{IsLawful}
 use Rattle.dp_laws.specs.Width.{cost_below, FitsWidth}
 use Rattle.dp_laws.proofs.Widths.{widths-fit}
 use Rattle.layer_build.specs.Layers.{IsWidth}
-use Rattle.solver_jobs.specs.Widths.{IsAskedWidth, IsRefusedWidth}
+use Rattle.answers.specs.Widths.{IsAskedWidth, IsRefusedWidth}
 
 -- a lesser width fits too
 less-fits : (dp : Dp) (v w : ℕ) → v ≤ w → FitsWidth dp w → FitsWidth dp v

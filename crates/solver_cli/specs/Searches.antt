@@ -1,22 +1,22 @@
 -- A search from a kept board on.
 use Rattle.std.specs.Prelude.{◌≡◌, Bool, Option, is_some, Result, Ok, Err}
 use Rattle.std.specs.declared.alloc.AllocError.{AllocError}
-use Rattle.dd_disk.specs.declared.disk.Disk.{Ghosts}
+use Rattle.disk.specs.declared.disk.Disk.{Ghosts}
 use Rattle.dp_model.specs.Dp.{Dp}
 use Rattle.board_laws.specs.Board.{BoardState}
 use Rattle.board_laws.specs.GoodBoard.{IsGood}
 use Rattle.board_laws.specs.declared.settings.Settings.{Settings}
-use Rattle.frontier_journal.specs.Kept.{IsKept}
-use Rattle.frontier_journal.specs.View.{KeptView}
+use Rattle.kept_board.specs.Kept.{IsKept}
+use Rattle.kept_board.specs.View.{KeptView}
 use Rattle.journal_bytes.specs.declared.tail.Tail.{Tail}
-use Rattle.search_core.specs.View.{BoardView, tag_of}
-use Rattle.solver_jobs.specs.Answers.{IsReport}
-use Rattle.solver_jobs.specs.declared.text_job.Search.{Search}
+use Rattle.board.specs.View.{BoardView, tag_of}
+use Rattle.answers.specs.Answers.{IsReport}
+use Rattle.solver_words.specs.declared.job.JobSettings.{JobSettings}
 use Rattle.solver_report.specs.declared.answer.Answer.{Answer}
 use Rattle.solver_report.specs.declared.answer.Answer.TheVariants as answers
 use Rattle.solver_report.specs.declared.answer.Counts.{Counts}
 use Rattle.solver_report.specs.declared.answer.Outcome.{Outcome}
-use Rattle.worker_gate.specs.Later.{IsLater, NoRoundFollows, IsComplete}
+use Rattle.search_workers.specs.Later.{IsLater, NoRoundFollows, IsComplete}
 
 module _ {D : Type 0} (on : Ghosts D) where
   -- the disk as a board is kept on it that was made for the disk as it was then, with a journal or with none
@@ -40,7 +40,7 @@ module _ {D : Type 0} (on : Ghosts D) where
     pub keeps : IsKeptOn dp (is_some first.tail) first.made now b.board
 
 -- the answer to how a search ended: its report, or that memory ran out
-abbrev pub IsAnswerTo : Search → Result (Outcome × Option Counts) AllocError → Answer → Type 0
+abbrev pub IsAnswerTo : JobSettings → Result (Outcome × Option Counts) AllocError → Answer → Type 0
 IsAnswerTo search (Ok told) answer = IsReport search told.0 told.1 answer
 IsAnswerTo search (Err e) answer = answer ≡ answers.OutOfMemory
 

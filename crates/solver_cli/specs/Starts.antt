@@ -12,46 +12,47 @@ use Rattle.journal_replay.specs.Accepting.{AreAccepted, AreRefused}
 use Rattle.journal_replay.specs.Replay.{replay_of, replay_start, restored_from}
 use Rattle.layer_build.specs.declared.workspace.PrepareError.{PrepareError}
 use Rattle.layer_build.specs.declared.workspace.PrepareError.TheVariants as preparing
-use Rattle.search_core.specs.View.{BoardView}
-use Rattle.solver_jobs.specs.Widths.{IsRefusedWidth, IsSearchWidth}
-use Rattle.solver_jobs.specs.declared.text_job.Search.{Search}
+use Rattle.board.specs.View.{BoardView}
+use Rattle.answers.specs.Widths.{IsRefusedWidth, IsSearchWidth}
+use Rattle.solver_words.specs.declared.job.JobSettings.{JobSettings}
 use Rattle.solver_report.specs.declared.answer.Answer.{Answer}
 use Rattle.solver_report.specs.declared.answer.Answer.TheVariants as answers
-use Rattle.worker_gate.specs.Prepared.{IsPreparedDesk}
-use Rattle.worker_gate.specs.declared.desk.Desk.{Desk}
+use Rattle.search_workers.specs.Prepared.{IsPreparedDesk}
+use Rattle.search_workers.specs.declared.desk.Desk.{Desk}
 
 -- the settings of a search with diagrams of this width: a table of at most 4096 entries
-abbrev pub settings_for : Search → ℕ → Settings
+abbrev pub settings_for : JobSettings → ℕ → Settings
 settings_for search width = record { workers = search.workers; budget = search.budget; table_limit = 4096; width = width; within = search.within }
 
 -- settings as the search asks for them, with a width that is positive and fits
-pub record AreAsked (dp : Dp) (search : Search) (settings : Settings) : Type 0 where
+pub record AreAsked (dp : Dp) (search : JobSettings) (settings : Settings) : Type 0 where
   pub crew : settings.workers ≡ search.workers
   pub budget : settings.budget ≡ search.budget
   pub distance : settings.within ≡ search.within
   pub wide : IsSearchWidth dp search.width settings.width
 
--- such settings, and a desk for each worker
-pub record ArePrepared (dp : Dp) (search : Search) (settings : Settings) (desks : Vec Desk Global) : Type 0 where
+-- such settings, and a desk for each worker, with children of the kind that is asked for
+pub record ArePrepared (dp : Dp) (search : JobSettings) (settings : Settings) (desks : Vec Desk Global) : Type 0 where
   pub asked : AreAsked dp search settings
   pub count : vec_len desks ≡ search.workers
   pub each : All (IsPreparedDesk dp settings.width) desks.items
+  pub kinds : All (λ (desk : Desk). desk.kind ≡ search.cutset) desks.items
 
 -- a board of which nothing is out and that no cause halts, as it was made, for which settings and desks are prepared
-pub record IsReadyFor (dp : Dp) (search : Search) (b : BoardView) (desks : Vec Desk Global) : Type 0 where
+pub record IsReadyFor (dp : Dp) (search : JobSettings) (b : BoardView) (desks : Vec Desk Global) : Type 0 where
   pub first : b.first ≡ b.board
   pub prepared : ArePrepared dp search b.board.settings desks
   pub idle : full_slots b.board.slots ≡ []
   pub going : b.board.cause ≡ None
 
 -- and it is the board at the start of a search, which is good
-pub record HasBegun (dp : Dp) (search : Search) (b : BoardView) (desks : Vec Desk Global) : Type 0 where
+pub record HasBegun (dp : Dp) (search : JobSettings) (b : BoardView) (desks : Vec Desk Global) : Type 0 where
   pub ready : IsReadyFor dp search b desks
   pub board : b.board ≡ first_board dp b.board.settings
   pub good : IsGood dp b.first
 
 -- or it is the board that goes on from records, which are accepted
-pub record GoesOnFrom (dp : Dp) (search : Search) (records : RecordsView) (b : BoardView) (desks : Vec Desk Global) : Type 0 where
+pub record GoesOnFrom (dp : Dp) (search : JobSettings) (records : RecordsView) (b : BoardView) (desks : Vec Desk Global) : Type 0 where
   pub ready : IsReadyFor dp search b desks
   pub accepted : AreAccepted dp records.records
   pub board : b.board ≡ restored_from b.board.settings (replay_of dp records.records)
@@ -62,12 +63,12 @@ unprepared preparing.Width = answers.Width
 unprepared preparing.OutOfMemory = answers.OutOfMemory
 
 -- the answer to a search that does not begin: the width is refused, or memory ran out
-abbrev pub IsUnready : Dp → Search → Answer → Type 0
+abbrev pub IsUnready : Dp → JobSettings → Answer → Type 0
 IsUnready dp search answers.Width = IsRefusedWidth dp search.width
 IsUnready dp search answers.OutOfMemory = Unit {0}
 IsUnready dp search _ = ⊥
 
 -- the answer to a search that does not go on from records: so too, or one of these is refused
-abbrev pub DoesNotGoOn : Dp → Search → RecordsView → Answer → Type 0
+abbrev pub DoesNotGoOn : Dp → JobSettings → RecordsView → Answer → Type 0
 DoesNotGoOn dp search records (answers.Journal e) = AreRefused dp (replay_start dp) records.first records.records e
 DoesNotGoOn dp search records answer = IsUnready dp search answer

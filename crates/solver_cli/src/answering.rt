@@ -1,21 +1,27 @@
 ghost use Rattle.std.specs.Prelude.{◌≡◌, map, string_bytes};
-ghost use Rattle.solver_jobs.specs.Answers.{IsReply, MayDo, MaySearchKept};
-ghost use Rattle.solver_jobs.specs.Ended.{IsInputAnswer, IsRight, LeavesOfSearch, readings, text_limit};
-ghost use Rattle.solver_jobs.specs.Kept.{RepliesKept};
+ghost use Rattle.problems.specs.Theories.{theory_of};
+ghost use Rattle.solver_words.specs.Possible.{IsPossible, MayDraw, MaySearch, MaySearchKept};
+ghost use Rattle.solver_words.specs.Words.{job_view};
+ghost use Rattle.answers.specs.Answers.{DigestsText, Draws, SolvesText};
+ghost use Rattle.answers.specs.Ended.{IsInputAnswer, IsJobAnswer, IsRight, LeavesOfSearch, readings, text_limit};
+ghost use Rattle.answers.specs.Kept.{RepliesKept};
 
-use crate::drawing::generate;
-use crate::keeping::reply_kept;
-use crate::replying::reply;
+use crate::drawing::draw;
+use crate::keeping::read_kept;
+use crate::replying::solve_text;
 use crate::resuming::resume;
-use dd_disk::Disk;
-use dd_io::{Source, read_all};
+use crate::runner::Runner;
+use answers::{answer_cover, digest_text, unread};
+use disk::Disk;
 use problem_names::ModelName;
-use solver_jobs::{Search, Task, TextJob, answer_cover, task_asked, unread};
+use problems::by_name;
+use search_workers::Gate;
 use solver_report::Answer;
+use solver_words::{Job, JobSettings, read_words};
 use std::alloc::Global;
 use std::sync::Wait;
 use std::thread::Threads;
-use worker_gate::Gate;
+use streams::{Source, read_all};
 
 /// How many bytes the text of an instance has at most.
 const TEXT_LIMIT: usize = 1 << 26;
@@ -23,74 +29,125 @@ const TEXT_LIMIT: usize = 1 << 26;
 /// The answer to the words and the input, which is read only where the words ask for a job on it, and the disk, which is touched only
 /// where they ask for a journal.
 pub fn answer<S: Source, D: Disk + Send, G: Gate + Sync, R: Threads + Wait + Sync>(
-    rt: &R,
-    alloc: Global,
+    run: &Runner<'_, G, R>,
     words: &[String],
     input: &mut S,
     disk: D,
-    gate: &G,
 ) -> (Answer, D)
     ensures { IsRight D.Disk (map string_bytes words.now) (readings S.left S.faults input.old input.new) disk result.1 result.0 }
 {
-    match task_asked(alloc, words) {
-        Ok(Task::OnInput(job)) => answer_text(rt, alloc, job, input, disk, gate),
-        Ok(
-            Task::Journaled {
-                model,
-                search,
-                path,
-            },
-        ) => answer_kept(rt, alloc, model, search, path.as_str(), input, disk, gate),
-        Ok(Task::Resume { path, search }) => resume(rt, alloc, path.as_str(), search, disk, gate),
-        Ok(Task::OnCover) => (answer_cover(alloc, input), disk),
-        Ok(
-            Task::Draw {
-                problem,
-                n,
-                seed,
-                solved,
-            },
-        ) => generate(rt, alloc, problem, n, seed, solved, disk, gate),
+    match read_words(run.alloc, words) {
+        Ok(job) => answer_job(run, job, input, disk),
         Err(error) => (Answer::Words(error), disk),
     }
 }
 
-/// The answer of a job on the text of an instance.
-fn answer_text<S: Source, D: Disk + Send, G: Gate + Sync, R: Threads + Wait + Sync>(
-    rt: &R,
-    alloc: Global,
-    job: TextJob,
+/// The answer to a job that words ask for.
+fn answer_job<S: Source, D: Disk + Send, G: Gate + Sync, R: Threads + Wait + Sync>(
+    run: &Runner<'_, G, R>,
+    job: Job,
     input: &mut S,
     disk: D,
-    gate: &G,
 ) -> (Answer, D)
-    requires { MayDo job }
-    ensures answer { IsInputAnswer text_limit (IsReply job) (readings S.left S.faults input.old input.new) result.0 }
+    requires { IsPossible (job_view job) }
+    ensures { IsJobAnswer D.Disk (job_view job) (readings S.left S.faults input.old input.new) disk result.1 result.0 }
+{
+    match job {
+        Job::Solve {
+            model,
+            settings,
+            journal: None,
+        } => solve_input(run, model, settings, input, disk),
+        Job::Solve {
+            model,
+            settings,
+            journal: Some(path),
+        } => keep_input(run, model, settings, path.as_str(), input, disk),
+        Job::Resume { path, settings } => resume(run, path.as_str(), settings, disk),
+        Job::Check => (answer_cover(run.alloc, input), disk),
+        Job::Digest { model } => (digest_input(run.alloc, model, input), disk),
+        Job::Generate {
+            model,
+            n,
+            seed,
+            solve,
+        } => draw_named(run, model, n, seed, solve, disk),
+    }
+}
+
+/// The answer to a search of the instance in the input that keeps no journal.
+fn solve_input<S: Source, D: Disk + Send, G: Gate + Sync, R: Threads + Wait + Sync>(
+    run: &Runner<'_, G, R>,
+    name: ModelName,
+    search: JobSettings,
+    input: &mut S,
+    disk: D,
+) -> (Answer, D)
+    requires { MaySearch search }
+    ensures answer { IsInputAnswer text_limit (SolvesText (theory_of name) name search) (readings S.left S.faults input.old input.new) result.0 }
     ensures disk { result.1 ≡ disk }
 {
-    match read_all(alloc, input, TEXT_LIMIT) {
-        Ok(text) => reply(rt, alloc, job, text.as_slice(), disk, gate),
+    match read_all(run.alloc, input, TEXT_LIMIT) {
+        Ok(text) => {
+            let text = text.as_slice();
+            by_name!(name, solve_text::<D, G, R>(run, name, search, text, disk))
+        }
         Err(error) => (unread(error), disk),
     }
 }
 
-/// The answer of a search of the instance in the input that keeps a journal in the named file.
-fn answer_kept<S: Source, D: Disk + Send, G: Gate + Sync, R: Threads + Wait + Sync>(
-    rt: &R,
-    alloc: Global,
+/// The answer to a search of the instance in the input that keeps a journal in the named file.
+#[tactic(auto, using(crate::proofs::Left::left_search))]
+fn keep_input<S: Source, D: Disk + Send, G: Gate + Sync, R: Threads + Wait + Sync>(
+    run: &Runner<'_, G, R>,
     name: ModelName,
-    search: Search,
+    search: JobSettings,
     path: &str,
     input: &mut S,
     disk: D,
-    gate: &G,
 ) -> (Answer, D)
     requires { MaySearchKept search }
     ensures answer { IsInputAnswer text_limit (RepliesKept D.Disk name search disk result.1) (readings S.left S.faults input.old input.new) result.0 }
-    ensures left { LeavesOfSearch D.Disk name (readings S.left S.faults input.old input.new) disk result.1 }
+    ensures left { LeavesOfSearch D.Disk name path.now (readings S.left S.faults input.old input.new) disk result.1 }
 {
-    match read_all(alloc, input, TEXT_LIMIT) {
-        Ok(text) => reply_kept(rt, alloc, name, search, path, text.as_slice(), disk, gate),
+    match read_all(run.alloc, input, TEXT_LIMIT) {
+        Ok(text) => {
+            let text = text.as_slice();
+            by_name!(
+                name,
+                read_kept::<D, G, R>(run, name, search, path, text, disk)
+            )
+        }
         Err(error) => (unread(error), disk),
     }
+}
+
+/// The digest of the instance in the input.
+fn digest_input<S: Source>(alloc: Global, name: ModelName, input: &mut S) -> Answer
+    ensures { IsInputAnswer text_limit (DigestsText (theory_of name)) (readings S.left S.faults input.old input.new) result }
+{
+    match read_all(alloc, input, TEXT_LIMIT) {
+        Ok(text) => {
+            let text = text.as_slice();
+            by_name!(name, digest_text(alloc, text))
+        }
+        Err(error) => unread(error),
+    }
+}
+
+/// The answer to an instance that is to be drawn.
+#[tactic(auto, using(crate::proofs::Drawn::can_draw, crate::proofs::Drawn::some_drawn))]
+fn draw_named<D: Disk + Send, G: Gate + Sync, R: Threads + Wait + Sync>(
+    run: &Runner<'_, G, R>,
+    name: ModelName,
+    n: u32,
+    seed: u32,
+    solved: bool,
+    disk: D,
+) -> (Answer, D)
+    requires { MayDraw name n seed }
+    ensures draws { Draws (theory_of name) n seed solved result.0 }
+    ensures disk { result.1 ≡ disk }
+{
+    by_name!(name, draw::<D, G, R>(run, name, n, seed, solved, disk))
 }

@@ -5,7 +5,7 @@
 //! which a part was written, with status 7, where the sink failed or took nothing. Where a journal is kept, it says too what a crash at
 //! each moment of the run leaves of it.
 //!
-//! It stands on `solver_jobs` for what is answered and said, and on `worker_gate` for the search, which it starts here. A width is
+//! It stands on `answers` for what is answered and said, and on `search_workers` for the search, which it starts here. A width is
 //! refused exactly where it is 0 or above the greatest one.
 #![tactic(auto)]
 
@@ -15,22 +15,23 @@ mod keeping;
 mod replying;
 mod resuming;
 mod run;
+mod runner;
 mod searching;
 mod solving;
 mod starting;
 #[cfg(test)]
 mod tests;
 
-use dd_disk::FileDisk;
-use dd_io::{StdSink, StdSource};
+use answers::say;
+use disk::FileDisk;
 pub use run::{Ended, run};
-use solver_jobs::say;
+use search_workers::NoGate;
 use solver_report::Answer;
 use std::alloc::AllocError;
 use std::env;
 use std::io::ErrorKind;
 use std::process::ExitCode;
-use worker_gate::NoGate;
+use streams::{StdSink, StdSource};
 
 /// Lends `run` the command's words, standard input and output, and a file of the operating system. Without memory for the words it says
 /// so.

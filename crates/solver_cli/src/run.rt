@@ -1,14 +1,15 @@
 ghost use Rattle.std.specs.Prelude.{map, string_bytes};
-ghost use Rattle.solver_jobs.specs.Ended.{HasEnded, readings, writings};
+ghost use Rattle.answers.specs.Ended.{HasEnded, readings, writings};
 
 use crate::answering::answer;
-use dd_disk::Disk;
-use dd_io::{Sink, Source};
-use solver_jobs::say;
+use crate::runner::Runner;
+use answers::say;
+use disk::Disk;
+use search_workers::Gate;
 use std::alloc::Global;
 use std::sync::Wait;
 use std::thread::Threads;
-use worker_gate::Gate;
+use streams::{Sink, Source};
 
 /// How a run ended: the exit status, and the disk as it is then.
 #[derive(Drop)]
@@ -36,7 +37,7 @@ pub fn run<S: Source, K: Sink, D: Disk + Send, G: Gate + Sync, R: Threads + Wait
 ) -> Ended<D>
     ensures { HasEnded D.Disk (map string_bytes words.now) (readings S.left S.faults input.old input.new) (writings K.taken K.faults K.idle out.old out.new) disk result.disk result.status }
 {
-    let (answer, disk) = answer(rt, alloc, words, input, disk, gate);
+    let (answer, disk) = answer(&Runner { rt, alloc, gate }, words, input, disk);
     let status = say(alloc, out, &answer);
     Ended { status, disk }
 }

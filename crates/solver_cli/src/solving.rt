@@ -1,34 +1,35 @@
 ghost use Rattle.std.specs.Prelude.{◌≡◌, IfOk};
 ghost use Rattle.problems.specs.Theories.{theory_of};
-ghost use Rattle.solver_jobs.specs.Answers.{AreSized, MaySearch, Solves};
-ghost use Rattle.solver_jobs.specs.Covers.{IsCovered};
-ghost use Rattle.solver_jobs.specs.Outcomes.{IsTrueOf};
+ghost use Rattle.answers.specs.Answers.{AreSized, Solves};
+ghost use Rattle.solver_words.specs.Possible.{MaySearch};
+ghost use Rattle.answers.specs.Covers.{IsCovered};
+ghost use Rattle.answers.specs.Outcomes.{IsTrueOf};
 ghost use Rattle.solver_cli.specs.Searches.{IsAnswerTo};
 
+use crate::runner::Runner;
 use crate::searching::search_from;
 use crate::starting::{Start, begin_search};
-use dd_disk::Disk;
+use answers::told;
+use disk::Disk;
 use dp_model::OutOfMemory;
-use frontier_journal::Kept;
+use kept_board::Kept;
 use problem_names::ModelName;
-use problems::Problem;
-use solver_jobs::{Search, told};
+use problem_theory::Problem;
+use search_workers::Gate;
 use solver_report::{Answer, Counts, Outcome};
+use solver_words::JobSettings;
 use std::alloc::Global;
 use std::sync::Wait;
 use std::thread::Threads;
-use worker_gate::Gate;
 
 /// Searches the instance of the named problem by the workers that are asked for, and keeps no journal: the disk comes back as it was. The
 /// width is refused where it is 0 or above the greatest one of the instance.
 pub fn solve<P: Problem, D: Disk + Send, G: Gate + Sync, R: Threads + Wait + Sync>(
-    rt: &R,
-    alloc: Global,
+    run: &Runner<'_, G, R>,
     name: ModelName,
     model: P,
-    search: Search,
+    search: JobSettings,
     disk: D,
-    gate: &G,
 ) -> (Answer, D)
     requires may { MaySearch search }
     requires named { theory_of name ≡ P.theory }
@@ -36,7 +37,7 @@ pub fn solve<P: Problem, D: Disk + Send, G: Gate + Sync, R: Threads + Wait + Syn
     ensures covered { IsCovered name (P.theory.canonical (P.numbers model)) result.0 }
     ensures disk { result.1 ≡ disk }
 {
-    match begin_search(alloc, model, search) {
+    match begin_search(run.alloc, model, search) {
         Ok(
             Start {
                 model,
@@ -45,8 +46,8 @@ pub fn solve<P: Problem, D: Disk + Send, G: Gate + Sync, R: Threads + Wait + Syn
             },
         ) => {
             let kept = Kept::new(board, disk, None);
-            let (ended, disk) = search_from(rt, alloc, kept, desks, &*model, search, gate);
-            (answer_of(alloc, name, &*model, ended, search), disk)
+            let (ended, disk) = search_from(run, kept, desks, &*model, search);
+            (answer_of(run.alloc, name, &*model, ended, search), disk)
         }
         Err(answer) => (answer, disk),
     }
@@ -59,7 +60,7 @@ pub fn answer_of<P: Problem>(
     name: ModelName,
     model: &P,
     ended: Result<(Outcome, Option<Counts>), OutOfMemory>,
-    search: Search,
+    search: JobSettings,
 ) -> Answer
     requires named { theory_of name ≡ P.theory }
     requires true_told { IfOk ended (λ told. IsTrueOf (P.meaning (P.numbers model.now)) (P.theory.own_value (P.numbers model.now)) search.budget told.0) }

@@ -7,23 +7,22 @@ ghost use Rattle.board_laws.specs.GoodBoard.{IsGood};
 ghost use Rattle.board_laws.specs.Steps.{first_board};
 ghost use Rattle.journal_replay.specs.Accepting.{AreAccepted, AreRefused};
 ghost use Rattle.journal_replay.specs.Replay.{replay_of, replay_start, restored_from};
-ghost use Rattle.solver_jobs.specs.Answers.{MaySearch};
-ghost use Rattle.solver_jobs.specs.Widths.{IsAskedWidth};
+ghost use Rattle.solver_words.specs.Possible.{MaySearch};
+ghost use Rattle.answers.specs.Widths.{IsAskedWidth};
 ghost use Rattle.solver_cli.specs.Desks.{AreAllDesks};
 ghost use Rattle.solver_cli.specs.Starts.{ArePrepared, DoesNotGoOn, GoesOnFrom, HasBegun, IsUnready, settings_for, unprepared};
 
+use board::{Board, Settings};
 use dp_model::{CutKind, DpModel, OutOfMemory};
 use journal_bytes::Records;
 use journal_file::JournalError;
 use journal_replay::replay;
 use layer_build::{PrepareError, greatest_width};
-use problems::Problem;
-use search_core::{Board, Settings};
-use solver_jobs::Search;
+use search_workers::Desk;
 use solver_report::Answer;
+use solver_words::JobSettings;
 use std::alloc::Global;
 use std::sync::Arc;
-use worker_gate::Desk;
 
 /// How many entries the dominance table holds at most.
 const TABLE_LIMIT: u32 = 4096;
@@ -33,20 +32,24 @@ const DEFAULT_WIDTH: u32 = 100;
 
 /// An instance, the board that its search goes on from, and a desk for each worker.
 #[derive(Drop)]
-pub struct Start<P: Problem> {
-    pub model: Arc<P>,
-    pub board: Board<P>,
+pub struct Start<M: DpModel> {
+    pub model: Arc<M>,
+    pub board: Board<M>,
     pub desks: Vec<Desk>,
 }
 
 /// The start of a search of the instance, or the answer where there is none: the width is refused where it is 0 or above the greatest one
 /// of the instance, or there is no memory.
-pub fn begin_search<P: Problem>(alloc: Global, model: P, search: Search) -> Result<Start<P>, Answer>
+pub fn begin_search<M: DpModel>(
+    alloc: Global,
+    model: M,
+    search: JobSettings,
+) -> Result<Start<M>, Answer>
     requires may { MaySearch search }
-    ensures model { IfOk result (λ s. P.numbers (arc_value s.model) ≡ P.numbers model) }
-    ensures numbers { IfOk result (λ s. s.board.numbers ≡ P.numbers model) }
-    ensures begun { IfOk result (λ s. HasBegun (P.meaning (P.numbers model)) search s.board s.desks) }
-    ensures refused { IfErr result (IsUnready (P.meaning (P.numbers model)) search) }
+    ensures model { IfOk result (λ s. M.numbers (arc_value s.model) ≡ M.numbers model) }
+    ensures numbers { IfOk result (λ s. s.board.numbers ≡ M.numbers model) }
+    ensures begun { IfOk result (λ s. HasBegun (M.meaning (M.numbers model)) search s.board s.desks) }
+    ensures refused { IfErr result (IsUnready (M.meaning (M.numbers model)) search) }
 {
     let (settings, desks) = prepared(alloc, &model, search)?;
     match begun(alloc, model, settings) {
@@ -61,17 +64,17 @@ pub fn begin_search<P: Problem>(alloc: Global, model: P, search: Search) -> Resu
 
 /// The start of a search of the instance that goes on from the records, or the answer where there is none: as for one that begins, and
 /// after the width the first record that may not follow is refused.
-pub fn go_on<P: Problem>(
+pub fn go_on<M: DpModel>(
     alloc: Global,
-    model: P,
+    model: M,
     records: &Records,
-    search: Search,
-) -> Result<Start<P>, Answer>
+    search: JobSettings,
+) -> Result<Start<M>, Answer>
     requires may { MaySearch search }
-    ensures model { IfOk result (λ s. P.numbers (arc_value s.model) ≡ P.numbers model) }
-    ensures numbers { IfOk result (λ s. s.board.numbers ≡ P.numbers model) }
-    ensures goes_on { IfOk result (λ s. GoesOnFrom (P.meaning (P.numbers model)) search records.now s.board s.desks) }
-    ensures refused { IfErr result (DoesNotGoOn (P.meaning (P.numbers model)) search records.now) }
+    ensures model { IfOk result (λ s. M.numbers (arc_value s.model) ≡ M.numbers model) }
+    ensures numbers { IfOk result (λ s. s.board.numbers ≡ M.numbers model) }
+    ensures goes_on { IfOk result (λ s. GoesOnFrom (M.meaning (M.numbers model)) search records.now s.board s.desks) }
+    ensures refused { IfErr result (DoesNotGoOn (M.meaning (M.numbers model)) search records.now) }
 {
     let (settings, desks) = prepared(alloc, &model, search)?;
     match restored(alloc, model, records, settings) {
@@ -88,7 +91,7 @@ pub fn go_on<P: Problem>(
 fn prepared<M: DpModel>(
     alloc: Global,
     model: &M,
-    search: Search,
+    search: JobSettings,
 ) -> Result<(Settings, Vec<Desk>), Answer>
     requires { MaySearch search }
     ensures prepared { IfOk result (λ r. ArePrepared (M.meaning (M.numbers model.now)) search r.0 r.1) }
@@ -121,7 +124,7 @@ fn desks_for<M: DpModel>(
     cutset: CutKind,
 ) -> Result<Vec<Desk>, PrepareError>
     requires { 1 ≤ workers }
-    ensures { AreAllDesks (M.meaning (M.numbers model.now)) width workers result }
+    ensures { AreAllDesks (M.meaning (M.numbers model.now)) width workers cutset result }
 {
     let first = Desk::prepare(alloc, model, width, cutset)?;
     let Ok(mut desks) = Vec::with_capacity(alloc, workers as usize) else {
@@ -145,7 +148,7 @@ fn unprepared(error: PrepareError) -> Answer
 }
 
 /// The settings of a search with diagrams of this width.
-fn settings_for(search: Search, width: u32) -> Settings
+fn settings_for(search: JobSettings, width: u32) -> Settings
     ensures { result ≡ settings_for search width }
 {
     Settings {
@@ -158,17 +161,17 @@ fn settings_for(search: Search, width: u32) -> Settings
 }
 
 /// The instance, and the board at the start of its search.
-fn begun<P: Problem>(
+fn begun<M: DpModel>(
     alloc: Global,
-    model: P,
+    model: M,
     settings: Settings,
-) -> Result<(Arc<P>, Board<P>), OutOfMemory>
+) -> Result<(Arc<M>, Board<M>), OutOfMemory>
     requires { AreSettings settings }
-    ensures model { IfOk result (λ r. P.numbers (arc_value r.0) ≡ P.numbers model) }
-    ensures numbers { IfOk result (λ r. r.1.numbers ≡ P.numbers model) }
-    ensures board { IfOk result (λ r. r.1.board ≡ first_board (P.meaning (P.numbers model)) settings) }
+    ensures model { IfOk result (λ r. M.numbers (arc_value r.0) ≡ M.numbers model) }
+    ensures numbers { IfOk result (λ r. r.1.numbers ≡ M.numbers model) }
+    ensures board { IfOk result (λ r. r.1.board ≡ first_board (M.meaning (M.numbers model)) settings) }
     ensures first { IfOk result (λ r. r.1.first ≡ r.1.board) }
-    ensures good { IfOk result (λ r. IsGood (P.meaning (P.numbers model)) r.1.first) }
+    ensures good { IfOk result (λ r. IsGood (M.meaning (M.numbers model)) r.1.first) }
 {
     let model = Arc::new(alloc, model)?;
     let board = Board::begin(alloc, Arc::try_clone(&model)?, settings)?;
@@ -176,19 +179,19 @@ fn begun<P: Problem>(
 }
 
 /// The instance, and the board that goes on from the records. It is refused as `replay` says.
-fn restored<P: Problem>(
+fn restored<M: DpModel>(
     alloc: Global,
-    model: P,
+    model: M,
     records: &Records,
     settings: Settings,
-) -> Result<(Arc<P>, Board<P>), JournalError>
+) -> Result<(Arc<M>, Board<M>), JournalError>
     requires { AreSettings settings }
-    ensures accepted { OnOk result (AreAccepted (P.meaning (P.numbers model)) records.now.records) }
-    ensures model { IfOk result (λ r. P.numbers (arc_value r.0) ≡ P.numbers model) }
-    ensures numbers { IfOk result (λ r. r.1.numbers ≡ P.numbers model) }
-    ensures board { IfOk result (λ r. r.1.board ≡ restored_from settings (replay_of (P.meaning (P.numbers model)) records.now.records)) }
+    ensures accepted { OnOk result (AreAccepted (M.meaning (M.numbers model)) records.now.records) }
+    ensures model { IfOk result (λ r. M.numbers (arc_value r.0) ≡ M.numbers model) }
+    ensures numbers { IfOk result (λ r. r.1.numbers ≡ M.numbers model) }
+    ensures board { IfOk result (λ r. r.1.board ≡ restored_from settings (replay_of (M.meaning (M.numbers model)) records.now.records)) }
     ensures first { IfOk result (λ r. r.1.first ≡ r.1.board) }
-    ensures refused { IfErr result (AreRefused (P.meaning (P.numbers model)) (replay_start (P.meaning (P.numbers model))) records.now.first records.now.records) }
+    ensures refused { IfErr result (AreRefused (M.meaning (M.numbers model)) (replay_start (M.meaning (M.numbers model))) records.now.first records.now.records) }
 {
     let Ok(model) = Arc::new(alloc, model) else {
         return Err(JournalError::OutOfMemory);

@@ -4,13 +4,13 @@ mod meeting;
 mod words;
 
 use crate::run;
-use dd_disk::MemDisk;
-use dd_io::{MemSink, MemSource};
+use disk::MemDisk;
+use search_workers::{Gate, NoGate};
 use std::alloc::Global;
 use std::process::Abort;
 use std::sync::Wait;
 use std::thread::Threads;
-use worker_gate::{Gate, NoGate};
+use streams::{MemSink, MemSource};
 
 const THREE_ITEMS: &str = "3 10\n60 5\n50 4\n70 6\n";
 
@@ -262,10 +262,17 @@ const PRINTED: &[Case] = &[
         "proved\nvalue 0\nassignment 0\n",
         0,
     ),
+    (
+        "solve tardiness",
+        "3\n3 1 4\n2 3 2\n4 2 9\n",
+        "proved\nvalue -1\nassignment 1 0 2\n",
+        0,
+    ),
     ("generate knapsack 2 0", "", "2 68\n1 19 2\n18 49 2\n", 0),
     ("generate maxcut 2 0", "", "2 1\n1 2 -4\n", 0),
     ("generate max2sat 2 0", "", DRAWN_CLAUSES, 0),
     ("generate tsptw 3 0", "", DRAWN_TOURS, 0),
+    ("generate tardiness 2 0", "", "2\n1 9 8\n8 9 7\n", 0),
 ];
 
 #[test]
@@ -293,6 +300,12 @@ const REFUSED: &[Case] = &[
     ("solve knapsack", "\u{e9}\n", "instance not-ascii 1 1\n", 3),
     ("solve maxcut", "2 1\n1 3 5\n", "instance vertex 2 3\n", 3),
     ("solve tsptw", "1\n0\n5 4\n", "instance window 3 3\n", 3),
+    (
+        "solve tardiness",
+        "1\n3 1\n",
+        "instance end-of-text 3 1\n",
+        3,
+    ),
     (
         "solve max2sat",
         "p cnf 1 2\n1 0\n",

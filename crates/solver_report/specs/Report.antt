@@ -3,11 +3,13 @@ use Rattle.std.specs.Prelude.{ℕ, ℤ, pos, int_lt, codes, Bool, true, false, c
 use Rattle.std.specs.List.{flat_map}
 use Rattle.std.specs.Fmt.{decimal}
 use Rattle.std.specs.declared.alloc.Global.{Global}
-use Rattle.dd_text.specs.Decimal.{decimal_of}
-use Rattle.dd_text.specs.declared.instance_error.InstanceError.{InstanceError}
-use Rattle.dd_text.specs.declared.instance_error.InstanceFault.{InstanceFault}
-use Rattle.dd_text.specs.declared.place.Place.{Place}
-use Rattle.dd_text.specs.declared.instance_error.InstanceFault.TheVariants.{NotNumber, OutOfRange, EndOfText, Trailing, NotAscii, Count, Limit, ThreeLiterals, Hard, Vertex, Window, Word}
+use Rattle.tokens.specs.Decimal.{decimal_of}
+use Rattle.tokens.specs.declared.instance_error.InstanceError.{InstanceError}
+use Rattle.tokens.specs.declared.instance_error.InstanceFault.{InstanceFault}
+use Rattle.tokens.specs.declared.place.Place.{Place}
+use Rattle.tokens.specs.declared.instance_error.InstanceFault.TheVariants.{NotNumber, OutOfRange, EndOfText, Trailing, NotAscii, Count, Limit, ThreeLiterals, Hard, Vertex, Window, Word}
+use Rattle.problem_theory.specs.declared.refusal.InstanceRefusal.{InstanceRefusal}
+use Rattle.problem_theory.specs.declared.refusal.InstanceRefusal.TheVariants.{Text}
 use Rattle.bound_cover.specs.declared.cover.Why.{Why}
 use Rattle.bound_cover.specs.declared.cover.Why.TheVariants as whys
 use Rattle.bound_cover.specs.declared.cover.Verdict.{Verdict}
@@ -72,6 +74,10 @@ place_words p = decimal_of (pos p.line) ++ 32 ∷ decimal_of (pos p.column)
 -- a fault of a text, behind what the text is of
 abbrev pub fault_line : List ℕ → InstanceError → List ℕ
 fault_line subject e = line (subject ++ fault_word e.fault ++ 32 ∷ place_words e.place)
+
+-- why a text spells no instance
+abbrev pub refusal_line : InstanceRefusal → List ℕ
+refusal_line (Text e) = fault_line (codes "instance ") e
 
 -- the test of a cover that fails, and where
 abbrev pub why_words : Why → List ℕ
@@ -155,7 +161,7 @@ report (answers.Covered outcome counts cover) = outcome_lines outcome ++ (count_
 report (answers.Digest digest) = line (encode_lower digest)
 report (answers.Drawn text) = text.items
 report (answers.Checked verdict) = verdict_line verdict
-report (answers.Refused e) = fault_line (codes "instance ") e
+report (answers.Refused e) = refusal_line e
 report (answers.CoverRefused e) = fault_line (codes "cover ") e
 report answers.TooLong = line (codes "input too-long")
 report answers.Width = line (codes "width")

@@ -2,12 +2,13 @@ ghost use Rattle.std.specs.Prelude.{◌≡◌, IfOk};
 ghost use Rattle.solver_report.specs.Report.{is_final, value_told, distance_told};
 
 use bound_cover::Verdict;
-use dd_text::InstanceError;
 use dp_model::{Found, OutOfMemory};
 use journal_file::JournalError;
+use problem_theory::InstanceRefusal;
 use solver_words::WordsError;
 use std::alloc::Global;
 use std::marker::Model;
+use tokens::InstanceError;
 
 /// A feasible solution with its value.
 #[derive(Debug, Drop)]
@@ -129,7 +130,7 @@ pub enum Answer {
     /// The verdict on a cover.
     Checked(Verdict),
     /// The input, or what a cover holds of one, spells no instance.
-    Refused(InstanceError),
+    Refused(InstanceRefusal),
     /// The input spells no cover.
     CoverRefused(InstanceError),
     /// The input is longer than the limit.

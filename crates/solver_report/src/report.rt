@@ -1,16 +1,17 @@
 ghost use Rattle.std.specs.Prelude.{◌≡◌, ◌∷◌, [], ◌++◌, pos, IfOk, OnOk, codes, option_map};
 ghost use Rattle.std.specs.Fmt.{decimal};
 ghost use Rattle.hex.specs.Hex.{encode_lower};
-ghost use Rattle.solver_report.specs.Report.{report, status_of, outcome_status, covered_status, text_behind, words_status, journal_status, journal_line, line, number_line, spaced, assignment_line, solution_lines, proved_line, outcome_lines, count_line, count_lines, words_line, incumbent_lines, stop_line, fault_word, fault_line, why_words, verdict_line, verdict_status};
+ghost use Rattle.solver_report.specs.Report.{report, status_of, outcome_status, covered_status, text_behind, words_status, journal_status, journal_line, line, number_line, spaced, assignment_line, solution_lines, proved_line, outcome_lines, count_line, count_lines, words_line, incumbent_lines, stop_line, fault_word, fault_line, refusal_line, why_words, verdict_line, verdict_status};
 
 use crate::answer::{Answer, Counts, Outcome, Solution, Stop};
 use bound_cover::{Verdict, Why};
-use dd_text::{InstanceError, InstanceFault, push_number, push_text};
 use dp_model::OutOfMemory;
 use itoa::Buffer;
 use journal_file::JournalError;
+use problem_theory::InstanceRefusal;
 use solver_words::WordsError;
 use std::alloc::Global;
+use tokens::{InstanceError, InstanceFault, push_number, push_text};
 
 /// The exit status that goes with an answer.
 pub fn status(answer: &Answer) -> u8
@@ -100,7 +101,7 @@ pub fn report_text(alloc: Global, answer: &Answer) -> Result<Vec<u8>, OutOfMemor
         Answer::Digest(digest) => push_digest(&mut out, alloc, digest)?,
         Answer::Drawn(text) => out.extend_from_slice(text.as_slice())?,
         Answer::Checked(verdict) => push_verdict(&mut out, *verdict)?,
-        Answer::Refused(error) => push_fault(&mut out, "instance ", error)?,
+        Answer::Refused(refusal) => push_unspelled(&mut out, refusal)?,
         Answer::CoverRefused(error) => push_fault(&mut out, "cover ", error)?,
         Answer::TooLong => push_line(&mut out, "input too-long")?,
         Answer::Width => push_line(&mut out, "width")?,
@@ -392,6 +393,15 @@ fn push_fault(out: &mut Vec<u8>, subject: &str, error: &InstanceError) -> Result
     push_text(out, " ")?;
     push_number(out, i64::from(error.place.column))?;
     push_text(out, "\n")
+}
+
+/// Appends why a text spells no instance.
+fn push_unspelled(out: &mut Vec<u8>, refusal: &InstanceRefusal) -> Result<(), OutOfMemory>
+    ensures { OnOk result (out.new.items ≡ out.old.items ++ refusal_line refusal.now) }
+{
+    match refusal {
+        InstanceRefusal::Text(error) => push_fault(out, "instance ", error),
+    }
 }
 
 /// The word for a fault.

@@ -9,13 +9,15 @@ use Rattle.clap.specs.Walk.{rows_of}
 use Rattle.clap.specs.declared.parser.matches.ArgMatches.{ArgMatches}
 use Rattle.clap.proofs.WalkLemmas.{list_any-map, first_value-rows, one_text-rows}
 use Rattle.problem_names.specs.declared.ModelName.{ModelName}
+use Rattle.problem_names.specs.declared.Sizes.{Sizes}
+use Rattle.problem_names.specs.ModelNames.{sizes_of}
 use Rattle.solver_words.specs.declared.job.Job.{Job}
 use Rattle.solver_words.specs.declared.job.JobSettings.{JobSettings}
 use Rattle.solver_words.specs.declared.words_error.WordsError.{WordsError}
 use Rattle.solver_words.specs.declared.words_error.WordsError.TheVariants.{Usage, Model, Number, Cutset, OutOfMemory}
 use Rattle.solver_words.specs.Grammar.{Syntax, Argument, Text, contains, has_flag, setting_of, words_of}
 use Rattle.solver_words.specs.Commands.{IsOutside, RowsTell, Tells}
-use Rattle.solver_words.specs.Words.{IsAnswer, by_command, meaning, is_refused, last_is_equals, asked, digest, digest_syntax, digest_line, usage, Refusal, JobView, and_then, digest_of, least_size, most_size, model_of, positional_number, optional, cover_of, generate, resume, refusal_of, job_view, generate_syntax, generate_line, generate_of, resume_syntax, resume_line, resume_of, searched, settings_of, solve_syntax, solve_line, with_distance}
+use Rattle.solver_words.specs.Words.{IsAnswer, by_command, meaning, is_refused, last_is_equals, asked, digest, digest_syntax, digest_line, usage, Refusal, JobView, and_then, digest_of, extended, model_of, or_model, positional_number, optional, cover_of, generate, resume, refusal_of, job_view, generate_syntax, generate_line, generate_of, resume_syntax, resume_line, resume_of, searched, settings_of, solve_syntax, solve_line}
 
 -- what the matches tell of a line
 module _ (f : Syntax) (arguments : List Argument) (m : ArgMatches) (reads : RowsTell f arguments (rows_of (found_of m))) where
@@ -67,30 +69,26 @@ module _ (m : ArgMatches) (arguments : List Argument) (reads : RowsTell generate
       → IsAnswer job_view (generate_line arguments) r
   generate_no_model r e is h = ends r e is (fails _ (model_of (at_name (codes "model"))) (refusal_of e) h)
 
-  module _ (name : ModelName) (k : model_of (at_name (codes "model")) ≡ Ok name) (least most : ℕ) (low : least ≡ least_size name) (high : most ≡ most_size name) where
+  pub generate_no_sizes : (name : ModelName) → model_of (at_name (codes "model")) ≡ Ok name → (r : Result Job WordsError) (e : WordsError) → IsErrAnd r (λ y. y ≡ e)
+      → IfSome (refusal_of e) (λ why. or_model (sizes_of name) ≡ Err why) → IsAnswer job_view (generate_line arguments) r
+  generate_no_sizes name k r e is h = ends r e is (rw k (fails _ (or_model (sizes_of name)) (refusal_of e) h))
+
+  module _ (name : ModelName) (k : model_of (at_name (codes "model")) ≡ Ok name) (sizes : Sizes) (z : or_model (sizes_of name) ≡ Ok sizes) where
     abbrev numbered : Result ℕ Refusal
-    numbered = positional_number (codes "n") (least_size name) (most_size name) (at_name (codes "n"))
+    numbered = positional_number (codes "n") sizes.least sizes.most (at_name (codes "n"))
 
-    same_bounds : positional_number (codes "n") least most (at_name (codes "n")) ≡ numbered
-    same_bounds = λ i. positional_number (codes "n") (low i) (high i) (at_name (codes "n"))
+    pub generate_no_n : (r : Result Job WordsError) (e : WordsError) → IsErrAnd r (λ y. y ≡ e) → IfSome (refusal_of e) (λ why. numbered ≡ Err why) → IsAnswer job_view (generate_line arguments) r
+    generate_no_n r e is h = ends r e is (rw (k, z) (fails _ numbered (refusal_of e) h))
 
-    pub generate_no_n : (r : Result Job WordsError) (e : WordsError) → IsErrAnd r (λ y. y ≡ e)
-        → IfSome (refusal_of e) (λ why. positional_number (codes "n") least most (at_name (codes "n")) ≡ Err why) → IsAnswer job_view (generate_line arguments) r
-    generate_no_n r e is h =
-        ends r e is (rw k (fails _ numbered (refusal_of e) (moved (positional_number (codes "n") least most (at_name (codes "n"))) numbered (refusal_of e) same_bounds h)))
-
-    module _ (n : ℕ) (d : positional_number (codes "n") least most (at_name (codes "n")) ≡ Ok n) where
-      at_n : numbered ≡ Ok n
-      at_n = sym same_bounds ∙ d
-
+    module _ (n : ℕ) (d : numbered ≡ Ok n) where
       pub generate_no_seed : (r : Result Job WordsError) (e : WordsError) → IsErrAnd r (λ y. y ≡ e)
           → IfSome (refusal_of e) (λ why. positional_number (codes "seed") 0 2147483647 (at_name (codes "seed")) ≡ Err why) → IsAnswer job_view (generate_line arguments) r
-      generate_no_seed r e is h = ends r e is (rw (k, at_n) (fails _ (positional_number (codes "seed") 0 2147483647 (at_name (codes "seed"))) (refusal_of e) h))
+      generate_no_seed r e is h = ends r e is (rw (k, z, d) (fails _ (positional_number (codes "seed") 0 2147483647 (at_name (codes "seed"))) (refusal_of e) h))
 
       pub generate_all : (seed : ℕ) (solved : Bool) → positional_number (codes "seed") 0 2147483647 (at_name (codes "seed")) ≡ Ok seed
           → ((b : Bool) → one_text (found_of m) (codes "solve") ≡ Some (cond b (codes "true") (codes "false")) → solved ≡ b) → generate_line arguments ≡ Ok (generate name n seed solved)
       generate_all seed solved h given =
-          sym (generate_same solved (given (has_flag (codes "solve") arguments) (flag_read generate_syntax arguments m reads (codes "solve") refl))) ∙ rw (k, at_n, h) refl
+          sym (generate_same solved (given (has_flag (codes "solve") arguments) (flag_read generate_syntax arguments m reads (codes "solve") refl))) ∙ rw (k, z, d, h) refl
 
 -- ---- solve
 
@@ -170,7 +168,7 @@ module _ (m : ArgMatches) (arguments : List Argument) (reads : RowsTell solve_sy
 
         pub solve_all : (within : Option ℕ) (journal : Option Text) (cover : Bool) → distanced (value (codes "within")) ≡ Ok within → journal ≡ value (codes "journal")
             → ((b : Bool) → one_text (found_of m) (codes "cover") ≡ Some (cond b (codes "true") (codes "false")) → cover ≡ b)
-            → solve_line arguments ≡ searched name (with_distance settings within) journal (cover_of cover words)
+            → solve_line arguments ≡ searched name (extended settings within (cover_of cover words)) journal
         solve_all within journal cover h j wanted =
             let at_distance : distanced (setting_of (codes "within") arguments) ≡ Ok within = sym distance_same ∙ h in
             let at_journal : setting_of (codes "journal") arguments ≡ journal = sym (j ∙ value_read solve_syntax arguments m reads (codes "journal") refl) in

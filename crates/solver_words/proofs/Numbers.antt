@@ -6,7 +6,7 @@ use Rattle.std.specs.Result.{OkIff, result_ok}
 use Rattle.std.specs.Str.{all_ascii_digits}
 use Rattle.std.specs.Str.Parse.{ParsesUnsigned}
 use Rattle.std.proofs.lemmas.Str.Parse.{IsNumeralModel, numerals_by_fold, tells_all_ascii_digits, parse_plain}
-use Rattle.dd_text.specs.Text.{value_after, natural_of}
+use Rattle.tokens.specs.Text.{value_after, natural_of}
 use Rattle.solver_words.specs.Words.{in_64_bits, natural_in_64_bits, greatest_budget, ranged}
 
 own : IsNumeralModel (λ ds. all_ascii_digits ds ≡ true) (value_after 0)

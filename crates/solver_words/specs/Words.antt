@@ -1,13 +1,12 @@
 -- The commands, and what their lines ask for.
-use Rattle.std.specs.Prelude.{◌≤◌, ◌<◌, ◌≡◌, ◌-◌, ◌^◌, ◌&&◌, ◌==◌, ℕ, pos, int_lt, Bool, true, false, nat_le, cond, codes, List, [], ◌∷◌, length, Option, Some, None, IfSome, is_some, option_map, option_and_then, slice_get, Result, Ok, Err, string_bytes}
+use Rattle.std.specs.Prelude.{◌≡◌, ◌-◌, ◌^◌, ◌&&◌, ◌==◌, ℕ, pos, int_lt, Bool, true, false, nat_le, cond, codes, List, [], ◌∷◌, length, Option, Some, None, IfSome, is_some, option_map, option_and_then, slice_get, Result, Ok, Err, string_bytes}
 use Rattle.std.specs.List.{list_any}
 use Rattle.std.specs.Str.{bytes_eq}
-use Rattle.dd_text.specs.Text.{natural_of}
+use Rattle.tokens.specs.Text.{natural_of}
 use Rattle.problem_names.specs.declared.ModelName.{ModelName}
-use Rattle.problem_names.specs.declared.ModelName.TheVariants.{Knapsack, MaxCut, MaxTwoSat, TspWindows}
 use Rattle.dp_model.specs.declared.cut_kind.CutKind.{CutKind}
 use Rattle.dp_model.specs.declared.cut_kind.CutKind.TheVariants.{LastExactLayer, Frontier}
-use Rattle.problem_names.specs.ModelNames.{model_named}
+use Rattle.problem_names.specs.ModelNames.{model_named, sizes_of}
 use Rattle.solver_words.specs.Grammar.{Syntax, Argument, Text, has_flag, line_of, setting_of, words_of}
 use Rattle.solver_words.specs.declared.job.Job.{Job}
 use Rattle.solver_words.specs.declared.job.Job.TheVariants.{Solve, Resume, Check, Digest, Generate}
@@ -43,7 +42,7 @@ generate_syntax = record { positional = codes "model" ∷ codes "n" ∷ codes "s
 -- ---- what words ask for, and why they are refused
 
 pub data JobView : Type 0 where
-  solve : ModelName → JobSettings → Option Text → Option ℕ → JobView
+  solve : ModelName → JobSettings → Option Text → JobView
   resume : Text → JobSettings → JobView
   check : JobView
   digest : ModelName → JobView
@@ -57,7 +56,7 @@ pub data Refusal : Type 0 where
 
 -- a job without what its texts hold of memory
 abbrev pub job_view : Job → JobView
-job_view (Solve name settings journal words) = solve name settings (option_map string_bytes journal) words
+job_view (Solve name settings journal) = solve name settings (option_map string_bytes journal)
 job_view (Resume path settings) = resume (string_bytes path) settings
 job_view Check = check
 job_view (Digest name) = digest name
@@ -118,7 +117,7 @@ abbrev pub cut_of : Option Text → Result CutKind Refusal
 cut_of None = Ok LastExactLayer
 cut_of (Some word) = cut_named word
 
--- the settings, by the values of the options in the order of their tests; the distance from the best is 0
+-- the settings, by the values of the options in the order of their tests; the distance from the best is 0, and no cover is asked for
 abbrev pub settings_of : (Text → Option Text) → Bool → Result JobSettings Refusal
 settings_of value stats =
     and_then (λ width.
@@ -131,14 +130,15 @@ settings_of value stats =
       cutset = cutset;
       stats = stats;
       within = pos 0;
+      cover_words = None;
     }))
     (cut_of (value (codes "cutset"))))
     (optional (codes "budget") 0 greatest_budget (value (codes "budget"))))
     (optional (codes "workers") 1 16 (value (codes "workers"))))
     (optional (codes "width") 1 16777216 (value (codes "width")))
 
-abbrev pub or_model : Option ModelName → Result ModelName Refusal
-or_model (Some name) = Ok name
+abbrev pub or_model : {X : Type 0} → Option X → Result X Refusal
+or_model (Some x) = Ok x
 or_model None = Err model
 
 -- the problem of the first positional word
@@ -151,19 +151,20 @@ abbrev pub cover_of : Bool → Option ℕ → Option ℕ
 cover_of false words = None
 cover_of true words = Some (or_default 67108864 words)
 
-abbrev pub with_distance : JobSettings → Option ℕ → JobSettings
-with_distance settings within = record settings { within = pos (or_default 0 within) }
+-- the settings with a distance, which is 0 where none is given, and a cover of so many words
+abbrev pub extended : JobSettings → Option ℕ → Option ℕ → JobSettings
+extended settings within words = record settings { within = pos (or_default 0 within); cover_words = words }
 
 -- a search; its journal would not tell a distance, so with one above 0 none is kept
-abbrev pub searched : ModelName → JobSettings → Option Text → Option ℕ → Result JobView Refusal
-searched name settings journal words = cond (is_some journal && int_lt (pos 0) settings.within) (Err usage) (Ok (solve name settings journal words))
+abbrev pub searched : ModelName → JobSettings → Option Text → Result JobView Refusal
+searched name settings journal = cond (is_some journal && int_lt (pos 0) settings.within) (Err usage) (Ok (solve name settings journal))
 
 abbrev pub solve_of : Option Text → (Text → Option Text) → (Text → Bool) → Result JobView Refusal
 solve_of name value flag =
     and_then (λ name.
     and_then (λ settings.
     and_then (λ words.
-    and_then (λ within. searched name (with_distance settings within) (value (codes "journal")) (cover_of (flag (codes "cover")) words))
+    and_then (λ within. searched name (extended settings within (cover_of (flag (codes "cover")) words)) (value (codes "journal")))
     (optional (codes "within") 0 1125899906842624 (value (codes "within"))))
     (optional (codes "cover-words") 0 134217728 (value (codes "cover-words"))))
     (settings_of value (flag (codes "stats"))))
@@ -176,34 +177,21 @@ resume_of (Some path) value flag = and_then (λ settings. Ok (resume path settin
 abbrev pub digest_of : Option Text → Result JobView Refusal
 digest_of name = and_then (λ name. Ok (digest name)) (model_of name)
 
--- the sizes that are drawn
-abbrev pub least_size : ModelName → ℕ
-least_size TspWindows = 1
-least_size _ = 0
-
-abbrev pub most_size : ModelName → ℕ
-most_size Knapsack = 1000
-most_size MaxCut = 1024
-most_size MaxTwoSat = 1024
-most_size TspWindows = 300
-
--- an instance that is to be drawn has a size and a seed that can be drawn
-abbrev pub IsDrawable : Job → Type 0
-IsDrawable (Generate name n seed solved) = (least_size name ≤ n) × (n ≤ most_size name) × (seed < 2 ^ 31)
-IsDrawable _ = Unit {0}
-
 -- the number that a positional word writes
 abbrev pub positional_number : Text → ℕ → ℕ → Option Text → Result ℕ Refusal
 positional_number name least most None = Err (number name)
 positional_number name least most (Some word) = or_number name (ranged least most word)
 
+-- an instance is drawn of a problem that has drawn ones, and of their sizes
 abbrev pub generate_of : Option Text → Option Text → Option Text → Bool → Result JobView Refusal
 generate_of name n seed solved =
     and_then (λ name.
+    and_then (λ sizes.
     and_then (λ n.
     and_then (λ seed. Ok (generate name n seed solved))
     (positional_number (codes "seed") 0 2147483647 seed))
-    (positional_number (codes "n") (least_size name) (most_size name) n))
+    (positional_number (codes "n") sizes.least sizes.most n))
+    (or_model (sizes_of name)))
     (model_of name)
 
 -- ---- whole lines

@@ -16,20 +16,22 @@ pub struct JobSettings {
     pub stats: bool,
     /// How far the best value may be above that of the solution with which the search ends, from 0 to 2^50.
     pub within: i64,
+    /// How many words the cover may have that is printed behind the report of a search that went to its end. None where no cover is
+    /// asked for.
+    pub cover_words: Option<u64>,
 }
 
 /// What the words ask for.
 #[derive(Debug, Drop)]
 pub enum Job {
-    /// Search for a best solution, or one within the distance of the settings, with a journal in that file, and with a cover of so
-    /// many words. With a journal the distance is 0.
+    /// Search for a best solution, or one within the distance of the settings, with a journal in that file. With a journal the
+    /// distance is 0.
     Solve {
         model: ModelName,
         settings: JobSettings,
         journal: Option<String>,
-        cover_words: Option<u64>,
     },
-    /// Go on with the search of a journal.
+    /// Go on with the search of a journal. The distance is 0, and no cover is asked for.
     Resume {
         path: String,
         settings: JobSettings,
@@ -40,7 +42,7 @@ pub enum Job {
     Digest {
         model: ModelName,
     },
-    /// Print a drawn instance, or solve it.
+    /// Print a drawn instance, or solve it. The size is one that is drawn, and the seed below 2^31.
     Generate {
         model: ModelName,
         n: u32,

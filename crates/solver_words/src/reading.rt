@@ -2,9 +2,11 @@ ghost use Rattle.std.specs.Prelude.{◌≡◌, ◌<◌, ◌≤◌, ◌^◌, IfOk
 ghost use Rattle.std.specs.List.{list_any};
 ghost use Rattle.clap.specs.Matches.{found_of};
 ghost use Rattle.clap.specs.Walk.{rows_of};
+ghost use Rattle.problem_names.specs.ModelNames.{sizes_of};
 ghost use Rattle.solver_words.specs.Grammar.{Argument, line_of};
 ghost use Rattle.solver_words.specs.Commands.{RowsTell};
-ghost use Rattle.solver_words.specs.Words.{IsAnswer, IsDrawable, asked, cover_of, job_view, solve_syntax, solve_line, resume_syntax, resume_line, check_syntax, check_line, digest_syntax, digest_line, generate_syntax, generate_line, is_refused, least_size, most_size, meaning, searched, with_distance};
+ghost use Rattle.solver_words.specs.Words.{IsAnswer, asked, cover_of, extended, job_view, or_model, solve_syntax, solve_line, resume_syntax, resume_line, check_syntax, check_line, digest_syntax, digest_line, generate_syntax, generate_line, is_refused, meaning, searched};
+ghost use Rattle.solver_words.specs.Possible.{IsPossible};
 
 use crate::command::parse;
 use crate::command_syntax::{CHECK, DIGEST, GENERATE, RESUME, SOLVE};
@@ -12,7 +14,7 @@ use crate::job::{Job, JobSettings};
 use crate::values::{is_given, read_model, read_optional, read_placed, read_settings};
 use crate::words_error::WordsError;
 use clap::ArgMatches;
-use problem_names::ModelName;
+use problem_names::{ModelName, Sizes};
 use std::alloc::{AllocError, Global};
 
 /// What the words ask for. The words are those behind the program's name.
@@ -20,11 +22,22 @@ use std::alloc::{AllocError, Global};
 /// # Errors
 ///
 /// `Usage` exactly where the words are outside the grammar, or all of them are good and a search within a distance above 0 is to keep
-/// a journal. Inside the grammar `Model` exactly where the problem is none of those that are known; then the first bad value, in the
-/// order of the values: `Number` with its name, or `Cutset`. `OutOfMemory` may come at any words.
+/// a journal. Inside the grammar `Model` exactly where the problem is none of those that are known, or has no drawn instances and one
+/// is asked for; then the first bad value, in the order of the values: `Number` with its name, or `Cutset`. `OutOfMemory` may come at
+/// any words.
+#[tactic(auto, using(crate::proofs::Asked::possible))]
 pub fn read_words(alloc: Global, words: &[String]) -> Result<Job, WordsError>
     ensures answer { IsAnswer job_view (meaning (map string_bytes words.now)) result }
-    ensures drawn { IfOk result IsDrawable }
+
+    // A search may be made so, and what is to be drawn can be drawn.
+    ensures possible { IfOk result (λ job. IsPossible (job_view job)) }
+{
+    read_command(alloc, words)
+}
+
+/// What the words ask for, by the first of them.
+fn read_command(alloc: Global, words: &[String]) -> Result<Job, WordsError>
+    ensures { IsAnswer job_view (meaning (map string_bytes words.now)) result }
 {
     let [command, ..] = words else {
         return Err(WordsError::Usage);
@@ -61,8 +74,7 @@ fn refuses(word: &str) -> bool
 
 fn read_solve(alloc: Global, words: &[String]) -> Result<Job, WordsError>
     requires { 0 < length words.now }
-    ensures answer { IsAnswer job_view (asked solve_line (line_of solve_syntax (drop 1 (map string_bytes words.now)))) result }
-    ensures drawn { IfOk result IsDrawable }
+    ensures { IsAnswer job_view (asked solve_line (line_of solve_syntax (drop 1 (map string_bytes words.now)))) result }
 {
     let matches = parse(alloc, &SOLVE, words)?;
     solve_job(alloc, &matches)
@@ -70,8 +82,7 @@ fn read_solve(alloc: Global, words: &[String]) -> Result<Job, WordsError>
 
 /// The search that the matches ask for.
 fn solve_job(alloc: Global, matches: &ArgMatches) -> Result<Job, WordsError>
-    ensures answer { (arguments : List Argument) → RowsTell solve_syntax arguments (rows_of (found_of matches.now)) → IsAnswer job_view (solve_line arguments) result }
-    ensures drawn { IfOk result IsDrawable }
+    ensures { (arguments : List Argument) → RowsTell solve_syntax arguments (rows_of (found_of matches.now)) → IsAnswer job_view (solve_line arguments) result }
 {
     let model = read_model(matches)?;
     let settings = read_settings(matches, is_given(matches, "stats"))?;
@@ -79,16 +90,17 @@ fn solve_job(alloc: Global, matches: &ArgMatches) -> Result<Job, WordsError>
     let within = read_optional(matches, "within", 0, 1_125_899_906_842_624)?;
     let journal = copied(alloc, matches.get_str("journal"))?;
     let cover = cover_words(is_given(matches, "cover"), words);
-    searched(model, with_distance(settings, within), journal, cover)
+    searched(model, extended(settings, within, cover), journal)
 }
 
-/// The settings with that distance, where one is given; else with 0.
-fn with_distance(settings: JobSettings, within: Option<u64>) -> JobSettings
+/// The settings with that distance, where one is given, or else with 0, and with a cover of that many words.
+fn extended(settings: JobSettings, within: Option<u64>, cover_words: Option<u64>) -> JobSettings
     requires { IfSome within (λ n. n ≤ 2 ^ 50) }
-    ensures { result ≡ with_distance settings within }
+    ensures { result ≡ extended settings within cover_words }
 {
     JobSettings {
         within: within.unwrap_or(0) as i64,
+        cover_words,
         ..settings
     }
 }
@@ -98,10 +110,8 @@ fn searched(
     model: ModelName,
     settings: JobSettings,
     journal: Option<String>,
-    cover_words: Option<u64>,
 ) -> Result<Job, WordsError>
-    ensures answer { IsAnswer job_view (searched model settings (option_map string_bytes journal) cover_words) result }
-    ensures drawn { IfOk result IsDrawable }
+    ensures { IsAnswer job_view (searched model settings (option_map string_bytes journal)) result }
 {
     if journal.is_some() && settings.within > 0 {
         return Err(WordsError::Usage);
@@ -110,7 +120,6 @@ fn searched(
         model,
         settings,
         journal,
-        cover_words,
     })
 }
 
@@ -137,8 +146,7 @@ fn cover_words(wanted: bool, words: Option<u64>) -> Option<u64>
 
 fn read_resume(alloc: Global, words: &[String]) -> Result<Job, WordsError>
     requires { 0 < length words.now }
-    ensures answer { IsAnswer job_view (asked resume_line (line_of resume_syntax (drop 1 (map string_bytes words.now)))) result }
-    ensures drawn { IfOk result IsDrawable }
+    ensures { IsAnswer job_view (asked resume_line (line_of resume_syntax (drop 1 (map string_bytes words.now)))) result }
 {
     let matches = parse(alloc, &RESUME, words)?;
     resume_job(alloc, &matches)
@@ -146,8 +154,7 @@ fn read_resume(alloc: Global, words: &[String]) -> Result<Job, WordsError>
 
 /// The search that is to go on.
 fn resume_job(alloc: Global, matches: &ArgMatches) -> Result<Job, WordsError>
-    ensures answer { (arguments : List Argument) → RowsTell resume_syntax arguments (rows_of (found_of matches.now)) → IsAnswer job_view (resume_line arguments) result }
-    ensures drawn { IfOk result IsDrawable }
+    ensures { (arguments : List Argument) → RowsTell resume_syntax arguments (rows_of (found_of matches.now)) → IsAnswer job_view (resume_line arguments) result }
 {
     let Some(path) = matches.get_str("path") else {
         return Err(WordsError::Usage);
@@ -159,8 +166,7 @@ fn resume_job(alloc: Global, matches: &ArgMatches) -> Result<Job, WordsError>
 
 fn read_check(alloc: Global, words: &[String]) -> Result<Job, WordsError>
     requires { 0 < length words.now }
-    ensures answer { IsAnswer job_view (asked check_line (line_of check_syntax (drop 1 (map string_bytes words.now)))) result }
-    ensures drawn { IfOk result IsDrawable }
+    ensures { IsAnswer job_view (asked check_line (line_of check_syntax (drop 1 (map string_bytes words.now)))) result }
 {
     parse(alloc, &CHECK, words)?;
     Ok(Job::Check)
@@ -168,8 +174,7 @@ fn read_check(alloc: Global, words: &[String]) -> Result<Job, WordsError>
 
 fn read_digest(alloc: Global, words: &[String]) -> Result<Job, WordsError>
     requires { 0 < length words.now }
-    ensures answer { IsAnswer job_view (asked digest_line (line_of digest_syntax (drop 1 (map string_bytes words.now)))) result }
-    ensures drawn { IfOk result IsDrawable }
+    ensures { IsAnswer job_view (asked digest_line (line_of digest_syntax (drop 1 (map string_bytes words.now)))) result }
 {
     let matches = parse(alloc, &DIGEST, words)?;
     digest_job(&matches)
@@ -177,8 +182,7 @@ fn read_digest(alloc: Global, words: &[String]) -> Result<Job, WordsError>
 
 /// The digest that the matches ask for.
 fn digest_job(matches: &ArgMatches) -> Result<Job, WordsError>
-    ensures answer { (arguments : List Argument) → RowsTell digest_syntax arguments (rows_of (found_of matches.now)) → IsAnswer job_view (digest_line arguments) result }
-    ensures drawn { IfOk result IsDrawable }
+    ensures { (arguments : List Argument) → RowsTell digest_syntax arguments (rows_of (found_of matches.now)) → IsAnswer job_view (digest_line arguments) result }
 {
     let model = read_model(matches)?;
     Ok(Job::Digest { model })
@@ -186,8 +190,7 @@ fn digest_job(matches: &ArgMatches) -> Result<Job, WordsError>
 
 fn read_generate(alloc: Global, words: &[String]) -> Result<Job, WordsError>
     requires { 0 < length words.now }
-    ensures answer { IsAnswer job_view (asked generate_line (line_of generate_syntax (drop 1 (map string_bytes words.now)))) result }
-    ensures drawn { IfOk result IsDrawable }
+    ensures { IsAnswer job_view (asked generate_line (line_of generate_syntax (drop 1 (map string_bytes words.now)))) result }
 {
     let matches = parse(alloc, &GENERATE, words)?;
     generate_job(&matches)
@@ -195,11 +198,11 @@ fn read_generate(alloc: Global, words: &[String]) -> Result<Job, WordsError>
 
 /// The instance that is to be drawn.
 fn generate_job(matches: &ArgMatches) -> Result<Job, WordsError>
-    ensures answer { (arguments : List Argument) → RowsTell generate_syntax arguments (rows_of (found_of matches.now)) → IsAnswer job_view (generate_line arguments) result }
-    ensures drawn { IfOk result IsDrawable }
+    ensures { (arguments : List Argument) → RowsTell generate_syntax arguments (rows_of (found_of matches.now)) → IsAnswer job_view (generate_line arguments) result }
 {
     let model = read_model(matches)?;
-    let n = read_placed(matches, "n", least_drawn(model), most_drawn(model))?;
+    let sizes = read_sizes(model)?;
+    let n = read_placed(matches, "n", sizes.least as u64, sizes.most as u64)?;
     let seed = read_placed(matches, "seed", 0, 2_147_483_647)?;
     Ok(Job::Generate {
         model,
@@ -209,24 +212,12 @@ fn generate_job(matches: &ArgMatches) -> Result<Job, WordsError>
     })
 }
 
-/// The least size that is drawn.
-fn least_drawn(model: ModelName) -> u64
-    ensures { result ≡ least_size model }
+/// The sizes of which instances of the problem are drawn.
+fn read_sizes(model: ModelName) -> Result<Sizes, WordsError>
+    ensures { IsAnswer (λ sizes. sizes) (or_model (sizes_of model)) result }
 {
-    match model {
-        ModelName::Knapsack | ModelName::MaxCut | ModelName::MaxTwoSat => 0,
-        ModelName::TspWindows => 1,
-    }
-}
-
-/// The greatest size that is drawn.
-fn most_drawn(model: ModelName) -> u64
-    ensures same { result ≡ most_size model }
-    ensures bound { result ≤ 1024 }
-{
-    match model {
-        ModelName::Knapsack => 1000,
-        ModelName::MaxCut | ModelName::MaxTwoSat => 1024,
-        ModelName::TspWindows => 300,
+    match model.sizes() {
+        Some(sizes) => Ok(sizes),
+        None => Err(WordsError::Model),
     }
 }

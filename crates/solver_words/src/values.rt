@@ -85,7 +85,7 @@ fn read_cut(word: &str) -> Result<CutKind, WordsError>
     }
 }
 
-/// The settings of a search, by its options, with the distance 0.
+/// The settings of a search, by its options, with the distance 0 and without a cover.
 pub(crate) fn read_settings(matches: &ArgMatches, stats: bool) -> Result<JobSettings, WordsError>
     ensures { IsAnswer (λ s. s) (settings_of (first_value (found_of matches.now)) stats) result }
 {
@@ -103,6 +103,7 @@ pub(crate) fn read_settings(matches: &ArgMatches, stats: bool) -> Result<JobSett
         cutset,
         stats,
         within: 0,
+        cover_words: None,
     })
 }
 

@@ -3,22 +3,12 @@ use Rattle.std.proofs.Common.{◌≡◌, ℕ, ◌+◌, ◌*◌, ◌<◌, ℤ, po
 use Rattle.std.proofs.lemmas.Int.{to_z_pos}
 use Rattle.std.proofs.lemmas.List.{drop-drop}
 use Rattle.node_sets.specs.Sets.{row_of}
+use Rattle.pending_rows.proofs.Written.{cell, row_same}
 use Rattle.tsp_windows.specs.States.{TourState, row_for, must_of, may_of}
-
-cell : (rest : List ℤ) (z : ℤ) → length rest ≡ 1 → set rest 0 z ≡ z ∷ []
-cell [] z l = absurd (omega arith)
-cell (x ∷ []) z l = refl
-cell (x ∷ y ∷ rest) z l = absurd (omega arith)
-
-row_same : (words n : ℕ) (p : List ℤ) (test : ℕ → Bool) → p ≡ row_of n test → n ≡ words → p ≡ row_of words test
-row_same words n p test e l = e ∙ ap (λ k. row_of k test) l
 
 pub assembled : (words : ℕ) (t : TourState) (p m y rest : List ℤ) (np nm ny : ℕ) (z : ℤ) → p ≡ row_of np t.positions → np ≡ words → m ≡ row_of nm t.must → nm ≡ words → y ≡ row_of ny t.may → ny ≡ words → length rest ≡ 1 → z ≡ pos t.time → p ++ (m ++ (y ++ set rest 0 z)) ≡ row_for words t
 assembled words t p m y rest np nm ny z ep lp em lm ey ly l e =
     ap₂ ◌++◌ (row_same words np p t.positions ep lp) (ap₂ ◌++◌ (row_same words nm m t.must em lm) (ap₂ ◌++◌ (row_same words ny y t.may ey ly) (cell rest z l ∙ ap (λ z. z ∷ []) e)))
-
-pub time_cell : (n t : ℕ) → n ≡ t → n < 4611686018427387904 → to_z w64 n ≡ pos t
-time_cell n t e l = to_z_pos w64 n (omega arith) ∙ ap pos e
 
 pub may_part : (words : ℕ) (s : List ℤ) → take words (drop words (drop words s)) ≡ may_of words s
 may_part words s = ap (take words) (drop-drop words words s) ∙ (let e : words + words ≡ 2 * words = omega arith in ap (λ k. take words (drop k s)) e)

@@ -9,8 +9,8 @@ use Rattle.node_sets.specs.Sets.{has}
 use Rattle.node_sets.proofs.Below.{all_below-gives, sum_below-none, count_below-le, count_below-removed, count_below-kept, count_below-none}
 use Rattle.tsp_windows.specs.Instance.{Instance}
 use Rattle.tsp_windows.specs.States.{TourState, must_of, may_return, moved, shown}
-use Rattle.tsp_windows.proofs.Assembled.{time_cell}
-use Rattle.tsp_windows.proofs.StateLemmas.{fits_time, must-shown}
+use Rattle.pending_rows.proofs.Written.{time_cell, fits_time}
+use Rattle.tsp_windows.proofs.StateLemmas.{must-shown}
 
 -- a count of nodes is read as it is
 counted : (z : ℤ) (n count : ℕ) → z ≡ pos count → count ≤ n → n ≤ 300 → to_z w64 (of_z w64 z) ≡ pos count

@@ -6,16 +6,16 @@ use Rattle.std.proofs.lemmas.Bool.{eqb-true, cases_Bool, le-ltb}
 use Rattle.std.proofs.lemmas.List.{get_or_at, length-append, append-nil}
 use Rattle.std.proofs.lemmas.Nat.{div-add-mod'}
 use Rattle.std.proofs.Math.Nat.{div-lt_iff_lt-mul}
-use Rattle.dd_text.specs.Text.{TextState, text_start, place_of, is_blank, after_token}
-use Rattle.dd_text.specs.declared.comment.Comment.TheVariants.{Hash}
-use Rattle.dd_text.specs.declared.instance_error.InstanceError.{InstanceError}
-use Rattle.dd_text.specs.declared.instance_error.InstanceFault.TheVariants as faults
-use Rattle.dd_text.specs.Decimal.{decimal_of}
-use Rattle.dd_text.specs.Grammar.{part_then, end_then, times}
-use Rattle.dd_text.specs.Printed.{IsBefore, ReadsPart}
-use Rattle.dd_text.proofs.Printing.{before_start, passes_natural, finishes}
-use Rattle.dd_text.proofs.Chains.{number_then_ok, end_then_ok}
-use Rattle.dd_text.proofs.Repeats.{fold_pushes, times_reads}
+use Rattle.tokens.specs.Text.{TextState, text_start, place_of, is_blank, after_token}
+use Rattle.tokens.specs.declared.comment.Comment.TheVariants.{Hash}
+use Rattle.tokens.specs.declared.instance_error.InstanceError.{InstanceError}
+use Rattle.tokens.specs.declared.instance_error.InstanceFault.TheVariants as faults
+use Rattle.tokens.specs.Decimal.{decimal_of}
+use Rattle.tokens.specs.Grammar.{part_then, end_then, times}
+use Rattle.tokens.specs.Printed.{IsBefore, ReadsPart}
+use Rattle.tokens.proofs.Printing.{before_start, passes_natural, finishes}
+use Rattle.tokens.proofs.Chains.{number_then_ok, end_then_ok}
+use Rattle.tokens.proofs.Repeats.{fold_pushes, times_reads}
 use Rattle.tsp_windows.specs.Instance.{Instance, Window, IsTourInstance, no_window}
 use Rattle.tsp_windows.specs.Texts.{distance_at, window_at, nodes_at, spelled, separator, printed_distances, printed_window, printed_windows, printed}
 use Rattle.tsp_windows.proofs.Readings.{closing_in, opening_in}

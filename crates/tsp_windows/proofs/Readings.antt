@@ -2,7 +2,7 @@
 use Rattle.std.proofs.Common.{◌≡◌, ℕ, zero, suc, ◌+◌, ◌*◌, ◌/◌, ◌%◌, ◌<◌, ◌≤◌, ℤ, pos, negsuc, ◌≤ℤ◌, nat_abs, Bool, true, false, cond, ◌&&◌, nat_eq, nat_le, List, [], ◌∷◌, ◌++◌, length, get_or, refl, sym, ap, ◌∙◌, subst, arith, inl, inr, eq-eqb}
 use Rattle.std.specs.Prelude.{Result, Ok, Err, int_lt}
 use Rattle.std.proofs.Common.{add-zero, zero-add}
-use Rattle.dd_text.specs.declared.instance_error.InstanceFault.TheVariants as faults
+use Rattle.tokens.specs.declared.instance_error.InstanceFault.TheVariants as faults
 use Rattle.std.specs.List.{list_all}
 use Rattle.std.proofs.lemmas.Int.{ints}
 use Rattle.std.proofs.lemmas.Bool.{cases_lt, false≢true, and_from, le-leb}
@@ -11,12 +11,12 @@ use Rattle.std.proofs.lemmas.Nat.{mod-mul-add, div-mul-add, mul-add-lt}
 use Rattle.std.proofs.lemmas.List.{get_or_append_left, get_or_at, length-append}
 use Rattle.node_sets.specs.Sums.{all_below}
 use Rattle.node_sets.proofs.Below.{all_below-from}
-use Rattle.dd_text.specs.Text.{TextState, number_at, place_of, after_token}
-use Rattle.dd_text.specs.declared.text_error.TextError.{TextError}
-use Rattle.dd_text.specs.declared.place.Place.{Place}
-use Rattle.dd_text.specs.declared.instance_error.InstanceError.{InstanceError}
-use Rattle.dd_text.specs.Grammar.{read_then, number_then, part_then, times}
-use Rattle.dd_text.proofs.Ranges.{number_at_range}
+use Rattle.tokens.specs.Text.{TextState, number_at, place_of, after_token}
+use Rattle.tokens.specs.declared.text_error.TextError.{TextError}
+use Rattle.tokens.specs.declared.place.Place.{Place}
+use Rattle.tokens.specs.declared.instance_error.InstanceError.{InstanceError}
+use Rattle.tokens.specs.Grammar.{read_then, number_then, part_then, times}
+use Rattle.tokens.proofs.Ranges.{number_at_range}
 use Rattle.tsp_windows.specs.Instance.{Window, is_window, is_small}
 use Rattle.tsp_windows.specs.Texts.{distance_at, window_at}
 

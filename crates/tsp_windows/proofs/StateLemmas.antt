@@ -8,35 +8,19 @@ use Rattle.node_sets.specs.Sums.{all_below, lesser, least_amount}
 use Rattle.node_sets.specs.Sets.{IsLeastFrom, IsSet, has, is_set, words_for}
 use Rattle.node_sets.proofs.Below.{all_below-gives, all_below-from, least_amount-same, least_amount-next, least_amount-none}
 use Rattle.node_sets.proofs.Counts.{is_set-gives}
+use Rattle.pending_rows.proofs.RowStates.{inside_set}
+use Rattle.pending_rows.proofs.Tests.{by_cases}
 use Rattle.tsp_windows.specs.States.{TourState, positions_of, must_of, may_of, time_of, shown, leg, arrival, may_visit, may_return, is_open, covers, is_sound, is_state_row}
 use Rattle.tsp_windows.specs.Instance.{Instance, closing, near}
 use Rattle.tsp_windows.specs.Apart.{IsApart}
 use Rattle.tsp_windows.specs.Laws.Moves.{IsSoundState, near-le-arrival, all_below-not, sound-gives, sound-from}
 use Rattle.tsp_windows.specs.Laws.Walks.{CoversTour, covers-gives, covers-from}
 
-pub fits_time : (t : ℕ) → t ≤ 1000000000000 → FitsSigned w64 (pos t)
-fits_time t l = record { sfits = omega arith }
-
-pub time_read : (z : ℤ) (t : ℕ) → z ≡ pos t → t ≤ 1000000000000 → nat_abs (to_z w64 (of_z w64 z)) ≡ t
-time_read z t e l = ap (λ z. nat_abs (to_z w64 (of_z w64 z))) e ∙ ap nat_abs (to_z-of_z w64 (pos t) (fits_time t l))
-
 -- ---- what the tests of sets tell of states
 
 and_no : (a b : Bool) → b ≡ false → (a && b) ≡ false
 and_no true b e = e
 and_no false b e = refl
-
-by_cases : (b : Bool) → (b ≡ true → ⊥) → b ≡ false
-by_cases true h = absurd (h refl)
-by_cases false h = refl
-
--- a member of a set of nodes is a node
-pub inside_set : (n : ℕ) (row : List ℤ) (v : ℕ) → IsSet n row → has row v ≡ true → v < n
-inside_set n row v set e =
-    elim (cases_lt v n) [
-      | inl l ↦ l
-      | inr l ↦ absurd (false≢true (sym (set.within v l) ∙ e))
-    ]
 
 pub positions_cover : (n w : ℕ) (a s p q : List ℤ) (r : Bool) → p ≡ positions_of w s → q ≡ positions_of w a → IsSet n p → (((v : ℕ) → has p v ≡ true → has q v ≡ true) → r ≡ true) → r ≡ false → covers n (shown w a) (shown w s) ≡ false
 unfolding shown
@@ -206,9 +190,6 @@ positions-shown w s m v e = ap (λ r. has r v) e
 -- the members of the two sets are the nodes that must or may be visited
 pub open_shown : (w : ℕ) (s m y : List ℤ) (v : ℕ) {b : Bool} → m ≡ must_of w s → y ≡ may_of w s → (has m v || has y v) ≡ b → is_open (shown w s) v ≡ b
 open_shown w s m y v e f h = sym (ap₂ ◌||◌ (must-shown w s m v e) (may-shown w s y v f)) ∙ h
-
-pub open_inside : (n : ℕ) (m y : List ℤ) (v : ℕ) → IsSet n m → IsSet n y → (has m v || has y v) ≡ true → v < n
-open_inside n m y v ms ys h = elim (or_cases (has m v) (has y v) h) [ inl e ↦ inside_set n m v ms e | inr e ↦ inside_set n y v ys e ]
 
 least_kept : (b : Bool) (n v : ℕ) (o : Option ℕ) → v ≤ n → o ≡ Some v → cond b (lesser n o) o ≡ Some v
 least_kept b n v o l e = ap (λ o. cond b (lesser n o) o) e ∙ (elim b as (λ b. cond b (Some (min v n)) (Some v) ≡ Some v) [ true ↦ (let m : min v n ≡ v = omega arith in ap Some m) | false ↦ refl ])

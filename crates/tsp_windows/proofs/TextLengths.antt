@@ -3,8 +3,8 @@ use Rattle.std.proofs.Common.{◌≡◌, ℕ, suc, ◌+◌, ◌*◌, ◌^◌, �
 use Rattle.std.proofs.Math.Nat.{mul-le-mul_left}
 use Rattle.std.proofs.lemmas.Fmt.{length-decimal-le}
 use Rattle.std.proofs.lemmas.List.{length-append}
-use Rattle.dd_text.specs.Decimal.{decimal_of}
-use Rattle.dd_text.proofs.Lengths.{parts_short}
+use Rattle.tokens.specs.Decimal.{decimal_of}
+use Rattle.tokens.proofs.Lengths.{parts_short}
 use Rattle.tsp_windows.specs.Instance.{Instance, Window, IsTourInstance, no_window}
 use Rattle.tsp_windows.specs.Texts.{separator, printed_distances, printed_window, printed_windows, printed}
 

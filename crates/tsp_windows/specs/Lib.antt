@@ -9,3 +9,5 @@ pub mod Generating
 pub mod Apart
 -- what an `impl` cites and no clause
 pub mod Laws
+-- the problem of the program
+pub mod Theory

@@ -1,12 +1,8 @@
 -- Tours in the problem's own words: an order of the nodes that is kept within the windows, and when it returns.
-use Rattle.std.specs.Prelude.{ℕ, ◌+◌, max, ℤ, pos, neg_ℤ, Bool, true, false, cond, not, ◌&&◌, nat_eq, nat_lt, nat_le, List, [], ◌∷◌, length, Option, Some, None}
-use Rattle.std.specs.List.{list_any, list_all}
+use Rattle.std.specs.Prelude.{ℕ, ◌+◌, max, ℤ, pos, neg_ℤ, Bool, true, false, cond, ◌&&◌, nat_eq, nat_lt, nat_le, List, [], ◌∷◌, length, Option, Some, None}
+use Rattle.std.specs.List.{list_all}
+use Rattle.pending_rows.specs.Orders.{are_different}
 use Rattle.tsp_windows.specs.Instance.{Instance, distance, opening, closing}
-
--- no node stands in the list twice
-abbrev pub are_different : List ℕ → Bool
-are_different [] = true
-are_different (v ∷ vs) = not (list_any (λ u. nat_eq u v) vs) && are_different vs
 
 -- the last node of the list is node 0
 abbrev pub ends_at_home : List ℕ → Bool

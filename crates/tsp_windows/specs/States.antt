@@ -2,6 +2,7 @@
 use Rattle.std.specs.Prelude.{ℕ, ◌+◌, ◌*◌, ℤ, pos, unsigned_abs, min, max, Bool, false, cond, not, ◌&&◌, ◌||◌, nat_eq, nat_lt, nat_le, int_le, List, [], ◌∷◌, ◌++◌, length, take, drop, get_or, Option, is_some, unwrap_or}
 use Rattle.node_sets.specs.Sums.{all_below, sum_below, count_below, least_amount}
 use Rattle.node_sets.specs.Sets.{has, is_set, row_of, words_for}
+pub use Rattle.pending_rows.specs.Pending.{is_within}
 use Rattle.tsp_windows.specs.Instance.{Instance, distance, opening, closing, near}
 
 pub record TourState : Type 0 where
@@ -85,10 +86,6 @@ joined a b = record {
   may = λ v. (is_open a v || is_open b v) && not (a.must v && b.must v);
   time = min a.time b.time;
 }
-
--- whether each member of the one set is a member of the other
-abbrev pub is_within : ℕ → (ℕ → Bool) → (ℕ → Bool) → Bool
-is_within n part whole = all_below n (λ v. whole v || not (part v))
 
 -- whether each way on from b is one from a, and no later
 abbrev pub covers : ℕ → TourState → TourState → Bool

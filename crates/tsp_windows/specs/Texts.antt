@@ -1,12 +1,12 @@
 -- Texts of tours: the nodes, the distances by row, and opening and closing of each node's window.
 use Rattle.std.specs.Prelude.{ℕ, ◌+◌, ◌*◌, ◌/◌, ◌%◌, pos, unsigned_abs, int_lt, cond, nat_eq, List, [], ◌∷◌, ◌++◌, length, Result, Ok, Err}
 use Rattle.std.specs.List.{flat_map}
-use Rattle.dd_text.specs.Text.{TextState, text_start, place_of}
-use Rattle.dd_text.specs.declared.instance_error.InstanceError.{InstanceError}
-use Rattle.dd_text.specs.Decimal.{decimal_of}
-use Rattle.dd_text.specs.declared.comment.Comment.TheVariants.{Hash}
-use Rattle.dd_text.specs.Grammar.{number_then, part_then, end_then, times}
-use Rattle.dd_text.specs.declared.instance_error.InstanceFault.TheVariants as faults
+use Rattle.tokens.specs.Text.{TextState, text_start, place_of}
+use Rattle.tokens.specs.declared.instance_error.InstanceError.{InstanceError}
+use Rattle.tokens.specs.Decimal.{decimal_of}
+use Rattle.tokens.specs.declared.comment.Comment.TheVariants.{Hash}
+use Rattle.tokens.specs.Grammar.{number_then, part_then, end_then, times}
+use Rattle.tokens.specs.declared.instance_error.InstanceFault.TheVariants as faults
 use Rattle.tsp_windows.specs.Instance.{Instance, Window}
 
 -- a distance behind those before it: from 0 to 10^9 in the text, and 0 from a node to itself

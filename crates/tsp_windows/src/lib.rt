@@ -5,10 +5,15 @@
 //! triangle inequality is asked of the distances. `read` and `print` turn texts into problems and back, `value_of` says
 //! what a list of visits is worth in the problem's own words, and `TspWindows` is a `DpModel`.
 //!
-//! The crate stands on `dp_model`, on `dd_text` for texts, and on `node_sets` for the sets of nodes in a state.
+//! The crate stands on `dp_model`, on `tokens` for texts, and on `node_sets` for the sets of nodes in a state.
 //!
 //! Promised: the program meets the laws of `dp_model`, a list is worth something exactly where it is a feasible solution
 //! of the program, with the same value, and a printed problem is read as it was.
+//!
+//! ```
+//! let model = read(alloc, b"2\n0 5\n5 0\n0 100\n0 100\n")?;
+//! let text = print(alloc, &model)?;
+//! ```
 #![tactic(auto)]
 
 mod generating;
@@ -16,6 +21,7 @@ mod instance;
 mod model;
 mod parts;
 mod printing;
+mod problem;
 mod reading;
 mod value;
 mod ways;

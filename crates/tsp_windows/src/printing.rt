@@ -7,11 +7,11 @@ ghost use Rattle.tsp_windows.specs.Texts.{printed, printed_distances, printed_wi
 
 use crate::instance::TspWindows;
 use crate::window::Window;
-use dd_text::{OutOfMemory, push_number, push_text};
 use std::alloc::Global;
+use tokens::{OutOfMemory, push_number, push_text};
 
-/// Prints distances, a row a line.
-fn print_distances(out: &mut Vec<u8>, nodes: usize, distances: &[u32]) -> Result<(), OutOfMemory>
+/// Appends distances, a row a line.
+fn push_distances(out: &mut Vec<u8>, nodes: usize, distances: &[u32]) -> Result<(), OutOfMemory>
     requires { 1 ≤ nodes }
     ensures { OnOk result (out.new.items ≡ out.old.items ++ printed_distances nodes 0 distances.now) }
 {
@@ -22,8 +22,8 @@ fn print_distances(out: &mut Vec<u8>, nodes: usize, distances: &[u32]) -> Result
     Ok(())
 }
 
-/// Prints a window and the end of its line.
-fn print_window(out: &mut Vec<u8>, window: Window) -> Result<(), OutOfMemory>
+/// Appends a window and the end of its line.
+fn push_window(out: &mut Vec<u8>, window: Window) -> Result<(), OutOfMemory>
     requires opens { window.opening ≤ window.closing }
     requires closes { window.closing ≤ 1000000000000 }
     ensures { OnOk result (out.new.items ≡ out.old.items ++ printed_window window) }
@@ -35,14 +35,14 @@ fn print_window(out: &mut Vec<u8>, window: Window) -> Result<(), OutOfMemory>
     Ok(())
 }
 
-/// Prints windows, one a line.
-fn print_windows(out: &mut Vec<u8>, windows: &[Window]) -> Result<(), OutOfMemory>
+/// Appends windows, one a line.
+fn push_windows(out: &mut Vec<u8>, windows: &[Window]) -> Result<(), OutOfMemory>
     requires opens { (v : ℕ) → (get_or windows.now v no_window).opening ≤ (get_or windows.now v no_window).closing }
     requires closes { (v : ℕ) → (get_or windows.now v no_window).closing ≤ 1000000000000 }
     ensures { OnOk result (out.new.items ≡ out.old.items ++ printed_windows windows.now) }
 {
     'windows: for window in windows {
-        print_window(out, *window)?;
+        push_window(out, *window)?;
     }
     Ok(())
 }
@@ -54,17 +54,18 @@ pub fn print(alloc: Global, model: &TspWindows) -> Result<Vec<u8>, OutOfMemory>
     ensures short { IfOk result (λ text. length text.items ≤ 2 ^ 30) }
     ensures reads_back { IfOk result (λ text. spelled text.items ≡ Ok (instance_in model.now)) }
 {
-    canonical_text(alloc, model)
+    let text = printed(alloc, model)?;
+    Ok(text)
 }
 
 /// Makes the canonical text.
-fn canonical_text(alloc: Global, model: &TspWindows) -> Result<Vec<u8>, OutOfMemory>
+fn printed(alloc: Global, model: &TspWindows) -> Result<Vec<u8>, OutOfMemory>
     ensures { IfOk result (λ text. text.items ≡ printed (instance_in model.now)) }
 {
     let mut out = Vec::new(alloc);
     push_number(&mut out, model.nodes as i64)?;
     push_text(&mut out, "\n")?;
-    print_distances(&mut out, model.nodes, &model.distances)?;
-    print_windows(&mut out, &model.windows)?;
+    push_distances(&mut out, model.nodes, &model.distances)?;
+    push_windows(&mut out, &model.windows)?;
     Ok(out)
 }

@@ -1,7 +1,7 @@
 //! Reading a problem from a text.
 
 ghost use Rattle.std.specs.Prelude.{◌≡◌, ◌+◌, ◌*◌, ◌-◌, ◌^◌, ◌<◌, ◌≤◌, length, IsTrue, IfOk, OnOk};
-ghost use Rattle.dd_text.specs.Grammar.{times, Reads};
+ghost use Rattle.tokens.specs.Grammar.{times, Reads};
 ghost use Rattle.tsp_windows.specs.Instance.{is_small};
 ghost use Rattle.tsp_windows.specs.Shown.{instance_in};
 ghost use Rattle.tsp_windows.specs.Texts.{distance_at, window_at, nodes_at, spelled};
@@ -9,8 +9,8 @@ ghost use Rattle.tsp_windows.specs.Texts.{distance_at, window_at, nodes_at, spel
 use crate::instance::TspWindows;
 use crate::ways::{least_ways, moments_too_late};
 use crate::window::Window;
-use dd_text::{Comment, InstanceError, InstanceFault, ReadModelError, Tokens};
 use std::alloc::{AllocError, Global};
+use tokens::{Comment, InstanceError, InstanceFault, ReadModelError, Tokens};
 
 /// Reads a distance behind those before it.
 #[tactic(auto, unfolding(crate::specs::Texts::distance_at))]
@@ -55,7 +55,7 @@ fn read_window(tokens: &mut Tokens, windows: &mut Vec<Window>) -> Result<(), Rea
 }
 
 /// Reads so many distances.
-#[tactic(auto, using(dd_text::proofs::Chains::times_steps))]
+#[tactic(auto, using(tokens::proofs::Chains::times_steps))]
 fn read_distances(
     nodes: usize,
     count: usize,
@@ -72,7 +72,7 @@ fn read_distances(
 }
 
 /// Reads so many windows.
-#[tactic(auto, using(dd_text::proofs::Chains::times_steps))]
+#[tactic(auto, using(tokens::proofs::Chains::times_steps))]
 fn read_windows(
     count: usize,
     tokens: &mut Tokens,
@@ -108,7 +108,7 @@ pub(crate) fn problem_of(
 }
 
 /// Reads what stands behind the number of nodes, to the end.
-#[tactic(auto, unfolding(crate::specs::Texts::nodes_at), using(dd_text::proofs::Chains::part_fails))]
+#[tactic(auto, unfolding(crate::specs::Texts::nodes_at), using(tokens::proofs::Chains::part_fails))]
 fn read_nodes(
     alloc: Global,
     nodes: usize,

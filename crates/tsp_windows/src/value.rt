@@ -1,34 +1,14 @@
 //! A tour in the problem's own words.
 
 ghost use Rattle.std.specs.Prelude.{◌≡◌, ◌≤◌, IfSome, true, pos, neg_ℤ, nat_lt, nat_eq};
-ghost use Rattle.std.specs.List.{list_all, list_any};
+ghost use Rattle.std.specs.List.{list_all};
 ghost use Rattle.dp_model.specs.Solution.{SolutionGives};
 ghost use Rattle.tsp_windows.specs.OwnWords as words;
 ghost use Rattle.tsp_windows.specs.Shown.{instance_in, program_in};
 ghost use Rattle.tsp_windows.specs.Instance.{opening};
 
 use crate::instance::TspWindows;
-
-/// Whether a node stands in a list.
-fn stands_in(node: u32, visits: &[u32]) -> bool
-    ensures { result ≡ list_any (λ u. nat_eq u node) visits.now }
-{
-    visits.iter().any(|v| *v == node)
-}
-
-/// Whether no node stands in the list twice.
-fn are_different(visits: &[u32]) -> bool
-    ensures { result ≡ words.are_different visits.now }
-{
-    let mut rest = visits;
-    'visits: while let [first, after @ ..] = rest {
-        if stands_in(*first, after) {
-            return false;
-        }
-        rest = after;
-    }
-    true
-}
+use pending_rows::{are_below, are_different};
 
 /// Whether the last node of the list is node 0.
 fn ends_at_home(visits: &[u32]) -> bool
@@ -44,19 +24,12 @@ fn ends_at_home(visits: &[u32]) -> bool
     false
 }
 
-/// Whether each node of the list is one of the first so many.
-fn are_nodes(visits: &[u32], nodes: usize) -> bool
-    ensures { result ≡ list_all (λ v. nat_lt v nodes) visits.now }
-{
-    visits.iter().all(|v| (*v as usize) < nodes)
-}
-
 /// Whether each of so many nodes stands in the list once, and node 0 is the last.
 fn is_order(visits: &[u32], nodes: usize) -> bool
     ensures { result ≡ words.is_order nodes visits.now }
 {
     visits.len() == nodes
-        && are_nodes(visits, nodes)
+        && are_below(visits, nodes)
         && are_different(visits)
         && ends_at_home(visits)
 }

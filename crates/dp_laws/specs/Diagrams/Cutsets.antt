@@ -37,10 +37,12 @@ abbrev pub last_exact_at : Dp → DdLayers → Option ℕ → List ChildAt
 last_exact_at dp d None = []
 last_exact_at dp d (Some depth) = places_where (λ node. true) dp (depth - 1) 0 (unwrap_or (slice_get d.layers (depth - 1 - d.first)) [])
 
+-- whether there is a node, and it is inexact
 abbrev pub is_inexact : Option DdNode → Bool
 is_inexact None = false
 is_inexact (Some node) = not node.exact
 
+-- whether an arc leads to an inexact node
 abbrev pub leads_out : List DdNode → Option ℕ → Bool
 leads_out next None = false
 leads_out next (Some place) = is_inexact (slice_get next place)
@@ -70,6 +72,7 @@ abbrev pub outermost : {X : Type 0} → (X → List ℕ) → List X → List X �
 outermost path kept [] = []
 outermost path kept (c ∷ cs) = cond (passes path kept (path c)) (outermost path kept cs) (c ∷ outermost path (c ∷ kept) cs)
 
+-- the subproblem of a node, with a bound
 abbrev pub with_bound : Option DdNode → ℤ → Subproblem
 with_bound None bound = record { decisions = []; row = []; value = pos 0; bound = bound }
 with_bound (Some node) bound = record { decisions = node.path; row = node.row; value = node.value; bound = bound }
@@ -78,6 +81,7 @@ with_bound (Some node) bound = record { decisions = node.path; row = node.row; v
 abbrev pub child_from : DdLayers → ChildAt → Subproblem
 child_from d c = with_bound (node_at d c.depth c.place) c.bound
 
+-- the decisions of a child
 abbrev pub path_at : DdLayers → ChildAt → List ℕ
 path_at d c = (child_from d c).decisions
 

@@ -37,6 +37,7 @@ abbrev pub Leads : Dp → ℕ → Option ℤ → DdNode → List DdNode → DdAr
 Leads dp k t source next arc None = IsTrue (is_struck_by (source.value +ℤ arc.gain) (dp.rough (k + 1) (dp.step k source.row arc.decision)) t)
 Leads dp k t source next arc (Some place) = LeadsTo dp k source arc (slice_get next place)
 
+-- whether the option is this place
 abbrev pub is_place : ℕ → Option ℕ → Bool
 is_place j None = false
 is_place j (Some i) = nat_eq i j
@@ -59,6 +60,7 @@ pub record IsReachedBy (dp : Dp) (p : List ℕ) (k : ℕ) (node : DdNode) : Type
   pub row : node.row ≡ state_of dp node.path
   pub value : node.value ≡ value_of dp node.path
 
+-- the suffix of the node at a place, or none
 abbrev pub suffix_at : List DdNode → Option ℕ → Option ℤ
 suffix_at next place = option_and_then (λ i. option_and_then (λ node. node.suffix) (slice_get next i)) place
 
@@ -94,6 +96,7 @@ pub record IsLayer (dp : Dp) (p : List ℕ) (w : ℕ) (t : Option ℤ) (k : ℕ)
   pub suffixes : Each (λ node. node.suffix ≡ suffix_from dp k next node.arcs) layer
   pub narrow : IsTrue (is_reduced dp (length p) k) → length layer ≤ w
 
+-- the layers from depth k on are those of a diagram
 abbrev pub AreLayers : Dp → List ℕ → ℕ → Option ℤ → ℕ → List (List DdNode) → Type 0
 AreLayers dp p w t k [] = Unit {0}
 AreLayers dp p w t k (layer ∷ []) = IsLayer dp p w t k layer []

@@ -17,6 +17,7 @@ wide dp p w t = option_map (λ m. length p + m) (find (is_too_wide dp (reached d
 abbrev pub last_exact : Dp → List ℕ → ℕ → Option ℤ → Option ℕ
 last_exact dp p w t = option_map (λ depth. depth - 1) (wide dp p w t)
 
+-- the first of a list, or none
 abbrev pub first_of_all : List Reached → Option Reached
 first_of_all [] = None
 first_of_all (r ∷ rs) = Some r

@@ -35,6 +35,7 @@ merge_rest dp k w two = record { above = with_redirected (merge_redirects dp k w
 abbrev pub is_wide : Dp → ℕ → ℕ → ℕ → List DdNode → Bool
 is_wide dp first w depth layer = is_reduced dp first depth && nat_lt w (length layer)
 
+-- the layer cut to the width, where it is wider
 abbrev pub reduced : Dp → ℕ → ℕ → ℕ → TwoLayers → TwoLayers
 reduced dp first w k two = cond (is_wide dp first w k two.next) (merge_rest dp k w two) two
 
@@ -56,6 +57,7 @@ first_reduced_below dp first w t k (suc m) layer =
     (Some (k + 1))
     (first_reduced_below dp first w t (k + 1) m (built dp first w t k layer).next)
 
+-- the first layer, or no nodes
 abbrev pub first_of_layers : List (List DdNode) → List DdNode
 first_of_layers [] = []
 first_of_layers (layer ∷ layers) = layer

@@ -16,6 +16,7 @@ abbrev pub redirect_within : ℕ → Option ℤ → ℤ → ℤ → Option Redir
 redirect_within place None above number = None
 redirect_within place (Some gap) above number = cond (int_le (number +ℤ gap) above) (Some (record { place = place; longer = gap })) None
 
+-- the first of two redirects
 abbrev pub first_redirect : Option Redirect → Option Redirect → Option Redirect
 first_redirect None other = other
 first_redirect (Some l) other = Some l
@@ -26,6 +27,7 @@ at_leader dp k [] node = None
 at_leader dp k (a ∷ leaders) node =
     first_redirect (redirect_within a.place (dp.gap k a.row node.row) a.value node.value) (at_leader dp k leaders node)
 
+-- whether the rough bound of a node is at most the threshold
 abbrev pub is_struck : Dp → ℕ → Option ℤ → DdNode → Bool
 is_struck dp k t node = is_struck_by node.value (dp.rough k node.row) t
 

@@ -14,6 +14,7 @@ use Rattle.dp_laws.specs.Diagrams.Cutsets.{children_of}
 use Rattle.dp_laws.specs.Rules.Pruning.{is_struck}
 use Rattle.dp_laws.specs.Rules.Compiling.{relaxed}
 
+-- a subproblem without its bound
 abbrev pub as_reached : Subproblem → Reached
 as_reached c = record { decisions = c.decisions; row = c.row; value = c.value }
 
@@ -27,6 +28,7 @@ pub record ChildrenStand (dp : Dp) (t : Option ℤ) (cs : List Subproblem) : Typ
   pub order : EachTwo (ComesFirst dp) cs
   pub unstruck : Each (λ c. is_struck_by c.value (dp.rough (length c.decisions) c.row) t ≡ false) cs
 
+-- the children of a relaxed diagram that the rules build stand
 abbrev pub RelaxedChildrenStand : Dp → Type 0
 RelaxedChildrenStand dp = (p : List ℕ) (w : ℕ) (t : Option ℤ) (kind : CutKind) → IsPrefix dp p → length p < dp.vars → 1 ≤ w → ChildrenStand dp t (children_of dp (relaxed dp (reached dp p) w t) kind)
 

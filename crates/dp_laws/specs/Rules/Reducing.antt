@@ -40,6 +40,7 @@ merged_node dp k nodes = record {
 abbrev pub merged_layer : Dp → ℕ → ℕ → List DdNode → List DdNode
 merged_layer dp k w layer = take (w - 1) layer ++ merged_node dp k (drop (w - 1) layer) ∷ []
 
+-- a redirect to a place by a gap, or none
 abbrev pub redirect_by : ℕ → Option ℤ → Option Redirect
 redirect_by place None = None
 redirect_by place (Some gap) = Some (record { place = place; longer = gap })

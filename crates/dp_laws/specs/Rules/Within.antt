@@ -29,6 +29,7 @@ abbrev pub ReachesWithin : ℤ → Option DdNode → Type 0
 ReachesWithin reached None = ⊥
 ReachesWithin reached (Some target) = reached ≤ℤ target.value
 
+-- an arc leads to a node whose value is not below what is reached
 abbrev pub LeadsWithin : ℤ → List DdNode → Option ℕ → Type 0
 LeadsWithin reached next None = Unit {0}
 LeadsWithin reached next (Some place) = ReachesWithin reached (slice_get next place)

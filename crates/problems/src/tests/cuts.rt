@@ -1,6 +1,6 @@
 use super::{Pair, Program, Refusal, Sample, is_program, refuses, spells};
-use crate::MaxCut;
-use dd_text::InstanceFault;
+use max_cut::MaxCut;
+use tokens::InstanceFault;
 
 const SAMPLES: &[Sample] = &[
     Sample {

@@ -1,6 +1,6 @@
 use super::{Pair, Program, Refusal, Sample, is_program, refuses, spells};
-use crate::Knapsack;
-use dd_text::InstanceFault;
+use knapsack::Knapsack;
+use tokens::InstanceFault;
 
 const SAMPLES: &[Sample] = &[
     Sample {

@@ -1,6 +1,6 @@
 use super::{Pair, Program, Refusal, Sample, is_program, refuses, spells};
-use crate::MaxTwoSat;
-use dd_text::InstanceFault;
+use max_two_sat::MaxTwoSat;
+use tokens::InstanceFault;
 
 const THREE_VARIABLES: &[u8] = b"p wcnf 3 6 99\n4 -3 1 0\n0 2 0\n7 0\n2 -2 -2 0\n5 3 0\n1 2 -1 0\n";
 

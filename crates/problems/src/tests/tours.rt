@@ -1,6 +1,6 @@
 use super::{Pair, Program, Refusal, Sample, is_program, refuses, spells};
-use crate::TspWindows;
-use dd_text::InstanceFault;
+use tokens::InstanceFault;
+use tsp_windows::TspWindows;
 
 const WAITS: &[u8] = b"3\n0 2 9\n2 0 3\n4 3 0\n0 100\n5 20\n0 30\n";
 

@@ -1,11 +1,11 @@
 use crate::tests::{THREE_ITEMS, Told, run_between, says, source_of};
-use dd_disk::MemDisk;
-use dd_io::MemSink;
+use disk::MemDisk;
+use search_workers::NoGate;
 use std::alloc::Global;
 use std::process::Abort;
 use std::sync::Wait;
 use std::thread::Threads;
-use worker_gate::NoGate;
+use streams::MemSink;
 
 /// The search of the three items with its journal in a file.
 const SEARCH: &str = "solve knapsack --width 1 --journal j";

@@ -1,8 +1,12 @@
 use crate::tests::{THREE_ITEMS, run_between, says, source_of};
-use dd_disk::MemDisk;
-use dd_io::MemSink;
+use disk::MemDisk;
+use search_workers::{Gate, Step};
+use std::alloc::Global;
+use std::process::Abort;
+use std::sync::Wait;
 use std::sync::atomic::{AtomicU32, AtomicU64, Ordering};
-use worker_gate::{Gate, Step};
+use std::thread::Threads;
+use streams::MemSink;
 
 /// How often a held worker looks for the other one.
 const TURNS: u32 = 10_000_000;
@@ -64,19 +68,91 @@ impl Gate for Meeting {
     }
 }
 
-#[test]
-fn two_workers_meet(rt: HostRuntime) {
-    let alloc = rt.alloc();
-    let gate = Meeting::new();
+/// A gate that holds the worker that takes first until the other one has found nothing open, and from then on whenever it takes until
+/// the other one has taken something.
+#[derive(Debug, Drop)]
+struct Staying {
+    // The number of the worker that took first, once one did.
+    first: AtomicU32,
+    waited: AtomicU32,
+    stayed: AtomicU32,
+}
+
+impl Staying {
+    fn new() -> Staying {
+        Staying {
+            first: AtomicU32::new(u32::MAX),
+            waited: AtomicU32::new(0),
+            stayed: AtomicU32::new(0),
+        }
+    }
+
+    /// Waits until the other worker has raised the flag.
+    fn hold(flag: &AtomicU32) {
+        for _ in 0..TURNS {
+            if flag.load(Ordering::SeqCst) == 1 {
+                return;
+            }
+        }
+    }
+
+    /// The worker took something.
+    fn took(&self, worker: u32) {
+        let first = self.first.load(Ordering::SeqCst);
+        if first == u32::MAX {
+            self.first.store(worker, Ordering::SeqCst);
+            Staying::hold(&self.waited);
+        } else if first == worker {
+            Staying::hold(&self.stayed);
+        } else {
+            self.stayed.store(1, Ordering::SeqCst);
+        }
+    }
+}
+
+impl Gate for Staying {
+    fn pass(&self, worker: u32, at: Step) {
+        match at {
+            Step::Taken => self.took(worker),
+            Step::Waiting => self.waited.store(1, Ordering::SeqCst),
+            _ => {}
+        }
+    }
+}
+
+/// Whether two workers at this gate tell what row `knapsack-first` has.
+fn tells_first<R: Abort + Threads + Wait + Sync, G: Gate + Sync>(
+    rt: &R,
+    alloc: Global,
+    gate: &G,
+) -> bool {
     let told = run_between(
-        &rt,
+        rt,
         alloc,
         "solve knapsack --width 1 --workers 2",
-        source_of(&rt, alloc, THREE_ITEMS.as_bytes(), &[]),
+        source_of(rt, alloc, THREE_ITEMS.as_bytes(), &[]),
         MemSink::new(alloc, Vec::new(alloc)),
         MemDisk::new(Vec::new(alloc), Vec::new(alloc)),
-        &gate,
+        gate,
     );
-    let right = says(&told, "proved\nvalue 120\nassignment 0 1 1\n", 0);
+    says(&told, "proved\nvalue 120\nassignment 0 1 1\n", 0)
+}
+
+#[test]
+fn two_workers_meet(rt: HostRuntime) {
+    let gate = Meeting::new();
+    let right = tells_first(&rt, rt.alloc(), &gate);
     assert_eq!(rt; (right, gate.met.load(Ordering::SeqCst)), (true, 1));
+}
+
+/// A worker that found nothing open while the other was at work takes again.
+#[test]
+fn a_worker_that_waited_stays(rt: HostRuntime) {
+    let gate = Staying::new();
+    let right = tells_first(&rt, rt.alloc(), &gate);
+    let passed = (
+        gate.waited.load(Ordering::SeqCst),
+        gate.stayed.load(Ordering::SeqCst),
+    );
+    assert_eq!(rt; (right, passed), (true, (1, 1)));
 }

@@ -4,25 +4,12 @@ use Rattle.std.specs.Prelude.{is_some, unwrap_or}
 use Rattle.std.proofs.lemmas.Bool.{false≢true, eqb-true, and_parts, and_from, or_left, or_right, or_cases, not-true, cases_Bool, ne_eqb, leb-true, le-leb, lt-ltb, le-ltb, eqb-false}
 use Rattle.node_sets.specs.Sums.{all_below, lesser, least_amount}
 use Rattle.node_sets.proofs.Below.{all_below-gives, all_below-from}
+use Rattle.pending_rows.proofs.RowStates.{one_of, one_of-from}
 use Rattle.tsp_windows.specs.Instance.{Instance, distance, closing, near, least_way}
-use Rattle.tsp_windows.specs.States.{TourState, from_elsewhere, leg, arrival, may_visit, may_return, may_go, moved, is_open, joined, is_within, start, is_sound}
+use Rattle.tsp_windows.specs.States.{TourState, from_elsewhere, leg, arrival, may_visit, may_return, may_go, moved, is_open, joined, start, is_sound}
 use Rattle.tsp_windows.specs.Laws.States.{IsWithinNodes}
 
 -- ---- tests
-
-pub within-gives : (n : ℕ) (part whole : ℕ → Bool) → is_within n part whole ≡ true → (v : ℕ) → v < n → part v ≡ true → whole v ≡ true
-within-gives n part whole e v l p =
-    elim (or_cases (whole v) (not (part v)) (all_below-gives n (λ v. whole v || not (part v)) e v l)) [
-      | inl w ↦ w
-      | inr q ↦ absurd (false≢true (sym (not-true (part v) q) ∙ p))
-    ]
-
-within-one : (a b : Bool) → (a ≡ true → b ≡ true) → (b || not a) ≡ true
-within-one true b h = or_left b false (h refl)
-within-one false b h = or_right b true refl
-
-pub within-from : (n : ℕ) (part whole : ℕ → Bool) → ((v : ℕ) → v < n → part v ≡ true → whole v ≡ true) → is_within n part whole ≡ true
-within-from n part whole h = all_below-from n (λ v. whole v || not (part v)) (λ v l. within-one (part v) (whole v) (h v l))
 
 pub all_below-not : (n : ℕ) (test : ℕ → Bool) → all_below n test ≡ false → (v : ℕ) × (v < n) × (test v ≡ false)
 all_below-not zero test e = absurd (false≢true (sym e))
@@ -200,14 +187,6 @@ pub record IsSoundState (n : ℕ) (t : TourState) : Type 0 where
   pub either : (v : ℕ) → v < n → t.must v ≡ true → t.may v ≡ false
   pub no_must : t.must 0 ≡ false
   pub no_may : t.may 0 ≡ false
-
-one_of : (a b : Bool) → not (a && b) ≡ true → a ≡ true → b ≡ false
-one_of true b e p = not-true b e
-one_of false b e p = absurd (false≢true p)
-
-one_of-from : (a b : Bool) → (a ≡ true → b ≡ false) → not (a && b) ≡ true
-one_of-from true b h = ap not (h refl)
-one_of-from false b h = refl
 
 pub sound-gives : (n : ℕ) (t : TourState) → is_sound n t ≡ true → IsSoundState n t
 sound-gives n t e =

@@ -16,6 +16,7 @@ use Rattle.dp_model.specs.Prefixes.{IsContinuation, gain_of}
 use Rattle.dp_model.specs.Gaps.{IsStateOf, IsSoundGap, HasGap}
 use Rattle.dp_model.specs.Numbers.{AtMost, IsSmall as IsSmallNumber}
 use Rattle.dp_model.specs.Laws.{StepsAreStates, GapsAreSound, RoughBounds, SizesHold, IsLawful, IsChained}
+use Rattle.pending_rows.proofs.RowStates.{time-gives, word_small}
 use Rattle.tsp_windows.specs.Instance.{Instance, IsTourInstance, distance, opening, closing, near, least_way}
 use Rattle.tsp_windows.specs.States.{TourState, positions_of, must_of, may_of, time_of, shown, row_for, arrival, departure, moved, joined, covers, is_lost, way_left, start, is_sound, is_state_row}
 use Rattle.tsp_windows.specs.Laws.States.{IsWithinNodes, shown-row_for, positions_of-row_for, must_of-row_for, may_of-row_for, time_of-row_for, length-row_for, words_enough}
@@ -34,14 +35,6 @@ pub record IsStateRow (n : ℕ) (s : List ℤ) : Type 0 where
   pub time : time_of (words_for n) s ≡ pos (shown (words_for n) s).time
   pub in_time : (shown (words_for n) s).time ≤ 1000000000000
   pub bounded : IsWithinNodes n (shown (words_for n) s)
-
-record IsTime (z : ℤ) : Type 0 where
-  is : z ≡ pos (nat_abs z)
-  most : nat_abs z ≤ 1000000000000
-
-time-gives : (z : ℤ) → int_le (pos 0) z ≡ true → int_le z (pos 1000000000000) ≡ true → IsTime z
-time-gives (pos n) p q = record { is = refl; most = leb-true n 1000000000000 q }
-time-gives (negsuc n) p q = absurd (false≢true p)
 
 pub state_row-gives : (n : ℕ) (s : List ℤ) → is_state_row n s ≡ true → IsStateRow n s
 unfolding shown
@@ -256,9 +249,6 @@ way-most i t small =
     let few = small.few in
     let product : i.nodes * 1000000000 ≤ 300000000000 = omega (arith, few) in
     omega (arith, ways, home, product)
-
-word_small : (z : ℤ) → IsWord z → IsSmallNumber z
-word_small z w = small_positive z w.low (omega (arith, ints, w.high))
 
 cell_small : (n : ℕ) (s : List ℤ) → IsStateRow n s → (k : ℕ) → k < length s → IsSmallNumber (get_or s k (pos 0))
 cell_small n s row k l =

@@ -6,6 +6,8 @@ use Rattle.std.proofs.lemmas.List.{take_at, drop_at, drop-drop, get_or-append_ri
 use Rattle.node_sets.specs.Sets.{has, row_of, words_for}
 use Rattle.node_sets.proofs.Words.{has-past}
 use Rattle.node_sets.proofs.Made.{length-row_of, has-row_of}
+pub use Rattle.pending_rows.proofs.RowParts.{words_enough}
+use Rattle.pending_rows.proofs.RowParts.{has-row_of-all, behind}
 use Rattle.tsp_windows.specs.States.{TourState, positions_of, must_of, may_of, time_of, shown, row_for}
 
 -- no set of the state has a member at or above n
@@ -13,13 +15,6 @@ pub record IsWithinNodes (n : ℕ) (t : TourState) : Type 0 where
   pub positions : (v : ℕ) → n ≤ v → t.positions v ≡ false
   pub must : (v : ℕ) → n ≤ v → t.must v ≡ false
   pub may : (v : ℕ) → n ≤ v → t.may v ≡ false
-
-has-row_of-all : (words n : ℕ) (test : ℕ → Bool) → n ≤ 32 * words → ((v : ℕ) → n ≤ v → test v ≡ false) → (v : ℕ) → has (row_of words test) v ≡ test v
-has-row_of-all words n test l h v =
-    elim (cases_lt v (32 * words)) [
-      | inl m ↦ has-row_of words test v m
-      | inr m ↦ has-past (row_of words test) v (omega (arith, length-row_of words test)) ∙ sym (h v (omega arith))
-    ]
 
 pub positions_of-row_for : (words : ℕ) (t : TourState) → positions_of words (row_for words t) ≡ row_of words t.positions
 positions_of-row_for words t = take_at (row_of words t.positions) _ words (length-row_of words t.positions)
@@ -42,10 +37,6 @@ may_of-row_for words t =
     ∙ ap (drop words) (drop_at (row_of words t.positions) (row_of words t.must ++ (row_of words t.may ++ pos t.time ∷ [])) words (length-row_of words t.positions))
     ∙ drop_at (row_of words t.must) (row_of words t.may ++ pos t.time ∷ []) words (length-row_of words t.must))
     ∙ take_at (row_of words t.may) (pos t.time ∷ []) words (length-row_of words t.may)
-
-behind : (front rest : List ℤ) (words k : ℕ) → length front ≡ words → get_or (front ++ rest) (words + k) (pos 0) ≡ get_or rest k (pos 0)
-behind front rest words k l =
-    get_or-append_right front rest words (words + k) (pos 0) l (omega arith) ∙ (let e : words + k - words ≡ k = omega arith in ap (λ j. get_or rest j (pos 0)) e)
 
 pub time_of-row_for : (words : ℕ) (t : TourState) → time_of words (row_for words t) ≡ pos t.time
 time_of-row_for words t =
@@ -74,6 +65,3 @@ shown-row_for words n t l h =
     ∙ ap₂ (λ (p : ℕ → Bool) (m : ℕ). let s : TourState = record { positions = t.positions; must = t.must; may = p; time = m } in s)
     (ap has (may_of-row_for words t) ∙ fun_ext (has-row_of-all words n t.may l h.may))
     (ap nat_abs (time_of-row_for words t))
-
-pub words_enough : (n : ℕ) → n ≤ 32 * words_for n
-words_enough n = omega arith

@@ -6,13 +6,15 @@ use Rattle.std.proofs.lemmas.Int.{ints}
 use Rattle.std.proofs.lemmas.Bool.{cases_eq, cases_lt, false≢true, eqb-true, and_parts, and_from, or_left, not-true, cases_Bool, ne_eqb, leb-true, le-leb, ltb-true, lt-ltb}
 use Rattle.node_sets.specs.Sums.{count_below}
 use Rattle.node_sets.specs.Sets.{words_for}
-use Rattle.node_sets.proofs.Below.{sum_below-removed, sum_below-none, least_amount-none, least_amount-same, least_amount-skip, least_amount-next}
+use Rattle.node_sets.proofs.Below.{sum_below-none, count_below-none, least_amount-none, least_amount-same, least_amount-skip, least_amount-next}
 use Rattle.dp_model.specs.Prefixes.{IsSolution, gain_of, value_of}
+use Rattle.pending_rows.specs.Orders.{are_different}
+use Rattle.pending_rows.proofs.Covering.{sum-without}
 use Rattle.tsp_windows.specs.Instance.{Instance, IsTourInstance, distance, opening, closing}
 use Rattle.tsp_windows.specs.States.{TourState, from_elsewhere, leg, arrival, departure, moved, start, shown, row_for}
 use Rattle.tsp_windows.specs.Laws.States.{IsWithinNodes, shown-row_for, words_enough}
 use Rattle.tsp_windows.specs.Program.{program_of}
-use Rattle.tsp_windows.specs.OwnWords.{are_different, ends_at_home, is_order, end_time, negated, tour_value}
+use Rattle.tsp_windows.specs.OwnWords.{ends_at_home, is_order, end_time, negated, tour_value}
 use Rattle.dp_model.specs.Solution.{IsSolutionWith, SolutionGives}
 use Rattle.tsp_windows.specs.Laws.Moves.{visits, returns, may_visit-from, may_return-from, goes_on, goes_home, start-bounded}
 use Rattle.tsp_windows.specs.Laws.Walks.{IsGone, IsTour, last_time, tour-of_path, path-of_tour, gain-of_tour}
@@ -141,18 +143,7 @@ wider d (v ∷ vs) test h =
 -- one node less must be visited
 count-moved : (i : Instance) (t : TourState) (d : ℕ) → d < i.nodes → t.must d ≡ true → count_below i.nodes t.must ≡ count_below i.nodes (moved i t d).must + 1
 unfolding moved
-count-moved i t d l e =
-    sum_below-removed i.nodes d t.must (λ v. t.must v && not (nat_eq v d)) (λ _. 1) l e (gone (t.must d) (nat_eq d d) (eq-eqb d d refl)) (λ v n. kept (t.must v) (nat_eq v d) (ne_eqb v d n))
-  where
-    gone : (x y : Bool) → y ≡ true → (x && not y) ≡ false
-    gone true true e = refl
-    gone false true e = refl
-    gone x false e = absurd (false≢true e)
-
-    kept : (x y : Bool) → y ≡ false → (x && not y) ≡ x
-    kept true false e = refl
-    kept false false e = refl
-    kept x true e = absurd (false≢true (sym e))
+count-moved i t d l e = sum-without i.nodes d t.must (λ _. 1) l e
 
 must-moved-is : (i : Instance) (t : TourState) (d v : ℕ) → (moved i t d).must v ≡ (t.must v && not (nat_eq v d))
 unfolding moved
@@ -251,21 +242,6 @@ pub record IsTourWithEnd (i : Instance) (k : ℕ) (t : TourState) (ds : List ℕ
   pub tour : IsTour i k t ds
   pub last_is : last_time i t ds ≡ last
 
-none-must : (n : ℕ) (p : ℕ → Bool) → count_below n p ≡ 0 → (v : ℕ) → v < n → p v ≡ false
-none-must zero p e v l = absurd (omega arith)
-none-must (suc n) p e v l =
-    let parts : count_below n p + cond {A = ℕ} (p n) 1 0 ≡ 0 = e in
-    let rest : count_below n p ≡ 0 = omega (arith, parts) in
-    let here : cond {A = ℕ} (p n) 1 0 ≡ 0 = omega (arith, parts) in
-    elim (cases_eq v n) [
-      | inl s ↦ ap p s ∙ off (p n) here
-      | inr s ↦ none-must n p rest v (omega arith)
-    ]
-  where
-    off : (b : Bool) → cond {A = ℕ} b 1 0 ≡ 0 → b ≡ false
-    off true e = absurd (omega arith)
-    off false e = refl
-
 made-last : (i : Instance) (k here : ℕ) (t : TourState) (d last : ℕ) → IsTourInstance i → IsAtNode i.nodes here t → k + 1 ≡ i.nodes → (here ≡ 0 → i.nodes ≡ 1) → Lists i.nodes t.must (d ∷ []) → end_time i here t.time (d ∷ []) ≡ Some last → IsTourWithEnd i k t (d ∷ []) last
 made-last i k here t d last small a l single h e =
     let home : d ≡ 0 = eqb-true d 0 h.home in
@@ -280,7 +256,7 @@ made-last i k here t d last small a l single h e =
           choice = ltb-true d i.nodes (and_parts (nat_lt d i.nodes) true h.inside).0;
           test = goes_home i k t d (omega arith) ∙ may_return-from i t d (record {
             home = home;
-            done = none-must i.nodes t.must (omega (arith, h.whole));
+            done = count_below-none i.nodes t.must (omega (arith, h.whole));
             reached = elim (cases_eq here d) [
               | inl s ↦ inr (single (s ∙ home))
               | inr s ↦ inl (ap is_some (leg-at i here d t a s))

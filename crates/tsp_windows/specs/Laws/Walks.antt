@@ -8,11 +8,13 @@ use Rattle.node_sets.specs.Sums.{sum_below, count_below}
 use Rattle.node_sets.specs.Sets.{words_for}
 use Rattle.node_sets.proofs.Below.{sum_below-same, sum_below-removed, sum_below-none}
 use Rattle.dp_model.specs.Prefixes.{IsPath, gain_of}
+use Rattle.pending_rows.specs.Pending.{Pending, done}
+use Rattle.pending_rows.proofs.Covering.{Covers, within-gives, within-from, open_joined, done-covers, sum-most}
 use Rattle.tsp_windows.specs.Instance.{Instance, distance, closing, near}
 use Rattle.tsp_windows.specs.States.{TourState, from_elsewhere, leg, arrival, departure, may_go, moved, is_open, joined, is_within, covers, way_left, shown, row_for}
 use Rattle.tsp_windows.specs.Laws.States.{IsWithinNodes, shown-row_for, words_enough}
 use Rattle.tsp_windows.specs.Program.{program_of}
-use Rattle.tsp_windows.specs.Laws.Moves.{within-gives, within-from, NoMore, least_amount-wider, NoMore-or, NoMore-some, near-le-arrival, near-alone, leg-alone, visits, returns, may_visit-from, may_return-from, goes_on, goes_home, moved-bounded}
+use Rattle.tsp_windows.specs.Laws.Moves.{NoMore, least_amount-wider, NoMore-or, NoMore-some, near-le-arrival, near-alone, leg-alone, visits, returns, may_visit-from, may_return-from, goes_on, goes_home, moved-bounded}
 
 -- the decision may be taken
 pub record IsGone (i : Instance) (k : ℕ) (t : TourState) (d : ℕ) : Type 0 where
@@ -66,15 +68,6 @@ CoversTour-chain n a b c p q = record {
   time = omega (arith, p.time, q.time);
 }
 
-open_joined : (a b c d : Bool) → (a || b) ≡ true ⊎ ((c || d) ≡ true) → ((a && c) || (((a || b) || (c || d)) && not (a && c))) ≡ true
-open_joined true b true d h = refl
-open_joined true b false d h = refl
-open_joined false true c d h = refl
-open_joined false false true d h = refl
-open_joined false false false true h = refl
-open_joined false false false false (inl e) = absurd (false≢true e)
-open_joined false false false false (inr e) = absurd (false≢true e)
-
 -- what is joined covers a state that has no test and no time beyond those of the two
 joined-covers : (n : ℕ) (a b s : TourState) → ((test : TourState → Bool) → test s ≡ true → (test a ≡ true) ⊎ (test b ≡ true)) →
     ((test : TourState → Bool) → (test a && test b) ≡ true → test s ≡ true) → (joined a b).time ≤ s.time → CoversTour n (joined a b) s
@@ -113,19 +106,16 @@ pub record TakenNoLater (i : Instance) (k : ℕ) (a b : TourState) (d : ℕ) : T
   pub gone : IsGone i k a d
   pub covered : CoversTour i.nodes (moved i a d) (moved i b d)
 
+-- the state but for its positions
+abbrev pending_of : TourState → Pending
+pending_of t = record { must = t.must; may = t.may; time = t.time }
+
 moved-covers : (i : Instance) (a b : TourState) (d : ℕ) → CoversTour i.nodes a b → arrival i a d ≤ arrival i b d → CoversTour i.nodes (moved i a d) (moved i b d)
-unfolding moved
-moved-covers i a b d c l = record {
-  positions = λ v m e. e;
-  must = λ v m e. and_from (b.must v) (not (nat_eq v d)) (c.must v m (and_parts (a.must v) (not (nat_eq v d)) e).0) (and_parts (a.must v) (not (nat_eq v d)) e).1;
-  pending = λ v m e. part (a.must v) (a.may v) (b.must v) (b.may v) (not (nat_eq v d)) (c.pending v m) e;
-  time = omega arith;
-}
-  where
-    part : (x y z w keep : Bool) → ((z || w) ≡ true → (x || y) ≡ true) → ((z && keep) || (w && keep)) ≡ true → ((x && keep) || (y && keep)) ≡ true
-    part x y z w keep h e =
-        let left = and_parts (z || w) keep (and-or_distrib_right z w keep ∙ e) in
-        sym (and-or_distrib_right x y keep) ∙ and_from (x || y) keep (h left.0) left.1
+unfolding moved done
+moved-covers i a b d c l =
+    let before : Covers i.nodes (pending_of a) (pending_of b) = record { must = c.must; pending = c.pending; time = c.time } in
+    let rest = done-covers i.nodes (pending_of a) (pending_of b) d (departure i a d) (departure i b d) before (omega arith) in
+    record { positions = λ v m e. e; must = rest.must; pending = rest.pending; time = rest.time }
 
 follows-visit : (i : Instance) (k : ℕ) (a b : TourState) (d : ℕ) → CoversTour i.nodes a b → IsGone i k b d → k + 1 < i.nodes → TakenNoLater i k a b d
 follows-visit i k a b d c g l =
@@ -190,25 +180,7 @@ pub record Costs (i : Instance) (k : ℕ) (t : TourState) (ds : List ℕ) : Type
 -- a visit takes at most one node from those that must be visited
 sum-moved : (i : Instance) (t : TourState) (d : ℕ) (f : ℕ → ℕ) → d < i.nodes → sum_below i.nodes t.must f ≤ sum_below i.nodes (moved i t d).must f + f d
 unfolding moved
-sum-moved i t d f l =
-    elim (cases_Bool (t.must d)) [
-      | inl e ↦ (let removed = sum_below-removed i.nodes d t.must (λ v. t.must v && not (nat_eq v d)) f l e (gone (t.must d) d) (λ v n. kept (t.must v) v n) in omega (arith, removed))
-      | inr e ↦ (let same = sum_below-same i.nodes t.must (λ v. t.must v && not (nat_eq v d)) f (λ v m. still v e) in omega (arith, same))
-    ]
-  where
-    gone : (b : Bool) (v : ℕ) → (b && not (nat_eq v v)) ≡ false
-    gone true v = ap not (eq-eqb v v refl)
-    gone false v = refl
-
-    kept : (b : Bool) (v : ℕ) → v ≢ d → (b && not (nat_eq v d)) ≡ b
-    kept true v n = ap not (ne_eqb v d n)
-    kept false v n = refl
-
-    still : (v : ℕ) → t.must d ≡ false → t.must v ≡ (t.must v && not (nat_eq v d))
-    still v e = elim (cases_eq v d) [
-      | inl s ↦ ap t.must s ∙ e ∙ sym (ap (λ b. b && not (nat_eq v d)) (ap t.must s ∙ e))
-      | inr n ↦ sym (kept (t.must v) v n)
-    ]
+sum-moved i t d f l = sum-most i.nodes d t.must f l
 
 must-moved : (i : Instance) (t : TourState) (d v : ℕ) → v ≢ d → t.must v ≡ true → (moved i t d).must v ≡ true
 unfolding moved

@@ -1,5 +1,5 @@
 use Rattle.std.proofs.Common.{◌≡◌, length}
-use Rattle.dd_text.specs.Text.{IsCountable}
+use Rattle.tokens.specs.Text.{IsCountable}
 use Rattle.cover_text.specs.Instances.{place_behind, end_place}
 use Rattle.cover_text.proofs.instance.end_place.Given as goal
 

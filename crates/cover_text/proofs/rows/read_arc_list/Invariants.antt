@@ -1,5 +1,5 @@
 use Rattle.std.proofs.Common.{◌≡◌, ◌-◌}
-use Rattle.dd_text.specs.Text.{ends_line}
+use Rattle.tokens.specs.Text.{ends_line}
 use Rattle.cover_text.specs.Grammar.{until}
 use Rattle.cover_text.specs.RowLines.{arc_at}
 use Rattle.cover_text.proofs.rows.read_arc_list.Given as goal

@@ -4,7 +4,7 @@ use Rattle.journal_bytes.specs.Frames.{Frame, frames_of, no_digest}
 use Rattle.journal_bytes.specs.Journal.{head_view, journal_of}
 use Rattle.journal_bytes.specs.Spelling.{head_frame}
 use Rattle.journal_file.specs.Beginning.{IsBegun}
-use Rattle.dd_disk.proofs.Runs.{started}
+use Rattle.disk.proofs.Runs.{started}
 use Rattle.journal_file.proofs.Begun as begun
 use Rattle.journal_file.proofs.beginning.add_head.Goals as goal
 

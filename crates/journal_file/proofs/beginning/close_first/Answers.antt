@@ -1,9 +1,9 @@
 use Rattle.std.proofs.Common.{◌≡◌, ap, ◌∙◌, subst, Err}
 use Rattle.journal_bytes.specs.declared.refusal.Refusal.TheVariants.{NotBegun}
-use Rattle.dd_disk.specs.Disk.{Torn}
+use Rattle.disk.specs.Disk.{Torn}
 use Rattle.journal_bytes.specs.Journal.{journal_of}
 use Rattle.journal_file.specs.Beginning.{IsProbed}
-use Rattle.dd_disk.proofs.Runs.{started, weaker}
+use Rattle.disk.proofs.Runs.{started, weaker}
 use Rattle.journal_file.proofs.Begun.{probed_not_begun, torn_first}
 use Rattle.journal_file.proofs.beginning.close_first.Goals as goal
 

@@ -1,6 +1,6 @@
 use Rattle.std.proofs.Common.{◌≡◌, ◌⊎◌, ◌∙◌, List, ℕ, sym, subst}
 use Rattle.std.proofs.lemmas.Result.{err_from_is_err_and}
-use Rattle.dd_disk.specs.Disk.{Only}
+use Rattle.disk.specs.Disk.{Only}
 use Rattle.journal_bytes.specs.Journal.{journal_view}
 use Rattle.journal_file.specs.declared.error.JournalError.TheVariants.{Disk, OutOfMemory}
 use Rattle.journal_file.proofs.Opened.{opened, not_read}

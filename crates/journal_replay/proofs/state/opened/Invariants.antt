@@ -1,6 +1,6 @@
 use Rattle.std.proofs.Common.{◌≡◌, ◌+◌, ◌++◌, length}
 use Rattle.std.specs.Vec.Iter.{into_iter_items, into_iter_len}
-use Rattle.search_core.specs.Opened.{ticketed}
+use Rattle.board.specs.Opened.{ticketed}
 use Rattle.journal_replay.specs.Places.{listed_from}
 use Rattle.journal_replay.proofs.state.opened.Given as goal
 

@@ -1,5 +1,5 @@
 use Rattle.std.proofs.Common.{arith, sym, ◌∙◌}
-use Rattle.dd_text.proofs.Chains.{times_more, times_done, times_steps}
+use Rattle.tokens.proofs.Chains.{times_more, times_done, times_steps}
 use Rattle.knapsack.specs.Reading.{item_behind}
 use Rattle.knapsack.proofs.reading.next_items.Goals as goal
 

@@ -1,6 +1,6 @@
 use Rattle.std.proofs.Common.{◌≡◌, ◌+◌, ◌-◌, length, true}
 use Rattle.std.specs.List.{list_all}
-use Rattle.dd_text.specs.Grammar.{times}
+use Rattle.tokens.specs.Grammar.{times}
 use Rattle.knapsack.specs.Instance.{is_small_item}
 use Rattle.knapsack.specs.Reading.{item_behind}
 use Rattle.knapsack.proofs.reading.next_items.Given as goal

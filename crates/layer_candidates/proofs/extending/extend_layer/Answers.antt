@@ -1,3 +1,4 @@
+use Rattle.std.specs.Int.{IsPowerOfTwo}
 use Rattle.std.proofs.Common.{◌≡◌, ◌+◌, ◌∷◌, ◌++◌, [], length, take, drop, IsTrue, sym, ap, subst, ◌∙◌, arith}
 use Rattle.std.proofs.lemmas.List.{length-take-le, drop_more}
 use Rattle.std.proofs.lemmas.List.Sorted.{IsPermutation-sym, IsPermutation-to_front}
@@ -16,7 +17,6 @@ members-init g c =
     let a = c.args in
     let slots = c.slots_for-slots.result in
     let size : length (take slots a.heads.now) ≡ slots = length-take-le slots a.heads.now (let few = c.slots_for-slots.ensures.within in omega arith) in
-    let some = c.slots_for-slots.ensures.some in
     let places = member_rows a.members.now in
     let spot = c.take_row-spot.result.place in
     let new = c.take_row-spot.new.region in
@@ -26,7 +26,7 @@ members-init g c =
     record {
       extended = subst (λ l. AreExtended dp a.k 0 a.region.now c.first_live-live.result a.members.now (way_row new l) l a.folds.now c.reset.new.heads a.next.now) (sym c.clear.ensures.items)
           (subst (λ l. AreExtended dp a.k 0 a.region.now c.first_live-live.result a.members.now (way_row new []) [] a.folds.now l a.next.now) (sym c.reset.ensures)
-          (members-start dp a.k a.region.now c.first_live-live.result a.members.now (way_row new []) a.folds.now a.next.now (length (take slots a.heads.now)) (omega arith)));
+          (members-start dp a.k a.region.now c.first_live-live.result a.members.now (way_row new []) a.folds.now a.next.now (length (take slots a.heads.now)) (subst IsPowerOfTwo (sym size) c.slots_for-slots.ensures.power)));
       exchanged = subst (λ l. HasExchanged a.region.now places new (places ++ spot ∷ rows_of l)) (sym c.clear.ensures.items) behind;
       same = put-same a.region.now new spot put.0 put.2 put.1 places c.requires.live.live;
       capacity = c.clear.ensures.capacity;

@@ -1,5 +1,5 @@
 use Rattle.std.proofs.Common.{◌≡◌, ◌-◌}
-use Rattle.dd_text.specs.Grammar.{times}
+use Rattle.tokens.specs.Grammar.{times}
 use Rattle.max_cut.specs.Graph.{IsGraph}
 use Rattle.max_cut.specs.Edges.{edge_at}
 use Rattle.max_cut.proofs.edges.read_edges.Given as goal

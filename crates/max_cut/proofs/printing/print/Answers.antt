@@ -1,5 +1,5 @@
 use Rattle.std.proofs.Common.{ap, ◌∙◌}
-use Rattle.dd_text.specs.declared.comment.Comment.TheVariants.{Never}
+use Rattle.tokens.specs.declared.comment.Comment.TheVariants.{Never}
 use Rattle.max_cut.specs.Edges.{instance_text}
 use Rattle.max_cut.specs.Shown.{instance_in}
 use Rattle.max_cut.proofs.Rereading.{reads_back}

@@ -1,6 +1,6 @@
 use Rattle.std.proofs.Common.{◌∙◌, ap, arith, length, List, ℕ}
-use Rattle.dd_text.specs.Text.{text_start}
-use Rattle.dd_text.specs.declared.comment.Comment.TheVariants.{LetterC}
+use Rattle.tokens.specs.Text.{text_start}
+use Rattle.tokens.specs.declared.comment.Comment.TheVariants.{LetterC}
 use Rattle.max_two_sat.specs.Shown.{instance_in}
 use Rattle.max_two_sat.specs.Texts.{instance_at}
 use Rattle.max_two_sat.proofs.ReadsBack.{reads_back}

@@ -1,5 +1,5 @@
 use Rattle.std.proofs.Common.{arith, sym, ◌∙◌}
-use Rattle.dd_text.proofs.Chains.{times_more, times_done, times_steps}
+use Rattle.tokens.proofs.Chains.{times_more, times_done, times_steps}
 use Rattle.max_two_sat.specs.Drafted.{gathered_in}
 use Rattle.max_two_sat.specs.Texts.{clause_at}
 use Rattle.max_two_sat.proofs.reading_clauses.read_clauses.Goals as goal

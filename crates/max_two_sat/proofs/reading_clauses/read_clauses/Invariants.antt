@@ -1,5 +1,5 @@
 use Rattle.std.proofs.Common.{◌≡◌, ◌-◌}
-use Rattle.dd_text.specs.Grammar.{times}
+use Rattle.tokens.specs.Grammar.{times}
 use Rattle.max_two_sat.specs.Drafted.{gathered_in}
 use Rattle.max_two_sat.specs.Room.{IsGathering}
 use Rattle.max_two_sat.specs.Texts.{clause_at}

@@ -1,9 +1,10 @@
 use Rattle.std.proofs.Common.{ap, subst}
 use Rattle.std.specs.Arc.{arc_value}
 use Rattle.dp_model.specs.Laws.{IsLawful}
-use Rattle.solver_jobs.specs.Kept.{head_of}
-use Rattle.solver_jobs.proofs.Journaled.{BeginsSince, left-begun-alone}
-use Rattle.solver_cli.proofs.Beginning.{begun-solves, since-before}
+use Rattle.answers.specs.Kept.{head_of}
+use Rattle.answers.specs.Journals.{IsRefusedToBegin}
+use Rattle.answers.proofs.Journaled.{BeginsSince, left-begun-alone, still-attaches}
+use Rattle.solver_cli.proofs.Beginning.{begun-solves}
 use Rattle.solver_cli.proofs.keeping.search_kept.Given as given
 use Rattle.solver_cli.proofs.keeping.search_kept.Goals as goal
 
@@ -16,13 +17,25 @@ returns-in-Ok-clause-solves g c =
     let dp = g.P.DpModel.meaning here in
     let own = g.P.Problem.theory.own_value here in
     let head = head_of g.P.Problem.theory c.args.name here in
-    begun-solves g.D.Disk dp own head c.args.search c.args.disk c.search_begun.result.1 c.search_begun.result.0
-    (since-before g.D.Disk dp own head c.args.search c.args.disk c.begin_journal.new.disk c.search_begun.result.1 c.search_begun.result.0 c.begin_journal.ensures.faults c.search_begun.ensures.ends)
+    begun-solves g.D.Disk dp own head c.args.search c.args.disk c.search_begun.result.1 c.search_begun.result.0 c.search_begun.ensures.ends
+
+pub returns-in-Ok-clause-left : goal.returns-in-Ok-clause-left
+returns-in-Ok-clause-left g c =
+    (still-attaches g.D.Disk c.args.path.now c.args.disk c.begin_journal.new.disk c.search_begun.result.1 c.in-Ok.ensures.began c.search_begun.ensures.names c.begin_journal.ensures.attaches, c.search_begun.ensures.left)
+
+pub returns-in-Err-clause-solves : goal.returns-in-Err-clause-solves
+returns-in-Err-clause-solves g c =
+    let asked = c.requires.begun.ready.prepared.asked in (
+      subst (λ ns. IsRefusedToBegin g.D.Disk (head_of g.P.Problem.theory c.args.name ns) c.args.disk c.begin_journal.new.disk c.in-Err.error) (ap g.P.DpModel.numbers c.deref.ensures) c.in-Err.ensures.refused,
+      (c.args.start.board.board.settings.width, asked.wide),
+    )
 
 pub returns-in-Err-clause-left : goal.returns-in-Err-clause-left
 returns-in-Err-clause-left g c =
     let m = arc_value c.args.start.model in
     let here = g.P.DpModel.numbers m in
-    let now = c.begin_journal.new.disk in
-    left-begun-alone g.D.Disk (g.P.DpModel.meaning here) now (head_of g.P.Problem.theory c.args.name here) (laws_of g m) c.begin_journal.ensures.spared
-    (subst (λ ns. BeginsSince g.D.Disk (head_of g.P.Problem.theory c.args.name ns) now) (ap g.P.DpModel.numbers c.deref.ensures) c.begin_journal.ensures.since)
+    let now = c.begin_journal.new.disk in (
+      c.begin_journal.ensures.attaches,
+      left-begun-alone g.D.Disk (g.P.DpModel.meaning here) now (head_of g.P.Problem.theory c.args.name here) (laws_of g m) c.begin_journal.ensures.spared
+          (subst (λ ns. BeginsSince g.D.Disk (head_of g.P.Problem.theory c.args.name ns) now) (ap g.P.DpModel.numbers c.deref.ensures) c.begin_journal.ensures.since),
+    )

@@ -1,14 +1,19 @@
 use Rattle.std.proofs.Common.{true, is_some, ap, subst, sym, ◌∙◌}
+use Rattle.answers.proofs.Journaled.{none-follow}
 use Rattle.dp_model.specs.Laws.{IsLawful}
 use Rattle.journal_bytes.specs.Journal.{head_view}
-use Rattle.solver_jobs.specs.Kept.{GoesOn}
+use Rattle.answers.specs.Kept.{GoesOn, MayBeAdded}
 use Rattle.solver_cli.proofs.GoingOn.{first-good, first-restored, gone-on, leaves, leaves-it, reported}
 use Rattle.solver_cli.proofs.Told.{keeps-here, searched-here}
 use Rattle.solver_cli.proofs.resuming.resume_search.Given as given
+use Rattle.problem_theory.specs.Theory.{Agrees}
 use Rattle.solver_cli.proofs.resuming.resume_search.Goals as goal
 
 laws_of : (g : given.Over) (m : g.row.P.Denot) → IsLawful (g.P.DpModel.meaning (g.P.DpModel.numbers m))
 laws_of g m = (g.met.P.DpModel g.world.𝓛 g.world.𝓜 g.world.𝓡 ((λ s x. x), (λ x. x), (λ x. x), λ x. x)).lawful m
+
+agrees_of : (g : given.Over) (m : g.row.P.Denot) → Agrees (g.P.DpModel.meaning (g.P.DpModel.numbers m)) (g.P.Problem.theory.own_value (g.P.DpModel.numbers m))
+agrees_of g m = (g.met.P.Problem g.world.𝓛 g.world.𝓜 g.world.𝓡 ((λ s x. x), (λ x. x), (λ x. x), λ x. x)).agrees m
 
 pub returns-in-Ok-clause-goes_on : goal.returns-in-Ok-clause-goes_on
 returns-in-Ok-clause-goes_on g c =
@@ -25,11 +30,11 @@ returns-in-Ok-clause-goes_on g c =
     let on = c.in-Ok.ensures.goes_on in
     let ended = c.search_from-ended.result.0 in
     let now = c.search_from-ended.result.1 in
-    let searched = searched-here g.D.Disk meaning (g.P.DpModel.numbers c.deref.result.now) here at c.new-kept.result board c.args.disk true kept.board kept.made (ap is_some kept.tail) now own c.args.search ended c.search_from-ended.ensures.searched in
+    let searched = searched-here g.D.Disk meaning (g.P.DpModel.numbers c.deref.result.now) here at c.new-kept.result board c.args.disk true kept.board kept.made (ap is_some kept.tail) now own c.args.search ended (c.search_from-ended.ensures.searched (own (g.P.DpModel.numbers c.deref.result.now)) (agrees_of g c.deref.result.now)) in
     let gone = gone-on g.D.Disk dp (own here) head records.records c.args.search c.requires.may.exact c.args.disk c.args.tail c.requires.opened now board.first on.accepted (first-restored dp c.args.search records board start.desks on)
     (first-good dp (laws_of g c.args.model) c.args.search records board start.desks c.requires.may.may c.requires.may.exact on) ended searched in
-    subst (GoesOn g.D.Disk dp (own here) head records.records records.first c.args.search c.args.disk now) (sym c.report_of.ensures)
-    (reported g.D.Disk dp (own here) head records.records c.args.search records.first c.args.disk now c.requires.coverless ended gone)
+    subst (GoesOn g.D.Disk dp (own here) head records.records records.first c.args.search now) (sym c.report_of.ensures)
+    (reported g.D.Disk dp (own here) head records.records c.args.search records.first now c.requires.coverless ended gone)
 
 pub returns-in-Ok-clause-left : goal.returns-in-Ok-clause-left
 returns-in-Ok-clause-left g c =
@@ -44,4 +49,7 @@ returns-in-Ok-clause-left g c =
     leaves g.D.Disk (meaning here) (own here) (head_view c.args.head.now) c.args.records.now.records c.args.search c.requires.may.exact c.args.disk c.args.tail c.requires.opened now board.board.settings c.in-Ok.ensures.goes_on.ready.prepared.asked.distance keeps
 
 pub returns-in-Err-clause-left : goal.returns-in-Err-clause-left
-returns-in-Err-clause-left g c = leaves-it g.D.Disk (head_view c.args.head.now) c.args.records.now.records c.args.disk c.args.tail c.requires.opened
+returns-in-Err-clause-left g c =
+    let dp = g.P.DpModel.meaning (g.P.DpModel.numbers c.args.model) in
+    let rs = c.args.records.now.records in
+    leaves-it g.D.Disk (MayBeAdded dp rs) (head_view c.args.head.now) rs c.args.disk c.args.tail c.requires.opened (none-follow g.D.Disk dp rs)

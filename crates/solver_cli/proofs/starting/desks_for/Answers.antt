@@ -1,13 +1,14 @@
-use Rattle.std.proofs.Common.{List, arith, subst, sym}
+use Rattle.std.proofs.Common.{◌≡◌, List, arith, subst, sym}
 use Rattle.std.proofs.lemmas.List.Elements.{All-push}
 use Rattle.std.specs.List.{All}
-use Rattle.worker_gate.specs.Prepared.{IsPreparedDesk}
-use Rattle.worker_gate.specs.declared.desk.Desk.{Desk}
+use Rattle.search_workers.specs.Prepared.{IsPreparedDesk}
+use Rattle.search_workers.specs.declared.desk.Desk.{Desk}
 use Rattle.solver_cli.proofs.starting.desks_for.Goals as goal
 
 pub loop-made-preserved : goal.loop-made-preserved
 loop-made-preserved g c =
     let D : Desk → Type 0 = IsPreparedDesk (g.M.DpModel.meaning (g.M.DpModel.numbers c.args.model.now)) c.args.width in
+    let K : Desk → Type 0 = λ desk. desk.kind ≡ c.args.cutset in
     let i = c.loop-made.invariant in
     let e = c.push_reserved-in-loop-made.ensures in (
       omega (arith, i.0, e.len),
@@ -15,4 +16,5 @@ loop-made-preserved g c =
       omega (arith, i.2, e.capacity),
       subst (λ (xs : List Desk). All D xs) (sym {A = List Desk} e.items) (All-push D c.loop-made.desks.items c.in_ok-prepare.field-0 i.3 c.in_ok-prepare.ensures.desk),
       i.4,
+      subst (λ (xs : List Desk). All K xs) (sym {A = List Desk} e.items) (All-push K c.loop-made.desks.items c.in_ok-prepare.field-0 i.5 c.in_ok-prepare.ensures.kind),
     )

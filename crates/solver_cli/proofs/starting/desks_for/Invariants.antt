@@ -1,7 +1,8 @@
 use Rattle.std.proofs.Common.{◌≡◌, ◌≤◌, vec_len, vec_capacity}
 use Rattle.std.specs.List.{All}
 use Rattle.layer_build.specs.Layers.{IsWidth}
-use Rattle.worker_gate.specs.Prepared.{IsPreparedDesk}
+use Rattle.search_workers.specs.Prepared.{IsPreparedDesk}
+use Rattle.search_workers.specs.declared.desk.Desk.{Desk}
 use Rattle.solver_cli.proofs.starting.desks_for.Given as goal
 
 abbrev pub invariant-loop-made : goal.invariant-loop-made
@@ -9,3 +10,4 @@ invariant-loop-made g l =
     (vec_len l.desks ≡ l._made) × (l._made ≤ l.workers) × (l.workers ≤ vec_capacity l.desks)
     × All (IsPreparedDesk (g.M.DpModel.meaning (g.M.DpModel.numbers l.model)) l.width) l.desks.items
     × IsWidth (g.M.DpModel.meaning (g.M.DpModel.numbers l.model)) l.width
+    × All (λ (desk : Desk). desk.kind ≡ l.cutset) l.desks.items

@@ -4,10 +4,10 @@ use Rattle.solver_words.specs.Words.{solve_syntax, solve_line}
 use Rattle.solver_words.proofs.Meanings.{told, untold}
 use Rattle.solver_words.proofs.reading.read_solve.Goals as goal
 
-pub returns-in_err-matches-clause-answer : goal.returns-in_err-matches-clause-answer
-returns-in_err-matches-clause-answer c =
+pub returns-in_err-matches : goal.returns-in_err-matches
+returns-in_err-matches c =
     untold (line_of solve_syntax (drop 1 (map string_bytes c.args.words.now))) solve_line c.from_residual.result c.in_err-matches.field-0.0 c.from_residual.ensures.1 c.in_err-matches.ensures
 
-pub returns-clause-answer : goal.returns-clause-answer
-returns-clause-answer c =
-    told solve_syntax (line_of solve_syntax (drop 1 (map string_bytes c.args.words.now))) c.in_ok-matches.matches solve_line c.solve_job.result c.in_ok-matches.ensures c.solve_job.ensures.answer
+pub returns : goal.returns
+returns c =
+    told solve_syntax (line_of solve_syntax (drop 1 (map string_bytes c.args.words.now))) c.in_ok-matches.matches solve_line c.solve_job.result c.in_ok-matches.ensures c.solve_job.ensures

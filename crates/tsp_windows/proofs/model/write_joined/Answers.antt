@@ -2,7 +2,8 @@ use Rattle.std.proofs.Common.{ℤ, List, ◌&&◌, ◌||◌, not, length, take, 
 use Rattle.node_sets.specs.Sets.{AreWords, words_for, row_of, has}
 use Rattle.tsp_windows.specs.States.{shown, joined}
 use Rattle.tsp_windows.specs.Laws.Program.{state_row-gives}
-use Rattle.tsp_windows.proofs.Assembled.{assembled, time_cell, split_must, split_may}
+use Rattle.pending_rows.proofs.Written.{time_cell}
+use Rattle.tsp_windows.proofs.Assembled.{assembled, split_must, split_may}
 use Rattle.tsp_windows.proofs.model.write_joined.Goals as goal
 
 pub union_with-requires-clause-cells : goal.union_with-requires-clause-cells

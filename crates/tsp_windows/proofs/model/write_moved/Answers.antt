@@ -2,7 +2,8 @@ use Rattle.std.proofs.Common.{ℤ, List, ◌&&◌, not, nat_eq, length, sym, ap,
 use Rattle.node_sets.specs.Sets.{words_for, row_of, has}
 use Rattle.tsp_windows.specs.States.{shown, moved}
 use Rattle.tsp_windows.specs.Shown.{instance_in}
-use Rattle.tsp_windows.proofs.Assembled.{assembled, time_cell}
+use Rattle.pending_rows.proofs.Written.{time_cell}
+use Rattle.tsp_windows.proofs.Assembled.{assembled}
 use Rattle.tsp_windows.proofs.model.write_moved.Goals as goal
 
 pub split_at_mut-positions-requires : goal.split_at_mut-positions-requires

@@ -4,7 +4,8 @@ use Rattle.node_sets.specs.Sets.{words_for}
 use Rattle.tsp_windows.specs.Instance.{Window, no_window}
 use Rattle.tsp_windows.specs.States.{start}
 use Rattle.tsp_windows.specs.Shown.{instance_in}
-use Rattle.tsp_windows.proofs.Assembled.{assembled, time_cell}
+use Rattle.pending_rows.proofs.Written.{time_cell}
+use Rattle.tsp_windows.proofs.Assembled.{assembled}
 use Rattle.tsp_windows.proofs.model.write_root.Goals as goal
 
 pub returns : goal.returns

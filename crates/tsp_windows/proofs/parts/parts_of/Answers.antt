@@ -1,6 +1,6 @@
 use Rattle.std.proofs.Common.{◌*◌, pos, get_or, ap, ◌∙◌}
 use Rattle.tsp_windows.specs.Laws.Program.{state_row-gives}
-use Rattle.tsp_windows.proofs.StateLemmas.{time_read}
+use Rattle.pending_rows.proofs.Written.{time_read}
 use Rattle.tsp_windows.proofs.parts.parts_of.Goals as goal
 
 pub returns-clause-time : goal.returns-clause-time

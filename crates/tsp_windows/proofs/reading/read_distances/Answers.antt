@@ -1,5 +1,5 @@
 use Rattle.std.proofs.Common.{arith, sym, ◌∙◌}
-use Rattle.dd_text.proofs.Chains.{times_more, times_done, times_steps}
+use Rattle.tokens.proofs.Chains.{times_more, times_done, times_steps}
 use Rattle.tsp_windows.specs.Texts.{distance_at}
 use Rattle.tsp_windows.proofs.reading.read_distances.Goals as goal
 

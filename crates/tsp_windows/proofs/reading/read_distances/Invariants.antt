@@ -1,5 +1,5 @@
 use Rattle.std.proofs.Common.{◌≡◌, ◌-◌}
-use Rattle.dd_text.specs.Grammar.{times}
+use Rattle.tokens.specs.Grammar.{times}
 use Rattle.tsp_windows.specs.Texts.{distance_at}
 use Rattle.tsp_windows.proofs.reading.read_distances.Given as goal
 

@@ -11,8 +11,8 @@ pub returns-in-Err : goal.returns-in-Err
 returns-in-Err g c =
     let dp = g.M.DpModel.meaning (g.M.DpModel.numbers c.args.model.now) in
     let o = opened_in c.args.self.now in
-    let least = c.requires.least in
-    let most = c.requires.most in
+    let least = c.requires.distance.least in
+    let most = c.requires.distance.most in
     let fits : FitsSigned w64 o.within = omega (arith, ints) in
     let within = subst (λ w. Fails c.in-Err.fault (tested_sections dp o.best w c.as_slice-assignment.result.now o.behind)) (to_z-of_z w64 o.within fits) c.in-Err.ensures in
     let fails = subst (λ x. Fails c.in-Err.fault (tested_sections dp o.best o.within x o.behind)) c.as_slice-assignment.ensures.value within in

@@ -1,6 +1,6 @@
 use Rattle.std.proofs.Common.{◌∙◌, arith}
 use Rattle.node_sets.specs.Sets.{words_for}
-use Rattle.tsp_windows.proofs.Assembled.{time_cell}
+use Rattle.pending_rows.proofs.Written.{time_cell}
 use Rattle.tsp_windows.proofs.Lost.{count_shown, count_few}
 use Rattle.tsp_windows.proofs.instance.TspWindows.left.Goals as goal
 

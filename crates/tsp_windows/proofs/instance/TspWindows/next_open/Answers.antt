@@ -1,6 +1,7 @@
 use Rattle.std.proofs.Common.{arith}
 use Rattle.node_sets.specs.Sets.{words_for}
-use Rattle.tsp_windows.proofs.StateLemmas.{open_shown, open_inside}
+use Rattle.pending_rows.proofs.Tests.{open_inside}
+use Rattle.tsp_windows.proofs.StateLemmas.{open_shown}
 use Rattle.tsp_windows.proofs.instance.TspWindows.next_open.Goals as goal
 
 pub returns-in-Some-clause-within : goal.returns-in-Some-clause-within

@@ -1,0 +1,6 @@
+pub mod Conclusions
+pub mod Covered
+pub mod Ending
+pub mod Reports
+pub mod Checked
+pub mod Journaled

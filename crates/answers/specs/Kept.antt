@@ -1,0 +1,96 @@
+-- When the answer to a search that keeps a journal is right.
+use Rattle.std.specs.Prelude.{◌≡◌, ◌⊎◌, ℕ, ℤ, pos, List, [], Option, MatchResult, IfOk, IsSome, IsTrue}
+use Rattle.disk.specs.declared.disk.Disk.{Ghosts}
+use Rattle.disk.specs.Counts.{Rose}
+use Rattle.dp_model.specs.Dp.{Dp}
+use Rattle.journal_bytes.specs.Bodies.{RecordView}
+use Rattle.journal_bytes.specs.Frames.{frames_of}
+use Rattle.journal_bytes.specs.Journal.{HeadView, JournalView, HasRecords, behind_head, journal_of}
+use Rattle.journal_file.specs.Refusing.{error_of}
+use Rattle.journal_file.specs.declared.error.JournalError.TheVariants as errors
+use Rattle.journal_replay.specs.Accepting.{AreAccepted, AreRefused}
+use Rattle.journal_replay.specs.Replay.{replay_of, replay_start, restored_from}
+use Rattle.journal_replay.specs.Sound.{AreSound}
+use Rattle.kept_board.specs.Records.{AreAdded}
+use Rattle.problem_names.specs.declared.ModelName.{ModelName}
+use Rattle.problems.specs.Theories.{theory_of}
+use Rattle.problem_theory.specs.Theory.{Theory}
+use Rattle.solver_report.specs.declared.answer.Answer.{Answer}
+use Rattle.solver_report.specs.declared.answer.Answer.TheVariants as answers
+use Rattle.answers.specs.Answers.{Ends, HasSearchedFromStart}
+use Rattle.answers.specs.Checks.{RefusesInstance}
+use Rattle.answers.specs.Covers.{IsCovered}
+use Rattle.answers.specs.Outcomes.{HasSearched}
+use Rattle.answers.specs.Journals.{Attaches, HasGoneOn, HasKept, IsRefusedToBegin, IsUnwritten, LeavesBegun, LeavesResumed, MightBegin, SinceAttached}
+use Rattle.answers.specs.Widths.{IsSearchWidth}
+use Rattle.solver_words.specs.declared.job.JobSettings.{JobSettings}
+
+-- the head of the journal of an instance
+abbrev pub head_of : Theory → ModelName → List ℤ → HeadView
+head_of t name numbers = record { model = name; text = t.canonical numbers }
+
+-- these records may follow old ones, where those are accepted
+abbrev pub MayBeAdded : Dp → List RecordView → List RecordView → Type 0
+MayBeAdded dp old written = AreAccepted dp old → AreAdded dp (pos 0) old written
+
+-- the same for the instance that the head of their journal spells
+abbrev pub MayFollow : HeadView → List RecordView → List RecordView → Type 0
+MayFollow head old written = let t = theory_of head.model in IfOk (t.spelled head.text) (λ numbers. MayBeAdded (t.program numbers) old written)
+
+module _ {D : Type 0} (on : Ghosts D) where
+  -- what a search that begins a journal may answer for an instance; no journal is refused before the width
+  abbrev pub SolvesKept : Dp → (List ℕ → Option ℤ) → HeadView → JobSettings → D → D → Answer → Type 0
+  SolvesKept dp own head search before now (answers.Journal e) = IsRefusedToBegin on head before now e × ((w : ℕ) × IsSearchWidth dp search.width w)
+  SolvesKept dp own head search before now answer =
+      Ends dp search (λ outcome counts. IsSome (on.start now) × MightBegin on now × HasSearchedFromStart dp own search (HasKept on dp head [] (LeavesBegun on head) now) outcome counts) answer
+
+  -- for a text: for the instance that it spells, with a cover that is accepted behind a report, or its first fault, and then the disk is as it was
+  abbrev pub RepliesKept : ModelName → JobSettings → D → D → List ℕ → Answer → Type 0
+  RepliesKept name search before now bytes answer =
+      let t = theory_of name in
+      MatchResult (t.spelled bytes)
+      (λ numbers. SolvesKept (t.program numbers) (t.own_value numbers) (head_of t name numbers) search before now answer
+      × IsCovered name (t.canonical numbers) answer)
+      (λ e. RefusesInstance e answer × (now ≡ before))
+
+  -- what may be answered where the search of a journal goes on: a record is refused where it stands, or how the search ends that goes on from what the
+  -- records make; it rests on their soundness
+  abbrev pub GoesOn : Dp → (List ℕ → Option ℤ) → HeadView → List RecordView → ℕ → JobSettings → D → Answer → Type 0
+  GoesOn dp own head records first search now (answers.Journal e) = AreRefused dp (replay_start dp) first records e
+  GoesOn dp own head records first search now answer =
+      Ends dp search (λ outcome counts. AreAccepted dp records
+      × HasSearched dp own (λ settings. restored_from settings (replay_of dp records)) (AreSound dp (pos 0) records) search
+      (HasKept on dp head records (LeavesResumed on head records) now) outcome counts) answer
+
+  -- for a journal whose first record has this offset: for the instance of its head, whose text is refused as malformed at 0
+  abbrev pub ResumesJournal : JournalView → ℕ → JobSettings → D → Answer → Type 0
+  ResumesJournal j first search now answer =
+      let t = theory_of j.head.model in
+      MatchResult (t.spelled j.head.text)
+      (λ numbers. GoesOn (t.program numbers) (t.own_value numbers) j.head j.records first search now answer)
+      (λ e. answer ≡ answers.Journal (errors.Malformed 0))
+
+  -- a file was read after the first sync, which is what that found where the disk tells it; the answer is for the journal that it is, or the first cause for which it is none
+  pub record WasResumed (search : JobSettings) (now : D) (answer : Answer) : Type 0 where
+    pub began : IsSome (on.start now)
+    pub file : List ℕ
+    pub is_file : SinceAttached on now (λ s. s.content ≡ file)
+    pub right : MatchResult (journal_of file)
+        (λ j. ResumesJournal j (behind_head (frames_of file)) search now answer)
+        (λ refusal. answer ≡ answers.Journal (error_of refusal))
+
+  -- what `resume` may answer: the disk has failed, memory ran out, or the answer is for the file; nothing was written where the disk failed or the file
+  -- is refused
+  abbrev pub Resumes : JobSettings → D → D → Answer → Type 0
+  Resumes search before now (answers.Journal errors.Disk) = Rose (on.faults before) (on.faults now) × IsUnwritten on now
+  Resumes search before now (answers.Journal errors.OutOfMemory) = Unit {0}
+  Resumes search before now (answers.Journal e) = WasResumed search now (answers.Journal e) × IsUnwritten on now
+  Resumes search before now answers.OutOfMemory = Unit {0}
+  Resumes search before now answer = WasResumed search now answer
+
+  -- and what it leaves on the disk, whatever it answers: the named file is attached, and whatever journal the first sync found there, it has gone on from that
+  -- with records that may follow
+  pub record LeavesAfterResume (Follow : HeadView → List RecordView → List RecordView → Type 0) (path : List ℕ) (before now : D) : Type 0 where
+    pub attaches : Attaches on path before now
+    pub written : List RecordView
+    pub leaves : (head : HeadView) (old : List RecordView) → SinceAttached on now (λ s. HasRecords head old s.content → HasGoneOn on (Follow head old written) head old written now s)

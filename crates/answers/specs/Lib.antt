@@ -1,0 +1,13 @@
+-- when what a job answers is right
+pub mod Widths
+pub mod Reports
+pub mod Checks
+pub mod Covers
+pub mod Over
+pub mod Outcomes
+pub mod Answers
+-- what a run leaves on its disk where it keeps a journal, and what it then answers
+pub mod Journals
+pub mod Kept
+-- how a run ends
+pub mod Ended

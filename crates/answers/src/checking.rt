@@ -1,0 +1,89 @@
+ghost use Rattle.std.specs.Prelude.{◌^◌, ◌-◌, ◌<◌, length};
+ghost use Rattle.dp_model.specs.Distances.{IsDistance};
+ghost use Rattle.cover_text.specs.Texts.{held_with, opened_in};
+ghost use Rattle.problems.specs.Theories.{theory_of};
+ghost use Rattle.answers.specs.Checks.{IsChecked, Checks, ChecksOpened, RefusesCover, RefusesInstance, ToSections};
+
+use cover_text::{CoverError, OpenCover, open_cover};
+use problem_theory::{InstanceRefusal, Problem, ReadInstanceError};
+use problems::by_name;
+use solver_report::Answer;
+use std::alloc::Global;
+use tokens::{InstanceError, InstanceFault};
+
+/// The verdict on a whole output with a cover, or the first fault of its text, or else of its instance. The sections are tested as
+/// they are read, two layers at a time, so that little memory is touched.
+pub fn check(alloc: Global, text: &[u8]) -> Answer
+    requires { length text.now < 2 ^ 32 - 1 }
+    ensures { IsChecked text.now result }
+{
+    match open_cover(alloc, text) {
+        Ok(text) => check_open(alloc, &text),
+        Err(fault) => refused(fault),
+    }
+}
+
+/// The answer to a fault of the text.
+fn refused(fault: CoverError) -> Answer
+    ensures { RefusesCover fault result }
+{
+    match fault {
+        CoverError::Text(fault) => Answer::CoverRefused(InstanceError::from(fault)),
+        CoverError::Word(place) => Answer::CoverRefused(InstanceError {
+            fault: InstanceFault::Word,
+            place,
+        }),
+        CoverError::OutOfMemory => Answer::OutOfMemory,
+    }
+}
+
+/// The answer to a text up to its sections, which names its problem.
+fn check_open(alloc: Global, text: &OpenCover<'_>) -> Answer
+    requires distance { IsDistance text.now.within }
+    requires instance { length text.now.instance.now < 2 ^ 32 - 1 }
+    requires before { length text.now.before.now < 2 ^ 32 - 1 }
+    requires behind { length text.now.behind.now < 2 ^ 32 - 1 }
+    ensures { ChecksOpened (theory_of text.now.model) (opened_in text.now) result }
+{
+    by_name!(text.model, check_instance(alloc, text))
+}
+
+/// The verdict on a text up to its sections, for this problem.
+fn check_instance<P: Problem>(alloc: Global, text: &OpenCover<'_>) -> Answer
+    requires distance { IsDistance text.now.within }
+    requires instance { length text.now.instance.now < 2 ^ 32 - 1 }
+    requires before { length text.now.before.now < 2 ^ 32 - 1 }
+    requires behind { length text.now.behind.now < 2 ^ 32 - 1 }
+    ensures { ChecksOpened P.theory (opened_in text.now) result }
+{
+    match P::read(alloc, text.instance) {
+        Ok(model) => check_sections(alloc, &model, text),
+        Err(ReadInstanceError::Refused(refusal)) => refuse_instance(alloc, refusal, text),
+        Err(ReadInstanceError::OutOfMemory) => Answer::OutOfMemory,
+    }
+}
+
+/// The fault of the instance, where the sections have none.
+fn refuse_instance(alloc: Global, refusal: InstanceRefusal, text: &OpenCover<'_>) -> Answer
+    requires before { length text.now.before.now < 2 ^ 32 - 1 }
+    requires behind { length text.now.behind.now < 2 ^ 32 - 1 }
+    ensures { ToSections (opened_in text.now) (λ _. RefusesInstance refusal) result }
+{
+    match text.read(alloc) {
+        Ok(_) => Answer::Refused(refusal),
+        Err(fault) => refused(fault),
+    }
+}
+
+/// The verdict on the sections, for the instance.
+fn check_sections<P: Problem>(alloc: Global, model: &P, text: &OpenCover<'_>) -> Answer
+    requires distance { IsDistance text.now.within }
+    requires before { length text.now.before.now < 2 ^ 32 - 1 }
+    requires behind { length text.now.behind.now < 2 ^ 32 - 1 }
+    ensures { ToSections (opened_in text.now) (λ cover. Checks (P.meaning (P.numbers model.now)) (P.theory.own_value (P.numbers model.now)) (held_with (opened_in text.now) cover)) result }
+{
+    match text.check(alloc, model) {
+        Ok(verdict) => Answer::Checked(verdict),
+        Err(fault) => refused(fault),
+    }
+}

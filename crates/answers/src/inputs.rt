@@ -1,0 +1,35 @@
+//! Answers to an input.
+
+ghost use Rattle.std.specs.Prelude.{◌≡◌};
+ghost use Rattle.answers.specs.Checks.{IsChecked};
+ghost use Rattle.answers.specs.Covers.{cover_limit};
+ghost use Rattle.answers.specs.Ended.{IsInputAnswer, readings, unread};
+
+use crate::checking::check;
+use solver_report::Answer;
+use std::alloc::Global;
+use streams::{ReadError, Source, read_all};
+
+/// How many bytes a whole output with its cover has at most.
+const COVER_LIMIT: usize = 1 << 28;
+
+/// The verdict on a whole output with its cover.
+pub fn answer_cover<S: Source>(alloc: Global, input: &mut S) -> Answer
+    ensures { IsInputAnswer cover_limit IsChecked (readings S.left S.faults input.old input.new) result }
+{
+    match read_all(alloc, input, COVER_LIMIT) {
+        Ok(text) => check(alloc, text.as_slice()),
+        Err(error) => unread(error),
+    }
+}
+
+/// The answer to an input that was not read whole.
+pub fn unread(error: ReadError) -> Answer
+    ensures { result ≡ unread error }
+{
+    match error {
+        ReadError::Fault => Answer::ReadFault,
+        ReadError::TooLong => Answer::TooLong,
+        ReadError::OutOfMemory => Answer::OutOfMemory,
+    }
+}

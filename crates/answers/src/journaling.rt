@@ -1,0 +1,85 @@
+ghost use Rattle.std.specs.Prelude.{◌≡◌, ◌≤◌, ◌<◌, ◌^◌, ◌-◌, [], length, IfOk, OnOk, IfErr, IfSome, IsSome, IsErrOf, IsTrue};
+ghost use Rattle.disk.specs.Counts.{Rose};
+ghost use Rattle.journal_bytes.specs.Journal.{HasRecords, head_view};
+ghost use Rattle.journal_file.specs.Beginning.{IsBegun, LeavesSince, MayBegin};
+ghost use Rattle.journal_file.specs.Settled.{IsOpen};
+ghost use Rattle.problems.specs.Theories.{theory_of};
+ghost use Rattle.answers.specs.Journals.{Attaches, IsRefusedToBegin, IsUnwritten, HasOpened, MightBegin, SinceAttached, SparesOthers};
+ghost use Rattle.answers.specs.Kept.{head_of};
+
+use disk::Disk;
+use journal_file::{Head, JournalError, Records, Tail, begin, reopen};
+use problem_names::ModelName;
+use problem_theory::Problem;
+use std::alloc::Global;
+
+/// Attaches the named file, and begins in it the journal of an instance of the named problem. Its text is the canonical one.
+///
+/// # Errors
+///
+/// `Exists` only where the file has two or more bytes and its first is not 0; nothing was written then. `Disk` only where a call
+/// of the disk failed. No other but `OutOfMemory`.
+pub fn begin_journal<P: Problem, D: Disk>(
+    alloc: Global,
+    disk: &mut D,
+    path: &str,
+    name: ModelName,
+    model: &P,
+) -> Result<Tail, JournalError>
+    requires named { theory_of name ≡ P.theory }
+
+    // The named file is attached, and no other.
+    ensures attaches { Attaches D.Disk path.now disk.old disk.new }
+
+    // A record may be added behind the head.
+    ensures ready { IfOk result (λ tail. IsTrue (D.attached disk.new) × (IsTrue (D.tells disk.new) →
+        IsOpen (D.seen disk.new) (D.may_leave disk.new) tail
+        × HasRecords (head_of P.theory name (P.numbers model.now)) [] (D.seen disk.new))) }
+
+    // Where the first sync found a file in which a journal may begin, a crash at any moment since then leaves no journal, or this
+    // head alone.
+    ensures since { SinceAttached D.Disk disk.new (λ s. MayBegin s.content →
+        LeavesSince D.moment D.left_since s disk.new (IsBegun (head_of P.theory name (P.numbers model.now)))) }
+    ensures began { OnOk result (IsSome (D.start disk.new)) }
+    ensures counted { IfSome (D.start disk.new) (λ s. s.faults ≤ D.faults disk.new) }
+
+    // That is so where it begins one; a file in which none may begin is left as it was, whatever is answered.
+    ensures begins { OnOk result (MightBegin D.Disk disk.new) }
+    ensures spared { SparesOthers D.Disk disk.new }
+    ensures refused { IfErr result (IsRefusedToBegin D.Disk (head_of P.theory name (P.numbers model.now)) disk.old disk.new) }
+{
+    disk.attach(path)?;
+    let text = P::print(alloc, model)?;
+    begin(alloc, disk, &Head { model: name, text })
+}
+
+/// Attaches the named file, and opens the journal in it. It writes nothing.
+///
+/// # Errors
+///
+/// `Disk` only where a call of the disk failed. `NotBegun`, `Damaged`, `Malformed` and `Version` exactly where they say, for the
+/// bytes that were read and the first record of which one is true. No other but `OutOfMemory`.
+pub fn open_journal<D: Disk>(
+    alloc: Global,
+    disk: &mut D,
+    path: &str,
+) -> Result<(Head, Records, Tail), JournalError>
+    // The named file is attached, and no other.
+    ensures attaches { Attaches D.Disk path.now disk.old disk.new }
+
+    // What is read, or the first cause for which it is refused. The text of the head is short enough to be read.
+    ensures opened { HasOpened D.Disk disk.new result }
+    ensures text { IfOk result (λ r. length r.0.text.items < 2 ^ 32 - 1) }
+
+    // A record may be added.
+    ensures ready { IfOk result (λ r. IsTrue (D.attached disk.new) × (IsTrue (D.tells disk.new) →
+        IsOpen (D.seen disk.new) (D.may_leave disk.new) r.2
+        × HasRecords (head_view r.0) r.1.records (D.seen disk.new))) }
+    ensures unwritten { IsUnwritten D.Disk disk.new }
+    ensures began { OnOk result (IsSome (D.start disk.new)) }
+    ensures counted { IfSome (D.start disk.new) (λ s. s.faults ≤ D.faults disk.new) }
+    ensures disk { IsErrOf result JournalError.Disk → Rose (D.faults disk.old) (D.faults disk.new) }
+{
+    disk.attach(path)?;
+    reopen(alloc, disk)
+}

@@ -1,0 +1,34 @@
+ghost use Rattle.std.specs.Prelude.{◌≡◌, ◌⊎◌};
+ghost use Rattle.answers.specs.Ended.{Says, IsSaid, writings};
+
+use solver_report::{Answer, report_text, status};
+use std::alloc::Global;
+use streams::{Sink, write_all};
+
+/// Writes the text of the answer, or that memory ran out where it can't be made, and gives the status.
+pub fn say<K: Sink>(alloc: Global, out: &mut K, answer: &Answer) -> u8
+    ensures { IsSaid (writings K.taken K.faults K.idle out.old out.new) answer.now result }
+{
+    match report_text(alloc, answer) {
+        Ok(text) => write(out, text.as_slice(), status(answer)),
+        Err(_) => write(out, b"out of memory\n", 8),
+    }
+}
+
+/// The status of an input that failed.
+const UNREAD: u8 = 6;
+
+/// The status of an output that failed.
+const UNWRITTEN: u8 = 7;
+
+/// Writes the text, and gives the status that goes with it, or the one of an output that failed. An input that failed goes before
+/// that.
+fn write<K: Sink>(out: &mut K, text: &[u8], own: u8) -> u8
+    ensures { Says (writings K.taken K.faults K.idle out.old out.new) text.now own result }
+{
+    match write_all(out, text) {
+        Ok(()) => own,
+        Err(_) if own == UNREAD => UNREAD,
+        Err(_) => UNWRITTEN,
+    }
+}

@@ -1,7 +1,0 @@
-use Rattle.std.proofs.Common.{◌≡◌, ◌-◌}
-use Rattle.dd_text.specs.Grammar.{times}
-use Rattle.base_tests.specs.Digits.{digit_at}
-use Rattle.base_tests.proofs.texts.read_all.Given as goal
-
-abbrev pub invariant-loop : goal.invariant-loop
-invariant-loop l = times digit_at (l.count - l.counter) l.digits.items l.tokens ≡ times digit_at l.count l.initial.digits.items l.initial.tokens

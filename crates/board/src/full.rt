@@ -1,0 +1,56 @@
+//! What the full slots have, and the greatest of bounds.
+
+ghost use Rattle.std.specs.Prelude.{◌≡◌, length};
+ghost use Rattle.board_laws.specs.Board.{full_slots};
+ghost use Rattle.fringe.specs.Bounds.{raised};
+ghost use Rattle.board_laws.specs.Bound.{raised_by};
+
+use crate::checked_out::CheckedOut;
+use fringe::Fringe;
+
+/// How many slots are full.
+pub fn count_full(slots: &[Option<CheckedOut>]) -> usize
+    ensures { result ≡ length (full_slots slots.now) }
+{
+    let mut count: usize = 0;
+    for slot in slots {
+        if slot.is_some() {
+            count += 1;
+        }
+    }
+    count
+}
+
+/// The greater of the option and the number, where none is less than every number.
+fn raised(most: Option<i64>, bound: i64) -> Option<i64>
+    ensures { result ≡ raised most bound }
+{
+    match most {
+        Some(most) if most >= bound => Some(most),
+        _ => Some(bound),
+    }
+}
+
+/// The greatest of the option and the bounds of what the slots have.
+pub fn raised_by_slots(most: Option<i64>, slots: &[Option<CheckedOut>]) -> Option<i64>
+    ensures { result ≡ raised_by most (full_slots slots.now) }
+{
+    let mut most = most;
+    for slot in slots {
+        if let Some(one) = slot {
+            most = raised(most, one.sub.bound);
+        }
+    }
+    most
+}
+
+/// The greatest of the option and the bounds of what is open.
+#[tactic(auto, using(crate::proofs::Bounds::raised_none, crate::proofs::Bounds::raised_some))]
+pub fn raised_by_fringe(most: Option<i64>, fringe: &Fringe) -> Option<i64>
+    ensures { result ≡ raised_by most fringe.now.open_ones }
+{
+    match fringe.best_bound() {
+        Some(bound) => raised(most, bound),
+        None => most,
+    }
+}

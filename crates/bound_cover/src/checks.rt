@@ -1,0 +1,648 @@
+//! The tests of a cover, each by a function of its own.
+
+ghost use Rattle.std.specs.Prelude.{◌≡◌, ℕ, ◌<◌, ◌≤◌, ◌+◌, ◌^◌, ℤ, pos, ◌+ℤ◌, ◌≤ℤ◌, List, length, true, slice_get, Option, Some, None, option_map, IsTrue, IfSome, int_le};
+ghost use Rattle.dp_model.specs.Distances.{IsDistance};
+ghost use Rattle.dp_model.specs.Dp.{Dp, IsAllowed};
+ghost use Rattle.dp_model.specs.Gaps.{IsStateOf};
+ghost use Rattle.dp_model.specs.Numbers.{add_some};
+ghost use Rattle.bound_cover.specs.Covers.{CoverRow};
+ghost use Rattle.bound_cover.specs.Walking.{least_behind, lesser, at_hand, decision_of, step_fault};
+ghost use Rattle.bound_cover.specs.Tests.{is_at_most, is_state_row, are_states, arc_fault, tested, decisions_fault, row_fault};
+ghost use Rattle.bound_cover.specs.Stored.{shown_row, to_row_fault};
+ghost use Rattle.bound_cover.specs.Verdicts.{rows_fault, layers_fault, has_root, root_test, checked_rows, worth, solution_fault, claim_of, verdict};
+ghost use Rattle.bound_cover.specs.Clamping.{IsWritable};
+ghost use Rattle.bound_cover.specs.Proved.{IsReportedBest, IsReportedWithin};
+ghost use Rattle.bound_cover.specs.declared.cover.Verdict.TheVariants.{Accepted};
+ghost use Rattle.bound_cover.specs.Exploring.{layer_of};
+
+use crate::cover::{CoverArc, Verdict, Why};
+use crate::storing::{Cover, LayerRows, RowRef};
+use dp_model::{DpModel, walk};
+
+/// The rows of a layer.
+pub trait Rows {
+    ghost rows: { Self → List CoverRow };
+
+    /// The row at a place, or `None` where there is none.
+    fn row(&self, place: u32) -> Option<RowRef<'_>>
+        ensures { option_map shown_row result ≡ slice_get (rows self.now) place };
+}
+
+/// Whether the words are a state of the layer.
+pub fn is_state_row<M: DpModel>(model: &M, k: usize, words: &[i64]) -> bool
+    requires { k ≤ (M.meaning (M.numbers model.now)).vars }
+    ensures { result ≡ is_state_row (M.meaning (M.numbers model.now)) k words.now }
+{
+    if words.len() != model.words() {
+        return false;
+    }
+    model.is_state(k, words)
+}
+
+/// Whether the three numbers together are at most another.
+fn is_sum_within(gain: i64, gap: i64, bound: i64, most: i64) -> bool
+    ensures { result ≡ int_le ((gain +ℤ gap) +ℤ bound) most }
+{
+    i128::from(gain) + i128::from(gap) + i128::from(bound) <= i128::from(most)
+}
+
+/// Whether the bound and the two numbers are at most another bound.
+fn is_within(gain: i64, gap: i64, bound: Option<i64>, most: Option<i64>) -> bool
+    ensures { result ≡ is_at_most (add_some (gain +ℤ gap) bound) most }
+{
+    let Some(bound) = bound else {
+        return true;
+    };
+    let Some(most) = most else {
+        return false;
+    };
+    is_sum_within(gain, gap, bound, most)
+}
+
+/// The first failure of an arc to a row: it is there, is a state, and covers the next state within the bounds. Where it is `known` that
+/// all rows of the next layer are states, this is not tested again.
+#[inline(always)]
+fn row_arc_fault<M: DpModel>(
+    model: &M,
+    k: usize,
+    i: u32,
+    gain: i64,
+    step: &[i64],
+    bound: Option<i64>,
+    decision: u32,
+    next: Option<RowRef<'_>>,
+    known: bool,
+) -> Option<Why>
+    requires layer { k < (M.meaning (M.numbers model.now)).vars }
+    requires states { IfSome next (λ r. known ≡ true → is_state_row (M.meaning (M.numbers model.now)) (k + 1) r.words.now ≡ true) }
+    requires step { IsStateOf (M.meaning (M.numbers model.now)) (k + 1) step.now }
+    ensures { result ≡ to_row_fault (M.meaning (M.numbers model.now)) k i gain step.now bound decision (option_map shown_row next.entry) }
+{
+    let layer = k as u32;
+    let Some(next) = next else {
+        return Some(Why::Target {
+            layer,
+            row: i,
+            decision,
+        });
+    };
+    if !known && !is_state_row(model, k + 1, next.words) {
+        return Some(Why::Target {
+            layer,
+            row: i,
+            decision,
+        });
+    }
+    let Some(gap) = model.gap(k + 1, next.words, step) else {
+        return Some(Why::Target {
+            layer,
+            row: i,
+            decision,
+        });
+    };
+    if is_within(gain, gap, next.bound, bound) {
+        None
+    } else {
+        Some(Why::Arc {
+            layer,
+            row: i,
+            decision,
+        })
+    }
+}
+
+/// Whether two numbers together are at most another.
+fn is_pair_within(gain: i64, rough: i64, most: i64) -> bool
+    ensures { result ≡ int_le (gain +ℤ rough) most }
+{
+    i128::from(gain) + i128::from(rough) <= i128::from(most)
+}
+
+/// Whether the rough bound and the gain are at most a bound.
+fn is_rough_within(gain: i64, rough: Option<i64>, most: Option<i64>) -> bool
+    ensures { result ≡ is_at_most (add_some gain rough) most }
+{
+    let Some(rough) = rough else {
+        return true;
+    };
+    let Some(most) = most else {
+        return false;
+    };
+    is_pair_within(gain, rough, most)
+}
+
+/// The first failure of an arc of a decision that is allowed. `step` is written over.
+#[inline(always)]
+fn arc_fault<M: DpModel, N: Rows>(
+    model: &M,
+    next: &N,
+    k: usize,
+    i: u32,
+    row: RowRef<'_>,
+    arc: CoverArc,
+    step: &mut [i64],
+    known: bool,
+) -> Option<Why>
+    requires states { known ≡ true → are_states (M.meaning (M.numbers model.now)) (k + 1) (N.rows next.now) ≡ true }
+    requires state { IsTrue ((M.meaning (M.numbers model.now)).is_state k row.words.now) }
+    requires allowed { IsAllowed (M.meaning (M.numbers model.now)) k row.words.now arc.decision }
+    requires cells { length step.old ≡ (M.meaning (M.numbers model.now)).words }
+    ensures { result ≡ arc_fault (M.meaning (M.numbers model.now)) k i (N.rows next.now) (shown_row row.entry) arc.decision arc.target }
+{
+    let decision = arc.decision;
+    let gain = model.gain(k, row.words, decision);
+    model.step(k, row.words, decision, step);
+    match arc.target {
+        None => {
+            let rough = model.rough(k + 1, step);
+            if is_rough_within(gain, rough, row.bound) {
+                None
+            } else {
+                Some(Why::Arc {
+                    layer: k as u32,
+                    row: i,
+                    decision,
+                })
+            }
+        }
+        Some(place) => row_arc_fault(
+            model,
+            k,
+            i,
+            gain,
+            step,
+            row.bound,
+            decision,
+            next.row(place),
+            known,
+        ),
+    }
+}
+
+/// The least decision that stands behind one as great.
+fn least_behind(arcs: &[CoverArc]) -> Option<u32>
+    ensures { result ≡ least_behind 0 arcs.now }
+{
+    let mut least = None;
+    let mut low = 0u64;
+    'arcs: for arc in arcs {
+        if u64::from(arc.decision) < low {
+            least = lesser(least, arc.decision);
+        } else {
+            low = u64::from(arc.decision) + 1;
+        }
+    }
+    least
+}
+
+/// The lesser of an option and a number, where none is greater than every number.
+fn lesser(least: Option<u32>, decision: u32) -> Option<u32>
+    ensures { result ≡ lesser least (Some decision) }
+{
+    match least {
+        Some(least) if least <= decision => Some(least),
+        _ => Some(decision),
+    }
+}
+
+/// The arc at the place, where it is that of the decision.
+fn arc_at(arcs: &[CoverArc], place: usize, decision: u32) -> Option<CoverArc>
+    ensures { result ≡ at_hand decision (slice_get arcs.now place) }
+{
+    match arcs.get(place) {
+        Some(arc) if arc.decision == decision => Some(*arc),
+        _ => None,
+    }
+}
+
+/// The failure of a decision with its arc or none; none where it is neither allowed nor listed.
+#[inline(always)]
+fn step_fault<M: DpModel, N: Rows>(
+    model: &M,
+    next: &N,
+    k: usize,
+    i: u32,
+    row: RowRef<'_>,
+    decision: u32,
+    arc: Option<CoverArc>,
+    step: &mut [i64],
+    known: bool,
+) -> Option<Why>
+    requires states { known ≡ true → are_states (M.meaning (M.numbers model.now)) (k + 1) (N.rows next.now) ≡ true }
+    requires layer { k < (M.meaning (M.numbers model.now)).vars }
+    requires choice { decision < (M.meaning (M.numbers model.now)).choices k }
+    requires state { IsTrue ((M.meaning (M.numbers model.now)).is_state k row.words.now) }
+    requires own { IfSome arc (λ a. a.decision ≡ decision) }
+    requires cells { length step.old ≡ (M.meaning (M.numbers model.now)).words }
+    ensures { result ≡ step_fault (M.meaning (M.numbers model.now)) k i (N.rows next.now) (shown_row row.entry) decision ((M.meaning (M.numbers model.now)).allowed k row.entry.words.now decision) arc }
+{
+    let missing = Why::Target {
+        layer: k as u32,
+        row: i,
+        decision,
+    };
+    if !model.allowed(k, row.words, decision) {
+        return match arc {
+            None => None,
+            Some(_) => Some(missing),
+        };
+    }
+    match arc {
+        None => Some(missing),
+        Some(arc) => arc_fault(model, next, k, i, row, arc, step, known),
+    }
+}
+
+/// The least decision that is listed behind all others, at the place or behind one as great.
+fn least_left(arcs: &[CoverArc], place: usize, behind: Option<u32>) -> Option<u32>
+    ensures { result ≡ lesser behind (decision_of (slice_get arcs.now place)) }
+{
+    match arcs.get(place) {
+        Some(arc) => lesser(behind, arc.decision),
+        None => behind,
+    }
+}
+
+/// Whether each decision of a row passes with its arc, where all arcs stand in order. `step` is written over.
+fn all_pass<M: DpModel, N: Rows>(
+    model: &M,
+    next: &N,
+    k: usize,
+    i: u32,
+    row: RowRef<'_>,
+    step: &mut [i64],
+    known: bool,
+) -> bool
+    requires states { known ≡ true → are_states (M.meaning (M.numbers model.now)) (k + 1) (N.rows next.now) ≡ true }
+    requires layer { k < (M.meaning (M.numbers model.now)).vars }
+    requires state { IsTrue ((M.meaning (M.numbers model.now)).is_state k row.words.now) }
+    requires cells { length step.old ≡ (M.meaning (M.numbers model.now)).words }
+    ensures { result ≡ true → decisions_fault (M.meaning (M.numbers model.now)) k i (N.rows next.now) (shown_row row.entry) row.entry.arcs.now (tested (M.meaning (M.numbers model.now)) k row.entry.words.now row.entry.arcs.now) ≡ None }
+{
+    let mut place = 0;
+    'decisions: for decision in 0..model.choices(k) {
+        let arc = arc_at(row.arcs, place, decision);
+        let why = step_fault(model, next, k, i, row, decision, arc, step, known);
+        if why.is_some() {
+            return false;
+        }
+        if arc.is_some() {
+            place += 1;
+        }
+    }
+    place == row.arcs.len()
+}
+
+/// The first failure of the decisions of a row with arcs, by a walk that knows which one stands out of order. `step` is written over.
+#[cold]
+#[inline(never)]
+fn first_decision_fault<M: DpModel, N: Rows>(
+    model: &M,
+    next: &N,
+    k: usize,
+    i: u32,
+    row: RowRef<'_>,
+    step: &mut [i64],
+    known: bool,
+) -> Option<Why>
+    requires states { known ≡ true → are_states (M.meaning (M.numbers model.now)) (k + 1) (N.rows next.now) ≡ true }
+    requires layer { k < (M.meaning (M.numbers model.now)).vars }
+    requires state { IsTrue ((M.meaning (M.numbers model.now)).is_state k row.words.now) }
+    requires cells { length step.old ≡ (M.meaning (M.numbers model.now)).words }
+    ensures { result ≡ decisions_fault (M.meaning (M.numbers model.now)) k i (N.rows next.now) (shown_row row.entry) row.entry.arcs.now (tested (M.meaning (M.numbers model.now)) k row.entry.words.now row.entry.arcs.now) }
+{
+    let layer = k as u32;
+    let behind = least_behind(row.arcs);
+    let mut place = 0;
+    'decisions: for decision in 0..model.choices(k) {
+        if behind == Some(decision) {
+            return Some(Why::Target {
+                layer,
+                row: i,
+                decision,
+            });
+        }
+        let arc = arc_at(row.arcs, place, decision);
+        let why = step_fault(model, next, k, i, row, decision, arc, step, known);
+        if why.is_some() {
+            return why;
+        }
+        if arc.is_some() {
+            place += 1;
+        }
+    }
+    match least_left(row.arcs, place, behind) {
+        Some(decision) => Some(Why::Target {
+            layer,
+            row: i,
+            decision,
+        }),
+        None => None,
+    }
+}
+
+/// The first failure of the decisions of a row with arcs. Most rows have none, which takes one walk to see. `step` is written over.
+fn decisions_fault<M: DpModel, N: Rows>(
+    model: &M,
+    next: &N,
+    k: usize,
+    i: u32,
+    row: RowRef<'_>,
+    step: &mut [i64],
+    known: bool,
+) -> Option<Why>
+    requires states { known ≡ true → are_states (M.meaning (M.numbers model.now)) (k + 1) (N.rows next.now) ≡ true }
+    requires layer { k < (M.meaning (M.numbers model.now)).vars }
+    requires state { IsTrue ((M.meaning (M.numbers model.now)).is_state k row.words.now) }
+    requires cells { length step.old ≡ (M.meaning (M.numbers model.now)).words }
+    ensures { result ≡ decisions_fault (M.meaning (M.numbers model.now)) k i (N.rows next.now) (shown_row row.entry) row.entry.arcs.now (tested (M.meaning (M.numbers model.now)) k row.entry.words.now row.entry.arcs.now) }
+{
+    if all_pass(model, next, k, i, row, step, known) {
+        return None;
+    }
+    first_decision_fault(model, next, k, i, row, step, known)
+}
+
+/// Whether an option is at most another, where none is less than every number.
+fn is_at_most(a: Option<i64>, b: Option<i64>) -> bool
+    ensures { result ≡ is_at_most a b }
+{
+    let Some(a) = a else {
+        return true;
+    };
+    match b {
+        None => false,
+        Some(b) => a <= b,
+    }
+}
+
+/// The first failure of a row: its words, and then its arcs, its rough bound or, at the last layer, its bound. `step` is
+/// written over.
+pub fn row_fault<M: DpModel, N: Rows>(
+    model: &M,
+    next: &N,
+    k: usize,
+    i: u32,
+    row: RowRef<'_>,
+    step: &mut [i64],
+    known: bool,
+) -> Option<Why>
+    requires states { known ≡ true → are_states (M.meaning (M.numbers model.now)) (k + 1) (N.rows next.now) ≡ true }
+    requires layer { k ≤ (M.meaning (M.numbers model.now)).vars }
+    requires cells { length step.old ≡ (M.meaning (M.numbers model.now)).words }
+    ensures { result ≡ row_fault (M.meaning (M.numbers model.now)) k i (N.rows next.now) (shown_row row.entry) }
+{
+    let layer = k as u32;
+    if !is_state_row(model, k, row.words) {
+        return Some(Why::Row { layer, row: i });
+    }
+    if k == model.vars() {
+        if !row.has_arcs && is_at_most(Some(0), row.bound) {
+            return None;
+        }
+        return Some(Why::Terminal { row: i });
+    }
+    if row.has_arcs {
+        return decisions_fault(model, next, k, i, row, step, known);
+    }
+    if is_at_most(model.rough(k, row.words), row.bound) {
+        None
+    } else {
+        Some(Why::Rough { layer, row: i })
+    }
+}
+
+/// The first failure of the rows of a layer. `step` is written over; `known` says that all rows of the next layer are states, and
+/// may be false where they are.
+pub fn rows_fault<M: DpModel, L: Rows, N: Rows>(
+    model: &M,
+    here: &L,
+    count: u32,
+    next: &N,
+    k: usize,
+    step: &mut [i64],
+    known: bool,
+) -> Option<Why>
+    requires states { known ≡ true → are_states (M.meaning (M.numbers model.now)) (k + 1) (N.rows next.now) ≡ true }
+    requires layer { k ≤ (M.meaning (M.numbers model.now)).vars }
+    requires count { count ≡ length (L.rows here.now) }
+    requires cells { length step.old ≡ (M.meaning (M.numbers model.now)).words }
+    ensures { result ≡ rows_fault (M.meaning (M.numbers model.now)) k (N.rows next.now) 0 (L.rows here.now) }
+{
+    'rows: for i in 0..count {
+        let Some(row) = here.row(i) else {
+            return None;
+        };
+        let why = row_fault(model, next, k, i, row, step, known);
+        if why.is_some() {
+            return why;
+        }
+    }
+    None
+}
+
+impl<'c> Rows for LayerRows<'c> {
+    ghost rows = { λ l. l };
+
+    fn row(&self, place: u32) -> Option<RowRef<'_>> {
+        self.at(place as usize)
+    }
+}
+
+/// Whether all rows are states of the layer.
+pub(crate) fn are_states<M: DpModel, L: Rows>(model: &M, k: usize, rows: &L, count: u32) -> bool
+    requires layer { k ≤ (M.meaning (M.numbers model.now)).vars }
+    requires count { count ≡ length (L.rows rows.now) }
+    ensures { result ≡ are_states (M.meaning (M.numbers model.now)) k (L.rows rows.now) }
+{
+    'rows: for i in 0..count {
+        let Some(row) = rows.row(i) else {
+            return false;
+        };
+        if !is_state_row(model, k, row.words) {
+            return false;
+        }
+    }
+    true
+}
+
+/// Whether there is a next layer whose rows are states. They are looked at in order here, so that the arcs that lead to them
+/// out of order find them near.
+fn next_are_states<M: DpModel>(model: &M, cover: &Cover, k: usize) -> bool
+    requires long { length cover.now ≡ (M.meaning (M.numbers model.now)).vars + 1 }
+    requires layer { k < length cover.now }
+    ensures { result ≡ true → are_states (M.meaning (M.numbers model.now)) (k + 1) (layer_of cover.now (k + 1)) ≡ true }
+{
+    if k + 1 < cover.layers() {
+        let rows = cover.layer(k + 1);
+        are_states(model, k + 1, &rows, cover.rows(k + 1) as u32)
+    } else {
+        false
+    }
+}
+
+/// The first failure of all rows, layer by layer. `step` is written over.
+pub fn layers_fault<M: DpModel>(model: &M, cover: &Cover, step: &mut [i64]) -> Option<Why>
+    requires long { length cover.now ≡ (M.meaning (M.numbers model.now)).vars + 1 }
+    requires short { (k : ℕ) → length (layer_of cover.now k) < 2 ^ 32 }
+    requires cells { length step.old ≡ (M.meaning (M.numbers model.now)).words }
+    ensures { result ≡ layers_fault (M.meaning (M.numbers model.now)) 0 cover.now }
+{
+    'layers: for k in 0..cover.layers() {
+        let here = cover.layer(k);
+        let next = cover.layer(k + 1);
+        let known = next_are_states(model, cover, k);
+        let why = rows_fault(model, &here, cover.rows(k) as u32, &next, k, step, known);
+        if why.is_some() {
+            return why;
+        }
+    }
+    None
+}
+
+/// Whether the row is a state that covers the root within the claim.
+fn row_covers_root<M: DpModel>(model: &M, row: RowRef<'_>, root: &[i64], claim: Option<i64>) -> bool
+    requires { root.now ≡ (M.meaning (M.numbers model.now)).root }
+    ensures { result ≡ root_test (M.meaning (M.numbers model.now)) claim (shown_row row.entry) }
+{
+    if !is_state_row(model, 0, row.words) {
+        return false;
+    }
+    match model.gap(0, row.words, root) {
+        None => false,
+        Some(gap) => is_within(model.root_value(), gap, row.bound, claim),
+    }
+}
+
+/// Whether one of the rows is a state that covers the root within the claim.
+pub(crate) fn has_root<M: DpModel, L: Rows>(
+    model: &M,
+    here: &L,
+    count: u32,
+    root: &[i64],
+    claim: Option<i64>,
+) -> bool
+    requires root { root.now ≡ (M.meaning (M.numbers model.now)).root }
+    requires count { count ≡ length (L.rows here.now) }
+    ensures { result ≡ has_root (M.meaning (M.numbers model.now)) claim (L.rows here.now) }
+{
+    'rows: for i in 0..count {
+        let Some(row) = here.row(i) else {
+            return false;
+        };
+        if row_covers_root(model, row, root, claim) {
+            return true;
+        }
+    }
+    false
+}
+
+/// The first failing test, where Assignment and Value are left out and the claim stands for the best value. `root` and `step`
+/// are written over; it takes no memory.
+pub fn check_rows<M: DpModel>(
+    model: &M,
+    claim: Option<i64>,
+    cover: &Cover,
+    root: &mut [i64],
+    step: &mut [i64],
+) -> Option<Why>
+    requires root_cells { length root.old ≡ (M.meaning (M.numbers model.now)).words }
+    requires cells { length step.old ≡ (M.meaning (M.numbers model.now)).words }
+    ensures { result ≡ checked_rows (M.meaning (M.numbers model.now)) claim cover.now }
+{
+    if cover.layers() != model.vars() + 1 {
+        return Some(Why::Layers);
+    }
+    model.root(root);
+    let first = cover.layer(0);
+    if !has_root(model, &first, cover.rows(0) as u32, root, claim) {
+        return Some(Why::Root);
+    }
+    layers_fault(model, cover, step)
+}
+
+/// The value of an assignment, or `None` where it is no feasible solution.
+fn worth<M: DpModel>(
+    model: &M,
+    assignment: &[u32],
+    out: &mut [i64],
+    spare: &mut [i64],
+) -> Option<i64>
+    requires cells { length out.old ≡ (M.meaning (M.numbers model.now)).words }
+    requires spare_cells { length spare.old ≡ (M.meaning (M.numbers model.now)).words }
+    ensures { result ≡ worth (M.meaning (M.numbers model.now)) assignment.now }
+{
+    if assignment.len() != model.vars() {
+        return None;
+    }
+    walk(model, assignment, out, spare)
+}
+
+/// The failure of the assignment or of its value, where a best value is reported.
+pub(crate) fn solution_fault<M: DpModel>(
+    model: &M,
+    best: Option<i64>,
+    assignment: &[u32],
+    out: &mut [i64],
+    spare: &mut [i64],
+) -> Option<Why>
+    requires cells { length out.old ≡ (M.meaning (M.numbers model.now)).words }
+    requires spare_cells { length spare.old ≡ (M.meaning (M.numbers model.now)).words }
+    ensures { result ≡ solution_fault (M.meaning (M.numbers model.now)) best assignment.now }
+{
+    let Some(best) = best else {
+        return None;
+    };
+    let Some(value) = worth(model, assignment, out, spare) else {
+        return Some(Why::Assignment);
+    };
+    if value <= best && best <= value {
+        None
+    } else {
+        Some(Why::Value)
+    }
+}
+
+/// What no feasible solution may exceed: the reported value and the distance, and `None` where no value is reported.
+///
+/// The value is from -2^62 to 2^62, and `within` is a distance.
+pub fn claim_of(best: Option<i64>, within: i64) -> Option<i64>
+    requires value { IsWritable best }
+    requires distance { IsDistance within }
+    ensures { result ≡ claim_of best within }
+{
+    match best {
+        None => None,
+        Some(best) => Some(best + within),
+    }
+}
+
+/// The verdict on a cover with its reported value, distance and assignment; an accepted one proves that the best value lies
+/// within the distance. `root` and `step` are written over; it takes no memory.
+pub fn check<M: DpModel>(
+    model: &M,
+    best: Option<i64>,
+    within: i64,
+    assignment: &[u32],
+    cover: &Cover,
+    root: &mut [i64],
+    step: &mut [i64],
+) -> Verdict
+    requires root_cells { length root.old ≡ (M.meaning (M.numbers model.now)).words }
+    requires cells { length step.old ≡ (M.meaning (M.numbers model.now)).words }
+    requires distance { IsDistance within }
+    ensures verdict { result ≡ verdict (M.meaning (M.numbers model.now)) best within assignment.now cover.now }
+    ensures near { result ≡ Accepted → IsReportedWithin (M.meaning (M.numbers model.now)) assignment.now best within }
+    ensures sound { result ≡ Accepted → within ≡ pos 0 → IsReportedBest (M.meaning (M.numbers model.now)) assignment.now best }
+{
+    if cover.layers() != model.vars() + 1 {
+        return Verdict::Refused(Why::Layers);
+    }
+    if let Some(why) = solution_fault(model, best, assignment, root, step) {
+        return Verdict::Refused(why);
+    }
+    match check_rows(model, claim_of(best, within), cover, root, step) {
+        None => Verdict::Accepted,
+        Some(why) => Verdict::Refused(why),
+    }
+}

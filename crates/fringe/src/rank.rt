@@ -1,0 +1,47 @@
+//! The place of an open one in the order in which they are taken.
+
+ghost use Rattle.std.proofs.Common.{rules};
+ghost use Rattle.std.specs.Cmp.{partial_order_from_agreeing_total};
+ghost use Rattle.std.specs.Cmp.Rules.{comparing};
+ghost use Rattle.std.specs.Ordering.{as_partial_cmp};
+ghost use Rattle.fringe.specs.Ranks.{rank_cmp};
+ghost use Rattle.std.specs.Prelude.{refl};
+
+use std::cmp::Ordering;
+
+/// What an open one is taken by, and its slot. The greater rank is taken first.
+#[derive(Clone, Copy, Debug, PartialEq, Eq)]
+pub struct Rank {
+    pub bound: i64,
+    pub value: i64,
+    pub ticket: u64,
+    pub slot: u32,
+}
+
+impl Ord for Rank {
+    ghost cmp = { rank_cmp };
+
+    ghost total = { Prim.search (comparing, rules) };
+
+    ghost matches_partial_cmp = { λ x y. refl };
+
+    ghost matches_eq = { Prim.search (comparing, rules) };
+
+    fn cmp(&self, other: &Rank) -> Ordering {
+        self.bound
+            .cmp(&other.bound)
+            .then(self.value.cmp(&other.value))
+            .then(other.ticket.cmp(&self.ticket))
+            .then(self.slot.cmp(&other.slot))
+    }
+}
+
+impl PartialOrd for Rank {
+    ghost partial_cmp = { as_partial_cmp rank_cmp };
+
+    ghost laws = { partial_order_from_agreeing_total rank_cmp (Prim.search (comparing, rules)) (λ x y. refl) (Prim.search (comparing, rules)) };
+
+    fn partial_cmp(&self, other: &Rank) -> Option<Ordering> {
+        Some(self.cmp(other))
+    }
+}

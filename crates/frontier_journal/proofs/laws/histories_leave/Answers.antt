@@ -1,5 +1,0 @@
-use Rattle.frontier_journal.proofs.Histories.{histories-leave}
-use Rattle.frontier_journal.proofs.laws.histories_leave.Goals as goal
-
-pub returns : goal.returns
-returns g c = histories-leave g.D.Disk (record { only_now = g.met.D.Disk.only_now; counts_now = g.met.D.Disk.counts_now }) g.M.DpModel.meaning

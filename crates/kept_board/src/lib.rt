@@ -1,0 +1,28 @@
+//! A board that is kept in a journal: a step that finds a better solution or finishes a subproblem is written, and on the disk,
+//! before the board changes.
+//!
+//! `Kept` holds a board of `board` beside a disk, and offers the steps of the board. Its record is added by `journal_file`,
+//! whose crash clauses it hands on: a crash at any moment leaves a file with the records from before, or these and the new one.
+//! What `journal_replay` makes of the records is the board all along, so whoever reads such a file has what was acknowledged.
+//! Behind a turn of `turn` a move is one step with its record; without a journal it is a board like any other.
+//!
+//! ```
+//! let mut kept = Kept::new(board, disk, Some(tail));
+//! kept.improve(alloc, &decisions)?;
+//! let (board, disk) = kept.into_parts();
+//! ```
+#![tactic(auto)]
+
+mod children;
+mod error;
+mod finishing;
+mod kept;
+mod laws;
+mod recording;
+mod tag;
+mod turned;
+
+pub use error::KeptError;
+pub use kept::Kept;
+pub use laws::histories_leave;
+pub use tag::KeptTag;

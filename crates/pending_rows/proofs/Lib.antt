@@ -1,0 +1,6 @@
+pub mod RowParts
+pub mod RowStates
+pub mod Covering
+pub mod OrderLaws
+pub mod Written
+pub mod Tests

@@ -1,0 +1,19 @@
+//! Rows of what must and what may still be done, and the time, as problems of orders keep them: which nodes a tour visits
+//! next, which job a machine takes next. Two such rows are merged, one covers another where each way on from the other is
+//! one from it and no later, and a step takes one number out.
+//!
+//! A row for the numbers below `n` has two sets of `words_for(n)` cells and one cell for the time, from 0 to 10^12. The crate
+//! stands on `node_sets`, each call is one pass over its rows, takes no memory and gives exactly what its definition says.
+//! `proofs/Covering` has what follows for the problems above: covering is a chain, a merged row covers both, and a step keeps
+//! it. `proofs/OrderLaws` says which lists are orders.
+#![tactic(auto)]
+
+mod orders;
+mod parts;
+mod states;
+mod writing;
+
+pub use orders::{are_below, are_different, is_order};
+pub use parts::{Parts, parts_of};
+pub use states::{covers, is_row, left, left_behind, next_open};
+pub use writing::{write_done, write_joined, write_start};

@@ -1,0 +1,27 @@
+ghost use Rattle.std.specs.Prelude.{◌≡◌};
+ghost use Rattle.problem_theory.specs.Theory.{from_text};
+
+use crate::refusal::InstanceRefusal;
+use tokens::ReadModelError;
+
+/// Why no instance was read.
+#[derive(Clone, Copy, Debug, PartialEq, Eq)]
+pub enum ReadInstanceError {
+    /// The text spells none.
+    Refused(InstanceRefusal),
+    /// There was no memory for it.
+    OutOfMemory,
+}
+
+/// What a text of tokens is read as, among what any text is read as.
+pub fn of_text<M>(outcome: Result<M, ReadModelError>) -> Result<M, ReadInstanceError>
+    ensures { result ≡ from_text outcome }
+{
+    match outcome {
+        Ok(model) => Ok(model),
+        Err(ReadModelError::Text(error)) => {
+            Err(ReadInstanceError::Refused(InstanceRefusal::Text(error)))
+        }
+        Err(ReadModelError::OutOfMemory) => Err(ReadInstanceError::OutOfMemory),
+    }
+}

@@ -1,0 +1,35 @@
+//! The problem of a name.
+
+pub use knapsack::Knapsack;
+pub use max_cut::MaxCut;
+pub use max_two_sat::MaxTwoSat;
+pub use one_machine::OneMachine;
+pub use problem_names::ModelName;
+pub use tsp_windows::TspWindows;
+
+/// Calls a function for the problem of a name, which is its first type parameter. It is the one place where a problem is chosen.
+///
+/// `by_name!(name, read(alloc, text))` calls `read::<P>(alloc, text)` for the problem `P` of that name, and
+/// `by_name!(name, read::<D>(alloc, text))` calls `read::<P, D>(alloc, text)`.
+#[macro_export]
+macro_rules! by_name {
+    ($name:expr, $call:ident $(::<$($other:ty),*>)? ($($argument:expr),* $(,)?)) => {
+        match $name {
+            $crate::choosing::ModelName::Knapsack => {
+                $call::<$crate::choosing::Knapsack $($(, $other)*)?>($($argument),*)
+            }
+            $crate::choosing::ModelName::MaxCut => {
+                $call::<$crate::choosing::MaxCut $($(, $other)*)?>($($argument),*)
+            }
+            $crate::choosing::ModelName::MaxTwoSat => {
+                $call::<$crate::choosing::MaxTwoSat $($(, $other)*)?>($($argument),*)
+            }
+            $crate::choosing::ModelName::TspWindows => {
+                $call::<$crate::choosing::TspWindows $($(, $other)*)?>($($argument),*)
+            }
+            $crate::choosing::ModelName::OneMachine => {
+                $call::<$crate::choosing::OneMachine $($(, $other)*)?>($($argument),*)
+            }
+        }
+    };
+}

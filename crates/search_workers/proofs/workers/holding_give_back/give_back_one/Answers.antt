@@ -1,0 +1,42 @@
+use denote.Param.Send.{sendable}
+use Rattle.std.proofs.Crossing.{crosses}
+use Rattle.kept_board.proofs.Sent.{kept_send}
+use Rattle.std.proofs.Common.{◌∙◌, rules, ap, subst, sym}
+use Rattle.turn.specs.Order.{NoLess}
+use Rattle.turn.specs.Seats.{first_of, seen_of}
+use Rattle.board_laws.specs.Board.{incumbent_value}
+use Rattle.kept_board.specs.View.{KeptView, tag_of}
+use Rattle.search_workers.proofs.Stopping.{ended-at}
+use Rattle.search_workers.proofs.Moves.{still-no-less}
+use Rattle.search_workers.proofs.workers.holding_give_back.give_back_one.Goals as goal
+
+pub returns-clause-no_less : goal.returns-clause-no_less
+returns-clause-no_less g c =
+    let seen = seen_of c.args.seat.now in
+    let before = c.value.result.now in
+    let less = subst (λ (v : KeptView g.row.D.Denot). NoLess seen (incumbent_value v.board.board)) (sym c.value.ensures.now) c.hold-guard.ensures.seen in
+    subst (NoLess seen) (search rules) (still-no-less g.D.Disk g.M.DpModel.meaning before c.give_back-handed_back.new.kept c.number-who.result seen less c.give_back-handed_back.ensures.moves)
+
+pub hold-guard-requires-send-V : goal.hold-guard-requires-send-V
+hold-guard-requires-send-V g c κs within =
+    let m = c.type_bounds.send-M in
+    let y = c.type_bounds.sync-M in
+    let d = c.type_bounds.send-D in
+    search (sendable, crosses, kept_send) depth 40 fits 4000
+
+pub value-requires-send-V : goal.value-requires-send-V
+value-requires-send-V g c κs within =
+    let m = c.type_bounds.send-M in
+    let y = c.type_bounds.sync-M in
+    let d = c.type_bounds.send-D in
+    search (sendable, crosses, kept_send) depth 40 fits 4000
+
+pub leave-requires-send-V : goal.leave-requires-send-V
+leave-requires-send-V g c κs within =
+    let m = c.type_bounds.send-M in
+    let y = c.type_bounds.sync-M in
+    let d = c.type_bounds.send-D in
+    search (sendable, crosses, kept_send) depth 40 fits 4000
+
+pub returns-clause-ended : goal.returns-clause-ended
+returns-clause-ended g c = λ handed. ended-at (first_of c.args.turn.now) c.value.result.now (ap tag_of c.value.ensures.now ∙ c.hold-guard.ensures.tag) (c.give_back-handed_back.ensures.ended handed)

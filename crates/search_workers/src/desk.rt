@@ -1,0 +1,46 @@
+ghost use Rattle.std.specs.Prelude.{◌≡◌, IfOk};
+ghost use Rattle.search_workers.specs.Prepared.{AreDesks};
+
+use board::Fate;
+use dp_model::{CutKind, DpModel, Sub};
+use exact_cutset::Children;
+use layer_build::{PrepareError, Workspace};
+use std::alloc::Global;
+
+/// All that one worker needs for its rounds: the subproblem that it has out, the memory in which diagrams are compiled, their
+/// children and of which kind these are, and a buffer for fates, which grows to the size that rounds need and is used again.
+#[derive(Drop)]
+pub struct Desk {
+    pub taken: Sub,
+    pub space: Workspace,
+    pub cutset: Children,
+    pub kind: CutKind,
+    pub fates: Vec<Fate>,
+}
+
+impl Desk {
+    /// A desk for the rounds on the model with diagrams of the width, which is at least 1 and at most the greatest one, and with
+    /// their children of the kind.
+    pub fn prepare<M: DpModel>(
+        alloc: Global,
+        model: &M,
+        width: u32,
+        kind: CutKind,
+    ) -> Result<Desk, PrepareError>
+        ensures desk { AreDesks (M.meaning (M.numbers model.now)) width result }
+        ensures kind { IfOk result (λ desk. desk.kind ≡ kind) }
+    {
+        let space = Workspace::prepare(alloc, model, width)?;
+        let cutset = Children::prepare(alloc, model, width, kind)?;
+        match Sub::blank(alloc, model.vars(), model.words()) {
+            Ok(taken) => Ok(Desk {
+                taken,
+                space,
+                cutset,
+                kind,
+                fates: Vec::new(alloc),
+            }),
+            Err(_) => Err(PrepareError::OutOfMemory),
+        }
+    }
+}

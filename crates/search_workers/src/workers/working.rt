@@ -1,0 +1,237 @@
+//! What one worker does.
+
+ghost use Rattle.std.specs.Prelude.{◌≡◌, false, None, OnOk, IfOk, IfErr};
+ghost use Rattle.turn.specs.Seats.{first_of, seen_of, out_of};
+ghost use Rattle.board.specs.Contents.{contents};
+ghost use Rattle.search_workers.specs.Prepared.{IsPreparedDesk};
+ghost use Rattle.search_workers.specs.FinishLater.{MayFinishLater};
+ghost use Rattle.search_workers.specs.Ready.{IsWorker, IsReadySeat, IsOut};
+ghost use Rattle.search_workers.specs.Seen.{reach_seen};
+ghost use Rattle.search_workers.specs.Stopped.{IsLeftOut, WasStopped, HasEndedAt};
+
+use super::gate::{Gate, Step};
+use super::holding_finish::finish_one;
+use super::holding_give_back::give_up;
+use super::holding_take::take_one;
+use super::offering::{relax_one, restrict_one};
+use super::stopped::Stopped;
+use crate::branched::Branched;
+use crate::desk::Desk;
+use board::Taken;
+use disk::Disk;
+use dp_model::DpModel;
+use kept_board::{Kept, KeptError};
+use std::alloc::Global;
+use std::sync::Wait;
+use turn::{Seat, Turn};
+
+/// Does rounds until nothing is open or out, a cause is held or the budget is taken up, and passes the gate after each step. Each step
+/// of the board is one holding of the turn, and diagrams are compiled outside the turn.
+///
+/// The seat is one of the turn's with nothing out, its number is below the workers of the settings, the turn's instance is the model's,
+/// and the desk was prepared for the model and the width of the settings. It may wait for other workers.
+pub fn work<M: DpModel, D: Disk + Send, G: Gate + Sync, R: Wait>(
+    rt: &R,
+    alloc: Global,
+    turn: &Turn<Kept<M, D>>,
+    seat: &mut Seat<Kept<M, D>>,
+    desk: &mut Desk,
+    model: &M,
+    gate: &G,
+)
+    requires numbers { (first_of turn.now).board.numbers ≡ M.numbers model.now }
+    requires ready { IsReadySeat turn.now seat.old }
+    requires prepared { IsPreparedDesk (M.meaning (M.numbers model.now)) (first_of turn.now).board.board.settings.width desk.old }
+    ensures ready { IsReadySeat turn.now seat.new }
+    ensures ended { HasEndedAt (first_of turn.now) }
+    ensures number { seat.new.number ≡ seat.old.number }
+    ensures prepared { IsPreparedDesk (M.meaning (M.numbers model.now)) (first_of turn.now).board.board.settings.width desk.new }
+{
+    for _ in rt.forever() {
+        if !round(rt, alloc, turn, seat, desk, model, gate) {
+            return;
+        }
+    }
+    unreachable!()
+}
+
+/// A round. Says whether another one may follow.
+fn round<M: DpModel, D: Disk + Send, G: Gate + Sync, R: Wait>(
+    rt: &R,
+    alloc: Global,
+    turn: &Turn<Kept<M, D>>,
+    seat: &mut Seat<Kept<M, D>>,
+    desk: &mut Desk,
+    model: &M,
+    gate: &G,
+) -> bool
+    requires numbers { (first_of turn.now).board.numbers ≡ M.numbers model.now }
+    requires ready { IsReadySeat turn.now seat.old }
+    requires prepared { IsPreparedDesk (M.meaning (M.numbers model.now)) (first_of turn.now).board.board.settings.width desk.old }
+    ensures ready { IsReadySeat turn.now seat.new }
+    ensures ended { result ≡ false → HasEndedAt (first_of turn.now) }
+    ensures number { seat.new.number ≡ seat.old.number }
+    ensures prepared { IsPreparedDesk (M.meaning (M.numbers model.now)) (first_of turn.now).board.board.settings.width desk.new }
+{
+    let who = seat.number();
+    let asked = take_one(rt, turn, seat, &mut desk.taken, model);
+    match asked.taken {
+        Taken::Sub => {
+            gate.pass(who, Step::Taken);
+            go_on(rt, alloc, turn, seat, desk, model, gate, asked.reach)
+        }
+        Taken::WaitForOthers => {
+            gate.pass(who, Step::Waiting);
+            turn.wait_turn(rt, seat);
+            true
+        }
+        Taken::Finished | Taken::Halted(_) => false,
+    }
+}
+
+/// The rest of a round, once a subproblem was taken. Says whether it was finished; if not it was given back.
+fn go_on<M: DpModel, D: Disk + Send, G: Gate + Sync, R: Wait>(
+    rt: &R,
+    alloc: Global,
+    turn: &Turn<Kept<M, D>>,
+    seat: &mut Seat<Kept<M, D>>,
+    desk: &mut Desk,
+    model: &M,
+    gate: &G,
+    reach: Option<i64>,
+) -> bool
+    requires numbers { (first_of turn.now).board.numbers ≡ M.numbers model.now }
+    requires worker { IsWorker turn.now seat.old }
+    requires reach { reach ≡ reach_seen turn.now seat.old }
+    requires out { IsOut (M.meaning (M.numbers model.now)) (out_of seat.old) desk.old.taken.subproblem }
+    requires prepared { IsPreparedDesk (M.meaning (M.numbers model.now)) (first_of turn.now).board.board.settings.width desk.old }
+    ensures ready { IsReadySeat turn.now seat.new }
+    ensures ended { result ≡ false → HasEndedAt (first_of turn.now) }
+    ensures number { seat.new.number ≡ seat.old.number }
+    ensures prepared { IsPreparedDesk (M.meaning (M.numbers model.now)) (first_of turn.now).board.board.settings.width desk.new }
+{
+    let who = seat.number();
+    match expand(rt, alloc, turn, seat, desk, model, gate, reach) {
+        Ok(()) => {
+            gate.pass(who, Step::Finished);
+            true
+        }
+        Err(Stopped::GaveBack) => {
+            gate.pass(who, Step::GaveBack);
+            false
+        }
+        Err(Stopped::Refused(error)) => {
+            give_up(rt, turn, seat, error);
+            gate.pass(who, Step::GaveBack);
+            false
+        }
+    }
+}
+
+/// Finishes what was taken with its children.
+///
+/// # Errors
+///
+/// It was given back in a holding that found the search halted for the journal, or a step was refused and it is out still.
+fn expand<M: DpModel, D: Disk + Send, G: Gate + Sync, R: Wait>(
+    rt: &R,
+    alloc: Global,
+    turn: &Turn<Kept<M, D>>,
+    seat: &mut Seat<Kept<M, D>>,
+    desk: &mut Desk,
+    model: &M,
+    gate: &G,
+    reach: Option<i64>,
+) -> Result<(), Stopped>
+    requires numbers { (first_of turn.now).board.numbers ≡ M.numbers model.now }
+    requires worker { IsWorker turn.now seat.old }
+    requires reach { reach ≡ reach_seen turn.now seat.old }
+    requires out { IsOut (M.meaning (M.numbers model.now)) (out_of seat.old) desk.old.taken.subproblem }
+    requires prepared { IsPreparedDesk (M.meaning (M.numbers model.now)) (first_of turn.now).board.board.settings.width desk.old }
+    ensures worker { IsWorker turn.now seat.new }
+    ensures number { seat.new.number ≡ seat.old.number }
+    ensures ok { OnOk result (out_of seat.new ≡ None) }
+    ensures stopped { IfErr result (λ stopped. IsLeftOut stopped (out_of seat.old) (out_of seat.new)) }
+    ensures why { IfErr result (WasStopped D.Disk (first_of turn.now)) }
+    ensures prepared { IsPreparedDesk (M.meaning (M.numbers model.now)) (first_of turn.now).board.board.settings.width desk.new }
+{
+    let mut branched = branch(rt, alloc, turn, seat, desk, model, gate, reach)?;
+    let finished = finish_one(
+        rt,
+        alloc,
+        turn,
+        seat,
+        branched.threshold,
+        &mut branched.children,
+        &mut desk.fates,
+    );
+    desk.fates.clear();
+    finished
+}
+
+/// Branches on what was taken, outside the turn: the solutions that its diagrams find are offered, and its children are made.
+///
+/// # Errors
+///
+/// As `expand` says.
+fn branch<M: DpModel, D: Disk + Send, G: Gate + Sync, R: Wait>(
+    rt: &R,
+    alloc: Global,
+    turn: &Turn<Kept<M, D>>,
+    seat: &mut Seat<Kept<M, D>>,
+    desk: &mut Desk,
+    model: &M,
+    gate: &G,
+    reach: Option<i64>,
+) -> Result<Branched, Stopped>
+    requires numbers { (first_of turn.now).board.numbers ≡ M.numbers model.now }
+    requires worker { IsWorker turn.now seat.old }
+    requires reach { reach ≡ reach_seen turn.now seat.old }
+    requires out { IsOut (M.meaning (M.numbers model.now)) (out_of seat.old) desk.old.taken.subproblem }
+    requires prepared { IsPreparedDesk (M.meaning (M.numbers model.now)) (first_of turn.now).board.board.settings.width desk.old }
+    ensures worker { IsWorker turn.now seat.new }
+    ensures number { seat.new.number ≡ seat.old.number }
+    ensures out { OnOk result (out_of seat.new ≡ out_of seat.old) }
+    ensures branched { IfOk result (λ b. MayFinishLater (M.meaning (M.numbers model.now)) (first_of turn.now).board.board.settings (out_of seat.new) (seen_of seat.new) b.threshold (contents b.children.items)) }
+    ensures stopped { IfErr result (λ stopped. IsLeftOut stopped (out_of seat.old) (out_of seat.new)) }
+    ensures why { IfErr result (WasStopped D.Disk (first_of turn.now)) }
+    ensures prepared { IsPreparedDesk (M.meaning (M.numbers model.now)) (first_of turn.now).board.board.settings.width desk.new }
+{
+    let restricted = restrict_one(
+        rt,
+        alloc,
+        turn,
+        seat,
+        gate,
+        &mut desk.space,
+        &desk.taken,
+        model,
+        reach,
+    )?;
+    if !restricted.reduced {
+        return Ok(Branched {
+            threshold: reach,
+            children: Vec::new(alloc),
+        });
+    }
+    relax_one(
+        rt,
+        alloc,
+        turn,
+        seat,
+        gate,
+        &mut desk.space,
+        &mut desk.cutset,
+        &desk.taken,
+        desk.kind,
+        model,
+        restricted.reach,
+    )?;
+    match desk.cutset.subs(alloc) {
+        Ok(children) => Ok(Branched {
+            threshold: restricted.reach,
+            children,
+        }),
+        Err(_) => Err(Stopped::Refused(KeptError::OutOfMemory)),
+    }
+}

@@ -1,7 +1,0 @@
-use Rattle.std.proofs.Common.{subst}
-use Rattle.shared_fringe.specs.Fringe.{FringeView, IsFringe}
-use Rattle.shared_fringe.proofs.Fringes.{opened_fringe}
-use Rattle.shared_fringe.proofs.fringe.Fringe.spare.Goals as goal
-
-pub returns-clause-kept : goal.returns-clause-kept
-returns-clause-kept c = subst (λ (v : FringeView). IsFringe v.words v.open_ones) c.self.view_is (opened_fringe _ _ c.self.invariant.0.held)

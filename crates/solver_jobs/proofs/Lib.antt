@@ -1,7 +1,0 @@
-pub mod Conclusions
-pub mod Asked
-pub mod Covered
-pub mod Ending
-pub mod Reports
-pub mod Checked
-pub mod Journaled

@@ -1,0 +1,36 @@
+-- Which searches the words ask for, and which instances.
+use Rattle.std.specs.Prelude.{◌≡◌, ◌≤◌, ◌<◌, ◌^◌, ℕ, pos, Option, Some, None}
+use Rattle.dp_model.specs.Distances.{IsDistance}
+use Rattle.problem_names.specs.declared.ModelName.{ModelName}
+use Rattle.problem_names.specs.declared.Sizes.{Sizes}
+use Rattle.problem_names.specs.ModelNames.{sizes_of}
+use Rattle.solver_words.specs.Words.{JobView, solve, resume, check, digest, generate}
+use Rattle.solver_words.specs.declared.job.JobSettings.{JobSettings}
+
+-- a search has from 1 to 16 workers, and its distance from the best is from 0 to 2^50
+pub record MaySearch (settings : JobSettings) : Type 0 where
+  pub some_workers : 1 ≤ settings.workers
+  pub few_workers : settings.workers ≤ 16
+  pub distance : IsDistance settings.within
+
+-- a search that keeps a journal has the distance 0
+pub record MaySearchKept (settings : JobSettings) : Type 0 where
+  pub may : MaySearch settings
+  pub exact : settings.within ≡ pos 0
+
+-- an instance that is to be drawn has a size of its problem, and a seed below 2^31
+pub record MayDraw (name : ModelName) (n seed : ℕ) : Type 0 where
+  pub sizes : Sizes
+  pub are_drawn : sizes_of name ≡ Some sizes
+  pub least : sizes.least ≤ n
+  pub most : n ≤ sizes.most
+  pub seeded : seed < 2 ^ 31
+
+-- where a job is a search it may be made so, with no cover where a journal goes on, and what is to be drawn can be drawn
+abbrev pub IsPossible : JobView → Type 0
+IsPossible (solve model settings None) = MaySearch settings
+IsPossible (solve model settings (Some path)) = MaySearchKept settings
+IsPossible (resume path settings) = MaySearchKept settings × (settings.cover_words ≡ None)
+IsPossible check = Unit {0}
+IsPossible (digest model) = Unit {0}
+IsPossible (generate model n seed solved) = MayDraw model n seed

@@ -1,0 +1,12 @@
+mod Along
+mod Firsts
+mod Grids
+mod Items
+mod Layered
+mod Lengths
+mod Lists
+mod RoundTrip
+mod Texts
+mod Trailing
+mod Trees
+mod Wide

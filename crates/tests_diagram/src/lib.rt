@@ -1,0 +1,14 @@
+//! Tests of diagrams over real problems: the beam of a restricted diagram below the empty prefix, relaxed diagrams with the children
+//! that they leave, how many rows are held while one is made, and what is kept of a layer that is reduced to its first nodes.
+//!
+//! It stands on `problem_theory`, `knapsack`, `max_cut`, `layer_build`, `restricted_dd`, `relaxed_dd` and `exact_cutset`.
+#![tactic(auto)]
+
+#[cfg(test)]
+mod beams;
+#[cfg(test)]
+mod relaxing;
+#[cfg(test)]
+mod roots;
+#[cfg(test)]
+mod stepping;

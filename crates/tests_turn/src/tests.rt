@@ -1,0 +1,42 @@
+use crate::boards::{items, last_value, meet_over_board, open_board};
+use crate::workers::{close, count_all, meet, open};
+use std::process::Abort;
+use std::test::Fail;
+
+#[test]
+fn workers_count_to_the_limit(rt: HostRuntime) -> Result<(), Fail> {
+    for (workers, limit) in [(1, 10), (2, 1000), (4, 20_000)] {
+        let counter = count_all(&rt, rt.alloc(), limit, workers)?;
+        assert!(rt; counter.best() == Some(limit as i64 - 1));
+    }
+    Ok(())
+}
+
+/// Both seats found 110, and so does who closes the turn.
+fn both_find(
+    rt: &impl Abort,
+    found: Option<(Option<i64>, Option<Option<i64>>)>,
+    left: Option<i64>,
+) {
+    assert!(rt; (found, left) == (Some((Some(110), Some(Some(110)))), Some(110)));
+}
+
+/// What a seat wrote and left, every later holder finds, and the closed turn gives.
+#[test]
+fn two_seats_over_a_counter(rt: HostRuntime) -> Result<(), Fail> {
+    let (turn, mut seats) = open(rt.alloc(), 200, 2)?;
+    let found = meet(&rt, &turn, seats.as_mut_slice(), 110);
+    let counter = close(turn, seats);
+    both_find(&rt, found, counter.best());
+    Ok(())
+}
+
+/// The same over a board: what a seat offered and left, both seats find, and the closed turn gives.
+#[test]
+fn two_seats(rt: HostRuntime) {
+    let model = items(&rt, rt.alloc());
+    let (turn, mut seats) = open_board(&rt, rt.alloc(), model);
+    let found = meet_over_board(&rt, rt.alloc(), &turn, seats.as_mut_slice(), &[1, 1, 0]);
+    let left = last_value(search_workers::close(turn, seats));
+    both_find(&rt, found, left);
+}

@@ -1,0 +1,19 @@
+use Rattle.std.proofs.Common.{◌≢◌, ◌<◌, ◌∙◌, sym, rules, arith, get_or}
+use Rattle.tokens.proofs.Scanning.{minus_number, behind_minus, plain_number}
+use Rattle.tokens.proofs.scan.leading_number.Goals as goal
+
+pub returns-in-45-clause-value : goal.returns-in-45-clause-value
+returns-in-45-clause-value c =
+    let same = minus_number c.args.least c.args.greatest c.args.place.now c.args.bytes.now c.in-45.len_at_least (cc) in
+    search rules
+
+pub returns-in-45-clause-behind : goal.returns-in-45-clause-behind
+returns-in-45-clause-behind c =
+    rw (behind_minus c.args.bytes.now c.in-45.len_at_least (cc)) c.negative_within.ensures.behind
+
+pub returns-in-len1-up-3-clause-value : goal.returns-in-len1-up-3-clause-value
+returns-in-len1-up-3-clause-value c =
+    let other : get_or c.args.bytes.now 0 0 ≢ 45 = search rules in
+    let low : get_or c.args.bytes.now 0 0 < 128 = omega (arith, c.if-first-ge128.false) in
+    let same = plain_number c.args.least c.args.greatest c.args.place.now c.args.bytes.now c.in-len1-up.len_at_least other (sym c.is_blank_byte.ensures ∙ c.if-is_blank_byte.false) low in
+    search rules

@@ -1,0 +1,23 @@
+ghost use Rattle.std.specs.Prelude.{◌≡◌, ◌+◌, ◌≤◌, ◌++◌, length, is_ok, IsOk, if◌then◌else◌, vec_len, vec_capacity};
+ghost use Rattle.tokens.specs.Decimal.{decimal_of};
+
+use itoa::Buffer;
+use std::alloc::AllocError;
+
+/// Appends the text. Where memory runs out, nothing is appended.
+pub fn push_text(out: &mut Vec<u8>, text: &str) -> Result<(), AllocError>
+    ensures items { out.new.items ≡ (if is_ok result then out.old.items ++ text.now else out.old.items) }
+    ensures succeeds { vec_len out.old + length text.now ≤ vec_capacity out.old → IsOk result }
+{
+    out.extend_from_slice(text.as_bytes())
+}
+
+/// Appends the number in decimal, with no leading zeros, behind a minus where it is negative. Where
+/// memory runs out, nothing is appended.
+pub fn push_number(out: &mut Vec<u8>, value: i64) -> Result<(), AllocError>
+    ensures items { out.new.items ≡ (if is_ok result then out.old.items ++ decimal_of value else out.old.items) }
+    ensures succeeds { vec_len out.old + length (decimal_of value) ≤ vec_capacity out.old → IsOk result }
+{
+    let mut buffer = Buffer::new();
+    out.extend_from_slice(buffer.format(value).as_bytes())
+}

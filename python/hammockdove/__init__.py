@@ -1,0 +1,35 @@
+"""A client of the program `hammockdove`, an exact solver for discrete maximisation.
+
+    >>> from hammockdove import Knapsack, Solver
+    >>> result = Solver().solve(Knapsack(10, profits=[60, 50, 70], weights=[5, 4, 6]))
+    >>> result.value, result.assignment, result.is_best
+    (120, (0, 1, 1), True)
+
+The program is proved; this package is not. What a result says of bounds and of best solutions is what the program printed.
+"""
+
+from .answers import Outcome, Result, Stop, Verdict
+from .errors import (
+    CoverRefused,
+    HammockdoveError,
+    InputTooLong,
+    InstanceRefused,
+    InvalidInstance,
+    JournalDamaged,
+    JournalRefused,
+    NotBegun,
+    ProgramFailed,
+    Refused,
+    TextRefused,
+    UnknownProblem,
+    WordsRefused,
+)
+from .instances import PROBLEMS, Instance, Knapsack, Max2Sat, MaxCut, Table, Tardiness, Tsptw
+from .progress import Progress
+from .solver import Interrupted, Solver
+
+__all__ = [
+    "PROBLEMS", "CoverRefused", "HammockdoveError", "InputTooLong", "Instance", "InstanceRefused", "Interrupted", "InvalidInstance",
+    "JournalDamaged", "JournalRefused", "Knapsack", "Max2Sat", "MaxCut", "NotBegun", "Outcome", "ProgramFailed", "Progress", "Refused",
+    "Result", "Solver", "Stop", "Table", "Tardiness", "TextRefused", "Tsptw", "UnknownProblem", "Verdict", "WordsRefused",
+]  # fmt: skip

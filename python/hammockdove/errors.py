@@ -1,0 +1,95 @@
+"""What can go wrong, with the place where it did."""
+
+from __future__ import annotations
+
+
+class HammockdoveError(Exception):
+    """Every error of this package is one of these."""
+
+
+class TextRefused(HammockdoveError):
+    """A text that this package reads is not in its form.
+
+    `line` and `column` are the place, both from 1; a column counts characters. They are None where no single place is at fault.
+    """
+
+    def __init__(self, message: str, line: int | None = None, column: int | None = None) -> None:
+        self.message, self.line, self.column = message, line, column
+        super().__init__(message if line is None else f"line {line}, column {column}: {message}")
+
+
+class InvalidInstance(HammockdoveError, ValueError):
+    """Lists, arrays or a graph do not make an instance: a shape is wrong, or a number is not whole."""
+
+
+class Refused(HammockdoveError):
+    """The program refused what it was given. `answer` is the line that it printed, `status` its exit status."""
+
+    def __init__(self, answer: str, status: int, message: str) -> None:
+        self.answer, self.status = answer, status
+        super().__init__(message)
+
+
+class InstanceRefused(Refused):
+    """The instance's text is not in the problem's form.
+
+    `fault` is one of the faults of docs/FORMATS.md; `line` and `column` are its place, both from 1; a column counts bytes.
+    """
+
+    def __init__(self, answer: str, status: int, fault: str, line: int, column: int, excerpt: str = "") -> None:
+        self.fault, self.line, self.column = fault, line, column
+        shown = f": {excerpt}" if excerpt else ""
+        super().__init__(answer, status, f"instance refused, {fault} at line {line}, column {column}{shown}")
+
+
+class CoverRefused(Refused):
+    """The text that `check` was given is not a report with a cover. Its fields are those of `InstanceRefused`."""
+
+    def __init__(self, answer: str, status: int, fault: str, line: int, column: int) -> None:
+        self.fault, self.line, self.column = fault, line, column
+        super().__init__(answer, status, f"no report with a cover, {fault} at line {line}, column {column}")
+
+
+class InputTooLong(Refused):
+    """The input is longer than what the program reads: 2^26 bytes, or 2^28 bytes for `check`."""
+
+
+class UnknownProblem(Refused):
+    """This program does not know the problem."""
+
+
+class WordsRefused(Refused):
+    """An option or its value is not one that this program takes."""
+
+
+class JournalRefused(Refused):
+    """The journal cannot be begun or resumed.
+
+    `cause` is `exists`, `not-begun`, `damaged`, `malformed`, `version` or `no-solution`. `number` is the offset of the first bad
+    record, or the version that was found; None for the first two.
+    """
+
+    def __init__(self, answer: str, status: int, cause: str, number: int | None) -> None:
+        self.cause, self.number = cause, number
+        where = "" if number is None else f" {number}" if cause == "version" else f" at byte {number}"
+        super().__init__(answer, status, f"journal refused, {cause}{where}")
+
+
+class ProgramFailed(HammockdoveError):
+    """The program ended without an answer: a device or memory failed it, it was killed, or it could not be built."""
+
+    def __init__(self, message: str, status: int) -> None:
+        self.status = status
+        super().__init__(message)
+
+
+class JournalDamaged(HammockdoveError):
+    """A journal's bytes are not a row of whole records. `cause` is `damaged`, `malformed` or `version`; `offset` is the record's."""
+
+    def __init__(self, cause: str, offset: int, detail: str) -> None:
+        self.cause, self.offset = cause, offset
+        super().__init__(f"journal {cause} at byte {offset}: {detail}")
+
+
+class NotBegun(HammockdoveError):
+    """A file that holds no journal yet."""

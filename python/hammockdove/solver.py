@@ -1,0 +1,323 @@
+"""Runs the program."""
+
+from __future__ import annotations
+
+import os
+import shutil
+import signal
+import subprocess
+import tempfile
+import time
+from collections.abc import Callable
+from dataclasses import dataclass, replace
+from functools import cache
+from pathlib import Path
+from typing import IO, Literal
+
+from .answers import Outcome, Result, Stop, Verdict, error_of, result_of, verdict_of
+from .errors import HammockdoveError, JournalRefused, NotBegun, ProgramFailed
+from .instances import PROBLEMS, Instance
+from .journal import Journal
+from .progress import Progress, Tracker
+
+PROGRAM = "HAMMOCKDOVE"
+"""The environment's variable that names the program."""
+
+Text = tuple[str, str | bytes]
+"""A problem's name and the text of an instance, for those who have a file."""
+
+_POLL = 0.05
+
+
+class Interrupted(KeyboardInterrupt):
+    """Ctrl-C came while a search went on. `result` has what it had found, and the journal that it can be resumed from."""
+
+    def __init__(self, result: Result) -> None:
+        self.result = result
+        kept = f"; resume {str(result.journal)!r}" if result.journal else "; no journal was kept"
+        super().__init__(f"{result}{kept}")
+
+
+@dataclass(frozen=True)
+class Solver:
+    """The program `hammockdove`. Without `program` it is what $HAMMOCKDOVE names, or the one on the path, or the one of this checkout."""
+
+    program: str = ""
+
+    def __post_init__(self) -> None:
+        object.__setattr__(self, "program", str(self.program or find_program()))
+
+    def solve(
+        self,
+        instance: Instance | Text,
+        *,
+        timeout: float | None = None,
+        workers: int | None = None,
+        width: int | None = None,
+        cutset: Literal["lel", "frontier"] | None = None,
+        budget: int | None = None,
+        within: int | None = None,
+        journal: str | Path | Literal[False] | None = None,
+        cover: bool = False,
+        progress: Callable[[Progress], object] | None = None,
+        every: float = 1.0,
+    ) -> Result:
+        """Searches for a best solution, or with `within` for one that none is worth more than `within` above.
+
+        After `timeout` seconds, or at Ctrl-C, the program is killed, and asked what the journal holds: the solution and the bound of
+        the result are the program's own. A timeout gives a result that is `STOPPED`; Ctrl-C raises `Interrupted`, which has the result.
+
+        The journal is `journal`, a file that must not hold one yet. Without a name it lies in the folder for temporary files, and is
+        removed where the search ends by itself. `journal=False` keeps none: that is faster, and a timeout then leaves nothing. A
+        program that keeps no journals of searches within a distance gets none unless one is named.
+
+        `progress` is called about each `every` seconds with what the journal tells, and not at all where none is kept. The other
+        options are those of docs/FORMATS.md.
+        Raises a `Refused` where the program refuses the instance or an option, and `ProgramFailed` where it ends without an answer.
+        """
+        model, given = _text_of(instance)
+        words = ["solve", model, *_options(workers=workers, width=width, cutset=cutset, budget=budget, within=within)]
+        words += ["--stats", *(["--cover"] if cover else [])]
+        keeps = journal is not False and (journal is not None or not within or _keeps_distances(self.program))
+        path = self._journal_path(journal) if keeps else None
+        if path is not None:
+            words += ["--journal", str(path)]
+        left: Result | None = None
+        try:
+            result = left = self._search(words, given, path, timeout, progress, every)
+        except Interrupted as interrupted:
+            left = interrupted.result
+            raise
+        finally:
+            if journal is None and not (left and left.outcome is Outcome.STOPPED and left.journal):
+                _remove(path)
+        if result.outcome is not Outcome.STOPPED:
+            result = replace(result, journal=result.journal if journal else None, lacks_cover=cover and result.cover is None)
+        return replace(result, within=within or 0)
+
+    def resume(
+        self,
+        journal: str | Path,
+        *,
+        timeout: float | None = None,
+        workers: int | None = None,
+        width: int | None = None,
+        cutset: Literal["lel", "frontier"] | None = None,
+        budget: int | None = None,
+        progress: Callable[[Progress], object] | None = None,
+        every: float = 1.0,
+    ) -> Result:
+        """Goes on with the search of a journal. Options and errors are those of `solve`; the journal stays."""
+        _require(journal)
+        words = ["resume", str(journal), *_options(workers=workers, width=width, cutset=cutset, budget=budget), "--stats"]
+        result = self._search(words, b"", Path(journal), timeout, progress, every)
+        return replace(result, within=_distance_of(Path(journal)))
+
+    def status(self, journal: str | Path) -> Result:
+        """What the search of a journal that no program writes to has found so far, by the program itself."""
+        began = time.monotonic()
+        _require(journal)
+        text, status = self._run(["resume", str(journal), "--budget", "0"], b"")
+        found = replace(result_of(text, status), journal=Path(journal), within=_distance_of(Path(journal)))
+        return replace(found, seconds=time.monotonic() - began)
+
+    def check(self, report: Result | bytes | str) -> Verdict:
+        """Whether a report is true, by the cover after it. A result must come from `solve` with `cover=True`."""
+        if isinstance(report, Result):
+            report = report.text
+        return verdict_of(*self._run(["check"], report.encode() if isinstance(report, str) else report))
+
+    def digest(self, instance: Instance | Text) -> str:
+        """The SHA-256 of the instance's canonical text, in hexadecimal."""
+        model, given = _text_of(instance)
+        text, status = self._run(["digest", model], given)
+        if status != 0:
+            raise error_of(text, status, given)
+        return text.decode("ascii").strip()
+
+    def generate(self, model: str, size: int, seed: int) -> Instance:
+        """The instance of that size that is drawn from the seed."""
+        text, status = self._run(["generate", model, str(size), str(seed)], b"")
+        if status != 0:
+            raise error_of(text, status)
+        return PROBLEMS[model].from_text(text.decode("ascii"))
+
+    def knows(self, model: str) -> bool:
+        """Whether this program knows the problem."""
+        return self._run(["digest", model], b"")[0] != b"words model\n"
+
+    def _journal_path(self, journal: str | Path | Literal[False] | None) -> Path:
+        if isinstance(journal, (str, Path)):
+            return Path(journal)
+        return Path(tempfile.mkdtemp(prefix="hammockdove-")) / "journal"
+
+    def _run(self, words: list[str], given: bytes) -> tuple[bytes, int]:
+        """What a command prints that ends by itself, and its status."""
+        with tempfile.TemporaryFile() as source:
+            source.write(given)
+            source.seek(0)
+            done = subprocess.run([self.program, *words], stdin=source, stdout=subprocess.PIPE, check=False)
+        return done.stdout, done.returncode
+
+    def _search(
+        self,
+        words: list[str],
+        given: bytes,
+        journal: Path | None,
+        timeout: float | None,
+        progress: Callable[[Progress], object] | None,
+        every: float,
+    ) -> Result:
+        began = time.monotonic()
+        watcher = _Watcher(journal, progress, every) if journal is not None and progress is not None else None
+        stop: Stop | None = None
+        with tempfile.TemporaryFile() as source, tempfile.TemporaryFile() as sink:
+            source.write(given)
+            source.seek(0)
+            with _running([self.program, *words], source, sink) as child:
+                try:
+                    if not _wait(child, began, timeout, watcher):
+                        stop = Stop.TIMEOUT
+                except KeyboardInterrupt:
+                    stop = Stop.INTERRUPT
+                finally:
+                    _kill(child)
+            sink.seek(0)
+            text = sink.read()
+        result = result_of(text, child.returncode, given) if stop is None else self._stopped(journal, stop)
+        result = replace(result, journal=journal if result.journal is None and stop is None else result.journal)
+        result = replace(result, seconds=time.monotonic() - began)
+        if stop is Stop.INTERRUPT:
+            raise Interrupted(result)
+        return result
+
+    def _stopped(self, journal: Path | None, stop: Stop) -> Result:
+        """What a search that was killed had found."""
+        if journal is None or not journal.exists():
+            return Result(Outcome.STOPPED, stop=stop)
+        try:
+            found = self.status(journal)
+        except JournalRefused as refusal:
+            if refusal.cause != "not-begun":
+                raise
+            return Result(Outcome.STOPPED, stop=stop)
+        return replace(found, stop=stop) if found.outcome is Outcome.STOPPED else found
+
+
+class _Watcher:
+    """Calls back with what a journal tells, about each `every` seconds."""
+
+    def __init__(self, path: Path, call: Callable[[Progress], object], every: float) -> None:
+        self._journal, self._tracker, self._call, self._every = Journal(path), Tracker(), call, every
+        self._due = time.monotonic() + every
+        self._last = Progress()
+
+    def look(self, is_last: bool = False) -> None:
+        """Calls back where it is time, or where this is the last look, and something is new."""
+        if time.monotonic() < self._due and not is_last:
+            return
+        self._due = time.monotonic() + self._every
+        try:
+            found = self._tracker.take_new(self._journal)
+        except FileNotFoundError:
+            return
+        if found != self._last:
+            self._last = found
+            self._call(found)
+
+
+class _running:
+    """A child in a process group of its own, so that Ctrl-C at a terminal reaches this process alone; killed and waited for at the end."""
+
+    def __init__(self, words: list[str], source: IO[bytes], sink: IO[bytes]) -> None:
+        try:
+            self.child = subprocess.Popen(words, stdin=source, stdout=sink, start_new_session=True)
+        except OSError as fault:
+            raise ProgramFailed(f"{words[0]} does not start: {fault.strerror}", 0) from None
+
+    def __enter__(self) -> subprocess.Popen[bytes]:
+        return self.child
+
+    def __exit__(self, *_: object) -> None:
+        _kill(self.child)
+
+
+def _wait(child: subprocess.Popen[bytes], began: float, timeout: float | None, watcher: _Watcher | None) -> bool:
+    """Waits until the child ends, and returns whether it did before the timeout."""
+    while True:
+        left = None if timeout is None else began + timeout - time.monotonic()
+        if left is not None and left <= 0:
+            return False
+        step = left if watcher is None else _POLL if left is None else min(left, _POLL)
+        try:
+            child.wait(step)
+        except subprocess.TimeoutExpired:
+            pass
+        else:
+            if watcher is not None:
+                watcher.look(is_last=True)
+            return True
+        if watcher is not None:
+            watcher.look()
+
+
+def _kill(child: subprocess.Popen[bytes]) -> None:
+    """Ends the child and all that it started."""
+    if child.poll() is None:
+        try:
+            os.killpg(child.pid, signal.SIGKILL)
+        except ProcessLookupError:
+            pass
+        child.wait()
+
+
+def _text_of(instance: Instance | Text) -> tuple[str, bytes]:
+    if isinstance(instance, Instance):
+        return instance.model, instance.text().encode()
+    model, text = instance
+    return model, text.encode() if isinstance(text, str) else text
+
+
+def _options(**given: object) -> list[str]:
+    """The options that were given, as the program's words."""
+    return [word for name, value in given.items() if value is not None for word in (f"--{name}", str(value))]
+
+
+def _remove(path: Path | None) -> None:
+    """Removes a temporary journal and its folder."""
+    if path is not None:
+        shutil.rmtree(path.parent, ignore_errors=True)
+
+
+def _require(journal: str | Path) -> None:
+    """Refuses a file that is not there: the program would make an empty one."""
+    if not Path(journal).exists():
+        raise NotBegun(f"{journal} is not there")
+
+
+def _distance_of(path: Path) -> int:
+    """The distance of the search that a journal is of."""
+    journal = Journal(path)
+    next(journal.advance(), None)
+    return journal.head.within if journal.head else 0
+
+
+@cache
+def _keeps_distances(program: str) -> bool:
+    """Whether the program keeps a journal of a search within a distance."""
+    with tempfile.TemporaryDirectory(prefix="hammockdove-") as room:
+        words = [program, "solve", "knapsack", "--within", "1", "--journal", os.path.join(room, "journal")]
+        done = subprocess.run(words, input=b"0 0\n", stdout=subprocess.PIPE, check=False)
+    return done.stdout.startswith(b"proved")
+
+
+def find_program() -> str:
+    """The program that $HAMMOCKDOVE names, or the one on the path, or the one that this checkout built, or its launcher."""
+    named = os.environ.get(PROGRAM) or shutil.which("hammockdove")
+    if named:
+        return named
+    top = Path(__file__).resolve().parent.parent.parent
+    for path in (top / "crates/solver_cli/out/solver_cli", top / "hammockdove"):
+        if os.access(path, os.X_OK) and path.is_file():
+            return str(path)
+    raise HammockdoveError(f"no program hammockdove: it is not on the path, and ${PROGRAM} names none")

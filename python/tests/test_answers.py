@@ -1,0 +1,83 @@
+import unittest
+
+from hammockdove import (
+    CoverRefused,
+    InputTooLong,
+    InstanceRefused,
+    JournalRefused,
+    Outcome,
+    ProgramFailed,
+    Stop,
+    UnknownProblem,
+    WordsRefused,
+)
+from hammockdove.answers import Unreadable, error_of, result_of, verdict_of
+
+
+class AnswerTests(unittest.TestCase):
+    def test_proved(self):
+        result = result_of(b"proved\nvalue 120\nassignment 0 1 1\ntaken 3\nfinished 3\n", 0)
+        self.assertEqual((result.outcome, result.value, result.assignment, result.bound), (Outcome.PROVED, 120, (0, 1, 1), 120))
+        self.assertEqual((result.gap, result.taken, result.finished, result.is_best), (0, 3, 3, True))
+        self.assertEqual(result.proves, "The assignment is a feasible solution worth 120, and no solution is worth more than 120.")
+
+    def test_proved_within_with_a_cover(self):
+        result = result_of(b"proved within 10\nvalue 110\nassignment 1 1 0\ncover knapsack\nend\n", 0)
+        self.assertEqual((result.bound, result.gap, result.within, result.is_best), (120, 10, 10, False))
+        self.assertEqual(result.cover, b"cover knapsack\nend\n")
+
+    def test_empty_assignment(self):
+        self.assertEqual(result_of(b"proved\nvalue 0\nassignment\n", 0).assignment, ())
+
+    def test_infeasible(self):
+        result = result_of(b"infeasible\n", 1)
+        self.assertEqual((result.outcome, result.value, result.bound, result.gap), (Outcome.INFEASIBLE, None, None, None))
+        self.assertEqual(result.proves, "There is no feasible solution.")
+
+    def test_stopped(self):
+        result = result_of(b"stopped budget\nvalue none\nbound 121\n", 2)
+        self.assertEqual((result.stop, result.value, result.bound, result.gap), (Stop.BUDGET, None, 121, None))
+        self.assertEqual(result.proves, "No solution is worth more than 121.")
+        self.assertEqual(result_of(b"stopped memory\nvalue 5\nassignment 1\nbound 9\n", 2).gap, 4)
+
+    def test_cover_without_memory(self):
+        result = result_of(b"proved\nvalue 4\nassignment 1\nout of memory\n", 8)
+        self.assertTrue(result.lacks_cover)
+        self.assertEqual(result.value, 4)
+
+    def test_verdicts(self):
+        self.assertTrue(verdict_of(b"accepted\n", 0))
+        verdict = verdict_of(b"refused arc 0 0 1\n", 9)
+        self.assertEqual((bool(verdict), verdict.test, verdict.place), (False, "arc", (0, 0, 1)))
+
+    def test_refusals(self):
+        for text, status, kind in (
+            (b"instance not-number 2 4\n", 3, InstanceRefused),
+            (b"cover word 1 1\n", 3, CoverRefused),
+            (b"input too-long\n", 3, InputTooLong),
+            (b"words model\n", 4, UnknownProblem),
+            (b"words number width\n", 4, WordsRefused),
+            (b"words usage\n", 4, WordsRefused),
+            (b"width\n", 4, WordsRefused),
+            (b"journal damaged 67\n", 5, JournalRefused),
+            (b"journal not-begun\n", 5, JournalRefused),
+            (b"read fault\n", 6, ProgramFailed),
+            (b"out of memory\n", 8, ProgramFailed),
+            (b"disk fault\n", 10, ProgramFailed),
+            (b"", 69, ProgramFailed),
+            (b"", -9, ProgramFailed),
+            (b"hello\n", 0, Unreadable),
+        ):
+            with self.subTest(text):
+                self.assertIs(type(error_of(text, status)), kind)
+
+    def test_places(self):
+        fault = error_of(b"instance not-number 2 4\n", 3, b"1 10\n60 5kg\n")
+        self.assertEqual((fault.fault, fault.line, fault.column), ("not-number", 2, 4))
+        self.assertEqual(str(fault), "instance refused, not-number at line 2, column 4: '60 5kg'")
+        self.assertEqual(str(error_of(b"journal damaged 67\n", 5)), "journal refused, damaged at byte 67")
+        self.assertEqual(error_of(b"journal version 3\n", 5).number, 3)
+
+
+if __name__ == "__main__":
+    unittest.main()

@@ -1,0 +1,168 @@
+"""The benchmark, the man page, the client's commands and the example."""
+
+import contextlib
+import gzip
+import hashlib
+import importlib.machinery
+import importlib.util
+import io
+import os
+import shutil
+import subprocess
+import sys
+import unittest
+
+from support import PROGRAM, SAMPLES, TOP, ProgramCase, RoomCase, bytes_of, needs_program, small_search
+
+from hammockdove.__main__ import main
+
+
+def load(path):
+    """A script as a module."""
+    loader = importlib.machinery.SourceFileLoader(path.name, str(path))
+    made = importlib.util.module_from_spec(importlib.util.spec_from_loader(path.name, loader))
+    sys.modules[path.name] = made
+    loader.exec_module(made)
+    return made
+
+
+def said(call, *words):
+    """The status of a call, and what it wrote to standard output and to standard error."""
+    with contextlib.redirect_stdout(io.StringIO()) as out, contextlib.redirect_stderr(io.StringIO()) as err:
+        status = call(list(map(str, words)))
+    return status, out.getvalue(), err.getvalue()
+
+
+class CommandTests(RoomCase):
+    def test_convert(self):
+        status, out, err = said(main, "convert", "rudy", SAMPLES / "halves.mc")
+        self.assertEqual((status, out.splitlines()[:2]), (0, ["4 5", "1 2 50"]))
+        self.assertEqual(err, "note: weights have decimals: all were multiplied by 100, and so is every value\n")
+        self.assertEqual(said(main, "convert", "pisinger", SAMPLES / "two.csv", "--number", 2)[1], "3 9\n7 4\n13 9\n5 4\n")
+        self.assertIn("end depot", said(main, "convert", "afg", SAMPLES / "way.tw", "--end-depot")[2])
+
+    def test_refusals(self):
+        path = self.room / "three.wcnf"
+        path.write_text("h 1 2 3 0\n")
+        status, out, err = said(main, "convert", "wcnf", path)
+        self.assertEqual((status, out), (3, ""))
+        self.assertEqual(err, f"{path}: line 1, column 7: MAX-2SAT has at most two literals in a clause, found '3'\n")
+        self.assertEqual(said(main, "convert", "wcnf", self.room / "none")[0], 3)
+
+    def test_watch_and_plot(self):
+        path = self.room / "kept.journal"
+        path.write_bytes(bytes_of(small_search(2)))
+        status, out, _ = said(main, "watch", path)
+        self.assertEqual((status, out), (0, "knapsack  best 120  bound 120  gap 0 (0.0%)  finished 3  open 0  done\n"))
+        self.assertEqual(said(main, "plot", path)[1], f"{self.room / 'kept.svg'}\n")
+        path.write_bytes(bytes_of(small_search(2))[:100])
+        self.assertEqual(said(main, "plot", path)[2], f"{path}: journal damaged at byte 75: the file ends inside a record\n")
+
+
+class ManPageTests(unittest.TestCase):
+    def test_page(self):
+        page = load(TOP / "tools/man_page.py").page(
+            "# Title\n\nFirst `--width N` words, **strong**, [a link](X.md).\n\n- [One](#one), [two](#two)\n\n## A part\n\n"
+            "```\n$ ./hammockdove check\n.dot\n```\n\n| Option | What it does | Without it |\n|---|---|---|\n| `--width N` | a \\| b | 100 |\n\n"
+            "- one\n  more\n- two\n<!-- left out -->\n"
+        )
+        for line in (
+            r"First \fB\-\-width N\fR words, \fBstrong\fR, a link.",
+            '.SH "A PART"',
+            "$ hammockdove check",
+            r"\&.dot",
+            r"\fB\-\-width N\fR",
+            "a | b; Without it: 100",
+            "one more",
+        ):
+            self.assertIn(f"\n{line}\n", page)
+        self.assertNotIn("left out", page)
+        self.assertNotIn("Title", page)
+        self.assertNotIn("One", page)
+
+    @unittest.skipUnless(shutil.which("groff"), "groff is not there")
+    def test_roff_takes_it(self):
+        words = [sys.executable, TOP / "tools/man_page.py", TOP / "docs/USING.md", TOP / "README.md"]
+        made = subprocess.run(words, capture_output=True, check=True)
+        shown = subprocess.run(["groff", "-k", "-man", "-Tutf8", "-ww"], input=made.stdout, capture_output=True, check=True)
+        self.assertEqual(shown.stderr, b"")
+        self.assertIn(b"solve MODEL", shown.stdout)
+
+
+@needs_program
+class BenchmarkTests(ProgramCase):
+    def setUp(self):
+        super().setUp()
+        was = os.environ.get("HAMMOCKDOVE")
+        os.environ["HAMMOCKDOVE"] = PROGRAM
+        self.addCleanup(lambda: os.environ.pop("HAMMOCKDOVE") if was is None else os.environ.__setitem__("HAMMOCKDOVE", was))
+        self.folder = self.room / "instances"
+        self.folder.mkdir()
+        for name in ("two.csv", "rota.wcnf"):
+            shutil.copy(SAMPLES / name, self.folder)
+        self.benchmark = load(TOP / "tools/benchmark")
+
+    def test_table_and_profile(self):
+        (self.folder / "known.csv").write_text("rota,2\n")
+        words = (self.folder, "--limit", 60, "--jobs", 2, "--config", "plain=", "--config", "narrow=--width 2")
+        status, out, _ = said(self.benchmark.main, *words)
+        self.assertEqual(status, 0, out)
+        table = (self.folder / "results/table.md").read_text()
+        self.assertIn("| rota.wcnf | plain | 4 | proved | unsatisfied weight 2; all hard clauses hold | 2 | 0 |", table)
+        self.assertIn("| two.csv | narrow | 4 | proved | profit 24 | 24 | 0 |", table)
+        profile = (self.folder / "results/profile.csv").read_text().splitlines()
+        self.assertEqual([line.split(",")[:2] for line in profile[1:]], [["plain", "2"], ["narrow", "2"]])
+        self.assertEqual(len((self.folder / "results/results.csv").read_text().splitlines()), 5)
+
+    def test_another_optimum_and_a_bad_file(self):
+        (self.folder / "known.csv").write_text("rota.wcnf,3\n")
+        (self.folder / "bad.mc").write_text("2 1\n1 9 1\n")
+        status, out, err = said(self.benchmark.main, self.folder, "--limit", 60)
+        self.assertEqual(status, 1)
+        self.assertIn("3 **differs**", out)
+        self.assertIn("line 2, column 3", out)
+        self.assertIn("differs or failed: bad.mc rota.wcnf", err)
+
+    def test_configurations(self):
+        self.assertEqual(self.benchmark.Config.of("a=--width 10 --cutset=frontier").options, {"width": 10, "cutset": "frontier"})
+        self.assertRaises(ValueError, self.benchmark.Config.of, "a=--color red")
+
+
+@needs_program
+@unittest.skipUnless(shutil.which("make"), "make is not there")
+class InstallTests(RoomCase):
+    def test_install_and_uninstall(self):
+        prefix, modules = self.room / "usr", self.room / "modules"
+        words = ["make", "-s", "-C", TOP, f"PREFIX={prefix}", f"PYTHONDIR={modules}", f"PROGRAM={PROGRAM}", f"PYTHON={sys.executable}"]
+        subprocess.run([*words, "install"], check=True, capture_output=True)
+        identity = dict(line.split(" ", 1) for line in (prefix / "share/doc/hammockdove/IDENTITY").read_text().splitlines())
+        self.assertEqual(identity["program-sha256"], hashlib.sha256((prefix / "bin/hammockdove").read_bytes()).hexdigest())
+        self.assertEqual(set(identity), {"program-sha256", "source-commit", "kit"})
+        self.assertIn(b".TH HAMMOCKDOVE 1", gzip.decompress((prefix / "share/man/man1/hammockdove.1.gz").read_bytes()))
+        environment = {"PATH": f"{prefix}/bin:/usr/bin:/bin", "PYTHONPATH": str(modules), "PYTHONDONTWRITEBYTECODE": "1"}
+        client = [sys.executable, "-m", "hammockdove", "convert", "rudy", SAMPLES / "wheel.rudy"]
+        ran = subprocess.run(client, env=environment, capture_output=True, text=True, check=True)
+        self.assertTrue(ran.stdout.startswith("6 10\n1 2 1\n"))
+        subprocess.run([*words, "uninstall"], check=True, capture_output=True)
+        self.assertEqual([it for it in self.room.rglob("*") if it.is_file()], [])
+
+
+@needs_program
+class ExampleTests(ProgramCase):
+    def test_cut(self):
+        environment = {**os.environ, "HAMMOCKDOVE": PROGRAM, "PYTHONPATH": str(TOP / "python"), "PYTHONDONTWRITEBYTECODE": "1"}
+        words = [sys.executable, TOP / "examples/python/cut.py", "12"]
+        ran = subprocess.run(words, cwd=self.room, env=environment, capture_output=True, text=True)
+        self.assertEqual(ran.returncode, 0, ran.stderr)
+        self.assertIn("accepted: True", ran.stdout)
+        self.assertTrue((self.room / "cut-search.svg").is_file())
+
+    def test_solve_command(self):
+        os.environ["HAMMOCKDOVE"], was = PROGRAM, os.environ.get("HAMMOCKDOVE")
+        self.addCleanup(lambda: os.environ.pop("HAMMOCKDOVE") if was is None else os.environ.__setitem__("HAMMOCKDOVE", was))
+        self.assertIn("no solution satisfies all hard clauses of the file", said(main, "solve", "wcnf", SAMPLES / "clash.wcnf")[1])
+        self.assertIn("in the file's measure: return time", said(main, "solve", "tsptw", SAMPLES / "van.tsptw")[1])
+
+
+if __name__ == "__main__":
+    unittest.main()
