@@ -53,6 +53,10 @@ fn the_listed_calls_fail(rt: HostRuntime) -> Result<(), Fail> {
 fn a_real_file_is_written_and_read(rt: HostRuntime) -> Result<(), Fail> {
     let mut disk = FileDisk::detached(&rt);
     assert_eq!(rt; write_twice(&mut disk), Ok(()));
+    let mut other = FileDisk::detached(&rt);
+    assert_eq!(rt; other.attach("j"), Err(DiskFailed), "while another has it");
+    drop(other);
+    drop(disk);
     let mut again = FileDisk::detached(&rt);
     let Ok(()) = again.attach("j") else {
         assert!(rt; false);

@@ -64,7 +64,7 @@ fn the_first_wrong_record_is_told(rt: HostRuntime) -> Result<(), Fail> {
             Err(Refusal::Malformed { offset: 0 }),
         ),
         (
-            &[(1, b"\x00\x00\x00\x01\x05\x00\x00\x00\x00")],
+            &[(1, b"\x00\x00\x00\x01\xff\x00\x00\x00\x00")],
             Err(Refusal::Malformed { offset: 0 }),
         ),
         (

@@ -13,29 +13,29 @@ fn words_of(rt: &impl Abort, alloc: Global, line: &str) -> Vec<String> {
 }
 
 const DEFAULTS: &str =
-    "JobSettings { width: None, workers: 1, budget: 18446744073709551615, cutset: LastExactLayer, stats: false, within: 0 }";
+    "JobSettings { width: None, workers: 1, budget: 18446744073709551615, cutset: LastExactLayer, stats: false, within: 0, cover_words: None }";
 
 /// Words and what they ask for, or why they are refused.
 const ASKED: &[(&str, &str)] = &[
     (
         "solve|knapsack",
-        "Ok(Solve { model: Knapsack, settings: DEFAULTS, journal: None, cover_words: None })",
+        "Ok(Solve { model: Knapsack, settings: DEFAULTS, journal: None })",
     ),
     (
         "solve|--width=64|--cover|maxcut|--workers|2|--budget=9|--cutset|lel|--journal=a=b|--cover-words|50|--within|0|--stats",
-        "Ok(Solve { model: MaxCut, settings: JobSettings { width: Some(64), workers: 2, budget: 9, cutset: LastExactLayer, stats: true, within: 0 }, journal: Some(\"a=b\"), cover_words: Some(50) })",
+        "Ok(Solve { model: MaxCut, settings: JobSettings { width: Some(64), workers: 2, budget: 9, cutset: LastExactLayer, stats: true, within: 0, cover_words: Some(50) }, journal: Some(\"a=b\") })",
     ),
     (
         "resume|j|--cutset=frontier",
-        "Ok(Resume { path: \"j\", settings: JobSettings { width: None, workers: 1, budget: 18446744073709551615, cutset: Frontier, stats: false, within: 0 } })",
+        "Ok(Resume { path: \"j\", settings: JobSettings { width: None, workers: 1, budget: 18446744073709551615, cutset: Frontier, stats: false, within: 0, cover_words: None } })",
     ),
     (
         "solve|max2sat|--cover",
-        "Ok(Solve { model: MaxTwoSat, settings: DEFAULTS, journal: None, cover_words: Some(67108864) })",
+        "Ok(Solve { model: MaxTwoSat, settings: JobSettings { width: None, workers: 1, budget: 18446744073709551615, cutset: LastExactLayer, stats: false, within: 0, cover_words: Some(67108864) }, journal: None })",
     ),
     (
         "solve|max2sat|--cover-words=5|--within=1125899906842624",
-        "Ok(Solve { model: MaxTwoSat, settings: JobSettings { width: None, workers: 1, budget: 18446744073709551615, cutset: LastExactLayer, stats: false, within: 1125899906842624 }, journal: None, cover_words: None })",
+        "Ok(Solve { model: MaxTwoSat, settings: JobSettings { width: None, workers: 1, budget: 18446744073709551615, cutset: LastExactLayer, stats: false, within: 1125899906842624, cover_words: None }, journal: None })",
     ),
     (
         "resume|--|-j",
