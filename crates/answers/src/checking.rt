@@ -11,8 +11,8 @@ use solver_report::Answer;
 use std::alloc::Global;
 use tokens::{InstanceError, InstanceFault};
 
-/// The verdict on a whole output with a cover, or the first fault of its text, or else of its instance. The sections are tested as
-/// they are read, two layers at a time, so that little memory is touched.
+/// The answer to a whole output with a cover: the verdict, or the first fault of its text, or else that of its instance. It tests the
+/// sections as it reads them, two layers at a time, so that it needs little memory.
 pub fn check(alloc: Global, text: &[u8]) -> Answer
     requires { length text.now < 2 ^ 32 - 1 }
     ensures { IsChecked text.now result }

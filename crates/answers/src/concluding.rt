@@ -14,8 +14,8 @@ use solver_report::{Counts, Outcome, Solution, Stop};
 use solver_words::JobSettings;
 use std::alloc::Global;
 
-/// How a search that is over ended, with its counts where they are asked for, in any own words that agree with the dynamic program. Fails
-/// only for want of memory.
+/// How a search that is over ended, with its counts if they are asked for. The outcome is right in any own words that agree with the dynamic
+/// program. Fails only for want of memory.
 pub fn conclude<M: DpModel>(
     alloc: Global,
     board: &Board<M>,

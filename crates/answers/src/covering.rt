@@ -18,8 +18,8 @@ use solver_words::JobSettings;
 use std::alloc::Global;
 use tokens::{push_number, push_text};
 
-/// The answer to a search of an instance of the named problem, of which this was told and is true: its report, and the cover behind it
-/// where one is asked for and the search went to its end.
+/// The answer to a search of an instance of the named problem, whose outcome is true: its report, followed by a cover if one is asked for
+/// and the search went to its end.
 pub fn told<P: Problem>(
     alloc: Global,
     name: ModelName,
@@ -47,8 +47,8 @@ pub fn told<P: Problem>(
     }
 }
 
-/// The text of a cover for a claim that no feasible solution exceeds, or for none where there is no feasible solution. Fails only for
-/// want of memory. How many words it may have has no effect.
+/// The text of a cover for a claim that no feasible solution exceeds, or for `None` if there is no feasible solution. Fails only for
+/// want of memory. The number of words that it may have has no effect.
 fn cover_text<P: Problem>(
     alloc: Global,
     name: ModelName,
@@ -70,7 +70,7 @@ fn cover_text<P: Problem>(
     Ok(text)
 }
 
-/// Appends the lines of a cover before its instance, which has so many bytes.
+/// Appends the lines of a cover before its instance, which has `size` bytes.
 fn push_head(out: &mut Vec<u8>, name: ModelName, size: usize) -> Result<(), OutOfMemory>
     requires { size < 2 ^ 63 }
     ensures { OnOk result (out.new.items ≡ out.old.items ++ printed_lines (cover_lines name size)) }

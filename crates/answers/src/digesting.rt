@@ -7,7 +7,7 @@ use sha2::{Digest, Sha256};
 use solver_report::Answer;
 use std::alloc::Global;
 
-/// The digest of the instance that the text spells, or the first fault of the text.
+/// The answer with the SHA-256 of the canonical text of the instance that the text spells, or with the first fault of the text.
 pub fn digest_text<P: Problem>(alloc: Global, text: &[u8]) -> Answer
     requires { length text.now < 2 ^ 32 - 1 }
     ensures { DigestsText P.theory text.now result }

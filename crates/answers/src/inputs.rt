@@ -10,10 +10,10 @@ use solver_report::Answer;
 use std::alloc::Global;
 use streams::{ReadError, Source, read_all};
 
-/// How many bytes a whole output with its cover has at most.
+/// The greatest number of bytes of a whole output with its cover.
 const COVER_LIMIT: usize = 1 << 28;
 
-/// The verdict on a whole output with its cover.
+/// The answer to an input that is a whole output with its cover: the verdict, or why the input is refused.
 pub fn answer_cover<S: Source>(alloc: Global, input: &mut S) -> Answer
     ensures { IsInputAnswer cover_limit IsChecked (readings S.left S.faults input.old input.new) result }
 {

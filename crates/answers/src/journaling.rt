@@ -13,12 +13,12 @@ use problem_names::ModelName;
 use problem_theory::Problem;
 use std::alloc::Global;
 
-/// Attaches the named file, and begins in it the journal of an instance of the named problem. Its text is the canonical one.
+/// Attaches the named file, and begins in it the journal of an instance of the named problem. The head has the canonical text.
 ///
 /// # Errors
 ///
-/// `Exists` only where the file has two or more bytes and its first is not 0; nothing was written then. `Disk` only where a call
-/// of the disk failed. No other but `OutOfMemory`.
+/// `Exists` only if the file has two or more bytes and the first is not 0; then nothing was written. `Disk` only if a call of the
+/// disk failed. `OutOfMemory` for want of memory. No other error.
 pub fn begin_journal<P: Problem, D: Disk>(
     alloc: Global,
     disk: &mut D,
@@ -31,19 +31,19 @@ pub fn begin_journal<P: Problem, D: Disk>(
     // The named file is attached, and no other.
     ensures attaches { Attaches D.Disk path.now disk.old disk.new }
 
-    // A record may be added behind the head.
+    // A record may be added after the head.
     ensures ready { IfOk result (λ tail. IsTrue (D.attached disk.new) × (IsTrue (D.tells disk.new) →
         IsOpen (D.seen disk.new) (D.may_leave disk.new) tail
         × HasRecords (head_of P.theory name (P.numbers model.now)) [] (D.seen disk.new))) }
 
-    // Where the first sync found a file in which a journal may begin, a crash at any moment since then leaves no journal, or this
-    // head alone.
+    // If the first sync found a file in which a journal may begin, a crash at any moment since then leaves no journal, or this head
+    // alone.
     ensures since { SinceAttached D.Disk disk.new (λ s. MayBegin s.content →
         LeavesSince D.moment D.left_since s disk.new (IsBegun (head_of P.theory name (P.numbers model.now)))) }
     ensures began { OnOk result (IsSome (D.start disk.new)) }
     ensures counted { IfSome (D.start disk.new) (λ s. s.faults ≤ D.faults disk.new) }
 
-    // That is so where it begins one; a file in which none may begin is left as it was, whatever is answered.
+    // If it begins one, the first sync found such a file. A file in which none may begin is left as it was, whatever is answered.
     ensures begins { OnOk result (MightBegin D.Disk disk.new) }
     ensures spared { SparesOthers D.Disk disk.new }
     ensures refused { IfErr result (IsRefusedToBegin D.Disk (head_of P.theory name (P.numbers model.now)) disk.old disk.new) }
@@ -57,8 +57,8 @@ pub fn begin_journal<P: Problem, D: Disk>(
 ///
 /// # Errors
 ///
-/// `Disk` only where a call of the disk failed. `NotBegun`, `Damaged`, `Malformed` and `Version` exactly where they say, for the
-/// bytes that were read and the first record of which one is true. No other but `OutOfMemory`.
+/// `Disk` only if a call of the disk failed. `NotBegun`, `Damaged`, `Malformed` or `Version` exactly if it is true of the bytes that
+/// were read; of several records the first one decides. `OutOfMemory` for want of memory. No other error.
 pub fn open_journal<D: Disk>(
     alloc: Global,
     disk: &mut D,

@@ -5,7 +5,8 @@ use solver_report::{Answer, report_text, status};
 use std::alloc::Global;
 use streams::{Sink, write_all};
 
-/// Writes the text of the answer, or that memory ran out where it can't be made, and gives the status.
+/// Writes the text of the answer and gives the exit status. Writes `out of memory` if there is no memory for the text. The status is 7
+/// if the output failed and the input did not.
 pub fn say<K: Sink>(alloc: Global, out: &mut K, answer: &Answer) -> u8
     ensures { IsSaid (writings K.taken K.faults K.idle out.old out.new) answer.now result }
 {
@@ -21,8 +22,8 @@ const UNREAD: u8 = 6;
 /// The status of an output that failed.
 const UNWRITTEN: u8 = 7;
 
-/// Writes the text, and gives the status that goes with it, or the one of an output that failed. An input that failed goes before
-/// that.
+/// Writes the text, and gives its own status, or that of an output that failed. The status of an input that failed goes before that of
+/// an output.
 fn write<K: Sink>(out: &mut K, text: &[u8], own: u8) -> u8
     ensures { Says (writings K.taken K.faults K.idle out.old out.new) text.now own result }
 {

@@ -6,16 +6,19 @@ use crate::starting::empty_slots;
 use dp_model::OutOfMemory;
 use std::alloc::Global;
 
-/// What a board has beside its start: rows over which decisions are walked, and empty slots.
+/// What a board has beside its start: two rows in which decisions are walked, and a slot for each worker.
 #[derive(Drop)]
 pub struct Blank {
+    /// A row that is written over.
     pub row: Vec<i64>,
+    /// Another row that is written over.
     pub spare: Vec<i64>,
+    /// A slot for each worker, empty at first.
     pub slots: Vec<Option<CheckedOut>>,
 }
 
 impl Blank {
-    /// Rows of so many cells, and slots for so many workers.
+    /// Rows of `words` cells and slots for `workers` workers. Fails only for want of memory.
     pub fn new(alloc: Global, words: usize, workers: u32) -> Result<Blank, OutOfMemory>
         ensures row { IfOk result (λ b. vec_len b.row ≡ words) }
         ensures spare { IfOk result (λ b. vec_len b.spare ≡ words) }

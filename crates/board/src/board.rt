@@ -41,10 +41,10 @@ use std::alloc::Global;
 use std::marker::Model;
 use std::sync::Arc;
 
-/// Once the next ticket is greater, the budget counts as taken up, so that tickets never run out: 2^64 - 2^29.
+/// If the next ticket is greater than this, the budget counts as taken up. So tickets never run out. It is 2^64 - 2^29.
 const GREATEST_TICKET: u64 = 0xFFFF_FFFF_E000_0000;
 
-/// The board of a search: what was found, what is open, what each worker has out, and which states were reached.
+/// The board of a search: the incumbent, the open subproblems, what each worker has out, and the states that were reached.
 #[derive(Drop)]
 pub struct Board<M: DpModel> {
     model: Arc<M>,
@@ -105,9 +105,10 @@ impl<M: DpModel> Model for Board<M> {
 }
 
 impl<M: DpModel> Board<M> {
-    /// The board at the start of a search: the root is open with ticket 0, unless it is known to have no completion; without
-    /// variables the empty solution is the incumbent instead. There are from 1 to 16 workers, the width is at least 1, and the
-    /// distance is from 0 to 2^50. It is a good board. Fails only for want of memory.
+    /// The board at the start of a search, which is a good board. The root is open with ticket 0, unless it is known to have no
+    /// completion. An instance without variables has the empty solution as incumbent, and nothing is open.
+    ///
+    /// There are 1 to 16 workers, the width is at least 1, and the distance is from 0 to 2^50. Fails only for want of memory.
     pub fn begin(alloc: Global, model: Arc<M>, settings: Settings) -> Result<Board<M>, OutOfMemory>
         requires { AreSettings settings }
         ensures numbers { IfOk result (λ b. b.numbers ≡ M.numbers (arc_value model)) }
@@ -120,13 +121,13 @@ impl<M: DpModel> Board<M> {
         Ok(Board::fresh(alloc, model, settings, start, blank))
     }
 
-    /// A board that goes on from an incumbent and from subproblems with their tickets: what is above the reach is open, of those
-    /// of one depth and state that with the greatest value and of equal ones the earliest. Nothing is out or counted, and the
-    /// table is empty. There are from 1 to 16 workers, the width is at least 1, and the distance is from 0 to 2^50. Fails only
-    /// for want of memory.
+    /// A board that goes on from an incumbent, or none, and from subproblems with their tickets. The subproblems with a bound above
+    /// the reach are open. Of several with one depth and state only the one with the greatest value is, and of equal values the
+    /// earliest. Nothing is out, the counts are 0, and the table is empty.
     ///
-    /// The incumbent is a feasible solution. Each subproblem is a prefix of its own with its state and value that is shorter than
-    /// a solution, and its bound is at most 2^62 in size. Their tickets rise, and are less than the next one.
+    /// There are 1 to 16 workers, the width is at least 1, and the distance is from 0 to 2^50. The incumbent is a feasible
+    /// solution. Each subproblem is a prefix with its own state and value that is shorter than a solution, and its bound is at
+    /// most 2^62 in size. The tickets rise, and are less than `next`. Fails only for want of memory.
     pub fn restore(
         alloc: Global,
         model: Arc<M>,
@@ -146,7 +147,7 @@ impl<M: DpModel> Board<M> {
         Ok(Board::fresh(alloc, model, settings, start, blank))
     }
 
-    /// The board with this start, of which nothing is out.
+    /// The board with this start; nothing is out.
     fn fresh(
         alloc: Global,
         model: Arc<M>,
@@ -191,12 +192,17 @@ impl<M: DpModel> Board<M> {
         }
     }
 
-    /// The worker asks for a subproblem. The first rule that applies decides: nothing is open or out (`Finished`); a cause is
-    /// held (`Halted`); nothing is open (`WaitForOthers`); the budget is taken up (`Halted(Budget)`); otherwise the open
-    /// subproblem with the greatest bound, then the greatest value, then the least ticket goes to the worker's slot and is copied
-    /// to `into`. It takes no memory.
+    /// The worker asks for a subproblem. The first rule that applies decides:
     ///
-    /// The worker's slot is empty, and `into` has room for the decisions of all variables and a row of `words` cells.
+    /// 1. Nothing is open or out: `Finished`.
+    /// 2. A cause is held: `Halted` with the cause.
+    /// 3. Nothing is open: `WaitForOthers`.
+    /// 4. The budget is taken up: `Halted(Budget)`.
+    /// 5. Otherwise `Sub`: the open subproblem with the greatest bound, then the greatest value, then the least ticket goes to the
+    ///    worker's slot and is copied to `into`.
+    ///
+    /// The worker's slot is empty, and `into` has room for the decisions of all variables and a row of `words` cells. It takes no
+    /// memory.
     pub fn take(&mut self, who: u32, into: &mut Sub) -> Taken
         requires empty { slice_get self.old.board.slots who ≡ Some None }
         requires room { (M.meaning self.old.numbers).vars ≤ into.old.room }
@@ -259,9 +265,9 @@ impl<M: DpModel> Board<M> {
         self.taken += 1;
     }
 
-    /// Offers a solution. It becomes the incumbent where it is feasible and its value is greater than the incumbent's, and
-    /// then every open subproblem whose bound is at most the new reach is dropped. `NoSolution` exactly where the decisions are no
-    /// feasible solution, `NotBetter` exactly where the value is at most the incumbent's. It takes no memory.
+    /// Offers a solution. `Yes`: it is feasible and better than the incumbent, so it becomes the incumbent, and every open
+    /// subproblem whose bound is at most the new reach is dropped. `NoSolution` exactly if the decisions are no feasible solution.
+    /// `NotBetter` exactly if its value is at most the incumbent's. It takes no memory.
     pub fn improve(&mut self, decisions: &[u32]) -> Improved
         ensures answer { ImproveGives (M.meaning self.old.numbers) self.old.board decisions.now result }
         ensures step { self.new.board ≡ after_offer (M.meaning self.old.numbers) result self.old.board decisions.now }
@@ -286,8 +292,8 @@ impl<M: DpModel> Board<M> {
         Improved::Yes
     }
 
-    /// The value of a solution that `improve` would take, or `None` exactly where it would not: the decisions are no feasible
-    /// solution, or their value is at most the incumbent's. It takes no memory.
+    /// The value of the decisions if `improve` would take them as the new incumbent. `None` exactly if it would not: they are no
+    /// feasible solution, or their value is at most the incumbent's. It takes no memory.
     pub fn better_value(&mut self, decisions: &[u32]) -> Option<i64>
         ensures better { BetterGives (M.meaning self.old.numbers) self.old.board decisions.now result }
         ensures same { self.new ≡ self.old }
@@ -305,8 +311,8 @@ impl<M: DpModel> Board<M> {
         }
     }
 
-    /// Makes `room` at least `count`: so many children have room in the fringe and in the table beside all that is out. It fails
-    /// only where that room was missing, and a refusal changes nothing.
+    /// Makes room for `count` children in the fringe and in the table, beside everything that is out: `room` is at least `count`
+    /// afterwards. Fails only for want of memory, and only if the room was missing; then nothing has changed.
     pub fn reserve_for(&mut self, count: usize) -> Result<(), OutOfMemory>
         ensures board { self.new.board ≡ self.old.board }
         ensures tag { tag_of self.new ≡ tag_of self.old }
@@ -328,18 +334,18 @@ impl<M: DpModel> Board<M> {
         Ok(())
     }
 
-    /// The reach: the incumbent's value and the distance of the settings. Whatever is at most that is left out of the search. `None`
-    /// exactly where there is no incumbent.
+    /// The reach: the incumbent's value plus the distance of the settings. The search leaves out whatever is at most the reach.
+    /// `None` exactly if there is no incumbent.
     pub fn reach(&self) -> Option<i64>
         ensures { result ≡ reach self.now.board }
     {
         reach_of(self.settings.within, self.best_value)
     }
 
-    /// Decides the fates of children, all on the board as it is. It takes no memory.
+    /// Decides the fate of each child on the board as it is, and appends it to `into`. It takes no memory.
     ///
-    /// A slot is full, there are at most `MOST_WIDTH` children, each is a prefix of its own with its state and value that is shorter than a
-    /// solution, and `into` is empty and has room for their fates.
+    /// A slot is full. There are at most `MOST_WIDTH` children. Each is a prefix with its own state and value that is shorter than
+    /// a solution. `into` is empty and has room for their fates.
     pub fn fates(&self, subs: &[Sub], into: &mut Vec<Fate>)
         requires full { 1 ≤ length (full_slots self.now.board.slots) }
         requires few { length subs.now ≤ MOST_WIDTH }
@@ -361,15 +367,17 @@ impl<M: DpModel> Board<M> {
         );
     }
 
-    /// The worker's slot becomes empty, and the children enter by their fates, in order. `subs` is emptied. It takes no memory.
+    /// Empties the worker's slot, and enters its children by their fates, in order. `subs` is empty afterwards. It takes no memory.
     ///
-    /// The slot is full, `room` is at least the number of children, there are at most 2^24 of them, and `fates` are those of
-    /// this board. `threshold`, that of the diagram which the children come from, is none or at most the reach. Each child properly
-    /// extends the slot's prefix, is shorter than a solution, and has its own state and value; no child begins with another, and
-    /// those of one depth differ in state; each bound is at most 2^62 in size, and no completion of the child exceeds both it and
-    /// the reach. Each completion of the slot's prefix is at most the reach or matched by a child. The children stand where a
-    /// diagram of the prefix, the width of the settings and the threshold is last exact, or deeper; where the width takes nothing
-    /// from it there are none.
+    /// - The slot is full, `room` is at least the number of children, there are at most 2^24 children, and `fates` are their fates
+    ///   on this board.
+    /// - `threshold` is that of the diagram from which the children come. It is `None` or at most the reach.
+    /// - Each child properly extends the slot's prefix, is shorter than a solution, and has its own state and value. No child
+    ///   begins with another, and children of one depth differ in state.
+    /// - Each bound is at most 2^62 in size. No completion of a child exceeds both its bound and the reach.
+    /// - Each completion of the slot's prefix is at most the reach or matched by a child.
+    /// - Each child is in the last exact layer, or deeper, of the diagram of the slot's prefix with the width of the settings and
+    ///   the threshold. If the width takes nothing from this diagram, there are no children.
     pub fn finish(&mut self, who: u32, threshold: Option<i64>, subs: &mut Vec<Sub>, fates: &[Fate])
         requires may { MayFinish (M.meaning self.old.numbers) self.old.board who threshold (contents subs.old.items) fates.now }
         requires room { length subs.old.items ≤ self.old.room }
@@ -393,10 +401,9 @@ impl<M: DpModel> Board<M> {
         self.room -= count;
     }
 
-    /// The worker hands its subproblem back, after a halt: it is open again under its own ticket, unless an open subproblem of its
-    /// depth and state has no less value, or its bound is at most the reach. It takes no memory.
-    ///
-    /// The slot is full, and a cause is held.
+    /// The worker hands its subproblem back after a halt. It is open again with its old ticket, unless an open subproblem of its
+    /// depth and state has no less value, or its bound is at most the reach. The slot is full, and a cause is held. It takes no
+    /// memory.
     pub fn give_back(&mut self, who: u32)
         requires full { IsSome (slot_at self.old.board who) }
         requires halted { IsSome self.old.board.cause }
@@ -412,8 +419,8 @@ impl<M: DpModel> Board<M> {
         put_back(&mut self.fringe, reach, one);
     }
 
-    /// Halts the search. `Memory` becomes the cause only where none is held; `Journal` becomes it always. The budget is no
-    /// cause that a board keeps, so it is not passed here.
+    /// Halts the search. `Memory` becomes the cause only if none is held; `Journal` always becomes the cause. `Budget` is not
+    /// passed, since no board keeps it as its cause.
     pub fn halt(&mut self, cause: Cause)
         requires { cause ≢ Cause.Budget }
         ensures step { self.new.board ≡ halted self.old.board cause }
@@ -423,7 +430,7 @@ impl<M: DpModel> Board<M> {
         self.cause = cause_after(self.cause, cause);
     }
 
-    /// What the worker has out, or `None` exactly where its slot is empty.
+    /// The subproblem in the worker's slot, or `None` exactly if the slot is empty.
     pub fn slot(&self, who: u32) -> Option<&Sub>
         requires { who < length self.now.board.slots }
         ensures { option_map (λ s. s.now.subproblem) result ≡ option_map (λ o. o.subproblem) (slot_at self.now.board who) }
@@ -434,7 +441,7 @@ impl<M: DpModel> Board<M> {
         }
     }
 
-    /// The ticket of what the worker has out, or `None` exactly where its slot is empty.
+    /// The ticket of the subproblem in the worker's slot, or `None` exactly if the slot is empty.
     pub fn slot_ticket(&self, who: u32) -> Option<u64>
         requires { who < length self.now.board.slots }
         ensures { result ≡ option_map (λ o. o.ticket) (slot_at self.now.board who) }
@@ -445,7 +452,7 @@ impl<M: DpModel> Board<M> {
         }
     }
 
-    /// The best solution found, or `None` exactly where there is none yet.
+    /// The incumbent: the best solution found so far, or `None` exactly if none was found.
     pub fn incumbent(&self) -> Option<Found<'_>>
         ensures { option_map (λ f. record { decisions = f.decisions.now; value = f.value }) result ≡ self.now.board.incumbent }
     {
@@ -458,8 +465,8 @@ impl<M: DpModel> Board<M> {
         }
     }
 
-    /// What every board keeps: its problem meets the laws, it is a board, and where the first board was a good one it is a good one.
-    /// The call does nothing; its clauses are what a proof needs.
+    /// What every board keeps: its problem meets the laws, it satisfies `IsBoard`, and if the first board was good, it is good. The
+    /// call does nothing; a proof uses its clauses.
     pub fn facts(&self)
         ensures lawful { IsLawful (M.meaning self.now.numbers) }
         ensures kept { IsBoard (M.meaning self.now.numbers) self.now.board }
@@ -468,8 +475,7 @@ impl<M: DpModel> Board<M> {
         let _best = self.best_value;
     }
 
-    /// The value of the best solution found, or `None` exactly where there is none yet. Where the first board was a good one,
-    /// the board is.
+    /// The value of the incumbent, or `None` exactly if there is none. If the first board was good, this board is good.
     pub fn incumbent_value(&self) -> Option<i64>
         ensures value { result ≡ incumbent_value self.now.board }
         ensures lawful { IsLawful (M.meaning self.now.numbers) }
@@ -480,8 +486,8 @@ impl<M: DpModel> Board<M> {
         self.best_value
     }
 
-    /// The greatest of the reach and the bounds of all that is open or out, which no feasible solution exceeds where the first
-    /// board was a good one. `None` exactly where there is no incumbent and nothing is open or out.
+    /// The greatest of the reach and the bounds of everything that is open or out. If the first board was good, no feasible solution
+    /// exceeds it. `None` exactly if there is no incumbent and nothing is open or out.
     pub fn bound(&self) -> Option<i64>
         ensures bound { result ≡ board_bound self.now.board }
         ensures greatest { IsGreatestBound self.now.board result }
@@ -491,8 +497,8 @@ impl<M: DpModel> Board<M> {
         raised_by_fringe(most, &self.fringe)
     }
 
-    /// How many subproblems were taken: no more than the budget. Where the first board was a good one, something is open and no
-    /// cause is held, there are more prefixes than that.
+    /// How many subproblems were taken, at most the budget. If the first board was good, something is open and no cause is held, the
+    /// instance has more prefixes than this.
     pub fn taken(&self) -> u64
         ensures taken { result ≡ self.now.board.taken }
         ensures budget { result ≤ self.now.board.settings.budget }
@@ -501,8 +507,8 @@ impl<M: DpModel> Board<M> {
         self.taken
     }
 
-    /// How many of them were finished: where the first board was a good one, no more than there are prefixes shorter than a
-    /// solution.
+    /// How many of the subproblems taken were finished. If the first board was good, this is at most the number of prefixes that are
+    /// shorter than a solution.
     pub fn finished(&self) -> u64
         ensures finished { result ≡ self.now.board.finished }
         ensures counts { result ≤ self.now.board.taken }
@@ -511,15 +517,15 @@ impl<M: DpModel> Board<M> {
         self.finished
     }
 
-    /// The cause that is held, or `None` exactly where none is.
+    /// The cause of the halt, or `None` exactly if no cause is held.
     pub fn cause(&self) -> Option<Cause>
         ensures { result ≡ self.now.board.cause }
     {
         self.cause
     }
 
-    /// Whether nothing is open or out. Where the first board was a good one, each feasible solution is then at most the reach;
-    /// without a distance the incumbent is best, or there is no feasible solution.
+    /// Whether nothing is open or out. If so and the first board was good, each feasible solution is at most the reach. Without a
+    /// distance the incumbent is then best, or there is no feasible solution.
     pub fn is_explored(&self) -> bool
         ensures explored { result ≡ is_explored self.now.board }
         ensures within { IsGood (M.meaning self.now.numbers) self.now.first → IsTrue result → (x : List ℕ) → IsSolution (M.meaning self.now.numbers) x → AtMost (value_of (M.meaning self.now.numbers) x) (reach self.now.board) }

@@ -4,7 +4,9 @@ use std::marker::Model;
 /// A subproblem that a worker has out, with its ticket.
 #[derive(Debug, Drop)]
 pub struct CheckedOut {
+    /// Its ticket.
     pub ticket: u64,
+    /// The subproblem.
     pub sub: Sub,
 }
 

@@ -13,7 +13,7 @@ use dominance_table::Table;
 use dp_model::{DpModel, Sub};
 use fringe::Fringe;
 
-/// Whether the number is greater than the option, where none is less than every number.
+/// Whether the value is above the reach; `None` is less than every number.
 pub fn is_above(reach: Option<i64>, value: i64) -> bool
     ensures { result ≡ is_above reach value }
 {
@@ -23,7 +23,7 @@ pub fn is_above(reach: Option<i64>, value: i64) -> bool
     }
 }
 
-/// The fate of a child beside these open subproblems and entries, where the child would enter with this ticket.
+/// The fate of a child beside these open subproblems and entries. If it enters, it has this ticket.
 fn decide<M: DpModel>(
     model: &M,
     reach: Option<i64>,
@@ -60,7 +60,7 @@ fn decide<M: DpModel>(
     }
 }
 
-/// The fates of children, all decided beside these open subproblems and entries, the first child that enters having the next
+/// The fates of children, each decided beside the same open subproblems and entries. The first child that enters has the next
 /// ticket.
 pub fn decide_all<M: DpModel>(
     model: &M,

@@ -6,7 +6,7 @@ use board_laws::Settings;
 use std::marker::Model;
 use std::snapshot::Snapshot;
 
-/// The board of a search as it was when it was made. It has no bytes: contracts alone see it.
+/// The board as it was when it was made. Contracts alone use it: it takes no bytes.
 #[derive(Drop)]
 pub struct FirstBoard {
     start: Snapshot<Start>,

@@ -1,4 +1,4 @@
-//! What the full slots have, and the greatest of bounds.
+//! The full slots, and the greatest of bounds.
 
 ghost use Rattle.std.specs.Prelude.{◌≡◌, length};
 ghost use Rattle.board_laws.specs.Board.{full_slots};
@@ -21,7 +21,7 @@ pub fn count_full(slots: &[Option<CheckedOut>]) -> usize
     count
 }
 
-/// The greater of the option and the number, where none is less than every number.
+/// The greater of the two; `None` is less than every number.
 fn raised(most: Option<i64>, bound: i64) -> Option<i64>
     ensures { result ≡ raised most bound }
 {
@@ -31,7 +31,7 @@ fn raised(most: Option<i64>, bound: i64) -> Option<i64>
     }
 }
 
-/// The greatest of the option and the bounds of what the slots have.
+/// The greatest of `most` and the bounds of what the slots have; `None` is less than every number.
 pub fn raised_by_slots(most: Option<i64>, slots: &[Option<CheckedOut>]) -> Option<i64>
     ensures { result ≡ raised_by most (full_slots slots.now) }
 {
@@ -44,7 +44,7 @@ pub fn raised_by_slots(most: Option<i64>, slots: &[Option<CheckedOut>]) -> Optio
     most
 }
 
-/// The greatest of the option and the bounds of what is open.
+/// The greatest of `most` and the bounds of what is open; `None` is less than every number.
 #[tactic(auto, using(crate::proofs::Bounds::raised_none, crate::proofs::Bounds::raised_some))]
 pub fn raised_by_fringe(most: Option<i64>, fringe: &Fringe) -> Option<i64>
     ensures { result ≡ raised_by most fringe.now.open_ones }

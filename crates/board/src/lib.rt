@@ -1,13 +1,17 @@
 //! The board of a branch and bound search: the incumbent, the open subproblems, a slot for each worker, the dominance table,
-//! the counts, the settings and the cause of a halt, with the five steps that a search is made of.
+//! the counts, the settings and the cause of a halt. A search consists of five steps on it: take, improve, finish, give back
+//! and halt.
 //!
-//! It stands on `dp_model`, on the data and the laws of `board_laws`, and on `fringe` and `dominance_table`, which hold
-//! what is open and which states were reached, and on `turn`: a board may stand behind a turn, where a move is one step
-//! of a worker's run, or none. Each call that changes a board is one step, and its contract is an equation on the board as
-//! data. Whatever the steps, a board keeps what every board keeps and is good: each feasible solution is at most the reach or
-//! matched by a prefix that is open or out, every bound is held, every entry of the table has its floor, no such prefix begins
-//! with another, no two open subproblems have one depth and state, and the counts are bounded by the number of prefixes that
-//! there are. So where nothing is open or out, no feasible solution is above the reach.
+//! It stands on `dp_model`, on the data and the laws of `board_laws`, on `fringe` for the open subproblems, on
+//! `dominance_table` for the states that were reached, and on `turn`, by which workers share a board: a move in a turn is one
+//! step of a worker's run, or none.
+//!
+//! Each call that changes a board is one step, and its contract is an equation on the board as data. The reach is the
+//! incumbent's value plus the distance of the settings. A subproblem is out while a worker's slot has it. Every step keeps a
+//! board good: each feasible solution is at most the reach or matched by a prefix that is open or out, every bound is held,
+//! every entry of the table has its floor, no such prefix begins with another, no two open subproblems have one depth and
+//! state, and the counts are bounded by the number of prefixes. So if nothing is open or out, no feasible solution is above
+//! the reach.
 //!
 //! ```
 //! let mut board = Board::begin(alloc, model, settings)?;

@@ -23,7 +23,7 @@ use dp_model::{DpModel, OutOfMemory, Sub};
 use fringe::Fringe;
 use std::alloc::Global;
 
-/// The value and the distance, or none.
+/// The sum of the value and the distance, or `None` if there is no value.
 pub fn reach_of(within: i64, value: Option<i64>) -> Option<i64>
     requires { (v : ℤ) → value ≡ Some v → IsFar (v +ℤ within) }
     ensures { result ≡ reach_of within value }
@@ -62,7 +62,7 @@ fn push_above(fringe: &mut Fringe, reach: Option<i64>, opened: Vec<(u64, Sub)>)
     }
 }
 
-/// Copies an incumbent's decisions, and answers its value, or `None` exactly where there is no incumbent.
+/// Copies the incumbent's decisions and answers its value, or answers `None` exactly if there is no incumbent.
 fn copy_incumbent<M: DpModel>(
     alloc: Global,
     model: &M,
@@ -81,7 +81,7 @@ fn copy_incumbent<M: DpModel>(
     worth(alloc, model, decisions)
 }
 
-/// What a restored board starts with: the incumbent, and what is above the reach.
+/// What a restored board starts with: the incumbent, and the subproblems above the reach. Fails only for want of memory.
 pub fn restored_start<M: DpModel>(
     alloc: Global,
     model: &M,

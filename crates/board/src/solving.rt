@@ -5,7 +5,7 @@ ghost use Rattle.dp_model.specs.Solution.{SolutionGives};
 
 use dp_model::{DpModel, walk};
 
-/// The value of a feasible solution, or `None` exactly where the decisions are none. The rows are written over.
+/// The value of the decisions, or `None` exactly if they are no feasible solution. The rows are written over.
 pub fn solution_value<M: DpModel>(
     model: &M,
     decisions: &[u32],

@@ -1,4 +1,4 @@
-//! What a board begins with.
+//! The start of a board.
 
 ghost use Rattle.std.specs.Prelude.{◌≡◌, ◌≤◌, [], IfOk, length, option_map, vec_len};
 ghost use Rattle.board_laws.specs.Steps.{empty_slots, root_bound, root_subproblem, first_incumbent, first_open};
@@ -11,7 +11,7 @@ use dp_model::{DpModel, OutOfMemory, Sub};
 use fringe::Fringe;
 use std::alloc::Global;
 
-/// Slots for so many workers, all empty.
+/// An empty slot for each of `workers` workers. Fails only for want of memory.
 pub fn empty_slots(alloc: Global, workers: u32) -> Result<Vec<Option<CheckedOut>>, OutOfMemory>
     ensures { IfOk result (λ slots. slots.items ≡ empty_slots workers) }
 {
@@ -22,7 +22,7 @@ pub fn empty_slots(alloc: Global, workers: u32) -> Result<Vec<Option<CheckedOut>
     Ok(slots)
 }
 
-/// The value of the empty solution, where there are no variables.
+/// The value of the empty solution, or `None` if there are variables.
 fn first_value<M: DpModel>(model: &M) -> Option<i64>
     ensures { best_of [] result ≡ first_incumbent (M.meaning (M.numbers model.now)) }
 {
@@ -41,7 +41,7 @@ fn write_root<M: DpModel>(model: &M, row: &mut Vec<i64>)
     model.root(row.as_mut_slice());
 }
 
-/// The bound of the root, or `None` where it is known to have no completion.
+/// The bound of the root, or `None` if it is known to have no completion.
 fn root_bound<M: DpModel>(model: &M, row: &[i64]) -> Option<i64>
     requires { row.now ≡ (M.meaning (M.numbers model.now)).root }
     ensures { result ≡ root_bound (M.meaning (M.numbers model.now)) }
@@ -52,7 +52,7 @@ fn root_bound<M: DpModel>(model: &M, row: &[i64]) -> Option<i64>
     Some(model.root_value() + rough)
 }
 
-/// The root as a subproblem, or `None` where it is known to have no completion.
+/// The root as a subproblem, or `None` if it is known to have no completion. Fails only for want of memory.
 pub fn root_sub<M: DpModel>(alloc: Global, model: &M) -> Result<Option<Sub>, OutOfMemory>
     ensures root { IfOk result (λ root. option_map (λ s. s.subproblem) root ≡ root_subproblem (M.meaning (M.numbers model.now))) }
 {
@@ -66,7 +66,7 @@ pub fn root_sub<M: DpModel>(alloc: Global, model: &M) -> Result<Option<Sub>, Out
     Ok(Some(sub))
 }
 
-/// An empty fringe with room for so many subproblems.
+/// An empty fringe with room for `count` subproblems of `words` cells. Fails only for want of memory.
 pub fn fringe_for(alloc: Global, words: usize, count: usize) -> Result<Fringe, OutOfMemory>
     requires { 1 ≤ words }
     ensures open { IfOk result (λ fringe. fringe.open_ones ≡ []) }
@@ -78,7 +78,7 @@ pub fn fringe_for(alloc: Global, words: usize, count: usize) -> Result<Fringe, O
     Ok(fringe)
 }
 
-/// The fringe with the root, where there are variables and the root has a bound.
+/// The fringe with the root, or an empty one if there are no variables or the root has no bound.
 fn first_open<M: DpModel>(alloc: Global, model: &M) -> Result<Fringe, OutOfMemory>
     ensures open { IfOk result (λ fringe. fringe.open_ones ≡ first_open (M.meaning (M.numbers model.now))) }
     ensures words { IfOk result (λ fringe. fringe.words ≡ (M.meaning (M.numbers model.now)).words) }
@@ -94,7 +94,7 @@ fn first_open<M: DpModel>(alloc: Global, model: &M) -> Result<Fringe, OutOfMemor
     Ok(fringe)
 }
 
-/// What the first board starts with: the root is open, or the empty solution is the incumbent.
+/// What the first board starts with: the root is open, or the empty solution is the incumbent. Fails only for want of memory.
 pub fn first_start<M: DpModel>(alloc: Global, model: &M) -> Result<Start, OutOfMemory>
     ensures best { IfOk result (λ s. start_best s ≡ first_incumbent (M.meaning (M.numbers model.now))) }
     ensures open { IfOk result (λ s. s.fringe.open_ones ≡ first_open (M.meaning (M.numbers model.now))) }

@@ -9,6 +9,11 @@
 //! every board keeps, and keeps a good board good; no step changes the settings, lowers the incumbent or changes the slot of
 //! another worker; on a good board no feasible solution exceeds the bound, and where nothing is open or out, each feasible
 //! solution is at most the reach.
+//!
+//! ```
+//! // A law: the call does nothing, and its contract is a theorem.
+//! explored_is_best();
+//! ```
 #![tactic(auto)]
 
 mod boards;

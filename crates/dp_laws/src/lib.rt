@@ -4,6 +4,11 @@
 //! It stands on `dp_model`. Each function here is a law: its body is empty, and its contract is what is proved. A restricted
 //! diagram that is built by the rules has the layers that are defined on plain lists of prefixes, and a relaxed one is a
 //! diagram as its readers show it. That bounds every completion of its prefix, so its children lose none that counts.
+//!
+//! ```
+//! // A law: the call does nothing, and its contract is a theorem.
+//! suffixes_bound();
+//! ```
 #![tactic(auto)]
 
 mod arc;

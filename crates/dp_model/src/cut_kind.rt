@@ -1,8 +1,8 @@
-/// Which exact nodes of a relaxed diagram become children.
+/// The exact nodes of a relaxed diagram that become the children of its subproblem.
 #[derive(Clone, Copy, Debug, PartialEq, Eq, Hash)]
 pub enum CutKind {
-    /// The layer just above the first reduced one.
+    /// The nodes of the last layer above the first reduced one.
     LastExactLayer,
-    /// The exact nodes with an arc into an inexact one.
+    /// The exact nodes that have an arc to an inexact node.
     Frontier,
 }

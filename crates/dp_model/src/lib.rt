@@ -1,13 +1,13 @@
-//! Discrete maximisation problems as dynamic programs: what every problem of the solver offers, and the laws that it is
+//! Discrete maximisation problems as dynamic programs: the interface of a problem, and the laws that every problem is
 //! proved to meet.
 //!
 //! It stands on std alone. Its definitions (prefix, state and value, feasible solution, completion, continuation, frontier
-//! cover, bounds, counts) speak of lists of decisions only; every other crate speaks in their words.
+//! cover, bounds, counts) speak of lists of decisions only. Every other crate uses these definitions.
 //! `DpModel` is the interface of a problem, `walk` follows decisions from the root, `Sub` is a subproblem in memory, and
-//! `fold` gives a number by which equal rows are found.
+//! `fold` hashes a row.
 //!
 //! ```
-//! // The value of a prefix, where its decisions are allowed; `state` has the state that it reaches.
+//! // `value` is the value of the prefix 1, 0, and `state` the state that it reaches. It is `None` for a list that is no prefix.
 //! let value = walk(&model, &[1, 0], &mut state, &mut spare);
 //! ```
 #![tactic(auto)]

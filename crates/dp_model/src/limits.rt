@@ -1,10 +1,10 @@
-/// The greatest distance of an answer from the best value.
+/// The greatest distance that a search may be asked for, in units of the value.
 pub const MOST_DISTANCE: u64 = 1 << 50;
 
-/// The greatest width of a diagram. No subproblem has more children.
+/// The greatest width of a diagram, in nodes of a layer. No subproblem has more children.
 pub const MOST_WIDTH: u32 = 1 << 24;
 
-/// The greatest cost of a diagram's layers, in units of 8 bytes.
+/// The greatest cost of a diagram's layers in memory, in units of 8 bytes.
 pub const MOST_COST: u64 = 1 << 25;
 
 /// The greatest number of workers of a search.

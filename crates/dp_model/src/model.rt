@@ -3,10 +3,12 @@ ghost use Rattle.dp_model.specs.Dp.{Dp, IsAllowed};
 ghost use Rattle.dp_model.specs.Laws.{IsLawful, IsChained};
 ghost use Rattle.dp_model.specs.Gaps.{IsStateOf, within};
 
-/// What a decision adds to the value, and the rank of the state that it leads to.
+/// What `DpModel::extend` answers for an allowed decision.
 #[derive(Clone, Copy, Debug, PartialEq, Eq)]
 pub struct Extended {
+    /// What the decision adds to the value.
     pub gain: i64,
+    /// The rank of the state that it leads to.
     pub rank: i64,
 }
 
@@ -15,32 +17,33 @@ pub struct Extended {
 /// There are `vars` variables, and layer `k` decides variable `k`. A state is a row of `words` numbers, and a decision at
 /// layer `k` is a number below `choices(k)`. The value of a prefix is the root value plus its gains. No call takes memory.
 ///
-/// The type is a problem with its instance: the meaning of each call is that of the program that the instance's list of
-/// numbers spells, and this program meets the laws.
+/// A value of the type is an instance of the problem. `numbers` describes the instance, and `meaning` gives the dynamic
+/// program that these numbers spell. Each call answers as this program does, and the program meets the laws: `vars`, `words`
+/// and `choices` are at most 1,024; cells, gains, gaps, rough bounds and the root value are at most 2^50 in size.
 ///
-/// `covers_within`, `extend`, `rough_by_rank`, `first_live` and `next_choice` say nothing that the other calls don't. They are there for
-/// speed: each has a body by the others, which a problem replaces where it knows a shorter way.
+/// `covers_within`, `extend`, `rough_by_rank`, `first_live` and `next_choice` are there for speed. Each has a body that uses
+/// the other calls. A problem replaces this body if a shorter way is known.
 pub trait DpModel: Send + Sync + Drop {
-    /// The whole numbers of the instance.
+    /// The numbers that describe the instance.
     ghost numbers: { Self → List ℤ };
 
-    /// The dynamic program that such numbers spell.
+    /// The dynamic program that a list of such numbers spells.
     ghost meaning: { List ℤ → Dp };
 
-    /// The number of variables.
+    /// The number of variables, at most 1,024.
     fn vars(&self) -> usize
         ensures { result ≡ (meaning (numbers self.now)).vars };
 
-    /// The number of cells of a state.
+    /// The number of cells of a state, from 1 to 1,024.
     fn words(&self) -> usize
         ensures { result ≡ (meaning (numbers self.now)).words };
 
-    /// The number of decisions at the layer, of which some may not be allowed.
+    /// The number of decisions of layer `k`, from 1 to 1,024. A state may allow only some of them. `k` is less than `vars`.
     fn choices(&self, k: usize) -> u32
         requires { k < (meaning (numbers self.now)).vars }
         ensures { result ≡ (meaning (numbers self.now)).choices k };
 
-    /// Writes the root state.
+    /// Writes the root state to `out`, which has `words` cells.
     fn root(&self, out: &mut [i64])
         requires { length out.old ≡ (meaning (numbers self.now)).words }
         ensures { out.new ≡ (meaning (numbers self.now)).root };
@@ -49,61 +52,62 @@ pub trait DpModel: Send + Sync + Drop {
     fn root_value(&self) -> i64
         ensures { result ≡ (meaning (numbers self.now)).root_value };
 
-    /// Whether the decision may be taken in the state.
+    /// Whether decision `d` is allowed in state `s` of layer `k`. `k` is less than `vars`, and `d` less than `choices(k)`.
     fn allowed(&self, k: usize, s: &[i64], d: u32) -> bool
         requires layer { k < (meaning (numbers self.now)).vars }
         requires choice { d < (meaning (numbers self.now)).choices k }
         requires state { IsTrue ((meaning (numbers self.now)).is_state k s.now) }
         ensures { result ≡ (meaning (numbers self.now)).allowed k s.now d };
 
-    /// Writes the state that the decision leads to.
+    /// Writes the state of layer `k + 1` that decision `d` leads to. The decision is allowed, and `out` has `words` cells.
     fn step(&self, k: usize, s: &[i64], d: u32, out: &mut [i64])
         requires state { IsTrue ((meaning (numbers self.now)).is_state k s.now) }
         requires allowed { IsAllowed (meaning (numbers self.now)) k s.now d }
         requires cells { length out.old ≡ (meaning (numbers self.now)).words }
         ensures { out.new ≡ (meaning (numbers self.now)).step k s.now d };
 
-    /// What the decision adds to the value.
+    /// What decision `d` adds to the value; it may be negative. The decision is allowed.
     fn gain(&self, k: usize, s: &[i64], d: u32) -> i64
         requires state { IsTrue ((meaning (numbers self.now)).is_state k s.now) }
         requires allowed { IsAllowed (meaning (numbers self.now)) k s.now d }
         ensures { result ≡ (meaning (numbers self.now)).gain k s.now d };
 
-    /// Makes `acc` a state that covers all that the old `acc` or `s` covers.
+    /// Replaces `acc` by a state that covers every state which the old `acc` or `s` covers. Both are states of layer `k`.
     fn merge_into(&self, k: usize, acc: &mut [i64], s: &[i64])
         requires kept { IsStateOf (meaning (numbers self.now)) k acc.old }
         requires state { IsStateOf (meaning (numbers self.now)) k s.now }
         ensures { acc.new ≡ (meaning (numbers self.now)).merged k acc.old s.now };
 
-    /// By how much at most a continuation of `s` gains more than the best one of `a`, or none where `a` does not cover `s`.
+    /// The gap from `a` to `s`, at least 0: every continuation of `s` gains at most this much more than some continuation of
+    /// `a`. `None` if `a` does not cover `s`.
     fn gap(&self, k: usize, a: &[i64], s: &[i64]) -> Option<i64>
         requires covering { IsStateOf (meaning (numbers self.now)) k a.now }
         requires state { IsStateOf (meaning (numbers self.now)) k s.now }
         ensures { result ≡ (meaning (numbers self.now)).gap k a.now s.now };
 
-    /// A bound on what a continuation of the state gains, or none where the state is known to have none.
+    /// The rough bound: no continuation of `s` gains more. `None` if `s` is known to have no continuation.
     fn rough(&self, k: usize, s: &[i64]) -> Option<i64>
         requires { IsStateOf (meaning (numbers self.now)) k s.now }
         ensures { result ≡ (meaning (numbers self.now)).rough k s.now };
 
-    /// The second number in the order by which layers are reduced: the greater comes first.
+    /// The second key in the order by which a layer is reduced. A greater rank comes first.
     fn rank(&self, k: usize, s: &[i64]) -> i64
         requires { IsStateOf (meaning (numbers self.now)) k s.now }
         ensures { result ≡ (meaning (numbers self.now)).rank k s.now };
 
-    /// Only states of one bucket are compared for dominance.
+    /// The number of the state's bucket. Dominance compares only states of one bucket.
     fn bucket(&self, k: usize, s: &[i64]) -> u64
         requires { IsStateOf (meaning (numbers self.now)) k s.now }
         ensures { result ≡ (meaning (numbers self.now)).bucket k s.now };
 
-    /// Whether the row is a state of the layer.
+    /// Whether the row, which has `words` cells, is a state of layer `k`. `k` is at most `vars`.
     fn is_state(&self, k: usize, s: &[i64]) -> bool
         requires layer { k ≤ (meaning (numbers self.now)).vars }
         requires cells { length s.now ≡ (meaning (numbers self.now)).words }
         ensures { result ≡ (meaning (numbers self.now)).is_state k s.now };
 
-    /// The gap from `a` to `s` where there is one of at most `most`. The ranks of the two states are told, so that a problem
-    /// need not read the rows to the end, or at all.
+    /// The gap from `a` to `s` if there is one and it is at most `most`; otherwise `None`. The caller passes the ranks of both
+    /// states, so that a problem can answer without reading whole rows.
     fn covers_within(
         &self,
         k: usize,
@@ -123,9 +127,11 @@ pub trait DpModel: Send + Sync + Drop {
         if gap <= most { Some(gap) } else { None }
     }
 
-    /// Step, gain and the rank of the next state in one pass, where the rank of the state is told; `None` exactly where the
-    /// decision is not allowed, and then `out` stays as it was. So many first cells of `out` as `zeros` are zero already,
-    /// and need not be written where they are zero in the next state.
+    /// Does `allowed`, `step`, `gain` and `rank` of the next state in one pass. `None` exactly if the decision is not allowed;
+    /// then `out` is unchanged.
+    ///
+    /// `rank` is the rank of `s`. The first `zeros` cells of `out` are zero: a problem need not write those that are zero in the
+    /// next state too.
     fn extend(
         &self,
         k: usize,
@@ -156,7 +162,7 @@ pub trait DpModel: Send + Sync + Drop {
         Some(Extended { gain, rank })
     }
 
-    /// The rough bound, where the rank of the state is told.
+    /// The rough bound of `s`, whose rank the caller passes.
     fn rough_by_rank(&self, k: usize, s: &[i64], rank: i64) -> Option<i64>
         requires state { IsStateOf (meaning (numbers self.now)) k s.now }
         requires rank { rank ≡ (meaning (numbers self.now)).rank k s.now }
@@ -165,8 +171,8 @@ pub trait DpModel: Send + Sync + Drop {
         self.rough(k, s)
     }
 
-    /// So many first cells are zero in every state of the layer: two of its states are equal exactly where their other
-    /// cells are, so these alone need be compared, folded and copied.
+    /// A number of first cells that are zero in every state of layer `k`. Two states of the layer are equal exactly if their
+    /// other cells are equal, so only the others are compared, folded and copied. `k` is at most `vars`.
     fn first_live(&self, k: usize) -> usize
         requires { k ≤ (meaning (numbers self.now)).vars }
         ensures cells { result ≤ (meaning (numbers self.now)).words }
@@ -175,9 +181,11 @@ pub trait DpModel: Send + Sync + Drop {
         0
     }
 
-    /// Where to go on from a decision: no decision from `from` on is allowed before the answer, which need not be allowed itself.
-    /// The answer is the number of choices where none is left. A problem of many choices, few of which are allowed in most
-    /// states, steps over the others here, as from one member of a set to the next; `extend` is then asked of fewer.
+    /// The next decision to try, from `from` up. No decision from `from` up to the answer is allowed; the answer itself need not
+    /// be allowed. The answer is `choices(k)` if no decision is left.
+    ///
+    /// A problem with many choices, few of which are allowed in most states, steps over the others here, as from one member of a
+    /// set to the next. Then `extend` is called for fewer decisions.
     fn next_choice(&self, k: usize, s: &[i64], from: u32) -> u32
         requires layer { k < (meaning (numbers self.now)).vars }
         requires state { IsTrue ((meaning (numbers self.now)).is_state k s.now) }
@@ -189,9 +197,9 @@ pub trait DpModel: Send + Sync + Drop {
         from
     }
 
-    /// The six laws.
+    /// The program of every instance meets the six laws.
     ghost lawful: { (m : Self) → IsLawful (meaning (numbers m)) };
 
-    /// Gaps add up along a chain.
+    /// The gaps of every program add up along a chain of states.
     ghost chained: { (m : Self) → IsChained (meaning (numbers m)) };
 }

@@ -6,9 +6,13 @@ use std::marker::Model;
 /// A subproblem: a prefix of decisions with its state, its value and a bound on its completions.
 #[derive(Debug, Drop)]
 pub struct Sub {
+    /// The decisions of the prefix.
     pub decisions: Vec<u32>,
+    /// The state that the prefix reaches.
     pub row: Vec<i64>,
+    /// The value of the prefix.
     pub value: i64,
+    /// A bound on the values of its completions.
     pub bound: i64,
 }
 
@@ -25,7 +29,8 @@ impl Model for Sub {
 }
 
 impl Sub {
-    /// A subproblem without decisions, its state all zeros, with room for the decisions of all variables.
+    /// A subproblem without decisions, with room for `vars` decisions. Its state is `words` zeros, and its value and its bound are
+    /// 0. Fails only for want of memory.
     pub fn blank(alloc: Global, vars: usize, words: usize) -> Result<Sub, AllocError>
         ensures room { IfOk result (λ s. s.room ≡ vars) }
         ensures decisions { IfOk result (λ s. s.subproblem.decisions ≡ []) }
@@ -42,7 +47,8 @@ impl Sub {
         })
     }
 
-    /// Becomes a copy of the other, in its own memory. It takes no memory.
+    /// Becomes a copy of `other`, in its own memory. It has room for the decisions of `other`, and its row has as many cells as
+    /// that of `other`. It takes no memory.
     pub fn copy_from(&mut self, other: &Sub)
         requires room { length other.now.subproblem.decisions ≤ self.old.room }
         requires cells { length other.now.subproblem.row ≡ length self.old.subproblem.row }

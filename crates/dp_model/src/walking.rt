@@ -4,8 +4,8 @@ ghost use Rattle.dp_model.specs.Walked.{WalkGives};
 
 use crate::model::DpModel;
 
-/// Takes a decision in the state. Answers its gain, with the state that it leads to in `row`, or `None` exactly where it is
-/// not allowed.
+/// Takes a decision in the state in `row`. Answers the gain and leaves the next state in `row`, or answers `None` exactly if
+/// the decision is not allowed.
 fn decide<M: DpModel>(
     model: &M,
     k: usize,
@@ -31,8 +31,9 @@ fn decide<M: DpModel>(
     Some(gained)
 }
 
-/// Follows the decisions from the root. Answers the value, with the state that they reach in `out`, or `None` exactly
-/// where the decisions are no prefix. `spare` is written over. It takes no memory.
+/// Follows the decisions from the root. Answers the value of the prefix and leaves the state that it reaches in `out`, or
+/// answers `None` exactly if the decisions are no prefix. `out` and `spare` have `words` cells, and both are written over. It
+/// takes no memory.
 #[tactic(auto, using(crate::proofs::WholeWalks::walked_whole, crate::proofs::WholeWalks::too_many))]
 pub fn walk<M: DpModel>(
     model: &M,

@@ -27,7 +27,7 @@ fn draw_item(draws: &mut Draws) -> Item
     }
 }
 
-/// Draws an instance of `n` items, 0 to 1,000, from a seed below 2^31. Its capacity is half of what all copies of all items weigh, rounded
+/// Draws an instance of `n` items, 0 to 1,000, from a seed below 2^31. Its capacity is half of the total weight of all copies, rounded
 /// down. Fails only for want of memory.
 pub fn generate(alloc: Global, n: u32, seed: u32) -> Result<Knapsack, AllocError>
     requires size { n ≤ 1000 }

@@ -24,7 +24,7 @@ pub struct Knapsack {
 }
 
 impl Knapsack {
-    /// A problem with its items in order.
+    /// The instance of this capacity and these items, in the order of the text. Fails only for want of memory.
     pub(crate) fn new(
         alloc: Global,
         capacity: u64,

@@ -1,10 +1,10 @@
 /// An item of a knapsack.
 #[derive(Clone, Copy, Debug, PartialEq, Eq)]
 pub struct Item {
-    /// What one copy is worth.
+    /// The profit of one copy, at most 10^9.
     pub profit: u32,
-    /// What one copy weighs.
+    /// The weight of one copy, at most 10^9.
     pub weight: u32,
-    /// How many copies there are.
+    /// The number of copies, at most 1,000.
     pub copies: u32,
 }

@@ -9,7 +9,7 @@ use crate::item::Item;
 use std::alloc::{AllocError, Global};
 use tokens::{push_number, push_text};
 
-/// Appends the copies of an item behind a space, where they are not one.
+/// Appends a space and the number of copies, unless it is 1.
 fn push_copies(out: &mut Vec<u8>, copies: u32) -> Result<(), AllocError>
     ensures { OnOk result (out.new.items ≡ out.old.items ++ copies_text copies) }
 {
@@ -41,8 +41,8 @@ fn push_items(out: &mut Vec<u8>, items: &[Item]) -> Result<(), AllocError>
     Ok(())
 }
 
-/// The canonical text: how many items and the capacity on one line, then a line for each item with its profit, its weight
-/// and, where they are not one, its copies. Read again, it gives the same instance.
+/// The canonical text: a line with the number of items and the capacity, then a line for each item with its profit, its weight
+/// and, unless it is 1, its number of copies. `read` gives the same instance for it. Fails only for want of memory.
 pub fn print(alloc: Global, model: &Knapsack) -> Result<Vec<u8>, AllocError>
     ensures text { IfOk result (λ text. text.items ≡ text_of (instance_in model.now)) }
     ensures short { IfOk result (λ text. length text.items ≤ 2 ^ 30) }

@@ -10,7 +10,7 @@ use crate::item::Item;
 use std::alloc::Global;
 use tokens::{Comment, InstanceError, InstanceFault, ReadModelError, Tokens};
 
-/// Reads the copies of an item, which are one where the line ends.
+/// Reads the number of copies of an item, which is 1 if the line ends here.
 #[tactic(auto, unfolding(crate::specs::Reading::copies_at))]
 fn next_copies(tokens: &mut Tokens) -> Result<u32, ReadModelError>
     ensures reads { Reads (λ c. (c, tokens.new)) result (copies_at tokens.old) }
@@ -28,7 +28,7 @@ fn next_copies(tokens: &mut Tokens) -> Result<u32, ReadModelError>
     Ok(copies as u32)
 }
 
-/// Reads an item behind others.
+/// Reads an item and appends it.
 #[tactic(auto, unfolding(crate::specs::Reading::item_behind), using(tokens::proofs::Chains::part_fails))]
 fn next_item(tokens: &mut Tokens, items: &mut Vec<Item>) -> Result<(), ReadModelError>
     requires { list_all is_small_item items.old.items ≡ true }
@@ -47,7 +47,7 @@ fn next_item(tokens: &mut Tokens, items: &mut Vec<Item>) -> Result<(), ReadModel
     Ok(())
 }
 
-/// Reads so many items behind others.
+/// Reads `count` items and appends them.
 #[tactic(auto, using(tokens::proofs::Chains::times_steps))]
 fn next_items(count: u64, tokens: &mut Tokens, items: &mut Vec<Item>) -> Result<(), ReadModelError>
     requires { list_all is_small_item items.old.items ≡ true }
@@ -61,12 +61,14 @@ fn next_items(count: u64, tokens: &mut Tokens, items: &mut Vec<Item>) -> Result<
     Ok(())
 }
 
-/// Reads an instance from its text: how many items and the capacity, then for each item its profit, its weight and, where
-/// a further token stands on the weight's line, its copies, which are one where they are left out.
+/// Reads an instance from its text: the number of items and the capacity, then the profit and the weight of each item. A further
+/// token on the line of the weight is the number of copies, which is 1 otherwise. The text has less than 2^32 - 1 bytes.
 ///
-/// The first fault in reading order is answered, with its place: `EndOfText` where a number is missing, `NotAscii` and
-/// `NotNumber` for a token that is none, `OutOfRange` for a number outside the limits, `Trailing` for a further token on
-/// the line of the copies, and `Trailing` or `NotAscii` for one behind the last item. `OutOfMemory` where there was none.
+/// # Errors
+///
+/// `Text` with the first fault in reading order and its place: `EndOfText` for a missing number, `NotAscii` or `NotNumber` for a
+/// token that is no number, `OutOfRange` for a number outside the limits, `Trailing` for a further token on the line of the
+/// copies, and `Trailing` or `NotAscii` for a token after the last item. `OutOfMemory` for want of memory.
 #[tactic(auto, unfolding(crate::specs::Reading::instance_at), using(tokens::proofs::Chains::part_fails))]
 pub fn read(alloc: Global, bytes: &[u8]) -> Result<Knapsack, ReadModelError>
     requires { length bytes.now < 2 ^ 32 - 1 }

@@ -7,14 +7,15 @@ ghost use Rattle.dp_model.specs.Solution.{SolutionGives};
 use crate::instance::Knapsack;
 use crate::item::Item;
 
-/// What copies weigh in all, and what they are worth in all.
+/// The total weight and the total profit of copies.
 #[derive(Clone, Copy)]
 struct Total {
     weight: u64,
     profit: u64,
 }
 
-/// The totals of copies of each item, or none where they are not as many as the items or exceed what an item has.
+/// The totals of copies, one number for each item. `None` if there are more or fewer numbers than items, or if a number exceeds
+/// the copies of its item.
 fn total_of(items: &[Item], copies: &[u32]) -> Option<Total>
     requires { AreSmall items.now }
     ensures { MatchOption result (has_copies items.now copies.now ≡ false) (λ t. IsTotal items.now copies.now t.weight t.profit) }
@@ -35,7 +36,7 @@ fn total_of(items: &[Item], copies: &[u32]) -> Option<Total>
     Some(Total { weight, profit })
 }
 
-/// The total profit of copies within the capacity.
+/// The total profit of copies that fit the capacity.
 fn packed(model: &Knapsack, copies: &[u32]) -> Option<i64>
     ensures { result ≡ packed_value (instance_in model.now) copies.now }
 {
@@ -46,8 +47,8 @@ fn packed(model: &Knapsack, copies: &[u32]) -> Option<i64>
     Some(total.profit as i64)
 }
 
-/// The total profit of the copies, where the decisions give each item a number of copies that it has and the copies weigh
-/// no more than the capacity. `None` exactly where they do not: then the list is no solution.
+/// The total profit of the copies that the decisions take of each item. `None` exactly if the list is no solution: it is longer
+/// or shorter than the list of items, takes more copies of an item than there are, or exceeds the capacity.
 pub fn value_of(model: &Knapsack, decisions: &[u32]) -> Option<i64>
     ensures own_words { result ≡ packed_value (instance_in model.now) decisions.now }
     ensures solution { SolutionGives (program_in model.now) decisions.now result }

@@ -9,6 +9,11 @@
 //!
 //! Promised: the program meets the laws of `dp_model`, a list is worth something exactly where it is a feasible solution
 //! of the program, with the same value, and a printed problem is read as it was.
+//!
+//! ```
+//! let model = read(alloc, b"2\n3 2 3\n2 1 2\n")?;
+//! let value = value_of(&model, &[0, 1]); // Some(-3): job 1 is 3 late
+//! ```
 #![tactic(auto)]
 
 mod generating;

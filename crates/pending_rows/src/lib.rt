@@ -6,6 +6,11 @@
 //! stands on `node_sets`, each call is one pass over its rows, takes no memory and gives exactly what its definition says.
 //! `proofs/Covering` has what follows for the problems above: covering is a chain, a merged row covers both, and a step keeps
 //! it. `proofs/OrderLaws` says which lists are orders.
+//!
+//! ```
+//! // Whether every way to go on from `s` is one from `a`, and no later there, for rows of 5 numbers.
+//! let covered = covers(5, &a, &s);
+//! ```
 #![tactic(auto)]
 
 mod orders;

@@ -1,8 +1,12 @@
-//! The problems that the program knows: the word of each one in commands and texts, its byte in journals, and the sizes of which its
-//! instances are drawn.
+//! The problems that the program knows: the word of each in commands and texts, its byte in journals, and the sizes of its drawn
+//! instances.
 //!
-//! It stands on std alone, and no theory stands on it. A further problem has a variant here, with a line in `ALL` and in each of
-//! `text`, `byte` and `sizes` and the definitions that these cite.
+//! It stands on std alone. A further problem adds a variant here, and a line to `ALL`, to each of `text`, `byte` and `sizes`, and to
+//! the definitions that these cite.
+//!
+//! ```
+//! let name = ModelName::named("maxcut"); // Some(ModelName::MaxCut)
+//! ```
 #![tactic(auto)]
 
 ghost use Rattle.std.specs.Prelude.{◌≡◌, ◌≤◌, ◌<◌, IfSome};
@@ -18,10 +22,12 @@ pub enum ModelName {
     OneMachine,
 }
 
-/// The sizes of which instances are drawn.
+/// The sizes of drawn instances, from the least to the greatest.
 #[derive(Clone, Copy, Debug, PartialEq, Eq)]
 pub struct Sizes {
+    /// The least size.
     pub least: u32,
+    /// The greatest size.
     pub most: u32,
 }
 
@@ -61,7 +67,7 @@ impl ModelName {
         }
     }
 
-    /// The sizes of which instances of the problem are drawn, or `None` where none is drawn.
+    /// The sizes of the problem's drawn instances, or `None` if it has none.
     pub fn sizes(self) -> Option<Sizes>
         ensures { result ≡ sizes_of self }
     {
@@ -74,7 +80,7 @@ impl ModelName {
         Some(Sizes { least, most })
     }
 
-    /// The problem whose word this is, and none exactly where it is the word of no problem.
+    /// The problem with this word, or `None` exactly if no problem has it.
     #[tactic(auto, using(crate::proofs::Naming::names_exactly))]
     pub fn named(word: &str) -> Option<ModelName>
         ensures answer { result ≡ model_named word.now }
@@ -83,7 +89,7 @@ impl ModelName {
         found_by(word)
     }
 
-    /// The problem whose byte this is, and none exactly where it is the byte of no problem.
+    /// The problem with this byte, or `None` exactly if no problem has it.
     pub fn of_byte(byte: u8) -> Option<ModelName>
         ensures { result ≡ model_of_byte byte }
     {

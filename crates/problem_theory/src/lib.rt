@@ -1,8 +1,13 @@
-//! What a problem of the program is: a dynamic program with a text for each instance, words of its own for its solutions, and perhaps
-//! instances that are drawn from a seed.
+//! The interface of a problem of the program: a dynamic program with a text for each instance, words of its own for its solutions,
+//! and, if it has them, instances that are drawn from a seed.
 //!
 //! It stands on `dp_model`, `tokens` and `problem_names`. The crate of a problem implements `Problem` for its model, and gives the
-//! theory that the contracts cite. A problem whose text is refused in words of its own has a variant of `InstanceRefusal`.
+//! theory that the contracts cite. A problem whose text has faults of another kind adds a variant to `InstanceRefusal`.
+//!
+//! ```
+//! let model = P::read(alloc, text)?;
+//! let value = P::value_of(&model, &[0, 1, 1]);
+//! ```
 #![tactic(auto)]
 
 mod problem;

@@ -7,13 +7,13 @@ use tokens::ReadModelError;
 /// Why no instance was read.
 #[derive(Clone, Copy, Debug, PartialEq, Eq)]
 pub enum ReadInstanceError {
-    /// The text spells none.
+    /// The text spells no instance, for this reason.
     Refused(InstanceRefusal),
-    /// There was no memory for it.
+    /// There was no memory for the instance.
     OutOfMemory,
 }
 
-/// What a text of tokens is read as, among what any text is read as.
+/// The outcome of reading a text of tokens, as the outcome of reading any text.
 pub fn of_text<M>(outcome: Result<M, ReadModelError>) -> Result<M, ReadInstanceError>
     ensures { result ≡ from_text outcome }
 {

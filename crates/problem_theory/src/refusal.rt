@@ -3,6 +3,6 @@ use tokens::InstanceError;
 /// Why a text spells no instance.
 #[derive(Clone, Copy, Debug, PartialEq, Eq)]
 pub enum InstanceRefusal {
-    /// A token of the text, or what the tokens stand for.
+    /// The first fault of a text of tokens, and its place.
     Text(InstanceError),
 }

@@ -7,7 +7,7 @@ pub use one_machine::OneMachine;
 pub use problem_names::ModelName;
 pub use tsp_windows::TspWindows;
 
-/// Calls a function for the problem of a name, which is its first type parameter. It is the one place where a problem is chosen.
+/// Calls a function for the problem of a name. The function's first type parameter is the problem. No other place chooses a problem.
 ///
 /// `by_name!(name, read(alloc, text))` calls `read::<P>(alloc, text)` for the problem `P` of that name, and
 /// `by_name!(name, read::<D>(alloc, text))` calls `read::<P, D>(alloc, text)`.

@@ -1,8 +1,12 @@
 //! The problems that the program solves, each by its name.
 //!
-//! It stands on `problem_names`, on `problem_theory` for the interface, and on the crates of the problems. `by_name` is the one place
-//! where a problem is chosen: it calls a function for the problem of a name. A new problem has a line in `by_name`, and in
-//! `specs/Theories.antt`.
+//! It stands on `problem_names`, on `problem_theory` for the interface, and on the crates of the problems. Only `by_name` chooses a
+//! problem: it calls a function for the problem of a name. A new problem adds a line to `by_name` and one to `specs/Theories.antt`.
+//!
+//! ```
+//! // Calls `digest_text::<Knapsack>(alloc, text)` if the name is `ModelName::Knapsack`, and so for each problem.
+//! let answer = by_name!(name, digest_text(alloc, text));
+//! ```
 #![tactic(auto)]
 
 pub mod choosing;

@@ -27,9 +27,9 @@ const BY_DEFAULT: JobSettings = JobSettings {
     cover_words: None,
 };
 
-/// Draws an instance of the named problem, of size `n` from the seed. Its canonical text is answered, or where `solved` how a search of it
-/// for a best solution ends, with the default width, by one worker, with no budget but the greatest, and with its counts. The disk comes
-/// back as it was.
+/// Draws an instance of the named problem, of size `n`, from the seed. The answer is its canonical text. If `solved`, the answer is how a
+/// search of it ended, with its counts: for a best solution, with the default width, one worker and the greatest budget. The disk comes
+/// back unchanged.
 pub fn draw<P: Problem, D: Disk + Send, G: Gate + Sync, R: Threads + Wait + Sync>(
     run: &Runner<'_, G, R>,
     name: ModelName,

@@ -26,8 +26,8 @@ use solver_words::JobSettings;
 use std::sync::Wait;
 use std::thread::Threads;
 
-/// Searches the instance of the named problem that the text spells, and keeps the journal of the search in the named file; or answers the
-/// first fault of the text, and then the disk is as it was.
+/// Searches the instance of the named problem that the text spells, and keeps the journal of the search in the named file. If the text
+/// spells none, answers its first fault, and the disk is unchanged.
 pub fn read_kept<P: Problem, D: Disk + Send, G: Gate + Sync, R: Threads + Wait + Sync>(
     run: &Runner<'_, G, R>,
     name: ModelName,

@@ -1,12 +1,18 @@
-//! The program: what its words ask for is done with its input, and the answer is written.
+//! The program: it does what the command's words ask for with its input, and writes the answer.
 //!
-//! `run` is the top call, over any source, sink and disk; `main` lends it standard input and output and a file. Its contract says how a
-//! run ends: with an answer that is right for the words and the bytes that were read, whose text was written whole with its status, or of
-//! which a part was written, with status 7, where the sink failed or took nothing. Where a journal is kept, it says too what a crash at
-//! each moment of the run leaves of it.
+//! `run` is the top call, over any source, sink and disk. `main` calls it with standard input, standard output and a file. The contract
+//! of `run` says how a run ends. The answer is right for the words and the bytes that were read. Its text was written whole, and the
+//! status is its own; or a part was written because the sink failed or took nothing, and the status is 7. If a journal is kept, the
+//! contract also says what a crash at any moment of the run leaves of it.
 //!
-//! It stands on `answers` for what is answered and said, and on `search_workers` for the search, which it starts here. A width is
-//! refused exactly where it is 0 or above the greatest one.
+//! It stands on `answers` for answers and their texts, and on `search_workers` for the search, which it starts. A width is refused
+//! exactly if it is 0 or above the greatest width of the instance.
+//!
+//! ```
+//! // The words leave out the program's name. Here they are `solve` and `knapsack`, and nothing touches the disk.
+//! let ended = run(&rt, rt.alloc(), words, &mut input, &mut out, FileDisk::detached(&rt), &NoGate);
+//! let status = ended.status;
+//! ```
 #![tactic(auto)]
 
 mod answering;
@@ -33,8 +39,8 @@ use std::io::ErrorKind;
 use std::process::ExitCode;
 use streams::{StdSink, StdSource};
 
-/// Lends `run` the command's words, standard input and output, and a file of the operating system. Without memory for the words it says
-/// so.
+/// Calls `run` with the command's words, standard input, standard output and a file of the operating system. Writes `out of memory` if
+/// there is no memory for the words.
 fn main(rt: HostRuntime) -> ExitCode {
     let mut out = StdSink::new(rt.stdout());
     let Ok(words) = words_of(&rt) else {
@@ -53,7 +59,7 @@ fn main(rt: HostRuntime) -> ExitCode {
     ExitCode::from(ended.status)
 }
 
-/// The command's words, without the program's name. Words that are no text are outside the grammar, as no words are.
+/// The command's words, without the program's name. If a word is not UTF-8, there are no words, which the grammar refuses.
 fn words_of(rt: &HostRuntime) -> Result<Vec<String>, AllocError> {
     let mut words = Vec::new(rt.alloc());
     match env::args(rt) {

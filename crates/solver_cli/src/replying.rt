@@ -14,8 +14,8 @@ use solver_words::JobSettings;
 use std::sync::Wait;
 use std::thread::Threads;
 
-/// How a search of the instance of the named problem that the text spells ends, or the first fault of the text. It keeps no journal, and
-/// the disk comes back as it was.
+/// Searches the instance of the named problem that the text spells, and answers how the search ended. If the text spells none, answers its
+/// first fault. No journal is kept, and the disk comes back unchanged.
 pub fn solve_text<P: Problem, D: Disk + Send, G: Gate + Sync, R: Threads + Wait + Sync>(
     run: &Runner<'_, G, R>,
     name: ModelName,

@@ -25,8 +25,8 @@ use solver_words::JobSettings;
 use std::sync::Wait;
 use std::thread::Threads;
 
-/// Goes on with the search whose journal is in the named file, or answers why it does not go on: the file is no journal, its head spells
-/// no instance, the width is refused, or a record may not follow. No cover is asked for.
+/// Goes on with the search whose journal is in the named file. Otherwise answers why it does not go on: the file is no journal, its head
+/// spells no instance, the width is refused, or a record may not follow. No cover is asked for.
 pub fn resume<D: Disk + Send, G: Gate + Sync, R: Threads + Wait + Sync>(
     run: &Runner<'_, G, R>,
     path: &str,

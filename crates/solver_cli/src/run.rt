@@ -11,21 +11,35 @@ use std::sync::Wait;
 use std::thread::Threads;
 use streams::{Sink, Source};
 
-/// How a run ended: the exit status, and the disk as it is then.
+/// How a run ended.
 #[derive(Drop)]
 pub struct Ended<D> {
+    /// The exit status.
     pub status: u8,
+    /// The disk as the run left it.
     pub disk: D,
 }
 
 /// Does what the words ask for with the input and the disk, writes the answer, and gives the exit status and the disk.
 ///
-/// `words` leave out the program's name. The order of a search is words, reading, instance, width, attaching, journal, search, report,
-/// cover; where a journal goes on it is words, attaching, reopening, instance, width, replay, search, report. Status 0 is a proved or
-/// done job, 1 an infeasible instance, 2 a search that stopped early, 3 a refused input, 4 refused words or a refused width, 5 a refused
-/// journal, 6 an input and 7 an output that failed, 8 want of memory before the search or in printing, 9 a refused cover, and 10 a disk
-/// that failed before the search. 7 goes before all others but 6. The disk is touched only where a journal is asked for. Workers pass the
-/// gate after their steps. It may wait for them.
+/// `words` leave out the program's name. A search takes these steps in order: words, input, instance, width, attaching, journal, search,
+/// report, cover. A search that goes on from a journal takes these: words, attaching, reopening, instance, width, replay, search, report.
+/// The first step that fails decides the answer. The disk is touched only if a journal is asked for. Each worker passes the gate after
+/// each of its steps. `run` may wait: for its workers, and they for one another.
+///
+/// | Status | Meaning |
+/// |---|---|
+/// | 0 | proved, or done |
+/// | 1 | infeasible |
+/// | 2 | the search stopped early |
+/// | 3 | refused input |
+/// | 4 | refused words or width |
+/// | 5 | refused journal |
+/// | 6 | the input failed |
+/// | 7 | the output failed; this goes before every other status but 6 |
+/// | 8 | no memory before the search or in printing |
+/// | 9 | refused cover |
+/// | 10 | the disk failed before the search |
 pub fn run<S: Source, K: Sink, D: Disk + Send, G: Gate + Sync, R: Threads + Wait + Sync>(
     rt: &R,
     alloc: Global,

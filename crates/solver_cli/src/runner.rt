@@ -1,9 +1,12 @@
 use std::alloc::Global;
 
-/// What runs a search beside its disk: the runtime, the allocator, and the gate that its workers pass.
+/// What a search needs to run, beside its disk.
 pub struct Runner<'a, G, R> {
+    /// The runtime.
     pub rt: &'a R,
+    /// The allocator.
     pub alloc: Global,
+    /// The gate that the workers pass.
     pub gate: &'a G,
 }
 

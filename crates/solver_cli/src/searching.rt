@@ -55,9 +55,9 @@ fn explore<M: DpModel, D: Disk + Send, G: Gate + Sync, R: Threads + Wait + Sync>
     }
 }
 
-/// How a search from the board on by a worker for each desk ended, and its counts. Fails only for want of memory, before the search begins
-/// or for what it found. The disk comes back, on which a board is kept as it was. The model may be any dynamic program, with own words that
-/// agree with it.
+/// Searches from the board on by a worker for each desk, and answers how the search ended, with its counts. Fails only for want of memory,
+/// before the search or for the copy of its solution. The disk comes back. The model may be any dynamic program, with own words that agree
+/// with it.
 pub fn search_from<M: DpModel, D: Disk + Send, G: Gate + Sync, R: Threads + Wait + Sync>(
     run: &Runner<'_, G, R>,
     kept: Kept<M, D>,

@@ -22,8 +22,8 @@ use std::alloc::Global;
 use std::sync::Wait;
 use std::thread::Threads;
 
-/// Searches the instance of the named problem by the workers that are asked for, and keeps no journal: the disk comes back as it was. The
-/// width is refused where it is 0 or above the greatest one of the instance.
+/// Searches the instance of the named problem by the workers that are asked for, and keeps no journal: the disk comes back unchanged. The
+/// width is refused if it is 0 or above the greatest width of the instance.
 pub fn solve<P: Problem, D: Disk + Send, G: Gate + Sync, R: Threads + Wait + Sync>(
     run: &Runner<'_, G, R>,
     name: ModelName,
@@ -53,8 +53,8 @@ pub fn solve<P: Problem, D: Disk + Send, G: Gate + Sync, R: Threads + Wait + Syn
     }
 }
 
-/// The answer to a search of an instance of the named problem: its report, and the cover behind it where one is asked for and the search
-/// went to its end; or that memory ran out.
+/// The answer to a search of an instance of the named problem: its report, followed by a cover if one is asked for and the search went to
+/// its end; or that memory ran out.
 pub fn answer_of<P: Problem>(
     alloc: Global,
     name: ModelName,

@@ -24,22 +24,25 @@ use solver_words::JobSettings;
 use std::alloc::Global;
 use std::sync::Arc;
 
-/// How many entries the dominance table holds at most.
+/// The greatest number of entries of the dominance table.
 const TABLE_LIMIT: u32 = 4096;
 
-/// The width where none is given, unless the greatest one is less.
+/// The width of a search for which none is given, unless the greatest width of the instance is less.
 const DEFAULT_WIDTH: u32 = 100;
 
 /// An instance, the board that its search goes on from, and a desk for each worker.
 #[derive(Drop)]
 pub struct Start<M: DpModel> {
+    /// The instance.
     pub model: Arc<M>,
+    /// The board that the search goes on from.
     pub board: Board<M>,
+    /// A desk for each worker.
     pub desks: Vec<Desk>,
 }
 
-/// The start of a search of the instance, or the answer where there is none: the width is refused where it is 0 or above the greatest one
-/// of the instance, or there is no memory.
+/// The start of a search of the instance. Otherwise the answer: the width is refused if it is 0 or above the greatest width of the
+/// instance, or there is no memory.
 pub fn begin_search<M: DpModel>(
     alloc: Global,
     model: M,
@@ -62,8 +65,8 @@ pub fn begin_search<M: DpModel>(
     }
 }
 
-/// The start of a search of the instance that goes on from the records, or the answer where there is none: as for one that begins, and
-/// after the width the first record that may not follow is refused.
+/// The start of a search of the instance that goes on from the records. Otherwise the answer: the width is refused as in
+/// `begin_search`, then the first record that may not follow is refused, or there is no memory.
 pub fn go_on<M: DpModel>(
     alloc: Global,
     model: M,

@@ -59,18 +59,18 @@ pub enum Stop {
     Budget,
     /// Memory ran out.
     Memory,
-    /// A record was not added to the journal.
+    /// A record could not be added to the journal.
     Journal,
 }
 
 /// How a search ended.
 #[derive(Debug, Drop)]
 pub enum Outcome {
-    /// A best solution, or where `within` is above 0 one from which no better is further above than that.
+    /// A best solution. If `within` is above 0, the best value is at most this much above its value.
     Proved { best: Solution, within: i64 },
     /// There is no feasible solution.
     Infeasible,
-    /// The search ended early, with the incumbent and the bound that it has reached.
+    /// The search ended early: why, its incumbent or none, and a bound that no feasible solution exceeds.
     Stopped(Stop, Option<Solution>, i64),
 }
 
@@ -85,8 +85,7 @@ impl Outcome {
         }
     }
 
-    /// The value of the solution with which a search went to its end. None where there is no feasible solution, or the search ended
-    /// early.
+    /// The value of the solution with which a search went to its end. `None` if there is no feasible solution or the search ended early.
     pub fn value(&self) -> Option<i64>
         ensures { result ≡ value_told self.now }
     {
@@ -96,7 +95,7 @@ impl Outcome {
         }
     }
 
-    /// How far the best value may be above that value. 0 where none is told.
+    /// How far the best value may be above that value. 0 if the outcome is not `Proved`.
     pub fn distance(&self) -> i64
         ensures { result ≡ distance_told self.now }
     {
@@ -119,25 +118,25 @@ pub struct Counts {
 /// What the program answers.
 #[derive(Debug, Drop)]
 pub enum Answer {
-    /// How the search ended, and its counts where they are asked for.
+    /// How the search ended, and its counts if they are asked for.
     Searched(Outcome, Option<Counts>),
-    /// The same of a search that went to its end, and the text of its cover; none where memory ran out for that.
+    /// The same for a search that went to its end, with the text of its cover. `None` if there was no memory for the text.
     Covered(Outcome, Option<Counts>, Option<Vec<u8>>),
     /// The SHA-256 of the canonical text.
     Digest([u8; 32]),
-    /// The canonical text of an instance that was drawn.
+    /// The canonical text of a drawn instance.
     Drawn(Vec<u8>),
     /// The verdict on a cover.
     Checked(Verdict),
-    /// The input, or what a cover holds of one, spells no instance.
+    /// The input, or the instance in a cover, spells no instance.
     Refused(InstanceRefusal),
     /// The input spells no cover.
     CoverRefused(InstanceError),
     /// The input is longer than the limit.
     TooLong,
-    /// The width that is asked for is above the greatest one of the instance.
+    /// The width asked for is 0 or above the greatest width of the instance.
     Width,
-    /// The words are refused, or memory ran out for reading them.
+    /// The words are refused, or there was no memory for reading them.
     Words(WordsError),
     /// Why no journal is begun, or why the search of a journal does not go on.
     Journal(JournalError),

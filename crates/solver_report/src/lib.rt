@@ -1,8 +1,14 @@
-//! What the program answers, and the text and status of each answer.
+//! The answers of the program, and the text and exit status of each answer.
 //!
 //! It stands on `dp_model` for solutions, on `bound_cover` for verdicts, on `tokens` for numbers and faults of texts, on `solver_words` for
 //! why words are refused, on `journal_file` for why journals are, and on the crate `hex`.
-//! `report_text` gives exactly the text of an answer, and `status` its status.
+//! `report_text` gives exactly the text of an answer, and `status` its exit status.
+//!
+//! ```
+//! let answer = Answer::Searched(Outcome::Infeasible, None);
+//! let text = report_text(alloc, &answer)?; // "infeasible\n"
+//! let code = status(&answer); // 1
+//! ```
 #![tactic(auto)]
 
 mod answer;

@@ -13,7 +13,7 @@ use solver_words::WordsError;
 use std::alloc::Global;
 use tokens::{InstanceError, InstanceFault, push_number, push_text};
 
-/// The exit status that goes with an answer.
+/// The exit status of an answer.
 pub fn status(answer: &Answer) -> u8
     ensures { result ≡ status_of answer.now }
 {
@@ -125,7 +125,7 @@ fn push_search(
     push_counts(out, counts)
 }
 
-/// Appends the report of a search, and the cover behind it.
+/// Appends the report of a search and then its cover.
 fn push_covered(
     out: &mut Vec<u8>,
     outcome: &Outcome,
@@ -247,7 +247,7 @@ fn push_number_line(out: &mut Vec<u8>, word: &str, value: i64) -> Result<(), Out
     push_text(out, "\n")
 }
 
-/// Appends each number behind a space.
+/// Appends a space and a number for each of the numbers.
 fn push_spaced(out: &mut Vec<u8>, numbers: &[u32]) -> Result<(), OutOfMemory>
     ensures { OnOk result (out.new.items ≡ out.old.items ++ spaced numbers.now) }
 {
@@ -374,7 +374,7 @@ fn push_why(out: &mut Vec<u8>, why: Why) -> Result<(), OutOfMemory>
     }
 }
 
-/// Appends a word, and each number behind a space.
+/// Appends a word, and a space and a number for each of the numbers.
 fn push_at(out: &mut Vec<u8>, word: &str, numbers: &[u32]) -> Result<(), OutOfMemory>
     ensures { OnOk result (out.new.items ≡ out.old.items ++ (word.now ++ spaced numbers.now)) }
 {

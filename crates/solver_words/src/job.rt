@@ -1,48 +1,48 @@
 use dp_model::CutKind;
 use problem_names::ModelName;
 
-/// How a search is to be done.
+/// The settings of a search.
 #[derive(Clone, Copy, Debug, PartialEq, Eq)]
 pub struct JobSettings {
-    /// The greatest number of nodes of a layer, where one is given.
+    /// The width: the greatest number of nodes of a layer, from 1 to 2^24. `None` if no width is given.
     pub width: Option<u32>,
-    /// The number of workers.
+    /// The number of workers, from 1 to 16.
     pub workers: u32,
-    /// The greatest number of subproblems.
+    /// The budget: the greatest number of subproblems that are taken.
     pub budget: u64,
     /// Which nodes become children.
     pub cutset: CutKind,
     /// Whether the counts are printed.
     pub stats: bool,
-    /// How far the best value may be above that of the solution with which the search ends, from 0 to 2^50.
+    /// The distance: how far the best value may be above the value of the answer, from 0 to 2^50.
     pub within: i64,
-    /// How many words the cover may have that is printed behind the report of a search that went to its end. None where no cover is
-    /// asked for.
+    /// `Some` if a cover is to follow the report of a search that went to its end, with the number of words that it may have. `None` if
+    /// no cover is asked for.
     pub cover_words: Option<u64>,
 }
 
 /// What the words ask for.
 #[derive(Debug, Drop)]
 pub enum Job {
-    /// Search for a best solution, or one within the distance of the settings, with a journal in that file. With a journal the
-    /// distance is 0.
+    /// Search for a best solution, or one within the distance of the settings. `journal` is the file of its journal, if it keeps one;
+    /// then the distance is 0.
     Solve {
         model: ModelName,
         settings: JobSettings,
         journal: Option<String>,
     },
-    /// Go on with the search of a journal. The distance is 0, and no cover is asked for.
+    /// Go on with the search whose journal is in the file `path`. The distance is 0, and no cover is asked for.
     Resume {
         path: String,
         settings: JobSettings,
     },
-    /// Check a report with its cover.
+    /// Check the report and the cover in the input.
     Check,
-    /// Print the digest of the canonical text.
+    /// Print the digest of the canonical text of the instance in the input.
     Digest {
         model: ModelName,
     },
-    /// Print a drawn instance, or solve it. The size is one that is drawn, and the seed below 2^31.
+    /// Print an instance of size `n` drawn from a seed below 2^31, or solve it. The problem draws instances of this size.
     Generate {
         model: ModelName,
         n: u32,

@@ -17,14 +17,15 @@ use clap::ArgMatches;
 use problem_names::{ModelName, Sizes};
 use std::alloc::{AllocError, Global};
 
-/// What the words ask for. The words are those behind the program's name.
+/// The job that the words ask for. The words leave out the program's name.
 ///
 /// # Errors
 ///
-/// `Usage` exactly where the words are outside the grammar, or all of them are good and a search within a distance above 0 is to keep
-/// a journal. Inside the grammar `Model` exactly where the problem is none of those that are known, or has no drawn instances and one
-/// is asked for; then the first bad value, in the order of the values: `Number` with its name, or `Cutset`. `OutOfMemory` may come at
-/// any words.
+/// - `Usage` exactly if the words are outside the grammar, or if all values are good and a search within a distance above 0 is to keep a
+///   journal.
+/// - Otherwise `Model` exactly if the problem is not known, or has no drawn instances and one is asked for.
+/// - Otherwise `Number` with its name, or `Cutset`, for the first bad value, in the order of the values.
+/// - `OutOfMemory` at any words.
 #[tactic(auto, using(crate::proofs::Asked::possible))]
 pub fn read_words(alloc: Global, words: &[String]) -> Result<Job, WordsError>
     ensures answer { IsAnswer job_view (meaning (map string_bytes words.now)) result }

@@ -9,6 +9,11 @@
 //! the canonical text, which is read back as the same table; a list of decisions is a feasible solution of the dynamic program
 //! exactly where `value_of` is not `None`, with the same value; and the dynamic program of every table that was read meets the laws
 //! and the chain. Want of memory, in `read` and `print`, has no stated cause.
+//!
+//! ```
+//! let model = read(alloc, document)?;
+//! let value = value_of(&model, &[0, 1]);
+//! ```
 #![tactic(auto)]
 
 mod cells;
