@@ -3,14 +3,14 @@
 # make test        runs the merge gate: the proofs, the tests and wrong bodies, the client's tests
 # make check-deb   installs the package in a Debian 12 of its own and solves there; it needs root, debootstrap and the network
 #
-# DESTDIR stands in front of each path, as packagers want it. PROGRAM names a program that was built elsewhere.
+# DESTDIR is put before each path, as packagers want it. PROGRAM names a program that was built elsewhere.
 
 PREFIX ?= /usr/local
 DESTDIR ?=
 PYTHON ?= python3
 BUILT := crates/solver_cli/out/solver_cli
 PROGRAM ?= $(BUILT)
-# Where Python under PREFIX looks for modules, and Debian's folder where it looks nowhere there.
+# The folder in which Python under PREFIX looks for modules, or Debian's folder if there is none.
 PYTHONDIR ?= $(shell $(PYTHON) -c 'import site, sys; p = sys.argv[1]; print(next((d for d in site.getsitepackages() if d.startswith(p + "/")), p + "/lib/python3/dist-packages"))' '$(PREFIX)')
 
 BIN := $(DESTDIR)$(PREFIX)/bin
@@ -24,7 +24,7 @@ DOCUMENTS := $(wildcard README.md docs/FORMATS.md docs/USING.md docs/PYTHON.md d
 
 all: program
 
-# The launcher proves and builds what is not current. Words of resume are never answered without proofs; those without a file have status 4.
+# The launcher proves and builds what is not current. It never answers `resume` without proofs, and `resume` without a file has status 4.
 program:
 ifeq ($(PROGRAM),$(BUILT))
 	@./hammockdove resume </dev/null >/dev/null; test $$? -eq 4 || { echo "make: there is no proved program; rt ci builds it" >&2; exit 1; }
@@ -51,7 +51,7 @@ check-deb: deb
 	tools/package/check-deb build/hammockdove_*.deb
 
 test:
-	.ci/run all
+	.ci/run
 
 clean:
 	rm -rf build
