@@ -1,5 +1,5 @@
 #!/usr/bin/env python3
-"""Orders an instance anew, which makes most searches much shorter: the items of a knapsack by falling profit for each unit of weight, the vertices of
+"""Puts an instance into a new order, which makes most searches much shorter: the items of a knapsack by falling profit for each unit of weight, the vertices of
 a cut and the variables of a MAX-2SAT instance by falling weight.
 
     tools/reorder.py MODEL FILE < /dev/null          prints the instance of FILE, renumbered

@@ -4,13 +4,14 @@
     tools/edge/closed.py PROGRAM
 
 PROGRAM is the solver's binary (crates/solver_cli/out/solver_cli), or the launcher once that is built. A closed input gives 6 where the command reads it, a closed
-output 7 (behind 6), and closed errors change nothing. A journal is byte by byte what it is without anything closed, and goes on.
+output 7 (unless it is 6), and closed errors change nothing. A journal has the same bytes as with nothing closed, and can be resumed.
 """
 import itertools
 import os
 import sys
 import tempfile
 
+sys.dont_write_bytecode = True
 from edge import ITEMS, content, prepare, run
 
 IN, OUT, ERRORS = 0, 1, 2

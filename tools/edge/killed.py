@@ -12,6 +12,7 @@ import sys
 import tempfile
 import time
 
+sys.dont_write_bytecode = True
 from edge import content, prepare, run, size
 from together import Alone, begin, end
 
@@ -37,7 +38,7 @@ def main():
                 status, *output = end(child)
                 after = content(path) or b""
                 kills += status == KILLED
-                # The gate behind the last record may be opened, and all before it stays.
+                # The gate after the last record may be opened; every byte before it stays.
                 last = len(before) - 1
                 if before and (after[:last] != before[:last] or len(after) < len(before)):
                     bad += 1
@@ -58,7 +59,7 @@ def main():
 
 
 def settled(journal):
-    """The bytes of a journal up to the gate behind its last record, and that gate."""
+    """The bytes of a journal up to the gate after its last record, and that gate."""
     at = 0
     while journal[at:at + 1] == b"\x01":
         at += 38 + int.from_bytes(journal[at + 2:at + 6], "big")

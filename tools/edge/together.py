@@ -13,6 +13,7 @@ import sys
 import tempfile
 import time
 
+sys.dont_write_bytecode = True
 from edge import content, prepare, run, size
 
 LOCKED = (10, b"disk fault\n")

@@ -1,4 +1,4 @@
-"""Kills a stream of appends with SIGKILL at a random moment, so many times, and opens the journal again each time.
+"""Kills a stream of appends with SIGKILL at a random moment, TIMES times, and opens the journal again each time.
 
 kill.py TOOL TIMES SEED: each time the journal has all acknowledged records, in order, and at most one more.
 """

@@ -4,8 +4,8 @@
     tools/memory/refuse.py PROGRAM
 
 PROGRAM is the solver's binary (crates/solver_cli/out/solver_cli). For each command the first allocation is refused, then the second, and so on, until no
-further one is reached: sixty runs in a row end as the one without a refusal. A run may print what it prints without one; `out of memory` (8), alone or behind a
-report for whose cover there was no memory; or a search that is stopped for memory (2). It needs clang, and a C library that it can stand before.
+further one is reached: sixty runs in a row end as the one without a refusal. A run may print what it prints without one; `out of memory` (8), alone or after a
+report for whose cover there was no memory; or a search that is stopped for memory (2). It needs clang, and a program that loads the C library at run time.
 """
 import collections
 import os

@@ -3,7 +3,7 @@
 
     tools/plots/draw.py          writes sizes.svg, workers.svg and progress.svg
 
-The data is made anew by `measure.py` (sizes.txt), `workers.py` (workers.txt) and `progress.py` (progress.txt); the head of each file says where and when.
+The data comes from `measure.py` (sizes.txt), `workers.py` (workers.txt) and `progress.py` (progress.txt); the head of each file says where and when.
 """
 import math
 import os

@@ -28,7 +28,7 @@ def box(picture, x, y, wide, high, fill, stroke="#b0b0b0"):
 
 
 def lines_of(crates, most):
-    """The crates with their places, in lines of at most so many points."""
+    """The crates with their places, in lines of at most `most` points."""
     lines, x = [[]], 0
     for crate in crates:
         wide = 16 + 7.1 * len(crate)
