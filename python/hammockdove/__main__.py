@@ -74,7 +74,7 @@ def _add_file(parser: argparse.ArgumentParser) -> None:
     parser.add_argument("form", choices=sorted(FORMS), metavar="FORM", help="; ".join(f"{it.name}: {it.about}" for it in FORMS.values()))
     parser.add_argument("file", type=Path, metavar="FILE", help="the file, or - for standard input")
     parser.add_argument("--number", type=int, default=1, help="which instance of the file, from 1")
-    parser.add_argument("--end-depot", action="store_true", help="tours: the last node is where the way ends; it becomes node 0")
+    parser.add_argument("--end-depot", action="store_true", help="tours: the way ends in the last node, which becomes node 0")
 
 
 def _parser() -> argparse.ArgumentParser:
@@ -89,7 +89,7 @@ def _parser() -> argparse.ArgumentParser:
     one = command("watch", _watch, "follow a journal while a search writes it")
     one.add_argument("file", type=Path)
     one.add_argument("--every", type=float, default=1.0, metavar="SECONDS", help="how often to look, 1 without it")
-    one.add_argument("--seconds", type=float, help="end after this time, also where the search goes on")
+    one.add_argument("--seconds", type=float, help="end after this time, even if the search goes on")
     one = command("plot", _plot, "draw the search of a journal")
     one.add_argument("file", type=Path)
     one.add_argument("picture", type=Path, nargs="?", help="FILE.svg without it; other endings need matplotlib")

@@ -108,7 +108,7 @@ class Tokens:
         token = self.peek()
         if token is None:
             last = self._lines[-1] if self._lines else None
-            raise TextRefused(f"the text ends where {what} must stand", last.number if last else 1, last.end if last else 1)
+            raise TextRefused(f"the text ends before {what}", last.number if last else 1, last.end if last else 1)
         self._ahead = None
         return token
 

@@ -63,7 +63,7 @@ def tour(size, seed):
 
 
 def cut_clauses(edges):
-    """Clauses of which one is not satisfied exactly where an edge gives away its weight."""
+    """Clauses of which one is not satisfied exactly if an edge gives away its weight."""
     made = []
     for first, second, weight in edges:
         if weight > 0:

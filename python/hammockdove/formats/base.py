@@ -17,7 +17,7 @@ MOST_DECIMALS = 6
 class Reading:
     """How a value of the program is read in the file's own measure: `(offset + sign * value) / scale`, which is a `name`.
 
-    Where the file has hard clauses, all of them hold exactly where the program's value is at least `hard_from`.
+    Where the file has hard clauses, all of them hold exactly if the program's value is at least `hard_from`.
     """
 
     name: str

@@ -115,7 +115,7 @@ def _weighted(found: _Clauses) -> Converted:
     notes = []
     if found.hard:
         notes.append(
-            f"{len(found.hard)} hard clauses get the weight {hard}: all of them hold exactly where the value is at least {hard * len(found.hard)}"
+            f"{len(found.hard)} hard clauses get the weight {hard}: all of them hold exactly if the value is at least {hard * len(found.hard)}"
         )
     notes.append(f"MaxSAT solvers print the weight that is not satisfied: it is {total} less the value")
     instance = Max2Sat(found.variables, [*found.soft, *((hard, literals) for literals in found.hard)])
