@@ -18,7 +18,7 @@ MAN := $(DESTDIR)$(PREFIX)/share/man/man1
 DOC := $(DESTDIR)$(PREFIX)/share/doc/hammockdove
 MODULES := $(DESTDIR)$(PYTHONDIR)
 SOURCES := $(shell cd python && find hammockdove -name '*.py' -o -name py.typed)
-DOCUMENTS := $(wildcard README.md docs/FORMATS.md docs/USING.md docs/PYTHON.md docs/FILES.md docs/PROMISES.md)
+DOCUMENTS := $(wildcard README.md docs/FORMATS.md docs/USING.md docs/PYTHON.md docs/FILES.md docs/EDGE.md docs/PROVED.md docs/PROMISES.md)
 
 .PHONY: all program install uninstall deb check-deb test clean
 
@@ -38,7 +38,7 @@ install: program
 	install -m 644 $(DOCUMENTS) $(DOC)
 	tools/package/identity $(PROGRAM) > $(DOC)/IDENTITY
 	@set -e; for file in $(SOURCES); do install -D -m 644 python/$$file $(MODULES)/$$file; done
-	@echo "installed $(BIN)/hammockdove, and the client in $(MODULES); where Python doesn't look there, put that into PYTHONPATH"
+	@echo "installed $(BIN)/hammockdove, and the client in $(MODULES); if Python does not look there, add it to PYTHONPATH"
 
 uninstall:
 	rm -f $(BIN)/hammockdove $(MAN)/hammockdove.1.gz
