@@ -16,6 +16,7 @@ pub enum ModelName {
     MaxTwoSat,
     TspWindows,
     OneMachine,
+    Table,
 }
 
 /// The sizes of which instances are drawn.
@@ -27,12 +28,13 @@ pub struct Sizes {
 
 impl ModelName {
     /// Every problem.
-    pub const ALL: [ModelName; 5] = [
+    pub const ALL: [ModelName; 6] = [
         ModelName::Knapsack,
         ModelName::MaxCut,
         ModelName::MaxTwoSat,
         ModelName::TspWindows,
         ModelName::OneMachine,
+        ModelName::Table,
     ];
 
     /// The word that names the problem in commands and texts.
@@ -45,6 +47,7 @@ impl ModelName {
             ModelName::MaxTwoSat => "max2sat",
             ModelName::TspWindows => "tsptw",
             ModelName::OneMachine => "tardiness",
+            ModelName::Table => "table",
         }
     }
 
@@ -58,6 +61,7 @@ impl ModelName {
             ModelName::MaxTwoSat => 3,
             ModelName::TspWindows => 4,
             ModelName::OneMachine => 5,
+            ModelName::Table => 6,
         }
     }
 
@@ -70,6 +74,7 @@ impl ModelName {
             ModelName::MaxCut | ModelName::MaxTwoSat => (0, 1024),
             ModelName::TspWindows => (1, 300),
             ModelName::OneMachine => (0, 100),
+            ModelName::Table => return None,
         };
         Some(Sizes { least, most })
     }
