@@ -1,3 +1,4 @@
+use table_refusal::TableError;
 use tokens::InstanceError;
 
 /// Why a text spells no instance.
@@ -5,4 +6,6 @@ use tokens::InstanceError;
 pub enum InstanceRefusal {
     /// A token of the text, or what the tokens stand for.
     Text(InstanceError),
+    /// The document, its form, or a test of its laws.
+    Table(TableError),
 }
