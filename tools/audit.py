@@ -23,6 +23,7 @@ PROBLEMS = {
     "MAX-2SAT": ("max_two_sat/OwnWords own_value", "max_two_sat/Program program_of", "max_two_sat/Texts instance_at"),
     "tours": ("tsp_windows/OwnWords tour_value", "tsp_windows/Program program_of", "tsp_windows/Texts spelled"),
     "jobs": ("one_machine/OwnWords order_value", "one_machine/Program program_of", "one_machine/Texts instance_at"),
+    "tables": ("table_model/OwnWords own_value", "table_model/Program program_of", "table_model/Reading table_text"),
 }
 
 CLAUSE = ("answers/Ended", "HasEnded")

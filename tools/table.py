@@ -3,7 +3,7 @@
 
     python3 tools/table.py PROGRAM.py > problem.json
 
-The crate `table_model` reads such a document and tests its laws. The program has no command for it yet.
+`./hammockdove solve table < problem.json` tests the laws of the document and solves it; docs/OWN_PROBLEM.md has examples.
 
 PROGRAM.py is a module with these names:
 

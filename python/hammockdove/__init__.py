@@ -20,6 +20,7 @@ from .errors import (
     NotBegun,
     ProgramFailed,
     Refused,
+    TableRefused,
     TextRefused,
     UnknownProblem,
     WordsRefused,
@@ -31,5 +32,5 @@ from .solver import Interrupted, Solver
 __all__ = [
     "PROBLEMS", "CoverRefused", "HammockdoveError", "InputTooLong", "Instance", "InstanceRefused", "Interrupted", "InvalidInstance",
     "JournalDamaged", "JournalRefused", "Knapsack", "Max2Sat", "MaxCut", "NotBegun", "Outcome", "ProgramFailed", "Progress", "Refused",
-    "Result", "Solver", "Stop", "Table", "Tardiness", "TextRefused", "Tsptw", "UnknownProblem", "Verdict", "WordsRefused",
+    "Result", "Solver", "Stop", "Table", "TableRefused", "Tardiness", "TextRefused", "Tsptw", "UnknownProblem", "Verdict", "WordsRefused",
 ]  # fmt: skip

@@ -13,6 +13,7 @@ from .errors import (
     InstanceRefused,
     JournalRefused,
     ProgramFailed,
+    TableRefused,
     UnknownProblem,
     WordsRefused,
 )
@@ -168,7 +169,7 @@ def error_of(text: bytes, status: int, given: bytes = b"") -> HammockdoveError:
         about = "the options are not ones that the program takes together" if answer == "words usage" else f"a bad value of {words[-1]}"
         return WordsRefused(answer, status, f"words refused: {about}")
     if words[0] == "table":
-        return WordsRefused(answer, status, f"table refused: {' '.join(words[1:])}")
+        return TableRefused(answer, status, words[1], tuple(map(int, words[2:])))
     if answer == "width":
         return WordsRefused(answer, status, "the width is above the greatest one of this instance")
     if answer in ("read fault", "disk fault", "out of memory"):

@@ -42,6 +42,17 @@ class InstanceRefused(Refused):
         super().__init__(answer, status, f"instance refused, {fault} at line {line}, column {column}{shown}")
 
 
+class TableRefused(Refused):
+    """The document is no table whose laws hold.
+
+    `fault` is `json`, `shape` or `law`. `numbers` is nothing or the layer of a shape; of a law its number, the layer, and the two numbers at which its test fails.
+    """
+
+    def __init__(self, answer: str, status: int, fault: str, numbers: tuple[int, ...]) -> None:
+        self.fault, self.numbers = fault, numbers
+        super().__init__(answer, status, f"table refused: {' '.join((fault, *map(str, numbers)))}")
+
+
 class CoverRefused(Refused):
     """The text that `check` was given is not a report with a cover. Its fields are those of `InstanceRefused`."""
 

@@ -8,6 +8,7 @@ from hammockdove import (
     Outcome,
     ProgramFailed,
     Stop,
+    TableRefused,
     UnknownProblem,
     WordsRefused,
 )
@@ -53,6 +54,8 @@ class AnswerTests(unittest.TestCase):
     def test_refusals(self):
         for text, status, kind in (
             (b"instance not-number 2 4\n", 3, InstanceRefused),
+            (b"table json\n", 3, TableRefused),
+            (b"table law 5 0 0 1\n", 3, TableRefused),
             (b"cover word 1 1\n", 3, CoverRefused),
             (b"input too-long\n", 3, InputTooLong),
             (b"words model\n", 4, UnknownProblem),

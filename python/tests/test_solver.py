@@ -21,6 +21,8 @@ from hammockdove import (
     ProgramFailed,
     Solver,
     Stop,
+    Table,
+    TableRefused,
     Tardiness,
     Tsptw,
     UnknownProblem,
@@ -72,6 +74,28 @@ class SolveTests(ProgramCase):
             self.assertEqual(self.solver.solve(job).value, -1)
         else:
             self.assertRaises(UnknownProblem, self.solver.solve, job)
+
+    def test_tables(self):
+        if not self.solver.knows("table"):
+            return
+        for name, value, assignment in (
+            ("two-steps", 7, (1, 1)),
+            ("jobs", -6, (1, 0, 3, 2)),
+            ("lots", -99, (5, 0, 5, 0, 2, 5, 0, 0)),
+            ("brackets", 63, (0, 1, 2, 2, 0, 1, 2, 1, 2, 2)),
+        ):
+            with self.subTest(name):
+                table = Table.from_text((TOP / f"examples/table/{name}.json").read_text())
+                result = self.solver.solve(table, cover=True)
+                self.assertEqual((result.value, result.assignment, table.value(assignment)), (value, assignment, value))
+
+    def test_a_table_that_is_refused(self):
+        if not self.solver.knows("table"):
+            return
+        last = {"states": 1, "gap": [[0]], "merge": [[0]], "rough": [1]}
+        with self.assertRaises(TableRefused) as caught:
+            self.solver.solve(Table([last]))
+        self.assertEqual((caught.exception.fault, caught.exception.numbers), ("law", (5, 0, 0, 0)))
 
     def test_infeasible(self):
         result = self.solver.solve(Tsptw([[0, 9], [9, 0]], [(0, 99), (0, 5)]))

@@ -20,6 +20,7 @@ pub enum ModelName {
     MaxTwoSat,
     TspWindows,
     OneMachine,
+    Table,
 }
 
 /// The sizes of drawn instances, from the least to the greatest.
@@ -33,12 +34,13 @@ pub struct Sizes {
 
 impl ModelName {
     /// Every problem.
-    pub const ALL: [ModelName; 5] = [
+    pub const ALL: [ModelName; 6] = [
         ModelName::Knapsack,
         ModelName::MaxCut,
         ModelName::MaxTwoSat,
         ModelName::TspWindows,
         ModelName::OneMachine,
+        ModelName::Table,
     ];
 
     /// The word that names the problem in commands and texts.
@@ -51,6 +53,7 @@ impl ModelName {
             ModelName::MaxTwoSat => "max2sat",
             ModelName::TspWindows => "tsptw",
             ModelName::OneMachine => "tardiness",
+            ModelName::Table => "table",
         }
     }
 
@@ -64,6 +67,7 @@ impl ModelName {
             ModelName::MaxTwoSat => 3,
             ModelName::TspWindows => 4,
             ModelName::OneMachine => 5,
+            ModelName::Table => 6,
         }
     }
 
@@ -76,6 +80,7 @@ impl ModelName {
             ModelName::MaxCut | ModelName::MaxTwoSat => (0, 1024),
             ModelName::TspWindows => (1, 300),
             ModelName::OneMachine => (0, 100),
+            ModelName::Table => return None,
         };
         Some(Sizes { least, most })
     }

@@ -44,10 +44,14 @@ drawn drawing n seed = option_map (λ d. d.instance n seed) drawing
 abbrev pub Agrees : Dp → (List ℕ → Option ℤ) → Type 0
 Agrees dp own = (x : List ℕ) → SolutionGives dp x (own x)
 
--- the numbers of an instance that was read from a text of tokens
+-- the numbers of an instance that was read, or its refusal
+abbrev pub as_numbers : {X E : Type 0} → (E → InstanceRefusal) → (X → List ℤ) → Result X E → Result (List ℤ) InstanceRefusal
+as_numbers refusal numbers (Ok x) = Ok (numbers x)
+as_numbers refusal numbers (Err e) = Err (refusal e)
+
+-- the same of a text of tokens
 abbrev pub with_numbers : {X : Type 0} → (X → List ℤ) → Result X InstanceError → Result (List ℤ) InstanceRefusal
-with_numbers numbers (Ok x) = Ok (numbers x)
-with_numbers numbers (Err e) = Err (Text e)
+with_numbers numbers read = as_numbers Text numbers read
 
 -- what a text of tokens is read as, among what any text is read as
 abbrev pub from_text : {M : Type 0} → Result M ReadModelError → Result M ReadInstanceError

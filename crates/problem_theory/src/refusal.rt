@@ -1,3 +1,4 @@
+use table_refusal::TableError;
 use tokens::InstanceError;
 
 /// Why a text spells no instance.
@@ -5,4 +6,6 @@ use tokens::InstanceError;
 pub enum InstanceRefusal {
     /// The first fault of a text of tokens, and its place.
     Text(InstanceError),
+    /// The document, its form, or a test of its laws.
+    Table(TableError),
 }

@@ -5,6 +5,7 @@ pub use max_cut::MaxCut;
 pub use max_two_sat::MaxTwoSat;
 pub use one_machine::OneMachine;
 pub use problem_names::ModelName;
+pub use table_model::TableModel;
 pub use tsp_windows::TspWindows;
 
 /// Calls a function for the problem of a name. The function's first type parameter is the problem. No other place chooses a problem.
@@ -29,6 +30,9 @@ macro_rules! by_name {
             }
             $crate::choosing::ModelName::OneMachine => {
                 $call::<$crate::choosing::OneMachine $($(, $other)*)?>($($argument),*)
+            }
+            $crate::choosing::ModelName::Table => {
+                $call::<$crate::choosing::TableModel $($(, $other)*)?>($($argument),*)
             }
         }
     };

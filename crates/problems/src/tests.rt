@@ -4,6 +4,7 @@ mod cuts;
 mod knapsacks;
 mod orders;
 mod satisfiability;
+mod tables;
 mod tours;
 
 ghost use Rattle.std.specs.Prelude.{◌≡◌, true};
@@ -132,7 +133,18 @@ pub fn refuses<P: Problem>(rt: &impl Abort, alloc: Global, refusals: &[Refusal])
 fn is_refused<P: Problem>(rt: &impl Abort, alloc: Global, refusal: &Refusal) {
     let (text, fault, line, column) = *refusal;
     let place = Place { line, column };
-    let error = ReadInstanceError::Refused(InstanceRefusal::Text(InstanceError { fault, place }));
+    let error = InstanceError { fault, place };
+    is_no_instance::<P>(rt, alloc, text, InstanceRefusal::Text(error));
+}
+
+/// The text is refused for this reason.
+pub fn is_no_instance<P: Problem>(
+    rt: &impl Abort,
+    alloc: Global,
+    text: &[u8],
+    refusal: InstanceRefusal,
+) {
+    let error = ReadInstanceError::Refused(refusal);
     let found = instance::<P>(rt, alloc, text).err();
     assert_eq!(rt; (text, found), (text, Some(error)));
 }

@@ -1,6 +1,7 @@
 mod covers;
 mod journals;
 mod meeting;
+mod tables;
 mod words;
 
 use crate::run;

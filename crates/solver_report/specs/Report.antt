@@ -9,7 +9,11 @@ use Rattle.tokens.specs.declared.instance_error.InstanceFault.{InstanceFault}
 use Rattle.tokens.specs.declared.place.Place.{Place}
 use Rattle.tokens.specs.declared.instance_error.InstanceFault.TheVariants.{NotNumber, OutOfRange, EndOfText, Trailing, NotAscii, Count, Limit, ThreeLiterals, Hard, Vertex, Window, Word}
 use Rattle.problem_theory.specs.declared.refusal.InstanceRefusal.{InstanceRefusal}
-use Rattle.problem_theory.specs.declared.refusal.InstanceRefusal.TheVariants.{Text}
+use Rattle.problem_theory.specs.declared.refusal.InstanceRefusal.TheVariants.{Text, Table}
+use Rattle.table_refusal.specs.Laws.{number_of}
+use Rattle.table_refusal.specs.declared.failure.Failure.{Failure}
+use Rattle.table_refusal.specs.declared.refusal.TableError.{TableError}
+use Rattle.table_refusal.specs.declared.refusal.TableError.TheVariants as tables
 use Rattle.bound_cover.specs.declared.cover.Why.{Why}
 use Rattle.bound_cover.specs.declared.cover.Why.TheVariants as whys
 use Rattle.bound_cover.specs.declared.cover.Verdict.{Verdict}
@@ -75,9 +79,21 @@ place_words p = decimal_of (pos p.line) ++ 32 ∷ decimal_of (pos p.column)
 abbrev pub fault_line : List ℕ → InstanceError → List ℕ
 fault_line subject e = line (subject ++ fault_word e.fault ++ 32 ∷ place_words e.place)
 
+-- the law whose test fails, the layer, and the first and the second number
+abbrev pub failure_numbers : Failure → List ℕ
+failure_numbers f = number_of f.law ∷ f.layer ∷ f.first ∷ f.second ∷ []
+
+-- why a document is no table
+abbrev pub table_words : TableError → List ℕ
+table_words tables.Json = codes "json"
+table_words (tables.Shape None) = codes "shape"
+table_words (tables.Shape (Some layer)) = codes "shape" ++ spaced (layer ∷ [])
+table_words (tables.Law f) = codes "law" ++ spaced (failure_numbers f)
+
 -- why a text spells no instance
 abbrev pub refusal_line : InstanceRefusal → List ℕ
 refusal_line (Text e) = fault_line (codes "instance ") e
+refusal_line (Table e) = line (codes "table " ++ table_words e)
 
 -- the test of a cover that fails, and where
 abbrev pub why_words : Why → List ℕ

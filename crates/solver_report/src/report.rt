@@ -1,7 +1,7 @@
 ghost use Rattle.std.specs.Prelude.{◌≡◌, ◌∷◌, [], ◌++◌, pos, IfOk, OnOk, codes, option_map};
 ghost use Rattle.std.specs.Fmt.{decimal};
 ghost use Rattle.hex.specs.Hex.{encode_lower};
-ghost use Rattle.solver_report.specs.Report.{report, status_of, outcome_status, covered_status, text_behind, words_status, journal_status, journal_line, line, number_line, spaced, assignment_line, solution_lines, proved_line, outcome_lines, count_line, count_lines, words_line, incumbent_lines, stop_line, fault_word, fault_line, refusal_line, why_words, verdict_line, verdict_status};
+ghost use Rattle.solver_report.specs.Report.{report, status_of, outcome_status, covered_status, text_behind, words_status, journal_status, journal_line, line, number_line, spaced, assignment_line, solution_lines, proved_line, outcome_lines, count_line, count_lines, words_line, incumbent_lines, stop_line, fault_word, fault_line, failure_numbers, table_words, refusal_line, why_words, verdict_line, verdict_status};
 
 use crate::answer::{Answer, Counts, Outcome, Solution, Stop};
 use bound_cover::{Verdict, Why};
@@ -11,6 +11,7 @@ use journal_file::JournalError;
 use problem_theory::InstanceRefusal;
 use solver_words::WordsError;
 use std::alloc::Global;
+use table_refusal::{Failure, TableError};
 use tokens::{InstanceError, InstanceFault, push_number, push_text};
 
 /// The exit status of an answer.
@@ -401,7 +402,37 @@ fn push_unspelled(out: &mut Vec<u8>, refusal: &InstanceRefusal) -> Result<(), Ou
 {
     match refusal {
         InstanceRefusal::Text(error) => push_fault(out, "instance ", error),
+        InstanceRefusal::Table(error) => push_no_table(out, *error),
     }
+}
+
+/// Appends that a document is no table, and why.
+fn push_no_table(out: &mut Vec<u8>, error: TableError) -> Result<(), OutOfMemory>
+    ensures { OnOk result (out.new.items ≡ out.old.items ++ line (codes "table " ++ table_words error)) }
+{
+    push_text(out, "table ")?;
+    push_table_words(out, error)?;
+    push_text(out, "\n")
+}
+
+/// Appends why a document is no table.
+fn push_table_words(out: &mut Vec<u8>, error: TableError) -> Result<(), OutOfMemory>
+    ensures { OnOk result (out.new.items ≡ out.old.items ++ table_words error) }
+{
+    match error {
+        TableError::Json => push_text(out, "json"),
+        TableError::Shape { layer: None } => push_text(out, "shape"),
+        TableError::Shape { layer: Some(layer) } => push_at(out, "shape", &[layer]),
+        TableError::Law(failure) => push_at(out, "law", &failure_numbers(failure)),
+    }
+}
+
+/// The number of the law, the layer, and the two numbers at which a test fails.
+fn failure_numbers(failure: Failure) -> [u32; 4]
+    ensures { result ≡ failure_numbers failure }
+{
+    let law = u32::from(failure.law.number());
+    [law, failure.layer, failure.first, failure.second]
 }
 
 /// The word for a fault.

@@ -5,6 +5,7 @@ mod Items
 mod Layered
 mod Lengths
 mod Lists
+mod Readings
 mod RoundTrip
 mod Texts
 mod Trailing

@@ -7,3 +7,4 @@ pub mod Steps
 pub mod Gaps
 pub mod Program
 pub mod Solutions
+pub mod Agreeing

@@ -11,5 +11,6 @@ pub mod Numbers
 pub mod Program
 pub mod OwnWords
 pub mod Shown
+pub mod Theory
 -- what an `impl` cites and no clause
 pub mod Laws

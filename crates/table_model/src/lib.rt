@@ -2,8 +2,9 @@
 //! rough bounds whose laws are tested before the table is trusted.
 //!
 //! `read` and `print` take a table from its document and back, `value_of` judges a solution in the problem's own words, and
-//! `TableModel` is a `DpModel`: a state is the number of one, and a decision is allowed where it has a next state. It stands on
-//! `dp_model` for the interface and on `serde_json` for the document's tree.
+//! `TableModel` is a `DpModel`: a state is the number of one, and a decision is allowed where it has a next state. It is a `Problem`
+//! of which no instance is drawn. It stands on `dp_model` and `problem_theory` for the interfaces, and on `serde_json` for the
+//! document's tree.
 //!
 //! Promised, each in the contract of its call: `read` answers the table that the bytes spell or why they spell none; `print` gives
 //! the canonical text, which is read back as the same table; a list of decisions is a feasible solution of the dynamic program
@@ -23,6 +24,7 @@ mod laws;
 mod layer;
 mod model;
 mod printing;
+mod problem;
 mod reading;
 mod shape;
 mod sums;

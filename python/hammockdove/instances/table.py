@@ -1,4 +1,4 @@
-"""A problem that a table gives, in JSON. Programs before this problem answer it with `UnknownProblem`."""
+"""A dynamic program of your own as a table, in JSON. Programs before this problem answer it with `UnknownProblem`."""
 
 from __future__ import annotations
 
