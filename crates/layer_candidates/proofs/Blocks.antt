@@ -1,5 +1,5 @@
 -- A block of cells has the rows of a region.
-use Rattle.std.proofs.Common.{◌≡◌, ◌≢◌, ℕ, zero, ◌+◌, ◌-◌, ◌*◌, ◌/◌, ◌<◌, ◌≤◌, ℤ, List, length, drop, slice_get, Some, min, sym, ap, ap₂, subst, ◌∙◌, arith}
+use Rattle.std.proofs.Common.{◌≡◌, ℕ, ◌+◌, ◌-◌, ◌*◌, ◌/◌, ◌<◌, ◌≤◌, ℤ, List, length, drop, slice_get, Some, min, sym, ap, ap₂, subst, ◌∙◌, arith}
 use Rattle.std.proofs.Math.Nat.{le-div_iff_mul-le, min-eq_left}
 use Rattle.layer_candidates.specs.HeldRows.{held_row}
 use Rattle.layer_candidates.specs.Rows.{row_at}

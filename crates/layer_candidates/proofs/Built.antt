@@ -26,6 +26,7 @@ use Rattle.layer_candidates.specs.Layering.{HasMemory}
 use Rattle.layer_candidates.specs.Members.{members_as}
 use Rattle.layer_candidates.specs.Steps.{path_at}
 use Rattle.layer_candidates.specs.Ways.{IsNear}
+use Rattle.layer_candidates.proofs.WayTables.{room-kept, keeps-self}
 use Rattle.row_region.specs.Region.{RegionView}
 
 -- Members are prefixes, so their values are near.
@@ -159,8 +160,8 @@ pub record MayDescend (dp : Dp) (k most : ℕ) (b : Beam) (region : RegionView) 
 
 memory-less : (words m n : ℕ) (c : Candidates) → HasMemory words n c → m ≤ n → HasMemory words m c
 memory-less words m n c h less =
-    let one = h.ways in let two = h.folds in let three = h.next in let four = h.keys in let five = h.kept in let six = h.small in
-    record { parent = h.parent; ways = omega arith; folds = omega arith; next = omega arith; heads = h.heads; keys = omega arith; kept = omega arith; leaders = h.leaders; small = omega arith }
+    let four = h.keys in let five = h.kept in let six = h.small in
+    record { parent = h.parent; table = room-kept m n c.table c.table (keeps-self c.table) less h.table; keys = omega arith; kept = omega arith; leaders = h.leaders; small = omega arith }
 
 zero-or : (m : ℕ) → (m ≡ 0) ⊎ ((m ≡ 1) ⊎ (1 < m))
 zero-or m = grind arith

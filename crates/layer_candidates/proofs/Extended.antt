@@ -250,7 +250,7 @@ module _ (dp : Dp) (k step : ℕ) (s : List ℤ) (value : ℤ) (live : ℕ) (old
       exchanged = exchange-then old region new (old_spot ∷ rows_of old_ways) (spot ∷ rows_of ways) (spot2 ∷ rows_of ways2) h.exchanged x;
     }
 
-    -- there is a free row for the next way, and memory
+    -- there is a free row for the next way, and room
     pub extending-spare : n < dp.choices k → dp.choices k ≤ old.spare → 0 < region.spare
     extending-spare less enough =
         let few = h.extended.few in
@@ -260,12 +260,11 @@ module _ (dp : Dp) (k step : ℕ) (s : List ℤ) (value : ℤ) (live : ℕ) (old
         let after = length-rows ways in
         omega arith
 
-    pub extending-room : n < dp.choices k → (cap cap2 : ℕ) (folds0 next0 : List ℕ) → HasWayRoom (length old_ways + dp.choices k) cap folds0 next0 → cap2 ≡ cap → length folds ≡ length folds0 → length next ≡ length next0
-        → HasWayRoom (length ways + 1) cap2 folds next
-    extending-room less cap cap2 folds0 next0 room a b c =
+    pub extending-few : n < dp.choices k → length ways + 1 ≤ length old_ways + dp.choices k
+    extending-few less =
         let few = h.extended.few in
         let count = length-below n in
-        room-less (length ways + 1) (length old_ways + dp.choices k) cap cap2 folds0 folds next0 next room (omega arith) a b c
+        omega arith
 
     -- all of them
     pub extending-all : n ≤ dp.choices k → ¬ (n < dp.choices k) → HasExtended dp k step s value (below (dp.choices k)) live (way_row old old_ways) old_ways (way_row region ways) ways folds heads next

@@ -1,5 +1,5 @@
 -- A layer made from the one above it.
-use Rattle.std.proofs.Common.{◌≡◌, ℕ, zero, suc, ◌+◌, ◌<◌, ◌≤◌, nat_le, nat_lt, ℤ, Bool, true, false, cond, List, [], ◌∷◌, ◌++◌, length, map, take, filter, Option, IsPermutation, IsSortedBy, append_assoc, ◌⊎◌, inl, inr, refl, sym, ap, ap₂, subst, ◌∙◌, arith}
+use Rattle.std.proofs.Common.{◌≡◌, ℕ, zero, suc, ◌+◌, ◌<◌, ◌≤◌, nat_le, nat_lt, ℤ, Bool, true, false, cond, List, [], ◌∷◌, ◌++◌, length, map, take, filter, Option, append_assoc, ◌⊎◌, inl, inr, refl, sym, ap, ap₂, subst, ◌∙◌, arith}
 use Rattle.std.proofs.lemmas.Bool.Decides.{nat_tests}
 use Rattle.std.proofs.lemmas.List.{append-nil, length_push, get_or_append_left}
 use Rattle.std.proofs.Math.Seq.{get_or-append_seam}
@@ -19,14 +19,14 @@ use Rattle.layer_candidates.specs.declared.key.Key.{Key}
 use Rattle.layer_candidates.specs.declared.member.Member.{Member}
 use Rattle.layer_candidates.specs.declared.step.Step.{Step}
 use Rattle.layer_candidates.specs.declared.way.Way.{Way}
-use Rattle.layer_candidates.specs.KeyOrder.{goes_before, key_rows, all_of, IsKeyOf}
+use Rattle.layer_candidates.specs.KeyOrder.{key_rows, all_of, IsKeyOf}
 use Rattle.layer_candidates.specs.HeldRows.{AreLive, HasExchanged, AreSame, HasLeft, held_row}
 use Rattle.layer_candidates.specs.Layering.{AreListed}
 use Rattle.layer_candidates.specs.Members.{member_rows, member_as, members_as, IsHeldAt}
 use Rattle.layer_candidates.specs.Pruning.{keyed, all_keyed, unstruck_keys, IsKeyIn, HasPruned}
 use Rattle.layer_candidates.specs.Rows.{HasZeros}
 use Rattle.layer_candidates.specs.Steps.{path_at, step_of, step_at, entered, AreBackward, IsReachedWithin}
-use Rattle.layer_candidates.specs.Ways.{table, way_at, rows_of, way_row, reached_at, all_reached, IsNearly, AreWays, AreDistinct}
+use Rattle.layer_candidates.specs.Ways.{table, way_at, rows_of, way_row, reached_at, all_reached, IsNearly, AreWays}
 use Rattle.layer_candidates.proofs.Descended.{descended, entered-rows, entered-same}
 use Rattle.layer_candidates.proofs.HeldRows.{held-same, way-each, exchange-then, left-moved}
 use Rattle.layer_candidates.proofs.Joined.{last_or}

@@ -3,6 +3,7 @@ pub mod Blocks
 pub mod Tops
 pub mod Joined
 pub mod Extended
+pub mod WayTables
 pub mod Sorted
 mod Powers
 pub mod Pruned

@@ -1,5 +1,4 @@
 -- A layer is made from the one above it.
-use Rattle.std.specs.Int.{IsPowerOfTwo}
 use Rattle.std.specs.Prelude.{◌≡◌, ℕ, ◌+◌, ◌*◌, ◌^◌, ◌<◌, ◌≤◌, ℤ, List, [], length, Option, IsPermutation, IsSortedBy, vec_len, vec_capacity}
 use Rattle.dp_model.specs.Dp.{Dp}
 use Rattle.dp_laws.specs.Restricted.Extensions.{candidates, all_joined}
@@ -11,16 +10,14 @@ use Rattle.layer_candidates.specs.HeldRows.{HasExchanged, HasLeft, held_row}
 use Rattle.layer_candidates.specs.KeyOrder.{goes_before, key_rows}
 use Rattle.layer_candidates.specs.Members.{member_rows, members_as}
 use Rattle.layer_candidates.specs.Pruning.{unstruck_keys}
+use Rattle.layer_candidates.specs.WayTables.{HasTableRoom}
 use Rattle.layer_candidates.specs.Ways.{rows_of, way_row, all_reached, AreDistinct}
 use Rattle.row_region.specs.Region.{RegionView}
 
 -- there is memory for so many candidates, whose rows have so many cells
 pub record HasMemory (words count : ℕ) (c : Candidates) : Type 0 where
   pub parent : vec_len c.parent ≡ words
-  pub ways : count ≤ vec_capacity c.ways
-  pub folds : count ≤ vec_len c.folds
-  pub next : count ≤ vec_len c.next
-  pub heads : IsPowerOfTwo (vec_len c.heads)
+  pub table : HasTableRoom count c.table
   pub keys : count ≤ vec_capacity c.keys
   pub kept : count ≤ vec_capacity c.kept
   pub leaders : 16 ≤ vec_capacity c.leaders
@@ -39,4 +36,4 @@ pub record AreListed (dp : Dp) (k : ℕ) (t : Option ℤ) (above mid below : Reg
 
 -- the candidates for the layer below the one at depth k were listed
 abbrev pub HasListed : Dp → ℕ → Option ℤ → RegionView → List Member → RegionView → Candidates → Type 0
-HasListed dp k t above members below c = (mid : RegionView) × AreListed dp k t above mid below members c.ways.items c.keys.items
+HasListed dp k t above members below c = (mid : RegionView) × AreListed dp k t above mid below members c.table.ways.items c.keys.items

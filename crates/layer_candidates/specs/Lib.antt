@@ -4,6 +4,7 @@ pub mod Table
 pub mod Ways
 pub mod Members
 pub mod Extending
+pub mod WayTables
 pub mod KeyOrder
 pub mod Pruning
 pub mod Steps

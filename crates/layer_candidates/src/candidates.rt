@@ -14,7 +14,7 @@ use crate::ordering::sort;
 use crate::pruning::{MOST_LEADERS, prune};
 use crate::step::Step;
 use crate::striking::list_unstruck;
-use crate::way::Way;
+use crate::table::WayTable;
 use dp_model::{DpModel, OutOfMemory};
 use row_region::Region;
 use std::alloc::Global;
@@ -24,10 +24,7 @@ use std::alloc::Global;
 pub struct Candidates {
     // the cells of the parent that is extended
     parent: Vec<i64>,
-    ways: Vec<Way>,
-    folds: Vec<u64>,
-    heads: Vec<u32>,
-    next: Vec<u32>,
+    table: WayTable,
     keys: Vec<Key>,
     leaders: Vec<Key>,
     kept: Vec<Key>,
@@ -39,13 +36,9 @@ impl Candidates {
         requires { room + 1 < 2 ^ 32 }
         ensures { IfOk result (λ c. HasMemory words room c) }
     {
-        let slots = (2 * room + 1).next_power_of_two();
         Ok(Candidates {
             parent: vec![in alloc; 0i64; words]?,
-            ways: Vec::with_capacity(alloc, room)?,
-            folds: vec![in alloc; 0u64; room]?,
-            heads: vec![in alloc; 0u32; slots]?,
-            next: vec![in alloc; 0u32; room]?,
+            table: WayTable::prepare(alloc, room)?,
             keys: Vec::with_capacity(alloc, room)?,
             leaders: Vec::with_capacity(alloc, MOST_LEADERS)?,
             kept: Vec::with_capacity(alloc, room)?,
@@ -77,17 +70,14 @@ impl Candidates {
             members,
             region,
             self.parent.as_mut_slice(),
-            &mut self.ways,
-            self.folds.as_mut_slice(),
-            self.heads.as_mut_slice(),
-            self.next.as_mut_slice(),
+            &mut self.table,
         );
         list_unstruck(
             model,
             k + 1,
             threshold,
             region,
-            self.ways.as_slice(),
+            self.table.ways.as_slice(),
             &mut self.keys,
         );
         sort(region, model.first_live(k + 1), &mut self.keys);
@@ -137,7 +127,12 @@ impl Candidates {
             &mut self.leaders,
             &mut self.kept,
         );
-        descend(self.ways.as_slice(), self.kept.as_slice(), members, steps);
+        descend(
+            self.table.ways.as_slice(),
+            self.kept.as_slice(),
+            members,
+            steps,
+        );
         more
     }
 }

@@ -1,19 +1,40 @@
-//! The table of the rows that are kept. Rows are compared from the first live cell on.
+//! The ways to a layer, and the table that finds the way of a state. Rows are compared from the first live cell on.
 
 ghost use Rattle.std.specs.Int.{IsPowerOfTwo};
-ghost use Rattle.std.specs.Prelude.{◌≡◌, ℕ, ◌+◌, ◌^◌, ◌<◌, ◌≤◌, ℤ, List, ◌↔◌, length, replicate, slice_index_or, IsTrue};
+ghost use Rattle.std.specs.Prelude.{◌≡◌, ℕ, ◌+◌, ◌^◌, ◌<◌, ◌≤◌, ℤ, List, ◌↔◌, length, vec_len, slice_index_or, IfOk, IsTrue};
 ghost use Rattle.dp_model.specs.Lists.{Each};
 ghost use Rattle.layer_candidates.specs.Rows.{live_at};
 ghost use Rattle.dp_model.specs.Folds.{fold_of};
 ghost use Rattle.layer_candidates.specs.Table.{slot_of, IsTable, IsRowFound};
 ghost use Rattle.layer_candidates.specs.Ways.{rows_of, way_row};
+ghost use Rattle.layer_candidates.specs.WayTables.{HasTableRoom, HasSlots, HasNoWays, KeepsTableRoom};
 ghost use Rattle.row_region.specs.Region.{IsLive};
 
 use crate::rows::{live_cells_of, same_row};
 use crate::way::Way;
+use dp_model::OutOfMemory;
 use row_region::Region;
+use std::alloc::Global;
 
-/// The slot of a fold among so many, a power of two: each of them is the slot of some folds.
+/// The ways to the states of a layer, one for each state, and the table that finds the way of a state. The rows of the states
+/// stand in a region that the caller owns. Its memory is made once and used again.
+#[derive(Debug, Drop)]
+pub struct WayTable {
+    /// The ways, in the order in which their states came.
+    pub ways: Vec<Way>,
+    // the number of first cells that are zero in each row, and are not compared
+    pub(crate) live: usize,
+    // the most slots, a power of two
+    pub(crate) slots: usize,
+    // the fold of each row
+    pub(crate) folds: Vec<u64>,
+    // for each slot one more than the place of its last row, or zero
+    pub(crate) heads: Vec<u32>,
+    // for each row one more than the place of the row before it in its slot, or zero
+    pub(crate) next: Vec<u32>,
+}
+
+/// The slot of a fold, of a number of slots that is a power of two: each of them is the slot of some folds.
 fn slot(fold: u64, size: usize) -> usize
     requires { IsPowerOfTwo size }
     ensures slot { result ≡ slot_of fold size }
@@ -22,9 +43,9 @@ fn slot(fold: u64, size: usize) -> usize
     fold as usize & (size - 1)
 }
 
-/// How many of the slots that there are serve for so many rows: a power of two, and no fewer than the rows, of which mostly a part is
-/// made.
-pub fn slots_for(rows: usize, slots: usize) -> usize
+/// The number of slots that serves for a number of rows: a power of two, at most `slots`. It is no less than the rows, unless
+/// there are fewer slots.
+fn slots_for(rows: usize, slots: usize) -> usize
     requires power { IsPowerOfTwo slots }
     requires small { rows + 1 < 2 ^ 32 }
     ensures power { IsPowerOfTwo result }
@@ -33,74 +54,88 @@ pub fn slots_for(rows: usize, slots: usize) -> usize
     rows.next_power_of_two().min(slots)
 }
 
-/// Takes all rows out.
-pub fn reset(heads: &mut [u32])
-    ensures { heads.new ≡ replicate (length heads.old) 0 }
-{
-    heads.fill(0);
-}
-
-/// Whether the row of the way at the place has these live cells.
-#[inline(always)]
-fn is_at(
-    region: &Region,
-    live: usize,
-    ways: &[Way],
-    place: usize,
-    new: &[i64],
-    fold: u64,
-    folds: &[u64],
-) -> bool
-    requires within { place < length folds.now }
-    requires way { place < length ways.now }
-    requires held { Each (IsLive region.now) (rows_of ways.now) }
-    requires live { live ≤ region.now.words }
-    requires folds { slice_index_or folds.now place 0 ≡ fold_of 0 (live_at (way_row region.now ways.now) live place) }
-    requires fold { fold ≡ fold_of 0 new.now }
-    ensures { IsTrue result ↔ (live_at (way_row region.now ways.now) live place ≡ new.now) }
-{
-    folds[place] == fold && same_row(live_cells_of(region, live, ways[place].row), new)
-}
-
-/// The place of the way whose row has these live cells, or the number of ways.
-pub fn find(
-    region: &Region,
-    live: usize,
-    ways: &[Way],
-    new: &[i64],
-    fold: u64,
-    folds: &[u64],
-    heads: &[u32],
-    next: &[u32],
-) -> usize
-    requires table { IsTable (way_row region.now ways.now) live (length ways.now) folds.now heads.now next.now }
-    requires held { Each (IsLive region.now) (rows_of ways.now) }
-    requires live { live ≤ region.now.words }
-    requires fold { fold ≡ fold_of 0 new.now }
-    ensures { IsRowFound (way_row region.now ways.now) live (length ways.now) new.now result }
-{
-    let mut i = heads[slot(fold, heads.len())] as usize;
-    'chain: while i > 0 {
-        let k = i - 1;
-        if is_at(region, live, ways, k, new, fold, folds) {
-            return k;
-        }
-        i = next[k] as usize;
+impl WayTable {
+    /// Memory for a number of ways.
+    pub fn prepare(alloc: Global, room: usize) -> Result<WayTable, OutOfMemory>
+        requires { room + 1 < 2 ^ 32 }
+        ensures { IfOk result (λ t. HasTableRoom room t) }
+    {
+        let slots = (2 * room + 1).next_power_of_two();
+        Ok(WayTable {
+            ways: Vec::with_capacity(alloc, room)?,
+            live: 0,
+            slots,
+            folds: vec![in alloc; 0u64; room]?,
+            heads: Vec::with_capacity(alloc, slots)?,
+            next: vec![in alloc; 0u32; room]?,
+        })
     }
-    ways.len()
-}
 
-/// Puts the row at `count` in, with its fold.
-pub fn insert(count: usize, fold: u64, folds: &mut [u64], heads: &mut [u32], next: &mut [u32])
-    requires small { count + 1 < 2 ^ 32 }
-    requires folds { count < length folds.old }
-    requires next { count < length next.old }
-    requires heads { IsPowerOfTwo (length heads.old) }
-    ensures table { (row : ℕ → List ℤ) (live : ℕ) → IsTable row live count folds.old heads.old next.old → fold ≡ fold_of 0 (live_at row live count) → IsTable row live (count + 1) folds.new heads.new next.new }
-    ensures heads_len { length heads.new ≡ length heads.old }
-{
-    let at = slot(fold, heads.len());
-    folds[count] = fold;
-    next[count] = heads[at];
-    heads[at] = count as u32 + 1;
+    /// Takes all ways out, and makes ready for at most `rows` of them, whose rows are to be compared from the cell `live` on.
+    /// It takes no memory.
+    pub fn clear(&mut self, live: usize, rows: usize)
+        requires slots { HasSlots self.old }
+        requires small { rows + 1 < 2 ^ 32 }
+        ensures empty { HasNoWays self.new }
+        ensures live { self.new.live ≡ live }
+        ensures room { KeepsTableRoom self.old self.new }
+    {
+        self.ways.clear();
+        self.live = live;
+        self.heads.clear();
+        let _ = self.heads.resize(slots_for(rows, self.slots), 0);
+    }
+
+    /// Whether the row of the way at the place has these live cells.
+    #[inline(always)]
+    fn is_at(&self, region: &Region, place: usize, new: &[i64], fold: u64) -> bool
+        requires within { place < length self.now.folds.items }
+        requires way { place < length self.now.ways.items }
+        requires held { Each (IsLive region.now) (rows_of self.now.ways.items) }
+        requires live { self.now.live ≤ region.now.words }
+        requires folds { slice_index_or self.now.folds.items place 0 ≡ fold_of 0 (live_at (way_row region.now self.now.ways.items) self.now.live place) }
+        requires fold { fold ≡ fold_of 0 new.now }
+        ensures { IsTrue result ↔ (live_at (way_row region.now self.now.ways.items) self.now.live place ≡ new.now) }
+    {
+        self.folds[place] == fold
+            && same_row(live_cells_of(region, self.live, self.ways[place].row), new)
+    }
+
+    /// The place of the way whose row has these live cells, or the number of ways.
+    pub(crate) fn find(&self, region: &Region, new: &[i64], fold: u64) -> usize
+        requires table { IsTable (way_row region.now self.now.ways.items) self.now.live (length self.now.ways.items) self.now.folds.items self.now.heads.items self.now.next.items }
+        requires held { Each (IsLive region.now) (rows_of self.now.ways.items) }
+        requires live { self.now.live ≤ region.now.words }
+        requires fold { fold ≡ fold_of 0 new.now }
+        ensures { IsRowFound (way_row region.now self.now.ways.items) self.now.live (length self.now.ways.items) new.now result }
+    {
+        let mut i = self.heads[slot(fold, self.heads.len())] as usize;
+        'chain: while i > 0 {
+            let k = i - 1;
+            if self.is_at(region, k, new, fold) {
+                return k;
+            }
+            i = self.next[k] as usize;
+        }
+        self.ways.len()
+    }
+
+    /// Enters the row of the next way, with its fold. The way itself is to be put in afterwards.
+    pub(crate) fn enter(&mut self, fold: u64)
+        requires small { length self.old.ways.items + 1 < 2 ^ 32 }
+        requires folds { length self.old.ways.items < length self.old.folds.items }
+        requires next { length self.old.ways.items < length self.old.next.items }
+        requires heads { IsPowerOfTwo (length self.old.heads.items) }
+        ensures table { (row : ℕ → List ℤ) (live : ℕ) → IsTable row live (length self.old.ways.items) self.old.folds.items self.old.heads.items self.old.next.items
+            → fold ≡ fold_of 0 (live_at row live (length self.old.ways.items)) → IsTable row live (length self.old.ways.items + 1) self.new.folds.items self.new.heads.items self.new.next.items }
+        ensures ways { self.new.ways ≡ self.old.ways }
+        ensures live { self.new.live ≡ self.old.live }
+        ensures room { KeepsTableRoom self.old self.new }
+    {
+        let count = self.ways.len();
+        let at = slot(fold, self.heads.len());
+        self.folds[count] = fold;
+        self.next[count] = self.heads[at];
+        self.heads[at] = count as u32 + 1;
+    }
 }

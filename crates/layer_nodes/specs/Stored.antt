@@ -1,8 +1,9 @@
 -- How a layer lies in memory.
-use Rattle.std.specs.Int.{IsPowerOfTwo}
 use Rattle.std.specs.Prelude.{ℕ, ◌+◌, ◌^◌, ◌<◌, ◌≤◌, ℤ, List, length, map, take, drop}
 use Rattle.dp_model.specs.Lists.{Each}
 use Rattle.dp_laws.specs.declared.arc.DdArc.{DdArc}
+use Rattle.layer_candidates.specs.declared.table.WayTable.{WayTable}
+use Rattle.layer_candidates.specs.WayTables.{HasTableRoom}
 use Rattle.layer_nodes.specs.declared.node.Node.{Node}
 use Rattle.layer_nodes.specs.Nodes.{NodeView}
 
@@ -46,12 +47,8 @@ pub record Room : Type 0 where
   pub words : ℕ
 
 -- there is memory for so many candidates
-pub record HasExpansion (room ways folds heads next keys exact places : ℕ) : Type 0 where
-  pub small : room + 1 < 2 ^ 32
-  pub ways_hold : room ≤ ways
-  pub folds_hold : room ≤ folds
-  pub slots : IsPowerOfTwo heads
-  pub next_hold : room ≤ next
+pub record HasExpansion (room : ℕ) (table : WayTable) (keys exact places : ℕ) : Type 0 where
+  pub table_room : HasTableRoom room table
   pub keys_hold : room ≤ keys
   pub exact_hold : room ≤ exact
   pub places_hold : room ≤ places

@@ -11,14 +11,14 @@ ghost use Rattle.layer_nodes.specs.Sifting.{expanded_by};
 ghost use Rattle.layer_nodes.specs.Steps.{IsParent, IsRanked, KeepsNodes, KeepsRoom};
 ghost use Rattle.layer_nodes.specs.Stored.{rows_in};
 
-use crate::extending::extend_layer;
+use crate::extending::{MarkedWays, extend_layer};
 use crate::layer::Layer;
 use crate::node::Node;
 use crate::numbering::{arrange, arrange_unstruck};
 use crate::striking::Strikes;
 use dp_laws::DdArc;
 use dp_model::{DpModel, OutOfMemory};
-use layer_candidates::{Key, Way};
+use layer_candidates::{Key, WayTable};
 use row_region::Region;
 use std::alloc::Global;
 use std::marker::Model;
@@ -30,24 +30,20 @@ pub struct Expansion {
     room: usize,
     // the parent's state, while it is extended
     from: Vec<i64>,
-    ways: Vec<Way>,
-    folds: Vec<u64>,
-    heads: Vec<u32>,
-    next: Vec<u32>,
+    found: MarkedWays,
     keys: Vec<Key>,
-    exact: Vec<bool>,
     places: Vec<u32>,
 }
 
 impl Model for Expansion {
-    ghost use Rattle.std.specs.Prelude.{vec_len, vec_capacity};
+    ghost use Rattle.std.specs.Prelude.{length, vec_len, vec_capacity};
     ghost use Rattle.layer_nodes.specs.Stored.{Room, HasExpansion};
 
     ghost Value = { Room };
 
     ghost view = { λ e. record { most = e.room; words = vec_len e.from } };
 
-    ghost invariant = { λ e. HasExpansion e.room (vec_capacity e.ways) (vec_len e.folds) (vec_len e.heads) (vec_len e.next) (vec_capacity e.keys) (vec_len e.exact) (vec_len e.places) };
+    ghost invariant = { λ e. HasExpansion e.room e.found.table (vec_capacity e.keys) (length e.found.marks.items) (vec_len e.places) };
 }
 
 impl Expansion {
@@ -56,16 +52,14 @@ impl Expansion {
         requires { room + 1 < 2 ^ 32 }
         ensures { IfOk result (λ e. e ≡ record { most = room; words = words }) }
     {
-        let slots = (2 * room + 1).next_power_of_two();
         Ok(Expansion {
             room,
             from: vec![in alloc; 0i64; words]?,
-            ways: Vec::with_capacity(alloc, room)?,
-            folds: vec![in alloc; 0u64; room]?,
-            heads: vec![in alloc; 0u32; slots]?,
-            next: vec![in alloc; 0u32; room]?,
+            found: MarkedWays {
+                table: WayTable::prepare(alloc, room)?,
+                marks: vec![in alloc; false; room]?,
+            },
             keys: Vec::with_capacity(alloc, room)?,
-            exact: vec![in alloc; false; room]?,
             places: vec![in alloc; 0u32; room]?,
         })
     }
@@ -105,11 +99,7 @@ fn expand_nodes<M: DpModel>(
         expansion.from.as_mut_slice(),
         above,
         arcs,
-        &mut expansion.ways,
-        expansion.folds.as_mut_slice(),
-        expansion.heads.as_mut_slice(),
-        expansion.next.as_mut_slice(),
-        expansion.exact.as_mut_slice(),
+        &mut expansion.found,
     );
     match strikes {
         Strikes::AtMost(threshold) => arrange_unstruck(
@@ -117,8 +107,8 @@ fn expand_nodes<M: DpModel>(
             k + 1,
             threshold,
             region,
-            expansion.ways.as_slice(),
-            expansion.exact.as_slice(),
+            expansion.found.table.ways.as_slice(),
+            expansion.found.marks.as_slice(),
             &mut expansion.keys,
             expansion.places.as_mut_slice(),
             arcs.as_mut_slice(),
@@ -127,8 +117,8 @@ fn expand_nodes<M: DpModel>(
         Strikes::Nothing => arrange(
             region,
             model.first_live(k + 1),
-            expansion.ways.as_slice(),
-            expansion.exact.as_slice(),
+            expansion.found.table.ways.as_slice(),
+            expansion.found.marks.as_slice(),
             &mut expansion.keys,
             expansion.places.as_mut_slice(),
             arcs.as_mut_slice(),

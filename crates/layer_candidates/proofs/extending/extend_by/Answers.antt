@@ -5,7 +5,7 @@ use Rattle.dp_model.specs.Lists.{Each}
 use Rattle.dp_laws.specs.Restricted.Extensions.{joined}
 use Rattle.layer_candidates.specs.HeldRows.{held_row}
 use Rattle.layer_candidates.specs.Rows.{HasZeros}
-use Rattle.layer_candidates.specs.Ways.{rows_of, way_row, IsWay}
+use Rattle.layer_candidates.specs.Ways.{rows_of, way_row, IsWay, AreJoined}
 use Rattle.layer_candidates.proofs.HeldRows.{exchange-then}
 use Rattle.layer_candidates.proofs.Joined.{table-same, joined-same, reached-same}
 use Rattle.layer_candidates.proofs.Extended.{written, rows-zeros, is-way, way-reaches, extended-one, spotted}
@@ -25,78 +25,79 @@ take_in-place-requires-clause-table g c =
     let dp = g.M.DpModel.meaning (g.M.DpModel.numbers c.args.model.now) in
     let a = c.args in
     let e = c.in_ok-gained.ensures in
-    let allowed : IsAllowed dp a.k a.s.now a.decision = record { layer = c.requires.layer; choice = c.requires.choice; test = sym e.allowed } in
-    let w = written dp (laws_of g a.model.now) a.k a.s.now a.decision a.region.now c.write_state.new.region a.spot.now.place a.ways.now.items c.requires.state allowed c.requires.held (e.written refl) in
-    table-same (way_row a.region.now a.ways.now.items) (way_row c.write_state.new.region a.ways.now.items) a.ways.now.items w.rows a.live a.folds.now a.heads.now a.next.now c.requires.joined.table
+    let allowed : IsAllowed dp a.k a.parent.state.now a.decision = record { layer = c.requires.layer; choice = c.requires.choice; test = sym e.allowed } in
+    let w = written dp (laws_of g a.model.now) a.k a.parent.state.now a.decision a.region.now c.write_state.new.region a.spot.now.place a.table.now.ways.items c.requires.state allowed c.requires.held (e.written refl) in
+    table-same (way_row a.region.now a.table.now.ways.items) (way_row c.write_state.new.region a.table.now.ways.items) a.table.now.ways.items w.rows a.table.now.live a.table.now.folds.items a.table.now.heads.items a.table.now.next.items c.requires.joined.table
 
 pub take_in-place-requires-clause-held : goal.take_in-place-requires-clause-held
 take_in-place-requires-clause-held g c =
     let dp = g.M.DpModel.meaning (g.M.DpModel.numbers c.args.model.now) in
     let a = c.args in
     let e = c.in_ok-gained.ensures in
-    let allowed : IsAllowed dp a.k a.s.now a.decision = record { layer = c.requires.layer; choice = c.requires.choice; test = sym e.allowed } in
-    let w = written dp (laws_of g a.model.now) a.k a.s.now a.decision a.region.now c.write_state.new.region a.spot.now.place a.ways.now.items c.requires.state allowed c.requires.held (e.written refl) in
-    subst (λ (p : ℕ). Each (IsLive c.write_state.new.region) (p ∷ rows_of a.ways.now.items)) (sym c.way_of-way.ensures.row) w.exchanged.live.live
+    let allowed : IsAllowed dp a.k a.parent.state.now a.decision = record { layer = c.requires.layer; choice = c.requires.choice; test = sym e.allowed } in
+    let w = written dp (laws_of g a.model.now) a.k a.parent.state.now a.decision a.region.now c.write_state.new.region a.spot.now.place a.table.now.ways.items c.requires.state allowed c.requires.held (e.written refl) in
+    subst (λ (p : ℕ). Each (IsLive c.write_state.new.region) (p ∷ rows_of a.table.now.ways.items)) (sym c.way_of-way.ensures.row) w.exchanged.live.live
 
 pub take_in-place-requires-clause-zeros : goal.take_in-place-requires-clause-zeros
 take_in-place-requires-clause-zeros g c =
     let dp = g.M.DpModel.meaning (g.M.DpModel.numbers c.args.model.now) in
     let a = c.args in
     let e = c.in_ok-gained.ensures in
-    let allowed : IsAllowed dp a.k a.s.now a.decision = record { layer = c.requires.layer; choice = c.requires.choice; test = sym e.allowed } in
-    let w = written dp (laws_of g a.model.now) a.k a.s.now a.decision a.region.now c.write_state.new.region a.spot.now.place a.ways.now.items c.requires.state allowed c.requires.held (e.written refl) in
-    λ i less. subst (HasZeros a.live) (sym (w.rows i less)) (rows-zeros dp (a.k + 1) a.live (way_row a.region.now a.ways.now.items) a.ways.now.items c.requires.zeros c.requires.joined.good i less)
+    let allowed : IsAllowed dp a.k a.parent.state.now a.decision = record { layer = c.requires.layer; choice = c.requires.choice; test = sym e.allowed } in
+    let w = written dp (laws_of g a.model.now) a.k a.parent.state.now a.decision a.region.now c.write_state.new.region a.spot.now.place a.table.now.ways.items c.requires.state allowed c.requires.held (e.written refl) in
+    λ i less. subst (HasZeros a.table.now.live) (sym (w.rows i less)) (rows-zeros dp (a.k + 1) a.table.now.live (way_row a.region.now a.table.now.ways.items) a.table.now.ways.items c.requires.zeros c.requires.joined.good i less)
 
 pub take_in-place-requires-clause-new_zeros : goal.take_in-place-requires-clause-new_zeros
 take_in-place-requires-clause-new_zeros g c =
     let dp = g.M.DpModel.meaning (g.M.DpModel.numbers c.args.model.now) in
     let a = c.args in
     let e = c.in_ok-gained.ensures in
-    let allowed : IsAllowed dp a.k a.s.now a.decision = record { layer = c.requires.layer; choice = c.requires.choice; test = sym e.allowed } in
-    let w = written dp (laws_of g a.model.now) a.k a.s.now a.decision a.region.now c.write_state.new.region a.spot.now.place a.ways.now.items c.requires.state allowed c.requires.held (e.written refl) in
-    subst (HasZeros a.live) (sym (ap (held_row c.write_state.new.region) c.way_of-way.ensures.row ∙ w.row)) (c.requires.zeros (dp.step a.k a.s.now a.decision) w.state)
+    let allowed : IsAllowed dp a.k a.parent.state.now a.decision = record { layer = c.requires.layer; choice = c.requires.choice; test = sym e.allowed } in
+    let w = written dp (laws_of g a.model.now) a.k a.parent.state.now a.decision a.region.now c.write_state.new.region a.spot.now.place a.table.now.ways.items c.requires.state allowed c.requires.held (e.written refl) in
+    subst (HasZeros a.table.now.live) (sym (ap (held_row c.write_state.new.region) c.way_of-way.ensures.row ∙ w.row)) (c.requires.zeros (dp.step a.k a.parent.state.now a.decision) w.state)
 
 pub returns-clause-extended : goal.returns-clause-extended
 returns-clause-extended g c =
     let dp = g.M.DpModel.meaning (g.M.DpModel.numbers c.args.model.now) in
     let a = c.args in
     let laws = laws_of g a.model.now in
-    let ways = a.ways.now.items in
-    let ways2 = c.take_in-place.new.ways.items in
+    let ways = a.table.now.ways.items in
+    let ways2 = c.take_in-place.new.self.ways.items in
     let mid = c.write_state.new.region in
     let new = c.next_spot.new.region in
     let e = c.in_ok-gained.ensures in
     let t = c.take_in-place.ensures in
     let h = c.way_of-way.ensures in
-    let allowed : IsAllowed dp a.k a.s.now a.decision = record { layer = c.requires.layer; choice = c.requires.choice; test = sym e.allowed } in
-    let w = written dp laws a.k a.s.now a.decision a.region.now mid a.spot.now.place ways c.requires.state allowed c.requires.held (e.written refl) in
+    let allowed : IsAllowed dp a.k a.parent.state.now a.decision = record { layer = c.requires.layer; choice = c.requires.choice; test = sym e.allowed } in
+    let w = written dp laws a.k a.parent.state.now a.decision a.region.now mid a.spot.now.place ways c.requires.state allowed c.requires.held (e.written refl) in
     let value = h.value ∙ ap (λ z. a.parent.value +ℤ z) e.extended.0 in
-    let way = is-way dp laws a.k a.s.now a.decision c.way_of-way.result a.parent.value w.here allowed c.requires.value value (h.rank ∙ e.extended.1) in
+    let way = is-way dp laws a.k a.parent.state.now a.decision c.way_of-way.result a.parent.value w.here allowed c.requires.value value (h.rank ∙ e.extended.1) in
     let row = ap (held_row mid) h.row ∙ w.row in
-    let was = joined-same (way_row a.region.now ways) (way_row mid ways) ways w.rows dp (a.k + 1) a.live a.folds.now a.heads.now a.next.now c.requires.joined in
+    let was = joined-same (way_row a.region.now ways) (way_row mid ways) ways w.rows dp (a.k + 1) a.table.now.live a.table.now.folds.items a.table.now.heads.items a.table.now.next.items c.requires.joined in
     let size : c.len-count.result ≡ length ways = search rules in
     let next = spotted mid new a.spot.now.place c.next_spot.new.spot.place c.way_of-way.result.row ways ways2 c.take_in-place.result c.len-count.result w.exchanged.live h.row size t.place.grown t.new t.old c.next_spot.ensures.kept c.next_spot.ensures.left in
-    extended-one dp a.k a.parent.step a.s.now a.parent.value a.live a.decision (way_row a.region.now ways) (way_row new ways2) ways ways2 c.take_in-place.new.folds c.take_in-place.new.heads c.take_in-place.new.next
+    extended-one dp a.k a.parent.step a.parent.state.now a.parent.value a.table.now.live a.decision (way_row a.region.now ways) (way_row new ways2) ways ways2 c.take_in-place.new.self.folds.items c.take_in-place.new.self.heads.items c.take_in-place.new.self.next.items
     (sym e.allowed)
-    (joined-same (way_row mid ways2) (way_row new ways2) ways2 next.rows dp (a.k + 1) a.live c.take_in-place.new.folds c.take_in-place.new.heads c.take_in-place.new.next
-    (t.joined dp (a.k + 1) was (subst (λ r. IsWay dp (a.k + 1) r c.way_of-way.result) (sym row) way)))
+    (joined-same (way_row mid ways2) (way_row new ways2) ways2 next.rows dp (a.k + 1) a.table.now.live c.take_in-place.new.self.folds.items c.take_in-place.new.self.heads.items c.take_in-place.new.self.next.items
+    (subst (λ v. AreJoined dp (a.k + 1) (way_row mid ways2) v ways2 c.take_in-place.new.self.folds.items c.take_in-place.new.self.heads.items c.take_in-place.new.self.next.items) t.live
+    (t.joined dp (a.k + 1) was (subst (λ r. IsWay dp (a.k + 1) r c.way_of-way.result) (sym row) way))))
     (λ paths. reached-same (way_row mid ways2) (way_row new ways2) ways2 next.rows paths ∙ (t.list paths was.apart
-    ∙ ap₂ joined (reached-same (way_row a.region.now ways) (way_row mid ways) ways w.rows paths) (way-reaches dp a.k paths _ a.s.now a.decision a.parent.step c.way_of-way.result a.parent.value row value h.parent h.decision)))
+    ∙ ap₂ joined (reached-same (way_row a.region.now ways) (way_row mid ways) ways w.rows paths) (way-reaches dp a.k paths _ a.parent.state.now a.decision a.parent.step c.way_of-way.result a.parent.value row value h.parent h.decision)))
     t.few
 
 pub returns-clause-exchanged : goal.returns-clause-exchanged
 returns-clause-exchanged g c =
     let dp = g.M.DpModel.meaning (g.M.DpModel.numbers c.args.model.now) in
     let a = c.args in
-    let ways = a.ways.now.items in
-    let ways2 = c.take_in-place.new.ways.items in
+    let ways = a.table.now.ways.items in
+    let ways2 = c.take_in-place.new.self.ways.items in
     let mid = c.write_state.new.region in
     let new = c.next_spot.new.region in
     let e = c.in_ok-gained.ensures in
     let t = c.take_in-place.ensures in
     let h = c.way_of-way.ensures in
-    let allowed : IsAllowed dp a.k a.s.now a.decision = record { layer = c.requires.layer; choice = c.requires.choice; test = sym e.allowed } in
-    let w = written dp (laws_of g a.model.now) a.k a.s.now a.decision a.region.now mid a.spot.now.place ways c.requires.state allowed c.requires.held (e.written refl) in
+    let allowed : IsAllowed dp a.k a.parent.state.now a.decision = record { layer = c.requires.layer; choice = c.requires.choice; test = sym e.allowed } in
+    let w = written dp (laws_of g a.model.now) a.k a.parent.state.now a.decision a.region.now mid a.spot.now.place ways c.requires.state allowed c.requires.held (e.written refl) in
     let size : c.len-count.result ≡ length ways = search rules in
     let next = spotted mid new a.spot.now.place c.next_spot.new.spot.place c.way_of-way.result.row ways ways2 c.take_in-place.result c.len-count.result w.exchanged.live h.row size t.place.grown t.new t.old c.next_spot.ensures.kept c.next_spot.ensures.left in
     exchange-then a.region.now mid new (a.spot.now.place ∷ rows_of ways) (a.spot.now.place ∷ rows_of ways) (c.next_spot.new.spot.place ∷ rows_of ways2) w.exchanged next.exchanged
@@ -105,15 +106,15 @@ pub returns-clause-before : goal.returns-clause-before
 returns-clause-before g c =
     let dp = g.M.DpModel.meaning (g.M.DpModel.numbers c.args.model.now) in
     let a = c.args in
-    let ways = a.ways.now.items in
-    let ways2 = c.take_in-place.new.ways.items in
+    let ways = a.table.now.ways.items in
+    let ways2 = c.take_in-place.new.self.ways.items in
     let mid = c.write_state.new.region in
     let new = c.next_spot.new.region in
     let e = c.in_ok-gained.ensures in
     let t = c.take_in-place.ensures in
     let h = c.way_of-way.ensures in
-    let allowed : IsAllowed dp a.k a.s.now a.decision = record { layer = c.requires.layer; choice = c.requires.choice; test = sym e.allowed } in
-    let w = written dp (laws_of g a.model.now) a.k a.s.now a.decision a.region.now mid a.spot.now.place ways c.requires.state allowed c.requires.held (e.written refl) in
+    let allowed : IsAllowed dp a.k a.parent.state.now a.decision = record { layer = c.requires.layer; choice = c.requires.choice; test = sym e.allowed } in
+    let w = written dp (laws_of g a.model.now) a.k a.parent.state.now a.decision a.region.now mid a.spot.now.place ways c.requires.state allowed c.requires.held (e.written refl) in
     let size : c.len-count.result ≡ length ways = search rules in
     let next = spotted mid new a.spot.now.place c.next_spot.new.spot.place c.way_of-way.result.row ways ways2 c.take_in-place.result c.len-count.result w.exchanged.live h.row size t.place.grown t.new t.old c.next_spot.ensures.kept c.next_spot.ensures.left in
     λ i less. next.before i less ∙ w.rows i less
@@ -122,15 +123,15 @@ pub returns-clause-place : goal.returns-clause-place
 returns-clause-place g c =
     let dp = g.M.DpModel.meaning (g.M.DpModel.numbers c.args.model.now) in
     let a = c.args in
-    let ways = a.ways.now.items in
-    let ways2 = c.take_in-place.new.ways.items in
+    let ways = a.table.now.ways.items in
+    let ways2 = c.take_in-place.new.self.ways.items in
     let mid = c.write_state.new.region in
     let new = c.next_spot.new.region in
     let e = c.in_ok-gained.ensures in
     let t = c.take_in-place.ensures in
     let h = c.way_of-way.ensures in
-    let allowed : IsAllowed dp a.k a.s.now a.decision = record { layer = c.requires.layer; choice = c.requires.choice; test = sym e.allowed } in
-    let w = written dp (laws_of g a.model.now) a.k a.s.now a.decision a.region.now mid a.spot.now.place ways c.requires.state allowed c.requires.held (e.written refl) in
+    let allowed : IsAllowed dp a.k a.parent.state.now a.decision = record { layer = c.requires.layer; choice = c.requires.choice; test = sym e.allowed } in
+    let w = written dp (laws_of g a.model.now) a.k a.parent.state.now a.decision a.region.now mid a.spot.now.place ways c.requires.state allowed c.requires.held (e.written refl) in
     let size : c.len-count.result ≡ length ways = search rules in
     let next = spotted mid new a.spot.now.place c.next_spot.new.spot.place c.way_of-way.result.row ways ways2 c.take_in-place.result c.len-count.result w.exchanged.live h.row size t.place.grown t.new t.old c.next_spot.ensures.kept c.next_spot.ensures.left in
     record { same = next.rows c.take_in-place.result (placed t.place.grown) ∙ (t.place.same ∙ (ap (held_row mid) h.row ∙ w.row)); grown = t.place.grown }

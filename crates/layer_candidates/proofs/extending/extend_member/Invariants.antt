@@ -1,12 +1,14 @@
-use Rattle.std.proofs.Common.{◌≡◌, ◌-◌, ◌≤◌, vec_capacity}
+use Rattle.std.proofs.Common.{◌≡◌, ◌-◌, ◌≤◌}
+use Rattle.layer_candidates.specs.WayTables.{KeepsTableRoom}
 use Rattle.layer_candidates.proofs.Extended.{IsExtending}
 use Rattle.layer_candidates.proofs.extending.extend_member.Given as goal
 
 abbrev pub invariant-decisions : goal.invariant-decisions
 invariant-decisions g l = record {
-  extending : IsExtending (g.M.DpModel.meaning (g.M.DpModel.numbers l.model)) l.k l.parent.step l.s l.parent.value l.live l.decision l.fn.region l.fn.spot.place l.fn.ways.items l.region l.spot.place l.ways.items l.folds l.heads l.next;
+  extending : IsExtending (g.M.DpModel.meaning (g.M.DpModel.numbers l.model)) l.k l.fn.member.step l.s l.fn.member.value l.fn.table.live l.decision l.fn.region l.fn.spot.place l.fn.table.ways.items l.region l.spot.place l.table.ways.items l.table.folds.items l.table.heads.items l.table.next.items;
   within : l.decision ≤ l.choices;
-  capacity : vec_capacity l.ways ≡ vec_capacity l.fn.ways;
+  live : l.table.live ≡ l.fn.table.live;
+  room : KeepsTableRoom l.fn.table l.table;
 }
 
 abbrev pub decreases-decisions : goal.decreases-decisions

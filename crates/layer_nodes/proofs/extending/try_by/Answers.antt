@@ -1,4 +1,5 @@
-use Rattle.std.proofs.Common.{rules, ◌≡◌, ◌<◌, [], ◌∷◌, ◌++◌, length, refl, sym, ap, subst, ◌∙◌, arith}
+use Rattle.std.proofs.Common.{rules, ◌≡◌, ℕ, ◌<◌, Bool, List, [], ◌∷◌, ◌++◌, length, take, drop, refl, sym, ap, ap₂, subst, ◌∙◌, arith}
+use Rattle.std.proofs.lemmas.List.{length-set, with_items_is}
 use Rattle.layer_candidates.specs.Ways.{way_row}
 use Rattle.layer_nodes.specs.Expanding.{trial, arc_to, marked, AreTried}
 use Rattle.layer_nodes.proofs.Tried.{trials-one, placed-low, tried-more, tried-none}
@@ -9,21 +10,35 @@ returns-clause-tried g c = λ ts h.
     let dp = g.M.DpModel.meaning (g.M.DpModel.numbers c.args.model.now) in
     let a = c.args in
     let e = c.extend_by in
-    let row = way_row a.region.now a.ways.now.items in
-    let row2 = way_row e.new.region e.new.ways.items in
+    let row = way_row a.region.now a.found.now.table.ways.items in
+    let row2 = way_row e.new.region e.new.table.ways.items in
     let taken = c.in-Some.taken in
     let told = c.in-Some.ensures in
-    let t = trial a.s.now a.exact a.decision in
-    let size : c.len-count.result ≡ length a.ways.now.items = search rules in
-    let low = placed-low dp a.k row2 (length a.ways.now.items) (length e.new.ways.items) t taken.place told.place in
+    let t = trial a.parent.state.now a.exact a.decision in
+    let size : c.len-count.result ≡ length a.found.now.table.ways.items = search rules in
+    let low = placed-low dp a.k row2 (length a.found.now.table.ways.items) (length e.new.table.ways.items) t taken.place told.place in
     let arc : c.push_reserved.new.self.items ≡ a.arcs.now.items ++ arc_to dp a.k t taken.place ∷ [] = search rules in
-    let marks : c.mark.new.marks ≡ marked a.marks.now (length a.ways.now.items) taken.place a.exact = c.mark.ensures ∙ ap (λ n. marked a.marks.now n taken.place a.exact) size in
-    let room : taken.place < length a.marks.now = (let wide = c.requires.marks_room in omega arith) in
-    subst (λ us. AreTried dp a.k row2 (length e.new.ways.items) (ts ++ us) c.mark.new.marks c.push_reserved.new.self.items) (sym (trials-one dp a.k a.s.now a.exact a.decision (sym told.allowed)))
-    (subst (λ l. AreTried dp a.k row2 (length e.new.ways.items) (ts ++ t ∷ []) c.mark.new.marks l) (sym arc)
-    (subst (λ m. AreTried dp a.k row2 (length e.new.ways.items) (ts ++ t ∷ []) m (a.arcs.now.items ++ arc_to dp a.k t taken.place ∷ [])) (sym marks)
-    (tried-more dp a.k row row2 (length a.ways.now.items) (length e.new.ways.items) ts t taken.place a.marks.now a.arcs.now.items
+    let room : taken.place < length a.found.now.marks.items = (let wide = c.requires.marks_room in omega arith) in
+    let old = a.found.now.marks in
+    let all = take old.len (c.mark.new.marks ++ drop (length c.mark.new.marks) old.items) in
+    let is : c.mark.new.marks ≡ marked old.items (length a.found.now.table.ways.items) taken.place a.exact =
+    c.mark.ensures ∙ ap₂ (λ (m : List Bool) (n : ℕ). marked m n taken.place a.exact) c.as_mut_slice.ensures.value size in
+    let whole : length c.mark.new.marks ≡ old.len = ap length is ∙ (length-set old.items taken.place _ ∙ search rules) in
+    let marks : all ≡ marked old.items (length a.found.now.table.ways.items) taken.place a.exact = with_items_is old c.mark.new.marks whole ∙ is in
+    subst (λ us. AreTried dp a.k row2 (length e.new.table.ways.items) (ts ++ us) all c.push_reserved.new.self.items) (sym (trials-one dp a.k a.parent.state.now a.exact a.decision (sym told.allowed)))
+    (subst (λ l. AreTried dp a.k row2 (length e.new.table.ways.items) (ts ++ t ∷ []) all l) (sym arc)
+    (subst (λ m. AreTried dp a.k row2 (length e.new.table.ways.items) (ts ++ t ∷ []) m (a.arcs.now.items ++ arc_to dp a.k t taken.place ∷ [])) (sym marks)
+    (tried-more dp a.k row row2 (length a.found.now.table.ways.items) (length e.new.table.ways.items) ts t taken.place a.found.now.marks.items a.arcs.now.items
     told.place told.before told.extended.joined.apart room h _ refl)))
+
+pub returns-clause-marks : goal.returns-clause-marks
+returns-clause-marks g c =
+    let a = c.args in
+    let old = a.found.now.marks in
+    let place = c.in-Some.taken.place in
+    let same : length c.mark.new.marks ≡ length old.items = ap length c.mark.ensures ∙ (length-set c.as_mut_slice.result.now place _ ∙ ap length c.as_mut_slice.ensures.value) in
+    let whole : length c.mark.new.marks ≡ old.len = same ∙ search rules in
+    ap length (with_items_is old c.mark.new.marks whole) ∙ same
 
 pub returns-in_default-clause-tried : goal.returns-in_default-clause-tried
 returns-in_default-clause-tried g c = λ ts h.
@@ -31,5 +46,5 @@ returns-in_default-clause-tried g c = λ ts h.
     let a = c.args in
     let e = c.extend_by in
     let told = c.in_default.ensures in
-    tried-none dp a.k a.parent.step a.s.now a.parent.value a.exact a.live a.decision (way_row a.region.now a.ways.now.items) (way_row e.new.region e.new.ways.items) a.ways.now.items e.new.ways.items e.new.folds e.new.heads e.new.next
-    ts a.marks.now a.arcs.now.items (sym told.allowed) told.extended told.before h
+    tried-none dp a.k a.parent.step a.parent.state.now a.parent.value a.exact a.found.now.table.live a.decision (way_row a.region.now a.found.now.table.ways.items) (way_row e.new.region e.new.table.ways.items) a.found.now.table.ways.items e.new.table.ways.items e.new.table.folds.items e.new.table.heads.items e.new.table.next.items
+    ts a.found.now.marks.items a.arcs.now.items (sym told.allowed) told.extended told.before h

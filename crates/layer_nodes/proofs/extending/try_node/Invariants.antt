@@ -1,17 +1,20 @@
 use Rattle.std.proofs.Common.{◌≡◌, ◌+◌, ◌-◌, ◌≤◌, ◌++◌, List, length, vec_capacity}
 use Rattle.dp_model.specs.Decisions.{below}
 use Rattle.layer_candidates.specs.Ways.{way_row}
+use Rattle.layer_candidates.specs.WayTables.{KeepsTableRoom}
 use Rattle.layer_candidates.proofs.Extended.{IsExtending}
 use Rattle.layer_nodes.specs.Expanding.{Trial, trials_by, AreTried}
 use Rattle.layer_nodes.proofs.extending.try_node.Given as goal
 
 abbrev pub invariant-decisions : goal.invariant-decisions
 invariant-decisions g l = record {
-  extending : IsExtending (g.M.DpModel.meaning (g.M.DpModel.numbers l.model)) l.k l.parent.step l.s l.parent.value l.live l.decision l.fn.region l.fn.spot.place l.fn.ways.items l.region l.spot.place l.ways.items l.folds l.heads l.next;
-  tried : (ts : List Trial) → AreTried (g.M.DpModel.meaning (g.M.DpModel.numbers l.model)) l.k (way_row l.fn.region l.fn.ways.items) (length l.fn.ways.items) ts l.fn.marks l.fn.arcs.items
-      → AreTried (g.M.DpModel.meaning (g.M.DpModel.numbers l.model)) l.k (way_row l.region l.ways.items) (length l.ways.items) (ts ++ trials_by (g.M.DpModel.meaning (g.M.DpModel.numbers l.model)) l.k l.s l.exact (below l.decision)) l.marks l.arcs.items;
+  extending : IsExtending (g.M.DpModel.meaning (g.M.DpModel.numbers l.model)) l.k l.fn.parent.step l.s l.fn.parent.value l.fn.found.table.live l.decision l.fn.region l.fn.spot.place l.fn.found.table.ways.items l.region l.spot.place l.found.table.ways.items l.found.table.folds.items l.found.table.heads.items l.found.table.next.items;
+  tried : (ts : List Trial) → AreTried (g.M.DpModel.meaning (g.M.DpModel.numbers l.model)) l.k (way_row l.fn.region l.fn.found.table.ways.items) (length l.fn.found.table.ways.items) ts l.fn.found.marks.items l.fn.arcs.items
+      → AreTried (g.M.DpModel.meaning (g.M.DpModel.numbers l.model)) l.k (way_row l.region l.found.table.ways.items) (length l.found.table.ways.items) (ts ++ trials_by (g.M.DpModel.meaning (g.M.DpModel.numbers l.model)) l.k l.s l.exact (below l.decision)) l.found.marks.items l.arcs.items;
   within : l.decision ≤ l.choices;
-  capacity : vec_capacity l.ways ≡ vec_capacity l.fn.ways;
+  live : l.found.table.live ≡ l.fn.found.table.live;
+  room : KeepsTableRoom l.fn.found.table l.found.table;
+  marks : length l.found.marks.items ≡ length l.fn.found.marks.items;
   arcs_few : length l.arcs.items ≤ length l.fn.arcs.items + l.decision;
   arcs_capacity : vec_capacity l.arcs ≡ vec_capacity l.fn.arcs;
 }

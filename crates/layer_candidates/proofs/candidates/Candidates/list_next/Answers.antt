@@ -1,4 +1,4 @@
-use Rattle.std.proofs.Common.{◌≡◌, ◌+◌, ◌<◌, List, length, IsPermutation, sym, ap, subst, ◌∙◌}
+use Rattle.std.proofs.Common.{rules, arith, ◌≡◌, ◌+◌, IsPermutation, sym, ap, subst, ◌∙◌}
 use Rattle.dp_model.specs.Lists.{Each}
 use Rattle.layer_candidates.specs.declared.key.Key.{Key}
 use Rattle.layer_candidates.specs.HeldRows.{HasLeft, held_row}
@@ -6,6 +6,7 @@ use Rattle.layer_candidates.specs.KeyOrder.{key_rows}
 use Rattle.layer_candidates.specs.Pruning.{unstruck_keys}
 use Rattle.layer_candidates.specs.Rows.{HasZeros}
 use Rattle.layer_candidates.specs.Ways.{rows_of, way_row}
+use Rattle.layer_candidates.proofs.WayTables.{room-kept}
 use Rattle.layer_candidates.proofs.Layered.{unstruck-live, unstruck-zeros}
 use Rattle.layer_candidates.proofs.candidates.Candidates.list_next.Goals as goal
 use Rattle.row_region.specs.Region.{IsLive}
@@ -16,7 +17,7 @@ sort-requires g c =
     let a = c.args in
     let e = c.extend_layer in
     let u = c.list_unstruck in
-    let ways = e.new.ways.items in
+    let ways = e.new.table.ways.items in
     let listed = unstruck_keys dp (a.k + 1) a.threshold e.new.region ways in
     let unstruck : u.new.keys.items ≡ listed = u.ensures.keys ∙ ap (unstruck_keys dp (a.k + 1) a.threshold e.new.region) c.as_slice.ensures.value in
     let struck : HasLeft e.new.region (rows_of ways) u.new.region (key_rows listed) =
@@ -34,7 +35,7 @@ returns-clause-listed g c =
     let a = c.args in
     let e = c.extend_layer in
     let u = c.list_unstruck in
-    let ways = e.new.ways.items in
+    let ways = e.new.table.ways.items in
     let listed = unstruck_keys dp (a.k + 1) a.threshold e.new.region ways in
     let unstruck : u.new.keys.items ≡ listed = u.ensures.keys ∙ ap (unstruck_keys dp (a.k + 1) a.threshold e.new.region) c.as_slice.ensures.value in (
       e.new.region,
@@ -48,3 +49,16 @@ returns-clause-listed g c =
         sorted = c.sort.ensures.sorted;
       },
     )
+
+pub returns-clause-memory : goal.returns-clause-memory
+returns-clause-memory g c = λ words count h.
+    let parent = h.parent in let keys = h.keys in let kept = h.kept in let leaders = h.leaders in let small = h.small in
+    let some = c.list_unstruck.ensures.capacity in
+    record {
+      parent = search rules;
+      table = room-kept count count c.args.self.now.table c.extend_layer.new.table c.extend_layer.ensures.room (omega arith) h.table;
+      keys = search rules;
+      kept = h.kept;
+      leaders = h.leaders;
+      small = h.small;
+    }

@@ -1,4 +1,4 @@
-use Rattle.std.proofs.Common.{◌≡◌, ◌+◌, ◌*◌, ◌<◌, ◌≤◌, List, ◌++◌, length, map, sym, ap, ap₂, subst, ◌∙◌, length-append, arith}
+use Rattle.std.proofs.Common.{◌≡◌, ◌+◌, ◌<◌, List, ◌++◌, length, map, sym, ap, ap₂, subst, ◌∙◌, length-append, arith}
 use Rattle.std.proofs.lemmas.List.{length-map}
 use Rattle.dp_model.specs.Lists.{Each}
 use Rattle.layer_candidates.specs.declared.key.Key.{Key}
@@ -19,7 +19,7 @@ prune-more-requires-clause-keys g c κs within =
     let dp = g.M.DpModel.meaning (g.M.DpModel.numbers c.args.model.now) in
     let a = c.args in
     let n = c.list_next.new in
-    let ways = n.self.ways.items in
+    let ways = n.self.table.ways.items in
     let keys = n.self.keys.items in
     let h : HasListed dp a.k a.threshold a.region.now a.members.now.items n.region n.self = subst (λ ms. HasListed dp a.k a.threshold a.region.now ms n.region n.self) c.as_slice.ensures.value c.list_next.ensures.listed in
     subst (Each (IsKeyIn dp (a.k + 1) n.region)) (sym c.as_slice-2.ensures.value) (layer-in dp a.k a.threshold a.region.now h.0 n.region a.members.now.items ways keys h.1)
@@ -29,7 +29,7 @@ prune-more-requires-clause-held g c κs within =
     let dp = g.M.DpModel.meaning (g.M.DpModel.numbers c.args.model.now) in
     let a = c.args in
     let n = c.list_next.new in
-    let ways = n.self.ways.items in
+    let ways = n.self.table.ways.items in
     let keys = n.self.keys.items in
     let h : HasListed dp a.k a.threshold a.region.now a.members.now.items n.region n.self = subst (λ ms. HasListed dp a.k a.threshold a.region.now ms n.region n.self) c.as_slice.ensures.value c.list_next.ensures.listed in
     subst (λ l. AreLive n.region (key_rows l)) (sym c.as_slice-2.ensures.value) (layer-live dp a.k a.threshold a.region.now h.0 n.region a.members.now.items ways keys h.1)
@@ -39,7 +39,7 @@ prune-more-requires-clause-kept_room g c κs within =
     let dp = g.M.DpModel.meaning (g.M.DpModel.numbers c.args.model.now) in
     let a = c.args in
     let n = c.list_next.new in
-    let ways = n.self.ways.items in
+    let ways = n.self.table.ways.items in
     let keys = n.self.keys.items in
     let h : HasListed dp a.k a.threshold a.region.now a.members.now.items n.region n.self = subst (λ ms. HasListed dp a.k a.threshold a.region.now ms n.region n.self) c.as_slice.ensures.value c.list_next.ensures.listed in
     let size = ap length c.as_slice-2.ensures.value in
@@ -53,7 +53,7 @@ descend-requires-clause-within g c =
     let dp = g.M.DpModel.meaning (g.M.DpModel.numbers c.args.model.now) in
     let a = c.args in
     let n = c.list_next.new in
-    let ways = n.self.ways.items in
+    let ways = n.self.table.ways.items in
     let keys = n.self.keys.items in
     let h : HasListed dp a.k a.threshold a.region.now a.members.now.items n.region n.self = subst (λ ms. HasListed dp a.k a.threshold a.region.now ms n.region n.self) c.as_slice.ensures.value c.list_next.ensures.listed in
     let p = c.prune-more in
@@ -68,7 +68,7 @@ returns-clause-list g c = λ prefix.
     let dp = g.M.DpModel.meaning (g.M.DpModel.numbers c.args.model.now) in
     let a = c.args in
     let n = c.list_next.new in
-    let ways = n.self.ways.items in
+    let ways = n.self.table.ways.items in
     let keys = n.self.keys.items in
     let h : HasListed dp a.k a.threshold a.region.now a.members.now.items n.region n.self = subst (λ ms. HasListed dp a.k a.threshold a.region.now ms n.region n.self) c.as_slice.ensures.value c.list_next.ensures.listed in
     let p = c.prune-more in
@@ -85,7 +85,7 @@ returns-clause-more g c = λ prefix.
     let dp = g.M.DpModel.meaning (g.M.DpModel.numbers c.args.model.now) in
     let a = c.args in
     let n = c.list_next.new in
-    let ways = n.self.ways.items in
+    let ways = n.self.table.ways.items in
     let keys = n.self.keys.items in
     let h : HasListed dp a.k a.threshold a.region.now a.members.now.items n.region n.self = subst (λ ms. HasListed dp a.k a.threshold a.region.now ms n.region n.self) c.as_slice.ensures.value c.list_next.ensures.listed in
     let p = c.prune-more in
@@ -99,7 +99,7 @@ returns-clause-held g c =
     let dp = g.M.DpModel.meaning (g.M.DpModel.numbers c.args.model.now) in
     let a = c.args in
     let n = c.list_next.new in
-    let ways = n.self.ways.items in
+    let ways = n.self.table.ways.items in
     let keys = n.self.keys.items in
     let h : HasListed dp a.k a.threshold a.region.now a.members.now.items n.region n.self = subst (λ ms. HasListed dp a.k a.threshold a.region.now ms n.region n.self) c.as_slice.ensures.value c.list_next.ensures.listed in
     let p = c.prune-more in
@@ -115,7 +115,7 @@ returns-clause-exchanged g c =
     let dp = g.M.DpModel.meaning (g.M.DpModel.numbers c.args.model.now) in
     let a = c.args in
     let n = c.list_next.new in
-    let ways = n.self.ways.items in
+    let ways = n.self.table.ways.items in
     let keys = n.self.keys.items in
     let h : HasListed dp a.k a.threshold a.region.now a.members.now.items n.region n.self = subst (λ ms. HasListed dp a.k a.threshold a.region.now ms n.region n.self) c.as_slice.ensures.value c.list_next.ensures.listed in
     let p = c.prune-more in
@@ -129,7 +129,7 @@ returns-clause-exchanged g c =
 pub returns-clause-reached : goal.returns-clause-reached
 returns-clause-reached g c =
     let a = c.args in
-    let ways = c.list_next.new.self.ways.items in
+    let ways = c.list_next.new.self.table.ways.items in
     let p = c.prune-more in
     let kept = p.new.kept.items in
     let size = length a.steps.now.items in
@@ -153,7 +153,7 @@ returns-clause-few g c =
 pub returns-clause-steps : goal.returns-clause-steps
 returns-clause-steps g c =
     let a = c.args in
-    let ways = c.list_next.new.self.ways.items in
+    let ways = c.list_next.new.self.table.ways.items in
     let p = c.prune-more in
     let kept = p.new.kept.items in
     let size = length a.steps.now.items in
@@ -169,7 +169,7 @@ returns-clause-backward g c = λ back.
     let dp = g.M.DpModel.meaning (g.M.DpModel.numbers c.args.model.now) in
     let a = c.args in
     let n = c.list_next.new in
-    let ways = n.self.ways.items in
+    let ways = n.self.table.ways.items in
     let keys = n.self.keys.items in
     let h : HasListed dp a.k a.threshold a.region.now a.members.now.items n.region n.self = subst (λ ms. HasListed dp a.k a.threshold a.region.now ms n.region n.self) c.as_slice.ensures.value c.list_next.ensures.listed in
     let p = c.prune-more in
@@ -191,10 +191,7 @@ returns-clause-memory g c = λ words count has.
     let some = h.leaders in
     record {
       parent = h.parent;
-      ways = h.ways;
-      folds = h.folds;
-      next = h.next;
-      heads = h.heads;
+      table = h.table;
       keys = h.keys;
       kept = omega arith;
       leaders = omega arith;
