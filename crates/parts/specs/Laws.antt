@@ -37,7 +37,7 @@ module _ (dp : Dp) (index of : ℕ) where
   allowed_in_the_part : (k : ℕ) (s : List ℤ) (d : ℕ) → 1 ≤ k → IsAllowed dp k s d → IsAllowed part k s d
   allowed_in_the_part k s d below h = record { layer = h.layer; choice = h.choice; test = allowed_below k s d below ∙ h.test }
 
-  path_in_whole : (c : List ℕ) (k : ℕ) (s : List ℤ) → IsPath part k s c → IsPath dp k s c
+  pub path_in_whole : (c : List ℕ) (k : ℕ) (s : List ℤ) → IsPath part k s c → IsPath dp k s c
   path_in_whole [] k s h = tt
   path_in_whole (d ∷ c) k s h = (allowed_in_whole k s d h.0, path_in_whole c (k + 1) (dp.step k s d) h.1)
 
@@ -45,7 +45,7 @@ module _ (dp : Dp) (index of : ℕ) where
   path_in_part [] k s below h = tt
   path_in_part (d ∷ c) k s below h = (allowed_in_the_part k s d below h.0, path_in_part c (k + 1) (dp.step k s d) (omega arith) h.1)
 
-  gain_same : (c : List ℕ) (k : ℕ) (s : List ℤ) → gain_of part k s c ≡ gain_of dp k s c
+  pub gain_same : (c : List ℕ) (k : ℕ) (s : List ℤ) → gain_of part k s c ≡ gain_of dp k s c
   gain_same [] k s = refl
   gain_same (d ∷ c) k s = ap (λ (z : ℤ). dp.gain k s d +ℤ z) (gain_same c (k + 1) (dp.step k s d))
 
