@@ -1,0 +1,4 @@
+pub mod Shifting
+pub mod Layers
+pub mod Roots
+pub mod Accepting
