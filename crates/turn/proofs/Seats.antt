@@ -68,6 +68,7 @@ module _ {V T : Type 0} (t : Turn V T) where
         };
         nothing_seen = ap (λ x. x.0.seen) now;
         nothing_out = ap (λ x. x.0.out) now;
+        nothing_left = ap (λ x. x.0.had) now;
       }
 
   pub ends : (s : Seat V) (p : Place (Option V) (SeatView V)) (number seats : ℕ) → IsMaker t p number seats → s.place ≡ p → number + 1 ≡ seats → IsFresh t s
@@ -84,6 +85,7 @@ module _ {V T : Type 0} (t : Turn V T) where
         };
         nothing_seen = ap (λ x. x.0.seen) now;
         nothing_out = ap (λ x. x.0.out) now;
+        nothing_left = ap (λ x. x.0.had) now;
       }
 
   pub joining_first : (s : Seat V) (left all : List (Seat V)) → all ≡ left ++ s ∷ [] → All (IsSeatOf t) all → length all ≡ seats_of t → IsJoining t s.place left all

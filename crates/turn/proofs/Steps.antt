@@ -151,14 +151,14 @@ module _ {V T : Type 0} (tag : V → T) (seen : V → Option ℤ) (out : V → �
   pub may_stay : (found : V) (number : ℕ) → MayLeave found found number
   may_stay found number = record { tag_is = refl; no_less = no_less-same (seen found); others = λ other ne. refl; moved = inl refl }
 
-  pub leaves : (key : TurnKey V) (id : ℕ) (v : SeatView V) (found value : V) → v.holds ≡ true → v.parts ≡ 1 → v.found ≡ Some found → MayLeave found value v.number
+  pub leaves : (key : TurnKey V) (id : ℕ) (v : SeatView V) (found value : V) → v.holds ≡ true → v.parts ≡ 1 → v.had ≡ Some found → MayLeave found value v.number
       → Allows (IsTurn tag seen out moves key) 1 id (v, (0, Some value) ∷ []) 0 (λ _. 0) (λ _. Leaves tag seen out (v, (0, Some value) ∷ []))
   leaves key id v found value holds one found_here may s h wide at _ =
       let busy : slice_index s.words 0 ≢ 0 = λ e. true_not_false v.holds holds ((h.free e).idle id v at) in
       let held = h.held busy in
       let mine : id ≡ held.holder = held.alone id v at holds in
       let view_is : v ≡ held.view = one_place s.views id held.holder v held.view mine at held.there in
-      let found_is : found ≡ h.value = some_is found h.value (sym found_here ∙ (ap (λ (x : SeatView V). x.found) view_is ∙ held.found_is)) in
+      let found_is : found ≡ h.value = some_is found h.value (sym found_here ∙ (ap (λ (x : SeatView V). x.had) view_is ∙ held.found_is)) in
       let knows = h.known id v at (omega arith) in
       let some_v : 0 < v.parts = omega arith in
       let w' = left_at tag seen out v value in

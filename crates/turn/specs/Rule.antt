@@ -17,7 +17,7 @@ module _ {V : Type 0} where
 
   -- the first seat, which stands for all until the others are made
   abbrev pub first_view : TurnKey V → SeatView V
-  first_view key = record { first = Some key.first.value; number = 0; parts = key.seats; last = true; also = []; seen = None; out = None; holds = false; found = None }
+  first_view key = record { first = Some key.first.value; number = 0; parts = key.seats; last = true; also = []; seen = None; out = None; holds = false; had = None }
 
   -- the last seat, after the next one was made of it: it stands for one
   abbrev pub lone_view : SeatView V → SeatView V
@@ -25,11 +25,11 @@ module _ {V : Type 0} where
 
   -- the next seat, which stands for all that are still to be made
   abbrev pub next_of : SeatView V → SeatView V
-  next_of v = record { first = v.first; number = v.number + 1; parts = v.parts - 1; last = true; also = []; seen = None; out = None; holds = false; found = None }
+  next_of v = record { first = v.first; number = v.number + 1; parts = v.parts - 1; last = true; also = []; seen = None; out = None; holds = false; had = None }
 
   -- what a seat knows once it holds the value
   abbrev pub holding : SeatView V → V → SeatView V
-  holding v value = record v { holds = true; found = Some value }
+  holding v value = record v { holds = true; had = Some value }
 
   -- two seats as one, which has seen what either saw
   abbrev pub joined : SeatView V → SeatView V → SeatView V
@@ -37,7 +37,7 @@ module _ {V : Type 0} where
 
   -- what a seat that is given up knows
   abbrev pub spent_view : SeatView V
-  spent_view = record { first = None; number = 0; parts = 0; last = false; also = []; seen = None; out = None; holds = false; found = None }
+  spent_view = record { first = None; number = 0; parts = 0; last = false; also = []; seen = None; out = None; holds = false; had = None }
 
   -- the value is at home, and no seat holds the turn
   pub record IsFree (value : V) (s : State (Option V) (SeatView V)) : Type 0 where
@@ -50,7 +50,7 @@ module _ {V : Type 0} where
     pub view : SeatView V
     pub there : get_elem? s.views holder ≡ some view
     pub holds_is : view.holds ≡ true
-    pub found_is : view.found ≡ Some value
+    pub found_is : view.had ≡ Some value
     pub alone : (j : ℕ) (w : SeatView V) → get_elem? s.views j ≡ some w → w.holds ≡ true → j ≡ holder
 
   module _ {T : Type 0} (tag : V → T) (seen : V → Option ℤ) (out : V → ℕ → Option (List ℕ)) where
@@ -86,7 +86,7 @@ module _ {V : Type 0} where
 
     -- after it left this value
     abbrev pub left_at : SeatView V → V → SeatView V
-    left_at v value = record v { seen = seen value; out = out value v.number; holds = false; found = None }
+    left_at v value = record v { seen = seen value; out = out value v.number; holds = false; had = Some value }
 
     -- what a seat finds: a value with the tag, no less than it saw, with its own decisions still out
     pub record Finds (w : SeatView V) (value : V) : Type 0 where

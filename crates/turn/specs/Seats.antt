@@ -16,6 +16,10 @@ module _ {V : Type 0} where
   abbrev pub out_of : Seat V → Option (List ℕ)
   out_of s = s.place.me.0.out
 
+  -- the value that the seat left last; none where it has not left yet
+  abbrev pub left_by : Seat V → Option V
+  left_by s = s.place.me.0.had
+
   -- the number of a seat
   abbrev pub number_of : Seat V → ℕ
   number_of s = s.number
@@ -35,7 +39,7 @@ module _ {V : Type 0} where
 
     -- the view of the seat that was made last
     abbrev pub maker : Turn V T → ℕ → ℕ → SeatView V
-    maker t number seats = record { first = Some (first_of t); number = number; parts = seats - number; last = true; also = []; seen = None; out = None; holds = false; found = None }
+    maker t number seats = record { first = Some (first_of t); number = number; parts = seats - number; last = true; also = []; seen = None; out = None; holds = false; had = None }
 
     -- The seat is one of the turn's. It does not hold it.
     pub record IsSeatOf (t : Turn V T) (s : Seat V) : Type 0 where
@@ -53,7 +57,7 @@ module _ {V : Type 0} where
       pub one_part : s.place.me.0.parts ≡ 1
       pub alone : s.place.me.0.also ≡ []
       pub holds_is : s.place.me.0.holds ≡ true
-      pub found_is : s.place.me.0.found ≡ Some found
+      pub found_is : s.place.me.0.had ≡ Some found
       pub out_is_here : s.place.me.1 ≡ (0, None) ∷ []
 
     -- the seat is one of the turn's, which nobody took it by yet
@@ -61,6 +65,7 @@ module _ {V : Type 0} where
       pub own : IsSeatOf t s
       pub nothing_seen : seen_of s ≡ None
       pub nothing_out : out_of s ≡ None
+      pub nothing_left : left_by s ≡ None
 
     -- the last seat's place, which stands for all seats from this number on
     pub record IsMaker (t : Turn V T) (p : Place (Option V) (SeatView V)) (number seats : ℕ) : Type 0 where

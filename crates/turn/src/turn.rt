@@ -47,11 +47,11 @@ impl<V> Seat<V> {
 }
 
 impl<V: Turned> Turn<V> {
-    ghost use Rattle.std.specs.Prelude.{◌≡◌, ◌⊎◌, ℕ, ◌≤◌, [], None, IfOk, IfErr, map, vec_len, vec_capacity};
+    ghost use Rattle.std.specs.Prelude.{◌≡◌, ◌⊎◌, ℕ, ◌≤◌, [], None, Some, IfOk, IfErr, map, vec_len, vec_capacity};
     ghost use Rattle.std.specs.List.{All, range_with_len};
     ghost use Rattle.turn.specs.History.{HasMoved};
     ghost use Rattle.turn.specs.Order.{NoLess};
-    ghost use Rattle.turn.specs.Seats.{first_of, seats_of, seen_of, out_of, number_of, IsSeatOf, IsFresh, IsHolding, IsMaker, IsWhole};
+    ghost use Rattle.turn.specs.Seats.{first_of, seats_of, seen_of, out_of, left_by, number_of, IsSeatOf, IsFresh, IsHolding, IsMaker, IsWhole};
 
     /// A turn over the value, with so many seats. Fails only for want of memory, and then the value comes back as it was.
     pub fn new(alloc: Global, value: V, seats: u32) -> Result<(Turn<V>, Vec<Seat<V>>), NoTurn<V>>
@@ -177,6 +177,7 @@ impl<V: Turned> Turn<V> {
         ensures number { seat.new.number ≡ seat.old.number }
         ensures seen { seen_of seat.new ≡ V.seen value }
         ensures out { out_of seat.new ≡ V.out value seat.old.number }
+        ensures left { left_by seat.new ≡ Some value }
     {
         let shared = &self.table.shared;
         let old = shared.exchange(&mut seat.place, 0, Some(value));
@@ -235,9 +236,9 @@ impl<V: Turned> Turn<V> {
 }
 
 impl<'a, V: Turned> Guard<'a, V> {
-    ghost use Rattle.std.specs.Prelude.{◌≡◌, ◌⊎◌};
+    ghost use Rattle.std.specs.Prelude.{◌≡◌, ◌⊎◌, Some};
     ghost use types.Logic.{sem};
-    ghost use Rattle.turn.specs.Seats.{seen_of, out_of, IsSeatOf, IsHolding};
+    ghost use Rattle.turn.specs.Seats.{seen_of, out_of, left_by, IsSeatOf, IsHolding};
     ghost use Rattle.turn.specs.Lends.{LendsValue};
 
     /// The value that the turn guards.
@@ -256,6 +257,7 @@ impl<'a, V: Turned> Guard<'a, V> {
         ensures number { self.exit.1.0.now.number ≡ self.entry.seat.now.number }
         ensures seen { seen_of self.exit.1.0.now ≡ V.seen self.entry.value }
         ensures out { out_of self.exit.1.0.now ≡ V.out self.entry.value self.entry.seat.now.number }
+        ensures left { left_by self.exit.1.0.now ≡ Some self.entry.value }
     {
         let Guard {
             turn,

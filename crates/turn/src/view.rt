@@ -30,6 +30,6 @@ pub struct SeatView<V> {
     /// The decisions that it then had checked out.
     pub out: Option<LinkedList<u32>>,
     pub holds: bool,
-    /// What it found, while it holds the turn.
-    pub found: Option<V>,
+    /// The value that it had last: what it found, while it holds the turn, and after that what it left.
+    pub had: Option<V>,
 }
