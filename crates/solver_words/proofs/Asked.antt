@@ -6,6 +6,7 @@ use Rattle.std.specs.List.{list_any}
 use Rattle.std.specs.Option.{option_and_then}
 use Rattle.std.specs.Str.{bytes_eq}
 use Rattle.dp_model.specs.NumberLaws.{int_lt-is_not}
+use Rattle.dp_model.specs.declared.limits.TheConstants.{MOST_DISTANCE, MOST_WIDTH, MOST_WORKERS}
 use Rattle.problem_names.specs.declared.ModelName.{ModelName}
 use Rattle.problem_names.specs.declared.Sizes.{Sizes}
 use Rattle.problem_names.specs.ModelNames.{sizes_of}
@@ -13,6 +14,7 @@ use Rattle.solver_words.specs.Grammar.{Argument, Text, has_flag, line_of, settin
 use Rattle.solver_words.specs.Words.{IsAnswer, JobView, Refusal, and_then, asked, by_command, check, check_line, check_syntax, cut_of, digest, digest_line, digest_of, digest_syntax, generate, generate_line, generate_of, generate_syntax, is_refused, extended, job_view, meaning, model_of, optional, or_default, or_model, or_number, positional_number, ranged, resume, resume_line, resume_of, resume_syntax, searched, settings_of, solve, solve_line, solve_of, solve_syntax, usage}
 use Rattle.solver_words.specs.declared.job.Job.{Job}
 use Rattle.solver_words.specs.declared.job.JobSettings.{JobSettings}
+use Rattle.solver_words.specs.declared.limits.TheConstants.{MOST_COVER_WORDS}
 use Rattle.solver_words.specs.declared.words_error.WordsError.{WordsError}
 use Rattle.solver_words.specs.Possible.{IsPossible, MayDraw, MaySearch, MaySearchKept}
 
@@ -60,7 +62,7 @@ positional-within : (name : Text) (least most : ℕ) (word : Option Text) → If
 positional-within name least most None = tt
 positional-within name least most (Some word) = or_number-within least most name (ranged least most word) (then-within least most _)
 
-by_default-within : (o : Option ℕ) → IfSome o (IsWithin 1 16) → IsWithin 1 16 (or_default 1 o)
+by_default-within : (o : Option ℕ) → IfSome o (IsWithin 1 MOST_WORKERS) → IsWithin 1 MOST_WORKERS (or_default 1 o)
 by_default-within None h = (omega arith, omega arith)
 by_default-within (Some n) h = h
 
@@ -68,24 +70,24 @@ by_default-within (Some n) h = h
 
 -- settings with from 1 to 16 workers, no distance and no cover
 abbrev AreExact : JobSettings → Type 0
-AreExact settings = IsWithin 1 16 settings.workers × (settings.within ≡ pos 0) × (settings.cover_words ≡ None)
+AreExact settings = IsWithin 1 MOST_WORKERS settings.workers × (settings.within ≡ pos 0) × (settings.cover_words ≡ None)
 
 settings-exact : (value : Text → Option Text) (stats : Bool) → IfOk (settings_of value stats) AreExact
 settings-exact value stats =
     behind AreExact _ (λ width.
-    next (λ o. IfSome o (IsWithin 1 16)) AreExact _ (λ workers few.
+    next (λ o. IfSome o (IsWithin 1 MOST_WORKERS)) AreExact _ (λ workers few.
     behind AreExact _ (λ budget.
     behind AreExact _ (λ cutset. (by_default-within workers few, refl, refl)) (cut_of (value (codes "cutset"))))
     (optional (codes "budget") 0 _ (value (codes "budget"))))
-    (optional (codes "workers") 1 16 (value (codes "workers"))) (optional-within (codes "workers") 1 16 (value (codes "workers"))))
-    (optional (codes "width") 1 16777216 (value (codes "width")))
+    (optional (codes "workers") 1 MOST_WORKERS (value (codes "workers"))) (optional-within (codes "workers") 1 MOST_WORKERS (value (codes "workers"))))
+    (optional (codes "width") 1 MOST_WIDTH (value (codes "width")))
 
 -- with a distance from 0 to 2^50 a search may be made
-distance-small : (o : Option ℕ) → IfSome o (IsWithin 0 1125899906842624) → or_default 0 o ≤ 1125899906842624
+distance-small : (o : Option ℕ) → IfSome o (IsWithin 0 MOST_DISTANCE) → or_default 0 o ≤ MOST_DISTANCE
 distance-small None h = omega arith
 distance-small (Some n) h = h.1
 
-may-search : (settings : JobSettings) (within cover : Option ℕ) → AreExact settings → IfSome within (IsWithin 0 1125899906842624) → MaySearch (extended settings within cover)
+may-search : (settings : JobSettings) (within cover : Option ℕ) → AreExact settings → IfSome within (IsWithin 0 MOST_DISTANCE) → MaySearch (extended settings within cover)
 may-search settings within cover exact few =
     let most = distance-small within few in
     record { some_workers = exact.0.0; few_workers = exact.0.1; distance = record { least = omega (arith, ints); most = omega (arith, ints) } }
@@ -115,9 +117,9 @@ solve-asked name value flag =
     behind IsPossible _ (λ model.
     next AreExact IsPossible _ (λ settings exact.
     behind IsPossible _ (λ words.
-    next (λ o. IfSome o (IsWithin 0 1125899906842624)) IsPossible _ (λ within few. searched-asked model (extended settings within _) (value (codes "journal")) (may-search settings within _ exact few))
-    (optional (codes "within") 0 1125899906842624 (value (codes "within"))) (optional-within (codes "within") 0 1125899906842624 (value (codes "within"))))
-    (optional (codes "cover-words") 0 134217728 (value (codes "cover-words"))))
+    next (λ o. IfSome o (IsWithin 0 MOST_DISTANCE)) IsPossible _ (λ within few. searched-asked model (extended settings within _) (value (codes "journal")) (may-search settings within _ exact few))
+    (optional (codes "within") 0 MOST_DISTANCE (value (codes "within"))) (optional-within (codes "within") 0 MOST_DISTANCE (value (codes "within"))))
+    (optional (codes "cover-words") 0 MOST_COVER_WORDS (value (codes "cover-words"))))
     (settings_of value (flag (codes "stats"))) (settings-exact value (flag (codes "stats"))))
     (model_of name)
 

@@ -8,11 +8,13 @@ use Rattle.clap.specs.Matches.{first_value, found_of, one_text}
 use Rattle.clap.specs.Walk.{rows_of}
 use Rattle.clap.specs.declared.parser.matches.ArgMatches.{ArgMatches}
 use Rattle.clap.proofs.WalkLemmas.{list_any-map, first_value-rows, one_text-rows}
+use Rattle.dp_model.specs.declared.limits.TheConstants.{MOST_DISTANCE}
 use Rattle.problem_names.specs.declared.ModelName.{ModelName}
 use Rattle.problem_names.specs.declared.Sizes.{Sizes}
 use Rattle.problem_names.specs.ModelNames.{sizes_of}
 use Rattle.solver_words.specs.declared.job.Job.{Job}
 use Rattle.solver_words.specs.declared.job.JobSettings.{JobSettings}
+use Rattle.solver_words.specs.declared.limits.TheConstants.{MOST_COVER_WORDS}
 use Rattle.solver_words.specs.declared.words_error.WordsError.{WordsError}
 use Rattle.solver_words.specs.declared.words_error.WordsError.TheVariants.{Usage, Model, Number, Cutset, OutOfMemory}
 use Rattle.solver_words.specs.Grammar.{Syntax, Argument, Text, contains, has_flag, setting_of, words_of}
@@ -137,7 +139,7 @@ module _ (m : ArgMatches) (arguments : List Argument) (reads : RowsTell solve_sy
       at_settings = sym same ∙ d
 
       abbrev covered : Option Text → Result (Option ℕ) Refusal
-      covered = optional (codes "cover-words") 0 134217728
+      covered = optional (codes "cover-words") 0 MOST_COVER_WORDS
 
       cover_same : covered (value (codes "cover-words")) ≡ covered (setting_of (codes "cover-words") arguments)
       cover_same = ap covered (value_read solve_syntax arguments m reads (codes "cover-words") refl)
@@ -154,7 +156,7 @@ module _ (m : ArgMatches) (arguments : List Argument) (reads : RowsTell solve_sy
         at_cover = sym cover_same ∙ w
 
         abbrev distanced : Option Text → Result (Option ℕ) Refusal
-        distanced = optional (codes "within") 0 1125899906842624
+        distanced = optional (codes "within") 0 MOST_DISTANCE
 
         distance_same : distanced (value (codes "within")) ≡ distanced (setting_of (codes "within") arguments)
         distance_same = ap distanced (value_read solve_syntax arguments m reads (codes "within") refl)

@@ -1,6 +1,7 @@
 -- Which searches the words ask for, and which instances.
 use Rattle.std.specs.Prelude.{◌≡◌, ◌≤◌, ◌<◌, ◌^◌, ℕ, pos, Option, Some, None}
 use Rattle.dp_model.specs.Distances.{IsDistance}
+use Rattle.dp_model.specs.declared.limits.TheConstants.{MOST_WORKERS}
 use Rattle.problem_names.specs.declared.ModelName.{ModelName}
 use Rattle.problem_names.specs.declared.Sizes.{Sizes}
 use Rattle.problem_names.specs.ModelNames.{sizes_of}
@@ -10,7 +11,7 @@ use Rattle.solver_words.specs.declared.job.JobSettings.{JobSettings}
 -- a search has from 1 to 16 workers, and its distance from the best is from 0 to 2^50
 pub record MaySearch (settings : JobSettings) : Type 0 where
   pub some_workers : 1 ≤ settings.workers
-  pub few_workers : settings.workers ≤ 16
+  pub few_workers : settings.workers ≤ MOST_WORKERS
   pub distance : IsDistance settings.within
 
 -- a search that keeps a journal has the distance 0

@@ -6,11 +6,13 @@ use Rattle.tokens.specs.Text.{natural_of}
 use Rattle.problem_names.specs.declared.ModelName.{ModelName}
 use Rattle.dp_model.specs.declared.cut_kind.CutKind.{CutKind}
 use Rattle.dp_model.specs.declared.cut_kind.CutKind.TheVariants.{LastExactLayer, Frontier}
+use Rattle.dp_model.specs.declared.limits.TheConstants.{MOST_DISTANCE, MOST_WIDTH, MOST_WORKERS}
 use Rattle.problem_names.specs.ModelNames.{model_named, sizes_of}
 use Rattle.solver_words.specs.Grammar.{Syntax, Argument, Text, has_flag, line_of, setting_of, words_of}
 use Rattle.solver_words.specs.declared.job.Job.{Job}
 use Rattle.solver_words.specs.declared.job.Job.TheVariants.{Solve, Resume, Check, Digest, Generate}
 use Rattle.solver_words.specs.declared.job.JobSettings.{JobSettings}
+use Rattle.solver_words.specs.declared.limits.TheConstants.{DEFAULT_COVER_WORDS, MOST_COVER_WORDS}
 use Rattle.solver_words.specs.declared.words_error.WordsError.{WordsError}
 use Rattle.solver_words.specs.declared.words_error.WordsError.TheVariants.{Usage, Model, Number, Cutset, OutOfMemory}
 
@@ -134,8 +136,8 @@ settings_of value stats =
     }))
     (cut_of (value (codes "cutset"))))
     (optional (codes "budget") 0 greatest_budget (value (codes "budget"))))
-    (optional (codes "workers") 1 16 (value (codes "workers"))))
-    (optional (codes "width") 1 16777216 (value (codes "width")))
+    (optional (codes "workers") 1 MOST_WORKERS (value (codes "workers"))))
+    (optional (codes "width") 1 MOST_WIDTH (value (codes "width")))
 
 abbrev pub or_model : {X : Type 0} → Option X → Result X Refusal
 or_model (Some x) = Ok x
@@ -149,7 +151,7 @@ model_of (Some word) = or_model (model_named word)
 -- how many words a cover may have, where one is wanted
 abbrev pub cover_of : Bool → Option ℕ → Option ℕ
 cover_of false words = None
-cover_of true words = Some (or_default 67108864 words)
+cover_of true words = Some (or_default DEFAULT_COVER_WORDS words)
 
 -- the settings with a distance, which is 0 where none is given, and a cover of so many words
 abbrev pub extended : JobSettings → Option ℕ → Option ℕ → JobSettings
@@ -165,8 +167,8 @@ solve_of name value flag =
     and_then (λ settings.
     and_then (λ words.
     and_then (λ within. searched name (extended settings within (cover_of (flag (codes "cover")) words)) (value (codes "journal")))
-    (optional (codes "within") 0 1125899906842624 (value (codes "within"))))
-    (optional (codes "cover-words") 0 134217728 (value (codes "cover-words"))))
+    (optional (codes "within") 0 MOST_DISTANCE (value (codes "within"))))
+    (optional (codes "cover-words") 0 MOST_COVER_WORDS (value (codes "cover-words"))))
     (settings_of value (flag (codes "stats"))))
     (model_of name)
 

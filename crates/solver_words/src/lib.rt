@@ -14,10 +14,12 @@
 mod command;
 mod command_syntax;
 mod job;
+mod limits;
 mod reading;
 mod values;
 mod words_error;
 
 pub use job::{Job, JobSettings};
+pub use limits::{DEFAULT_COVER_WORDS, MOST_COVER_WORDS};
 pub use reading::read_words;
 pub use words_error::WordsError;

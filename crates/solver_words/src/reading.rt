@@ -2,6 +2,7 @@ ghost use Rattle.std.specs.Prelude.{◌≡◌, ◌<◌, ◌≤◌, ◌^◌, IfOk
 ghost use Rattle.std.specs.List.{list_any};
 ghost use Rattle.clap.specs.Matches.{found_of};
 ghost use Rattle.clap.specs.Walk.{rows_of};
+ghost use Rattle.dp_model.specs.declared.limits.TheConstants.{MOST_DISTANCE};
 ghost use Rattle.problem_names.specs.ModelNames.{sizes_of};
 ghost use Rattle.solver_words.specs.Grammar.{Argument, line_of};
 ghost use Rattle.solver_words.specs.Commands.{RowsTell};
@@ -11,9 +12,11 @@ ghost use Rattle.solver_words.specs.Possible.{IsPossible};
 use crate::command::parse;
 use crate::command_syntax::{CHECK, DIGEST, GENERATE, RESUME, SOLVE};
 use crate::job::{Job, JobSettings};
+use crate::limits::{DEFAULT_COVER_WORDS, MOST_COVER_WORDS};
 use crate::values::{is_given, read_model, read_optional, read_placed, read_settings};
 use crate::words_error::WordsError;
 use clap::ArgMatches;
+use dp_model::MOST_DISTANCE;
 use problem_names::{ModelName, Sizes};
 use std::alloc::{AllocError, Global};
 
@@ -87,8 +90,8 @@ fn solve_job(alloc: Global, matches: &ArgMatches) -> Result<Job, WordsError>
 {
     let model = read_model(matches)?;
     let settings = read_settings(matches, is_given(matches, "stats"))?;
-    let words = read_optional(matches, "cover-words", 0, 134_217_728)?;
-    let within = read_optional(matches, "within", 0, 1_125_899_906_842_624)?;
+    let words = read_optional(matches, "cover-words", 0, MOST_COVER_WORDS)?;
+    let within = read_optional(matches, "within", 0, MOST_DISTANCE)?;
     let journal = copied(alloc, matches.get_str("journal"))?;
     let cover = cover_words(is_given(matches, "cover"), words);
     searched(model, extended(settings, within, cover), journal)
@@ -96,7 +99,7 @@ fn solve_job(alloc: Global, matches: &ArgMatches) -> Result<Job, WordsError>
 
 /// The settings with that distance, where one is given, or else with 0, and with a cover of that many words.
 fn extended(settings: JobSettings, within: Option<u64>, cover_words: Option<u64>) -> JobSettings
-    requires { IfSome within (λ n. n ≤ 2 ^ 50) }
+    requires { IfSome within (λ n. n ≤ MOST_DISTANCE) }
     ensures { result ≡ extended settings within cover_words }
 {
     JobSettings {
@@ -139,7 +142,7 @@ fn cover_words(wanted: bool, words: Option<u64>) -> Option<u64>
     ensures { result ≡ cover_of wanted words }
 {
     if wanted {
-        Some(words.unwrap_or(67_108_864))
+        Some(words.unwrap_or(DEFAULT_COVER_WORDS))
     } else {
         None
     }

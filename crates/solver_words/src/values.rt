@@ -5,7 +5,7 @@ ghost use Rattle.solver_words.specs.Words.{IsAnswer, natural_in_64_bits, ranged,
 use crate::job::JobSettings;
 use crate::words_error::WordsError;
 use clap::ArgMatches;
-use dp_model::CutKind;
+use dp_model::{CutKind, MOST_WIDTH, MOST_WORKERS};
 use problem_names::ModelName;
 
 /// The number of 1 to 20 digits, where it is below 2^64.
@@ -89,8 +89,8 @@ fn read_cut(word: &str) -> Result<CutKind, WordsError>
 pub(crate) fn read_settings(matches: &ArgMatches, stats: bool) -> Result<JobSettings, WordsError>
     ensures { IsAnswer (λ s. s) (settings_of (first_value (found_of matches.now)) stats) result }
 {
-    let width = read_optional(matches, "width", 1, 16_777_216)?;
-    let workers = read_optional(matches, "workers", 1, 16)?;
+    let width = read_optional(matches, "width", 1, MOST_WIDTH as u64)?;
+    let workers = read_optional(matches, "workers", 1, MOST_WORKERS as u64)?;
     let budget = read_optional(matches, "budget", 0, u64::MAX)?;
     let cutset = match matches.get_str("cutset") {
         Some(word) => read_cut(word)?,
