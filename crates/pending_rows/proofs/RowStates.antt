@@ -85,7 +85,7 @@ apart_shown n s h = h.apart
 
 -- ---- rows that are made of states
 
-set-row_of : (n : ℕ) (test : ℕ → Bool) → ((v : ℕ) → n ≤ v → test v ≡ false) → IsSet n (row_of (words_for n) test)
+pub set-row_of : (n : ℕ) (test : ℕ → Bool) → ((v : ℕ) → n ≤ v → test v ≡ false) → IsSet n (row_of (words_for n) test)
 set-row_of n test h = record {
   words = length-row_of (words_for n) test;
   cells = AreWords-row_of (words_for n) test;
@@ -157,7 +157,7 @@ joined-time a b = omega arith
 pub word_small : (z : ℤ) → IsWord z → IsSmall z
 word_small z w = small_positive z w.low (omega (arith, ints, w.high))
 
-cell_small : (n : ℕ) (s : List ℤ) → IsPendingRow n s → (k : ℕ) → k < length s → IsSmall (get_or s k (pos 0))
+pub cell_small : (n : ℕ) (s : List ℤ) → IsPendingRow n s → (k : ℕ) → k < length s → IsSmall (get_or s k (pos 0))
 cell_small n s row k l =
     elim (cases_lt k (words_for n)) [
       | inl a ↦ subst IsSmall (get_or-take (words_for n) s k (pos 0) a) (word_small (get_or (must_of (words_for n) s) k (pos 0)) (row.must.cells k))
