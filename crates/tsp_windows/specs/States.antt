@@ -1,5 +1,5 @@
 -- The states of a tour on its way: where it may stand, and which nodes it must and may still visit, at a time.
-use Rattle.std.specs.Prelude.{ℕ, ◌+◌, ◌*◌, ℤ, max, Bool, cond, not, ◌&&◌, ◌||◌, nat_eq, nat_lt, nat_le, List, ◌++◌, take, drop, Option, is_some, unwrap_or}
+use Rattle.std.specs.Prelude.{ℕ, ◌+◌, ℤ, max, Bool, cond, not, ◌&&◌, ◌||◌, nat_eq, nat_lt, nat_le, List, ◌++◌, take, drop, Option, is_some, unwrap_or}
 use Rattle.node_sets.specs.Sums.{all_below, sum_below, count_below, least_amount}
 use Rattle.node_sets.specs.Sets.{has, is_set, row_of, words_for}
 use Rattle.pending_rows.specs.Pending as rows

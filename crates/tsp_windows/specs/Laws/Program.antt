@@ -1,11 +1,11 @@
 -- The dynamic program of an instance within the limits meets the laws.
-use Rattle.std.proofs.Common.{◌≡◌, ℕ, ◌+◌, ◌-◌, ◌*◌, ◌<◌, ◌≤◌, ℤ, pos, negsuc, ◌+ℤ◌, ◌-ℤ◌, ◌≤ℤ◌, neg_ℤ, nat_abs, Bool, true, false, cond, not, ◌&&◌, ◌||◌, nat_eq, nat_le, List, [], ◌∷◌, length, drop, get_or, Some, None, refl, sym, ap, ap₂, ◌∙◌, subst, arith, inl, inr, ◌⊎◌, eq-eqb}
+use Rattle.std.proofs.Common.{◌≡◌, ℕ, ◌+◌, ◌-◌, ◌*◌, ◌<◌, ◌≤◌, ℤ, pos, ◌+ℤ◌, ◌-ℤ◌, ◌≤ℤ◌, neg_ℤ, true, false, cond, not, ◌&&◌, ◌||◌, nat_eq, nat_le, List, [], ◌∷◌, length, get_or, Some, None, sym, ap, ap₂, ◌∙◌, subst, arith, inl, inr, ◌⊎◌}
 use Rattle.std.proofs.lemmas.Int.{ints}
-use Rattle.std.proofs.lemmas.Bool.{cases_lt, false≢true, eqb-true, and_parts, and_from, or_left, or_right, cases_Bool, leb-true, le-leb, lt-ltb, le-ltb}
+use Rattle.std.proofs.lemmas.Bool.{cases_lt, and_parts, and_from, or_left, or_right, cases_Bool, le-leb, lt-ltb, le-ltb}
 use Rattle.std.proofs.lemmas.List.{get_or-take, get_or-drop, length-drop}
-use Rattle.dp_model.specs.NumberLaws.{each_small, small_natural, small_negated, small_difference, small_positive, small_gap}
+use Rattle.dp_model.specs.NumberLaws.{each_small, small_natural, small_negated, small_difference, small_gap}
 use Rattle.node_sets.specs.Sums.{count_below}
-use Rattle.node_sets.specs.Sets.{IsWord, IsSet, is_set, row_of, words_for}
+use Rattle.node_sets.specs.Sets.{IsSet, is_set, row_of, words_for}
 use Rattle.node_sets.proofs.Below.{all_below-from, sum_below-le}
 use Rattle.node_sets.proofs.Counts.{is_set-gives, is_set-from}
 use Rattle.dp_model.specs.Dp.{IsAllowed}

@@ -1,12 +1,11 @@
 -- Tours as lists of decisions, from a state on: what they say of the states that cover it, and what they cost at least.
-use Rattle.std.proofs.Common.{◌≡◌, ◌≢◌, ℕ, ◌+◌, ◌<◌, ◌≤◌, ℤ, pos, ◌+ℤ◌, ◌-ℤ◌, Bool, true, false, not, ◌&&◌, ◌||◌, nat_eq, nat_le, List, [], ◌∷◌, length, refl, sym, ap, ◌∙◌, subst, arith, inl, inr, ◌⊎◌, ⊎_elim, eq-eqb}
+use Rattle.std.proofs.Common.{◌≡◌, ◌≢◌, ℕ, ◌+◌, ◌<◌, ◌≤◌, ℤ, pos, ◌+ℤ◌, ◌-ℤ◌, Bool, true, false, not, nat_eq, List, [], ◌∷◌, length, refl, sym, ap, ◌∙◌, subst, arith, inl, inr}
 use Rattle.std.specs.Prelude.{is_some, unwrap_or}
 use Rattle.std.proofs.lemmas.Int.{ints}
-use Rattle.std.proofs.lemmas.Bool.{cases_eq, cases_lt, false≢true, and_parts, and_from, or_left, or_right, cases_Bool, ne_eqb, leb-true, le-leb}
-use Rattle.std.proofs.Math.Bool.{and-or_distrib_right}
+use Rattle.std.proofs.lemmas.Bool.{cases_eq, cases_lt, false≢true, and_parts, and_from, or_left, or_right, ne_eqb}
 use Rattle.node_sets.specs.Sums.{sum_below, count_below}
 use Rattle.node_sets.specs.Sets.{words_for}
-use Rattle.node_sets.proofs.Below.{sum_below-same, sum_below-removed, sum_below-none}
+use Rattle.node_sets.proofs.Below.{sum_below-none}
 use Rattle.dp_model.specs.Prefixes.{IsPath, gain_of}
 use Rattle.pending_rows.specs.Pending as rows
 use Rattle.pending_rows.specs.Pending.{is_within, done}
