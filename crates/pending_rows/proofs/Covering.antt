@@ -1,9 +1,9 @@
 -- States that cover others.
-use Rattle.std.proofs.Common.{◌≡◌, ◌≢◌, ℕ, zero, suc, ◌+◌, ◌<◌, ◌≤◌, Bool, true, false, cond, not, ◌&&◌, ◌||◌, nat_eq, nat_lt, nat_le, min, refl, sym, ap, ap₂, ◌∙◌, arith, inl, inr, ◌⊎◌, eq-eqb}
+use Rattle.std.proofs.Common.{◌≡◌, ◌≢◌, ℕ, zero, suc, ◌+◌, ◌<◌, ◌≤◌, Bool, true, false, cond, not, ◌&&◌, ◌||◌, nat_eq, nat_lt, refl, sym, ap, ap₂, ◌∙◌, arith, inl, inr, ◌⊎◌, eq-eqb}
 use Rattle.std.proofs.lemmas.Bool.{cases_eq, false≢true, and_parts, and_from, or_left, or_right, or_cases, not-true, cases_Bool, ne_eqb, leb-true, le-leb, lt-ltb}
 use Rattle.std.proofs.Math.Bool.{and-or_distrib_right}
 use Rattle.node_sets.specs.Sums.{sum_below, count_below}
-use Rattle.node_sets.proofs.Below.{all_below-gives, all_below-from, sum_below-same, sum_below-removed, sum_below-none, count_below-none}
+use Rattle.node_sets.proofs.Below.{all_below-gives, all_below-from, sum_below-same, sum_below-removed}
 use Rattle.pending_rows.specs.Pending.{Pending, is_open, without, start, done, joined, is_within, covers}
 
 -- ---- sets within others

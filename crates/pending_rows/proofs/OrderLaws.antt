@@ -1,7 +1,7 @@
 -- Lists in which no number stands twice, and sets without a number.
-use Rattle.std.proofs.Common.{◌≡◌, ℕ, ◌<◌, Bool, true, false, not, ◌&&◌, ◌||◌, nat_eq, nat_lt, List, [], ◌∷◌, refl, sym, ap, ap₂, ◌∙◌, inl, inr, eq-eqb}
+use Rattle.std.proofs.Common.{◌≡◌, ℕ, ◌<◌, Bool, true, false, not, ◌||◌, nat_eq, nat_lt, List, [], ◌∷◌, refl, sym, ap, ap₂}
 use Rattle.std.specs.List.{list_any, list_all}
-use Rattle.std.proofs.lemmas.Bool.{cases_eq, false≢true, and_parts, and_from, not-true, lt-ltb}
+use Rattle.std.proofs.lemmas.Bool.{false≢true, and_parts, and_from, not-true, lt-ltb}
 use Rattle.pending_rows.specs.Pending.{without}
 use Rattle.pending_rows.specs.Orders.{are_different}
 

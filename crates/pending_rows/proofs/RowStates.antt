@@ -1,6 +1,6 @@
 -- Which rows are states, and what they keep.
-use Rattle.std.proofs.Common.{◌≡◌, ℕ, ◌+◌, ◌-◌, ◌*◌, ◌<◌, ◌≤◌, ℤ, pos, negsuc, nat_abs, Bool, true, false, not, ◌&&◌, ◌||◌, nat_eq, nat_le, nat_lt, List, [], ◌∷◌, length, drop, get_or, refl, sym, ap, ap₂, ◌∙◌, subst, arith, inl, inr, eq-eqb}
-use Rattle.std.specs.Prelude.{int_le, min}
+use Rattle.std.proofs.Common.{◌≡◌, ℕ, ◌+◌, ◌-◌, ◌*◌, ◌<◌, ◌≤◌, ℤ, pos, negsuc, nat_abs, Bool, true, false, not, ◌&&◌, ◌||◌, nat_eq, List, length, drop, get_or, refl, sym, ap, ap₂, ◌∙◌, subst, arith, inl, inr, eq-eqb}
+use Rattle.std.specs.Prelude.{int_le}
 use Rattle.std.proofs.lemmas.Int.{ints}
 use Rattle.std.proofs.lemmas.Bool.{cases_lt, false≢true, eqb-true, and_parts, and_from, not-true, leb-true, le-leb, le-ltb}
 use Rattle.std.proofs.lemmas.List.{get_or-take, get_or-drop}
@@ -9,9 +9,8 @@ use Rattle.dp_model.specs.Numbers.{IsSmall}
 use Rattle.dp_model.specs.NumberLaws.{each_small, small_natural, small_positive}
 use Rattle.node_sets.specs.Sets.{IsWord, IsSet, has, is_set, row_of, words_for}
 use Rattle.node_sets.proofs.Below.{all_below-gives, all_below-from}
-use Rattle.node_sets.proofs.Words.{has-past}
 use Rattle.node_sets.proofs.Counts.{is_set-gives, is_set-from}
-use Rattle.node_sets.proofs.Made.{length-row_of, AreWords-row_of, has-row_of}
+use Rattle.node_sets.proofs.Made.{length-row_of, AreWords-row_of}
 use Rattle.pending_rows.specs.Pending.{Pending, IsPendingRow, must_of, may_of, time_of, shown, row_for, is_open, without, start, done, joined, is_apart, is_pending_row, latest}
 use Rattle.pending_rows.proofs.RowParts.{IsWithin, must_of-row_for, may_of-row_for, time_of-row_for, length-row_for, shown-row_for, has-row_of-all, words_enough}
 
@@ -85,7 +84,7 @@ apart_shown n s h = h.apart
 
 -- ---- rows that are made of states
 
-set-row_of : (n : ℕ) (test : ℕ → Bool) → ((v : ℕ) → n ≤ v → test v ≡ false) → IsSet n (row_of (words_for n) test)
+pub set-row_of : (n : ℕ) (test : ℕ → Bool) → ((v : ℕ) → n ≤ v → test v ≡ false) → IsSet n (row_of (words_for n) test)
 set-row_of n test h = record {
   words = length-row_of (words_for n) test;
   cells = AreWords-row_of (words_for n) test;
@@ -157,7 +156,7 @@ joined-time a b = omega arith
 pub word_small : (z : ℤ) → IsWord z → IsSmall z
 word_small z w = small_positive z w.low (omega (arith, ints, w.high))
 
-cell_small : (n : ℕ) (s : List ℤ) → IsPendingRow n s → (k : ℕ) → k < length s → IsSmall (get_or s k (pos 0))
+pub cell_small : (n : ℕ) (s : List ℤ) → IsPendingRow n s → (k : ℕ) → k < length s → IsSmall (get_or s k (pos 0))
 cell_small n s row k l =
     elim (cases_lt k (words_for n)) [
       | inl a ↦ subst IsSmall (get_or-take (words_for n) s k (pos 0) a) (word_small (get_or (must_of (words_for n) s) k (pos 0)) (row.must.cells k))

@@ -1,8 +1,8 @@
 -- Rows that are put together from their parts.
-use Rattle.std.proofs.Common.{◌≡◌, ℕ, ◌+◌, ◌-◌, ◌*◌, ◌<◌, ◌≤◌, ℤ, pos, nat_abs, Bool, List, [], ◌∷◌, ◌++◌, length, take, drop, set, refl, ap, ap₂, ◌∙◌, arith, w64, to_z, of_z, FitsSigned}
+use Rattle.std.proofs.Common.{◌≡◌, ℕ, ◌-◌, ◌*◌, ◌<◌, ◌≤◌, ℤ, pos, nat_abs, Bool, List, [], ◌∷◌, ◌++◌, length, take, drop, set, refl, ap, ap₂, ◌∙◌, arith, w64, to_z, of_z, FitsSigned}
 use Rattle.std.proofs.lemmas.Int.{to_z_pos, to_z-of_z}
 use Rattle.node_sets.specs.Sets.{row_of}
-use Rattle.pending_rows.specs.Pending.{Pending, row_for, must_of, may_of, latest}
+use Rattle.pending_rows.specs.Pending.{Pending, row_for, may_of, latest}
 
 pub cell : (rest : List ℤ) (z : ℤ) → length rest ≡ 1 → set rest 0 z ≡ z ∷ []
 cell [] z l = absurd (omega arith)

@@ -32,11 +32,9 @@ pub fn write_done(out: &mut [i64], n: usize, s: &[i64], number: usize, time: u64
     ensures { out.new ≡ row_for (sets.words_for n) (done (shown (sets.words_for n) s.now) number time) }
 {
     let words = words_for(n);
-    let state = parts_of(n, s);
+    out.copy_from_slice(s);
     let (must, rest) = out.split_at_mut(words);
     let (may, last) = rest.split_at_mut(words);
-    must.copy_from_slice(state.must);
-    may.copy_from_slice(state.may);
     remove(must, number);
     remove(may, number);
     last[0] = time as i64;

@@ -1,21 +1,14 @@
 -- The least ways to the nodes that must be visited, as the code adds them up.
-use Rattle.std.proofs.Common.{◌≡◌, ℕ, zero, suc, ◌+◌, ◌-◌, ◌*◌, ◌<◌, ◌≤◌, ℤ, Bool, true, false, cond, not, ◌&&◌, ◌||◌, nat_lt, nat_le, List, length, get_or, refl, sym, ap, ap₂, ◌∙◌, arith, inl, inr}
+use Rattle.std.proofs.Common.{◌≡◌, ℕ, zero, suc, ◌+◌, ◌-◌, ◌<◌, ◌≤◌, ℤ, Bool, true, false, cond, not, ◌&&◌, ◌||◌, nat_lt, nat_le, List, length, get_or, refl, sym, ap, ap₂, ◌∙◌, arith, inl, inr}
 use Rattle.std.proofs.lemmas.Bool.{cases_lt, or_left, or_right, lt-ltb, le-ltb, le-leb, lt-leb}
 use Rattle.node_sets.specs.Sums.{all_below, sum_below, count_below}
-use Rattle.node_sets.specs.Sets.{IsSet, has}
-use Rattle.node_sets.proofs.Below.{sum_below-skip, sum_below-same, count_below-le}
+use Rattle.node_sets.specs.Sets.{has}
 use Rattle.tsp_windows.specs.Instance.{Instance, IsTourInstance, closing, near}
-use Rattle.tsp_windows.specs.States.{TourState, must_of, shown, is_lost, way_left}
+use Rattle.pending_rows.specs.Pending as rows
+use Rattle.tsp_windows.specs.States.{TourState, pending_of, shown, is_lost, way_left}
 use Rattle.tsp_windows.specs.Laws.Program.{way-most}
 use Rattle.tsp_windows.proofs.StateLemmas.{must-shown}
 use Rattle.tsp_windows.proofs.WayLemmas.{in_time}
-
-pub count_shown : (n w : ℕ) (s m : List ℤ) → m ≡ must_of w s → IsSet n m → count_below (32 * length m) (has m) ≡ count_below n (shown w s).must
-count_shown n w s m e set =
-    sum_below-skip n (32 * length m) (has m) (λ _. 1) (omega (arith, set.words)) (λ v a b. set.within v a) ∙ sum_below-same n (has m) (shown w s).must (λ _. 1) (λ v l. must-shown w s m v e)
-
-pub count_few : (n : ℕ) (m : List ℤ) → n ≤ 300 → IsSet n m → count_below (32 * length m) (has m) ≤ 331
-count_few n m few set = let most = count_below-le (32 * length m) (has m) in omega (arith, most, set.words)
 
 sum_below-both : (n : ℕ) (p q : ℕ → Bool) (f g : ℕ → ℕ) → ((v : ℕ) → v < n → p v ≡ q v) → ((v : ℕ) → v < n → f v ≡ g v) → sum_below n p f ≡ sum_below n q g
 sum_below-both zero p q f g h k = refl
@@ -27,11 +20,11 @@ all_below-same zero p q h = refl
 all_below-same (suc n) p q h = ap₂ ◌&&◌ (h n (omega arith)) (all_below-same n p q (λ v l. h v (omega arith)))
 
 -- what the code asks of the nodes that must be visited is what the state is asked
-pub times_shown : (i : Instance) (w : ℕ) (s m : List ℤ) (n time : ℕ) (too_late : List ℕ) → n ≡ i.nodes → ((v : ℕ) → v < i.nodes → get_or too_late v 0 ≡ (closing i v + 1) - near i v) → m ≡ must_of w s → time ≡ (shown w s).time → all_below n (in_time too_late m time) ≡ all_below i.nodes (λ v. nat_le ((shown w s).time + near i v) (closing i v) || not ((shown w s).must v))
+pub times_shown : (i : Instance) (w : ℕ) (s m : List ℤ) (n time : ℕ) (too_late : List ℕ) → n ≡ i.nodes → ((v : ℕ) → v < i.nodes → get_or too_late v 0 ≡ (closing i v + 1) - near i v) → m ≡ rows.must_of w (pending_of w s) → time ≡ (shown w s).pending.time → all_below n (in_time too_late m time) ≡ all_below i.nodes (λ v. nat_le ((shown w s).pending.time + near i v) (closing i v) || not ((shown w s).pending.must v))
 times_shown i w s m n time too_late l each e t =
     ap (λ n. all_below n (in_time too_late m time)) l
-    ∙ all_below-same i.nodes (in_time too_late m time) (λ v. nat_le ((shown w s).time + near i v) (closing i v) || not ((shown w s).must v))
-    (λ v a. ap₂ (λ x y. x || not y) (ap₂ nat_lt t (each v a) ∙ in_time_still (shown w s).time (near i v) (closing i v)) (must-shown w s m v e))
+    ∙ all_below-same i.nodes (in_time too_late m time) (λ v. nat_le ((shown w s).pending.time + near i v) (closing i v) || not ((shown w s).pending.must v))
+    (λ v a. ap₂ (λ x y. x || not y) (ap₂ nat_lt t (each v a) ∙ in_time_still (shown w s).pending.time (near i v) (closing i v)) (must-shown w s m v e))
   where
     in_time_still : (time way close : ℕ) → nat_lt time ((close + 1) - way) ≡ nat_le (time + way) close
     in_time_still time way close =
@@ -40,21 +33,21 @@ times_shown i w s m n time too_late l each e t =
           | inr a ↦ le-ltb time ((close + 1) - way) a ∙ sym (lt-leb (time + way) close (omega arith))
         ]
 
-pub ways_shown : (i : Instance) (w : ℕ) (s m : List ℤ) (nearest : List ℕ) → length nearest ≡ i.nodes → ((v : ℕ) → v < i.nodes → get_or nearest v 0 ≡ near i v) → m ≡ must_of w s → sum_below (length nearest) (has m) (λ v. get_or nearest v 0) ≡ sum_below i.nodes (shown w s).must (near i)
+pub ways_shown : (i : Instance) (w : ℕ) (s m : List ℤ) (nearest : List ℕ) → length nearest ≡ i.nodes → ((v : ℕ) → v < i.nodes → get_or nearest v 0 ≡ near i v) → m ≡ rows.must_of w (pending_of w s) → sum_below (length nearest) (has m) (λ v. get_or nearest v 0) ≡ sum_below i.nodes (shown w s).pending.must (near i)
 ways_shown i w s m nearest l each e =
-    ap (λ n. sum_below n (has m) (λ v. get_or nearest v 0)) l ∙ sum_below-both i.nodes (has m) (shown w s).must (λ v. get_or nearest v 0) (near i) (λ v a. must-shown w s m v e) each
+    ap (λ n. sum_below n (has m) (λ v. get_or nearest v 0)) l ∙ sum_below-both i.nodes (has m) (shown w s).pending.must (λ v. get_or nearest v 0) (near i) (λ v a. must-shown w s m v e) each
 
-pub lost_many : (i : Instance) (k : ℕ) (t : TourState) (count : ℕ) → count ≡ count_below i.nodes t.must → i.nodes < count + k + 1 → is_lost i k t ≡ true
-lost_many i k t count e l = or_left (nat_lt i.nodes (count_below i.nodes t.must + k + 1)) _ (lt-ltb i.nodes (count_below i.nodes t.must + k + 1) (omega (arith, e)))
+pub lost_many : (i : Instance) (k : ℕ) (t : TourState) (count : ℕ) → count ≡ count_below i.nodes t.pending.must → i.nodes < count + k + 1 → is_lost i k t ≡ true
+lost_many i k t count e l = or_left (nat_lt i.nodes (count_below i.nodes t.pending.must + k + 1)) _ (lt-ltb i.nodes (count_below i.nodes t.pending.must + k + 1) (omega (arith, e)))
 
-pub lost_late : (i : Instance) (k : ℕ) (t : TourState) → all_below i.nodes (λ v. nat_le (t.time + near i v) (closing i v) || not (t.must v)) ≡ false → is_lost i k t ≡ true
+pub lost_late : (i : Instance) (k : ℕ) (t : TourState) → all_below i.nodes (λ v. nat_le (t.pending.time + near i v) (closing i v) || not (t.pending.must v)) ≡ false → is_lost i k t ≡ true
 lost_late i k t e =
-    or_right (nat_lt i.nodes (count_below i.nodes t.must + k + 1)) _ (or_left (not (all_below i.nodes (λ v. nat_le (t.time + near i v) (closing i v) || not (t.must v)))) _ (ap not e))
+    or_right (nat_lt i.nodes (count_below i.nodes t.pending.must + k + 1)) _ (or_left (not (all_below i.nodes (λ v. nat_le (t.pending.time + near i v) (closing i v) || not (t.pending.must v)))) _ (ap not e))
 
-pub not_lost : (i : Instance) (k : ℕ) (t : TourState) (count home : ℕ) → count ≡ count_below i.nodes t.must → count + k + 1 ≤ i.nodes → all_below i.nodes (λ v. nat_le (t.time + near i v) (closing i v) || not (t.must v)) ≡ true → home ≡ near i 0 → t.time + home ≤ closing i 0 → is_lost i k t ≡ false
+pub not_lost : (i : Instance) (k : ℕ) (t : TourState) (count home : ℕ) → count ≡ count_below i.nodes t.pending.must → count + k + 1 ≤ i.nodes → all_below i.nodes (λ v. nat_le (t.pending.time + near i v) (closing i v) || not (t.pending.must v)) ≡ true → home ≡ near i 0 → t.pending.time + home ≤ closing i 0 → is_lost i k t ≡ false
 not_lost i k t count home e few times h late =
-    ap₂ ◌||◌ (le-ltb i.nodes (count_below i.nodes t.must + k + 1) (omega (arith, e)))
-    (ap₂ ◌||◌ (ap not times) (le-ltb (closing i 0) (t.time + near i 0) (omega (arith, h))))
+    ap₂ ◌||◌ (le-ltb i.nodes (count_below i.nodes t.pending.must + k + 1) (omega (arith, e)))
+    (ap₂ ◌||◌ (ap not times) (le-ltb (closing i 0) (t.pending.time + near i 0) (omega (arith, h))))
 
 -- what is left to go from a state that is not lost
 pub record IsLeft (i : Instance) (k : ℕ) (t : TourState) (way : ℕ) : Type 0 where
@@ -62,8 +55,8 @@ pub record IsLeft (i : Instance) (k : ℕ) (t : TourState) (way : ℕ) : Type 0 
   pub left : way ≡ way_left i t
   pub small : way ≤ 301000000000
 
-pub left_is : (i : Instance) (k w : ℕ) (s m : List ℤ) (nearest too_late : List ℕ) (time count ways home close : ℕ) → IsTourInstance i → length nearest ≡ i.nodes → ((v : ℕ) → v < i.nodes → get_or nearest v 0 ≡ near i v) → ((v : ℕ) → v < i.nodes → get_or too_late v 0 ≡ (closing i v + 1) - near i v) → m ≡ must_of w s → time ≡ (shown w s).time
-    → count ≡ count_below i.nodes (shown w s).must → count + k + 1 ≤ i.nodes → home ≡ get_or nearest 0 0 → close ≡ closing i 0 → time + home ≤ close
+pub left_is : (i : Instance) (k w : ℕ) (s m : List ℤ) (nearest too_late : List ℕ) (time count ways home close : ℕ) → IsTourInstance i → length nearest ≡ i.nodes → ((v : ℕ) → v < i.nodes → get_or nearest v 0 ≡ near i v) → ((v : ℕ) → v < i.nodes → get_or too_late v 0 ≡ (closing i v + 1) - near i v) → m ≡ rows.must_of w (pending_of w s) → time ≡ (shown w s).pending.time
+    → count ≡ count_below i.nodes (shown w s).pending.must → count + k + 1 ≤ i.nodes → home ≡ get_or nearest 0 0 → close ≡ closing i 0 → time + home ≤ close
     → all_below (length nearest) (in_time too_late m time) ≡ true → ways ≡ sum_below (length nearest) (has m) (λ v. get_or nearest v 0) → IsLeft i k (shown w s) (ways + home)
 left_is i k w s m nearest too_late time count ways home close small l each moments e t c few h shut late all sum =
     let at_home : home ≡ near i 0 = h ∙ each 0 (omega (arith, small.some)) in

@@ -6,7 +6,7 @@ pub mod OwnWords
 pub mod Shown
 pub mod Texts
 pub mod Generating
-pub mod Apart
+pub mod FromHome
 -- what an `impl` cites and no clause
 pub mod Laws
 -- the problem of the program

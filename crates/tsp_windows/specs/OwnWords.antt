@@ -1,5 +1,5 @@
 -- Tours in the problem's own words: an order of the nodes that is kept within the windows, and when it returns.
-use Rattle.std.specs.Prelude.{ℕ, ◌+◌, max, ℤ, pos, neg_ℤ, Bool, true, false, cond, ◌&&◌, nat_eq, nat_lt, nat_le, List, [], ◌∷◌, length, Option, Some, None}
+use Rattle.std.specs.Prelude.{ℕ, ◌+◌, max, ℤ, pos, neg_ℤ, Bool, false, cond, ◌&&◌, nat_eq, nat_lt, nat_le, List, [], ◌∷◌, length, Option, Some, None}
 use Rattle.std.specs.List.{list_all}
 use Rattle.pending_rows.specs.Orders.{are_different}
 use Rattle.tsp_windows.specs.Instance.{Instance, distance, opening, closing}

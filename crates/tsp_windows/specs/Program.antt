@@ -11,7 +11,7 @@ abbrev pub rough_of : Instance → ℕ → TourState → Option ℤ
 rough_of i k t = cond (nat_lt k i.nodes) (cond (is_lost i k t) None (Some (neg_ℤ (pos (way_left i t))))) (Some (pos 0))
 
 abbrev pub gap_of : ℕ → TourState → TourState → Option ℤ
-gap_of n a b = cond (covers n a b) (Some (pos b.time -ℤ pos a.time)) None
+gap_of n a b = cond (covers n a b) (Some (pos b.pending.time -ℤ pos a.pending.time)) None
 
 -- the dynamic program of an instance
 abbrev pub program_of : Instance → Dp
@@ -24,11 +24,11 @@ program_of i = record {
   is_state = λ k s. is_state_row i.nodes s;
   allowed = λ k s d. may_go i k (shown (words_for i.nodes) s) d;
   step = λ k s d. row_for (words_for i.nodes) (moved i (shown (words_for i.nodes) s) d);
-  gain = λ k s d. pos (shown (words_for i.nodes) s).time -ℤ pos (departure i (shown (words_for i.nodes) s) d);
+  gain = λ k s d. pos (shown (words_for i.nodes) s).pending.time -ℤ pos (departure i (shown (words_for i.nodes) s) d);
   merged = λ k a s. row_for (words_for i.nodes) (joined (shown (words_for i.nodes) a) (shown (words_for i.nodes) s));
   gap = λ k a s. gap_of i.nodes (shown (words_for i.nodes) a) (shown (words_for i.nodes) s);
   rough = λ k s. rough_of i k (shown (words_for i.nodes) s);
-  rank = λ k s. pos (count_below i.nodes (shown (words_for i.nodes) s).must);
+  rank = λ k s. pos (count_below i.nodes (shown (words_for i.nodes) s).pending.must);
   bucket = λ k s. unwrap_or (least_amount i.nodes (shown (words_for i.nodes) s).positions (λ p. p)) 0;
 }
 

@@ -5,7 +5,8 @@
 //! triangle inequality is asked of the distances. `read` and `print` turn texts into problems and back, `value_of` says
 //! what a list of visits is worth in the problem's own words, and `TspWindows` is a `DpModel`.
 //!
-//! The crate stands on `dp_model`, on `tokens` for texts, and on `node_sets` for the sets of nodes in a state.
+//! The crate stands on `dp_model`, on `tokens` for texts, on `pending_rows` for what a tour must and may still visit, and on
+//! `node_sets` for the nodes where it may stand.
 //!
 //! Promised: the program meets the laws of `dp_model`, a list is worth something exactly where it is a feasible solution
 //! of the program, with the same value, and a printed problem is read as it was.

@@ -2,20 +2,22 @@ ghost use Rattle.std.specs.Prelude.{◌≡◌, ℕ, ◌+◌, ◌*◌, ◌^◌, �
 ghost use Rattle.node_sets.specs.Sets as sets;
 ghost use Rattle.node_sets.specs.Sets.{AreWords};
 ghost use Rattle.node_sets.specs.Sums.{count_below};
+ghost use Rattle.pending_rows.specs.Pending.{is_open};
 ghost use Rattle.tsp_windows.specs.Instance.{closing};
 ghost use Rattle.tsp_windows.specs.States as states;
 ghost use Rattle.tsp_windows.specs.States.{shown, row_for, is_state_row};
-ghost use Rattle.tsp_windows.specs.Apart.{IsApart};
+ghost use Rattle.tsp_windows.specs.FromHome.{IsFromHome};
 ghost use Rattle.tsp_windows.specs.Shown.{instance_in};
 
 use crate::instance::TspWindows;
-use crate::parts::{few_words, parts_of, sets_of};
+use crate::parts::{few, pending_of, positions_of, time_of};
 use crate::ways::{least_leg, ways_within};
 use dp_model::{DpModel, Extended};
 use node_sets::{
-    clear, contains, count, is_disjoint, is_empty, is_set, is_subset, is_union_subset, join, least,
-    next_of_either, union_with, words_for, write_one, write_others, write_split,
+    clear, contains, is_empty, is_set, is_subset, least, union_with, words_for, write_one,
+    write_others, write_split,
 };
+use pending_rows::{is_row, left, left_behind, next_open, parts_of};
 
 /// When the node of an allowed decision is reached, and how many nodes must be visited behind it.
 #[derive(Clone, Copy)]
@@ -31,32 +33,25 @@ fn covers(nodes: usize, a: &[i64], s: &[i64]) -> bool
     requires state { IsTrue (is_state_row nodes s.now) }
     ensures { result ≡ states.covers nodes (shown (sets.words_for nodes) a.now) (shown (sets.words_for nodes) s.now) }
 {
-    let wide = parts_of(nodes, a);
-    let part = parts_of(nodes, s);
-    if wide.time > part.time {
+    let pending = pending_rows::covers(nodes, pending_of(nodes, a), pending_of(nodes, s));
+    if !pending {
         return false;
     }
-    let positions_within = is_subset(part.positions, wide.positions);
-    if !positions_within {
-        return false;
-    }
-    let must_within = is_subset(wide.must, part.must);
-    if !must_within {
-        return false;
-    }
-    is_union_subset(part.must, part.may, wide.must, wide.may)
+    let wide = positions_of(nodes, a);
+    let part = positions_of(nodes, s);
+    is_subset(part, wide)
 }
 
-/// Whether there is a position, no node must and may be visited both, and node 0 need not and may not be.
+/// Whether there is a position, and node 0 is in neither of the other two sets.
 fn is_sound(positions: &[i64], must: &[i64], may: &[i64]) -> bool
     requires positions_cells { AreWords positions.now }
     requires must_cells { AreWords must.now }
     requires may_cells { AreWords may.now }
-    requires same { length must.now ≡ length may.now }
-    requires some { 1 ≤ length must.now }
-    ensures { IsTrue result ↔ IsApart positions.now must.now may.now }
+    requires must_some { 1 ≤ length must.now }
+    requires may_some { 1 ≤ length may.now }
+    ensures { IsTrue result ↔ IsFromHome positions.now must.now may.now }
 {
-    !is_empty(positions) && is_disjoint(must, may) && !contains(must, 0) && !contains(may, 0)
+    !is_empty(positions) && !contains(must, 0) && !contains(may, 0)
 }
 
 /// Whether a row of the right length is a state.
@@ -67,24 +62,18 @@ fn is_state_of(nodes: usize, s: &[i64]) -> bool
     ensures { result ≡ is_state_row nodes s.now }
 {
     let words = words_for(nodes);
-    let (positions, must, may) = sets_of(words, s);
-    let time = s[3 * words];
-    if !is_set(positions, nodes) {
+    let positions = &s[..words];
+    let set = is_set(positions, nodes);
+    if !set {
         return false;
     }
-    let must_set = is_set(must, nodes);
-    if !must_set {
+    let rest = &s[words..];
+    let row = is_row(nodes, rest);
+    if !row {
         return false;
     }
-    let may_set = is_set(may, nodes);
-    if !may_set {
-        return false;
-    }
-    let sound = is_sound(positions, must, may);
-    if !sound {
-        return false;
-    }
-    time >= 0 && time <= 1_000_000_000_000
+    let state = parts_of(nodes, rest);
+    is_sound(positions, state.must, state.may)
 }
 
 /// The number that a rank stands for.
@@ -102,12 +91,7 @@ impl TspWindows {
         requires inside { to < self.now.nodes }
         ensures { result ≡ states.leg (instance_in self.now) (shown (sets.words_for self.now.nodes) s.now) to }
     {
-        least_leg(
-            self.nodes,
-            &self.distances,
-            parts_of(self.nodes, s).positions,
-            to,
-        )
+        least_leg(self.nodes, &self.distances, positions_of(self.nodes, s), to)
     }
 
     /// When a node is reached at the earliest.
@@ -118,7 +102,7 @@ impl TspWindows {
         ensures small { result < 2 ^ 62 }
     {
         let way = self.leg(s, to).unwrap_or(0);
-        parts_of(self.nodes, s).time + u64::from(way)
+        time_of(self.nodes, s) + u64::from(way)
     }
 
     /// When a node is left at the earliest.
@@ -149,28 +133,21 @@ impl TspWindows {
     #[inline(always)]
     fn visited(&self, s: &[i64], rank: i64, to: usize) -> Option<Reached>
         requires state { IsTrue (is_state_row self.now.nodes s.now) }
-        requires rank { rank ≡ pos (count_below self.now.nodes (shown (sets.words_for self.now.nodes) s.now).must) }
+        requires rank { rank ≡ pos (count_below self.now.nodes (shown (sets.words_for self.now.nodes) s.now).pending.must) }
         requires inside { to < self.now.nodes }
         ensures allowed { is_some result ≡ states.may_visit (instance_in self.now) (shown (sets.words_for self.now.nodes) s.now) to }
         ensures arrival { IfSome result (λ r. r.arrival ≡ states.arrival (instance_in self.now) (shown (sets.words_for self.now.nodes) s.now) to) }
         ensures small { IfSome result (λ r. r.arrival < 2 ^ 62) }
-        ensures left { IfSome result (λ r. r.left ≡ pos (count_below self.now.nodes (states.moved (instance_in self.now) (shown (sets.words_for self.now.nodes) s.now) to).must)) }
+        ensures left { IfSome result (λ r. r.left ≡ pos (count_below self.now.nodes (states.moved (instance_in self.now) (shown (sets.words_for self.now.nodes) s.now) to).pending.must)) }
     {
-        let state = parts_of(self.nodes, s);
-        if state.time >= self.too_late[to] {
+        let time = time_of(self.nodes, s);
+        if time >= self.too_late[to] {
             return None;
         }
-        let wanted = contains(state.must, to);
-        let listed = wanted || contains(state.may, to);
-        if !listed {
-            return None;
-        }
+        let left = left_behind(self.nodes, pending_of(self.nodes, s), rank, to)?;
         let way = self.leg(s, to)?;
-        let arrival = self.in_time(to, state.time + u64::from(way))?;
-        Some(Reached {
-            arrival,
-            left: rank - i64::from(wanted),
-        })
+        let arrival = self.in_time(to, time + u64::from(way))?;
+        Some(Reached { arrival, left })
     }
 
     /// When node 0 is reached again, or none where it is another node, a node is left to be visited or it is not reached in
@@ -178,7 +155,7 @@ impl TspWindows {
     #[inline(always)]
     fn returned(&self, s: &[i64], rank: i64, to: usize) -> Option<u64>
         requires state { IsTrue (is_state_row self.now.nodes s.now) }
-        requires rank { rank ≡ pos (count_below self.now.nodes (shown (sets.words_for self.now.nodes) s.now).must) }
+        requires rank { rank ≡ pos (count_below self.now.nodes (shown (sets.words_for self.now.nodes) s.now).pending.must) }
         requires inside { to < self.now.nodes }
         ensures allowed { is_some result ≡ states.may_return (instance_in self.now) (shown (sets.words_for self.now.nodes) s.now) to }
         ensures arrival { IfSome result (λ at. at ≡ states.arrival (instance_in self.now) (shown (sets.words_for self.now.nodes) s.now) to) }
@@ -190,7 +167,7 @@ impl TspWindows {
         if rank != 0 {
             return None;
         }
-        let time = parts_of(self.nodes, s).time;
+        let time = time_of(self.nodes, s);
         match self.leg(s, to) {
             Some(way) => self.in_time(to, time + u64::from(way)),
             None => {
@@ -209,12 +186,12 @@ impl TspWindows {
     fn reached(&self, k: usize, s: &[i64], rank: i64, to: usize) -> Option<Reached>
         requires layer { k < self.now.nodes }
         requires state { IsTrue (is_state_row self.now.nodes s.now) }
-        requires rank { rank ≡ pos (count_below self.now.nodes (shown (sets.words_for self.now.nodes) s.now).must) }
+        requires rank { rank ≡ pos (count_below self.now.nodes (shown (sets.words_for self.now.nodes) s.now).pending.must) }
         requires inside { to < self.now.nodes }
         ensures allowed { is_some result ≡ states.may_go (instance_in self.now) k (shown (sets.words_for self.now.nodes) s.now) to }
         ensures arrival { IfSome result (λ r. r.arrival ≡ states.arrival (instance_in self.now) (shown (sets.words_for self.now.nodes) s.now) to) }
         ensures small { IfSome result (λ r. r.arrival < 2 ^ 62) }
-        ensures left { IfSome result (λ r. r.left ≡ pos (count_below self.now.nodes (states.moved (instance_in self.now) (shown (sets.words_for self.now.nodes) s.now) to).must)) }
+        ensures left { IfSome result (λ r. r.left ≡ pos (count_below self.now.nodes (states.moved (instance_in self.now) (shown (sets.words_for self.now.nodes) s.now) to).pending.must)) }
     {
         if k + 1 < self.nodes {
             return self.visited(s, rank, to);
@@ -230,13 +207,9 @@ impl TspWindows {
         requires from { from ≤ self.now.nodes }
         ensures on { from ≤ result }
         ensures within { result ≤ self.now.nodes }
-        ensures skipped { (v : ℕ) → from ≤ v → v < result → states.is_open (shown (sets.words_for self.now.nodes) s.now) v ≡ false }
+        ensures skipped { (v : ℕ) → from ≤ v → v < result → is_open (shown (sets.words_for self.now.nodes) s.now).pending v ≡ false }
     {
-        let state = parts_of(self.nodes, s);
-        match next_of_either(state.must, state.may, from) {
-            Some(node) => node,
-            None => self.nodes,
-        }
+        next_open(self.nodes, pending_of(self.nodes, s), from)
     }
 
     /// The first node from one on to which a decision may lead, as far as the layer and the sets tell: no decision before it is
@@ -259,9 +232,9 @@ impl TspWindows {
     /// How many nodes must be visited.
     fn left(&self, s: &[i64]) -> i64
         requires { IsTrue (is_state_row self.now.nodes s.now) }
-        ensures { result ≡ pos (count_below self.now.nodes (shown (sets.words_for self.now.nodes) s.now).must) }
+        ensures { result ≡ pos (count_below self.now.nodes (shown (sets.words_for self.now.nodes) s.now).pending.must) }
     {
-        count(parts_of(self.nodes, s).must) as i64
+        left(self.nodes, pending_of(self.nodes, s))
     }
 
     /// The sum of the least ways to the nodes that must be visited and home, or none where the state is lost. So many nodes as
@@ -269,13 +242,13 @@ impl TspWindows {
     fn way_left(&self, k: usize, s: &[i64], rank: i64) -> Option<u64>
         requires layer { k < self.now.nodes }
         requires state { IsTrue (is_state_row self.now.nodes s.now) }
-        requires rank { rank ≡ pos (count_below self.now.nodes (shown (sets.words_for self.now.nodes) s.now).must) }
+        requires rank { rank ≡ pos (count_below self.now.nodes (shown (sets.words_for self.now.nodes) s.now).pending.must) }
         ensures lost { IsNone result → states.is_lost (instance_in self.now) k (shown (sets.words_for self.now.nodes) s.now) ≡ true }
         ensures left { IfSome result (λ way. (states.is_lost (instance_in self.now) k (shown (sets.words_for self.now.nodes) s.now) ≡ false)
             × (way ≡ states.way_left (instance_in self.now) (shown (sets.words_for self.now.nodes) s.now))) }
         ensures small { IfSome result (λ way. way < 2 ^ 62) }
     {
-        let state = parts_of(self.nodes, s);
+        let state = parts_of(self.nodes, pending_of(self.nodes, s));
         let wanted = counted(rank);
         if wanted + k + 1 > self.nodes {
             return None;
@@ -316,7 +289,7 @@ fn write_moved(out: &mut [i64], model: &TspWindows, s: &[i64], to: usize, depart
     ensures { out.new ≡ row_for (sets.words_for model.now.nodes) (states.moved (instance_in model.now) (shown (sets.words_for model.now.nodes) s.now) to) }
 {
     let words = words_for(model.nodes).min(10);
-    let state = parts_of(model.nodes, s);
+    let state = parts_of(model.nodes, pending_of(model.nodes, s));
     let (positions, rest) = out.split_at_mut(words);
     let (must, rest) = rest.split_at_mut(words);
     let (may, time) = rest.split_at_mut(words);
@@ -331,15 +304,10 @@ fn write_joined(acc: &mut [i64], nodes: usize, s: &[i64])
     requires state { IsTrue (is_state_row nodes s.now) }
     ensures { acc.new ≡ row_for (sets.words_for nodes) (states.joined (shown (sets.words_for nodes) acc.old) (shown (sets.words_for nodes) s.now)) }
 {
-    let words = few_words(nodes);
-    let state = parts_of(nodes, s);
-    let earlier = parts_of(nodes, acc).time.min(state.time);
-    let (positions, rest) = acc.split_at_mut(words);
-    let (must, rest) = rest.split_at_mut(words);
-    let (may, time) = rest.split_at_mut(words);
-    union_with(positions, state.positions);
-    join(must, may, state.must, state.may);
-    time[0] = earlier as i64;
+    let words = words_for(nodes);
+    let (positions, pending) = acc.split_at_mut(words);
+    union_with(positions, positions_of(nodes, s));
+    pending_rows::write_joined(pending, nodes, pending_of(nodes, s));
 }
 
 impl DpModel for TspWindows {
@@ -387,16 +355,16 @@ impl DpModel for TspWindows {
     }
 
     fn gain(&self, _k: usize, s: &[i64], d: u32) -> i64 {
-        parts_of(self.nodes, s).time as i64 - self.departure(s, d as usize) as i64
+        time_of(self.nodes, s) as i64 - self.departure(s, d as usize) as i64
     }
 
     fn merge_into(&self, _k: usize, acc: &mut [i64], s: &[i64]) {
-        write_joined(acc, self.nodes, s);
+        write_joined(acc, few(self.nodes), s);
     }
 
     fn gap(&self, _k: usize, a: &[i64], s: &[i64]) -> Option<i64> {
         if covers(self.nodes, a, s) {
-            Some(parts_of(self.nodes, s).time as i64 - parts_of(self.nodes, a).time as i64)
+            Some(time_of(self.nodes, s) as i64 - time_of(self.nodes, a) as i64)
         } else {
             None
         }
@@ -433,7 +401,7 @@ impl DpModel for TspWindows {
         let to = d as usize;
         let reached = self.reached(k, s, rank, to)?;
         let departure = reached.arrival.max(self.windows[to].opening);
-        let gain = parts_of(self.nodes, s).time as i64 - departure as i64;
+        let gain = time_of(self.nodes, s) as i64 - departure as i64;
         write_moved(out, self, s, to, departure);
         Some(Extended {
             gain,
@@ -447,7 +415,7 @@ impl DpModel for TspWindows {
     }
 
     fn bucket(&self, _k: usize, s: &[i64]) -> u64 {
-        match least(parts_of(self.nodes, s).positions) {
+        match least(positions_of(self.nodes, s)) {
             Some(position) => position as u64,
             None => 0,
         }

@@ -1,5 +1,5 @@
 -- An order in the problem's own words is a feasible solution of the dynamic program, and the other way round.
-use Rattle.std.proofs.Common.{◌≡◌, ℕ, ◌+◌, ◌<◌, ◌≤◌, ℤ, pos, neg_ℤ, ◌+ℤ◌, Bool, true, false, not, ◌&&◌, ◌||◌, nat_eq, nat_lt, cond, List, [], ◌∷◌, length, Some, None, refl, sym, ap, ◌∙◌, subst, arith, inl, inr, eq-eqb}
+use Rattle.std.proofs.Common.{◌≡◌, ℕ, ◌+◌, ℤ, pos, neg_ℤ, ◌+ℤ◌, Bool, true, false, not, ◌&&◌, ◌||◌, nat_eq, nat_lt, cond, List, [], ◌∷◌, length, Some, None, refl, sym, ap, ◌∙◌, subst, arith, inl, inr, eq-eqb}
 use Rattle.std.specs.List.{list_all}
 use Rattle.std.proofs.lemmas.Int.{ints}
 use Rattle.std.proofs.lemmas.Bool.{false≢true, eqb-true, and_parts, and_from, or_left, cases_Bool, ltb-true}
@@ -7,16 +7,16 @@ use Rattle.node_sets.specs.Sums.{count_below}
 use Rattle.node_sets.specs.Sets.{words_for}
 use Rattle.dp_model.specs.Prefixes.{IsSolution, value_of}
 use Rattle.dp_model.specs.Solution.{IsSolutionWith, SolutionGives}
-use Rattle.pending_rows.specs.Pending.{Pending, shown, row_for, is_open, without, start, done}
+use Rattle.pending_rows.specs.Pending.{Pending, shown, row_for, without, start, done}
 use Rattle.pending_rows.specs.Orders.{is_order}
 use Rattle.pending_rows.proofs.RowParts.{IsWithin, shown-row_for}
 use Rattle.pending_rows.proofs.RowStates.{start-bounded}
 use Rattle.pending_rows.proofs.Covering.{sum-without, count-start}
 use Rattle.pending_rows.proofs.OrderLaws.{AreListed, listed-more, listed-rest}
 use Rattle.one_machine.specs.Instance.{Job}
-use Rattle.one_machine.specs.OwnWords.{completion, cost, order_value}
+use Rattle.one_machine.specs.OwnWords.{cost, order_value}
 use Rattle.one_machine.specs.Program.{taken, program_of}
-use Rattle.one_machine.specs.Laws.Runs.{IsTaken, IsRun, run-of_path, path-of_run, gain-of_path}
+use Rattle.one_machine.specs.Laws.Runs.{IsRun, run-of_path, path-of_run, gain-of_path}
 
 -- no job may be left out, as in each state that jobs reach from the start
 abbrev HasNoMay : Pending → Type 0

@@ -2,15 +2,14 @@
 use Rattle.std.proofs.Common.{◌≡◌, ℕ, ◌+◌, ◌*◌, ◌≤◌, ℤ, pos, neg_ℤ, ◌+ℤ◌, ◌≤ℤ◌, true, ◌&&◌, cond, nat_le, List, length, Some, None, sym, ap, ◌∙◌, subst, arith, inl, inr}
 use Rattle.std.proofs.lemmas.Int.{ints}
 use Rattle.std.proofs.lemmas.Bool.{and_parts, and_from, cases_Bool, leb-true, le-leb}
-use Rattle.node_sets.specs.Sums.{count_below, sum_below}
+use Rattle.node_sets.specs.Sums.{count_below}
 use Rattle.node_sets.specs.Sets.{words_for}
-use Rattle.node_sets.proofs.Below.{sum_below-none, sum_below-le, count_below-none, count_below-le}
-use Rattle.dp_model.specs.Dp.{IsAllowed}
+use Rattle.node_sets.proofs.Below.{sum_below-none, sum_below-le, count_below-none}
 use Rattle.dp_model.specs.Gaps.{IsStateOf, IsSoundGap, HasGap}
 use Rattle.dp_model.specs.Laws.{StepsAreStates, GapsAreSound, RoughBounds, SizesHold, IsLawful, IsChained}
 use Rattle.dp_model.specs.NumberLaws.{small_natural, small_negated, small_gap}
 use Rattle.dp_model.specs.Numbers.{IsSmall as IsSmallNumber}
-use Rattle.pending_rows.specs.Pending.{Pending, IsPendingRow, shown, row_for, start, done, joined, covers, is_pending_row, latest}
+use Rattle.pending_rows.specs.Pending.{Pending, IsPendingRow, shown, row_for, start, joined, covers, is_pending_row}
 use Rattle.pending_rows.proofs.RowParts.{IsWithin, shown-row_for}
 use Rattle.pending_rows.proofs.RowStates.{IsApart, row-gives, row-from, bounded, apart_shown, start-bounded, start-apart, done-bounded, done-apart, done-time, done-must, joined-bounded, joined-apart, joined-time, cells_small}
 use Rattle.pending_rows.proofs.Covering.{Covers, covers-gives, covers-from, covers-self, covers-chain, joined-covers-left, joined-covers-right, count-within, count-start}

@@ -1,5 +1,5 @@
 -- Jobs that are taken one after another from a state: paths of the program, what they cost, and what covers them.
-use Rattle.std.proofs.Common.{◌≡◌, ℕ, ◌+◌, ◌-◌, ◌*◌, ◌<◌, ◌≤◌, ℤ, pos, neg_ℤ, ◌+ℤ◌, true, not, nat_eq, nat_le, List, [], ◌∷◌, length, refl, sym, ap, ◌∙◌, subst, arith}
+use Rattle.std.proofs.Common.{◌≡◌, ℕ, ◌+◌, ◌-◌, ◌<◌, ◌≤◌, ℤ, pos, neg_ℤ, ◌+ℤ◌, true, not, nat_eq, List, [], ◌∷◌, length, refl, sym, ap, ◌∙◌, subst, arith}
 use Rattle.std.proofs.lemmas.Int.{ints}
 use Rattle.std.proofs.lemmas.Bool.{and_parts, and_from, leb-true, le-leb}
 use Rattle.std.proofs.lemmas.Nat.{mul-le}
@@ -7,7 +7,7 @@ use Rattle.node_sets.specs.Sums.{count_below, sum_below}
 use Rattle.node_sets.specs.Sets.{words_for}
 use Rattle.node_sets.proofs.Below.{sum_below-none, count_below-none}
 use Rattle.dp_model.specs.Prefixes.{IsPath, gain_of}
-use Rattle.pending_rows.specs.Pending.{Pending, shown, row_for, is_open, without, done}
+use Rattle.pending_rows.specs.Pending.{Pending, shown, row_for, is_open, without}
 use Rattle.pending_rows.proofs.RowParts.{IsWithin, shown-row_for}
 use Rattle.pending_rows.proofs.RowStates.{done-bounded, done-time, done-must}
 use Rattle.pending_rows.proofs.Covering.{Covers, done-covers, sum-most, sum-more, count-within}

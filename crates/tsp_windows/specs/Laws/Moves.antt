@@ -4,9 +4,12 @@ use Rattle.std.specs.Prelude.{is_some, unwrap_or}
 use Rattle.std.proofs.lemmas.Bool.{false≢true, eqb-true, and_parts, and_from, or_left, or_right, or_cases, not-true, cases_Bool, ne_eqb, leb-true, le-leb, lt-ltb, le-ltb, eqb-false}
 use Rattle.node_sets.specs.Sums.{all_below, lesser, least_amount}
 use Rattle.node_sets.proofs.Below.{all_below-gives, all_below-from}
-use Rattle.pending_rows.proofs.RowStates.{one_of, one_of-from}
-use Rattle.tsp_windows.specs.Instance.{Instance, distance, closing, near, least_way}
-use Rattle.tsp_windows.specs.States.{TourState, from_elsewhere, leg, arrival, may_visit, may_return, may_go, moved, is_open, joined, start, is_sound}
+use Rattle.pending_rows.specs.Pending as rows
+use Rattle.pending_rows.specs.Pending.{is_open, done}
+use Rattle.pending_rows.proofs.RowStates as row_laws
+use Rattle.pending_rows.proofs.RowStates.{done-bounded}
+use Rattle.tsp_windows.specs.Instance.{Instance, distance, opening, closing, near, least_way}
+use Rattle.tsp_windows.specs.States.{TourState, from_elsewhere, leg, arrival, may_visit, departure, may_return, may_go, moved, joined, start, is_sound}
 use Rattle.tsp_windows.specs.Laws.States.{IsWithinNodes}
 
 -- ---- tests
@@ -97,23 +100,23 @@ leg-alone i t e =
 
 pub record Visits (i : Instance) (t : TourState) (d : ℕ) : Type 0 where
   pub away : d ≢ 0
-  pub pending : (t.must d || t.may d) ≡ true
+  pub pending : is_open t.pending d ≡ true
   pub reached : is_some (leg i t d) ≡ true
   pub on_time : arrival i t d ≤ closing i d
 
 pub record Returns (i : Instance) (t : TourState) (d : ℕ) : Type 0 where
   pub home : d ≡ 0
-  pub done : (v : ℕ) → v < i.nodes → t.must v ≡ false
+  pub done : (v : ℕ) → v < i.nodes → t.pending.must v ≡ false
   pub reached : (is_some (leg i t d) ≡ true) ⊎ (i.nodes ≡ 1)
   pub on_time : arrival i t d ≤ closing i d
 
 pub visits : (i : Instance) (t : TourState) (d : ℕ) → may_visit i t d ≡ true → Visits i t d
 visits i t d e =
-    let rest = (and_parts (not (nat_eq d 0)) ((t.must d || t.may d) && (is_some (leg i t d) && nat_le (arrival i t d) (closing i d))) e).1 in
-    let last = (and_parts (t.must d || t.may d) (is_some (leg i t d) && nat_le (arrival i t d) (closing i d)) rest).1 in
+    let rest = (and_parts (not (nat_eq d 0)) ((is_open t.pending d) && (is_some (leg i t d) && nat_le (arrival i t d) (closing i d))) e).1 in
+    let last = (and_parts (is_open t.pending d) (is_some (leg i t d) && nat_le (arrival i t d) (closing i d)) rest).1 in
     record {
       away = eqb-false d 0 (not-true (nat_eq d 0) (and_parts (not (nat_eq d 0)) _ e).0);
-      pending = (and_parts (t.must d || t.may d) _ rest).0;
+      pending = (and_parts (is_open t.pending d) _ rest).0;
       reached = (and_parts (is_some (leg i t d)) _ last).0;
       on_time = leb-true (arrival i t d) (closing i d) (and_parts (is_some (leg i t d)) _ last).1;
     }
@@ -121,15 +124,15 @@ visits i t d e =
 pub may_visit-from : (i : Instance) (t : TourState) (d : ℕ) → Visits i t d → may_visit i t d ≡ true
 may_visit-from i t d v =
     and_from (not (nat_eq d 0)) _ (ap not (ne_eqb d 0 v.away))
-    (and_from (t.must d || t.may d) _ v.pending (and_from (is_some (leg i t d)) _ v.reached (le-leb (arrival i t d) (closing i d) v.on_time)))
+    (and_from (is_open t.pending d) _ v.pending (and_from (is_some (leg i t d)) _ v.reached (le-leb (arrival i t d) (closing i d) v.on_time)))
 
 pub returns : (i : Instance) (t : TourState) (d : ℕ) → may_return i t d ≡ true → Returns i t d
 returns i t d e =
-    let rest = (and_parts (nat_eq d 0) (all_below i.nodes (λ v. not (t.must v)) && ((is_some (leg i t d) || nat_eq i.nodes 1) && nat_le (arrival i t d) (closing i d))) e).1 in
-    let last = (and_parts (all_below i.nodes (λ v. not (t.must v))) ((is_some (leg i t d) || nat_eq i.nodes 1) && nat_le (arrival i t d) (closing i d)) rest).1 in
+    let rest = (and_parts (nat_eq d 0) (all_below i.nodes (λ v. not (t.pending.must v)) && ((is_some (leg i t d) || nat_eq i.nodes 1) && nat_le (arrival i t d) (closing i d))) e).1 in
+    let last = (and_parts (all_below i.nodes (λ v. not (t.pending.must v))) ((is_some (leg i t d) || nat_eq i.nodes 1) && nat_le (arrival i t d) (closing i d)) rest).1 in
     record {
       home = eqb-true d 0 (and_parts (nat_eq d 0) _ e).0;
-      done = λ v l. not-true (t.must v) (all_below-gives i.nodes (λ v. not (t.must v)) (and_parts (all_below i.nodes (λ v. not (t.must v))) _ rest).0 v l);
+      done = λ v l. not-true (t.pending.must v) (all_below-gives i.nodes (λ v. not (t.pending.must v)) (and_parts (all_below i.nodes (λ v. not (t.pending.must v))) _ rest).0 v l);
       reached = elim (or_cases (is_some (leg i t d)) (nat_eq i.nodes 1) (and_parts (is_some (leg i t d) || nat_eq i.nodes 1) _ last).0) [ inl s ↦ inl s | inr s ↦ inr (eqb-true i.nodes 1 s) ];
       on_time = leb-true (arrival i t d) (closing i d) (and_parts (is_some (leg i t d) || nat_eq i.nodes 1) _ last).1;
     }
@@ -137,7 +140,7 @@ returns i t d e =
 pub may_return-from : (i : Instance) (t : TourState) (d : ℕ) → Returns i t d → may_return i t d ≡ true
 may_return-from i t d r =
     and_from (nat_eq d 0) _ (eq-eqb d 0 r.home)
-    (and_from (all_below i.nodes (λ v. not (t.must v))) _ (all_below-from i.nodes (λ v. not (t.must v)) (λ v l. ap not (r.done v l)))
+    (and_from (all_below i.nodes (λ v. not (t.pending.must v))) _ (all_below-from i.nodes (λ v. not (t.pending.must v)) (λ v l. ap not (r.done v l)))
     (and_from (is_some (leg i t d) || nat_eq i.nodes 1) _
     (elim r.reached [ inl s ↦ or_left (is_some (leg i t d)) (nat_eq i.nodes 1) s | inr s ↦ or_right (is_some (leg i t d)) (nat_eq i.nodes 1) (eq-eqb i.nodes 1 s) ])
     (le-leb (arrival i t d) (closing i d) r.on_time)))
@@ -149,7 +152,7 @@ pub goes_home : (i : Instance) (k : ℕ) (t : TourState) (d : ℕ) → i.nodes �
 goes_home i k t d l = ap (λ b. cond b (may_visit i t d) (may_return i t d)) (le-ltb (k + 1) i.nodes l)
 
 -- however it is reached, a node is left no earlier than on the least way to it
-pub near-le-arrival : (i : Instance) (t : TourState) (d : ℕ) → is_some (leg i t d) ≡ true → t.time + near i d ≤ arrival i t d
+pub near-le-arrival : (i : Instance) (t : TourState) (d : ℕ) → is_some (leg i t d) ≡ true → t.pending.time + near i d ≤ arrival i t d
 near-le-arrival i t d e = let least = near-le-leg i t d e in omega (arith, least)
 
 -- ---- the state behind a step
@@ -158,24 +161,21 @@ pub moved-bounded : (i : Instance) (t : TourState) (d : ℕ) → d < i.nodes →
 unfolding moved
 moved-bounded i t d l b = record {
   positions = λ v m. ne_eqb v d (omega arith);
-  must = λ v m. ap (λ x. x && not (nat_eq v d)) (b.must v m);
-  may = λ v m. ap (λ x. x && not (nat_eq v d)) (b.may v m);
+  pending = done-bounded i.nodes t.pending d (departure i t d) b.pending;
 }
 
 pub joined-bounded : (n : ℕ) (a b : TourState) → IsWithinNodes n a → IsWithinNodes n b → IsWithinNodes n (joined a b)
 unfolding joined
 joined-bounded n a b p q = record {
   positions = λ v m. ap₂ ◌||◌ (p.positions v m) (q.positions v m);
-  must = λ v m. ap₂ ◌&&◌ (p.must v m) (q.must v m);
-  may = λ v m. ap (λ x. x && not (a.must v && b.must v)) (ap₂ ◌||◌ (ap₂ ◌||◌ (p.must v m) (p.may v m)) (ap₂ ◌||◌ (q.must v m) (q.may v m)));
+  pending = row_laws.joined-bounded n a.pending b.pending p.pending q.pending;
 }
 
 pub start-bounded : (i : Instance) → 1 ≤ i.nodes → IsWithinNodes i.nodes (start i)
 unfolding start
 start-bounded i some = record {
   positions = λ v m. ne_eqb v 0 (omega arith);
-  must = λ v m. ap (λ x. x && not (nat_eq v 0)) (le-ltb v i.nodes m);
-  may = λ v m. refl;
+  pending = done-bounded i.nodes (rows.start i.nodes) 0 (opening i 0) (row_laws.start-bounded i.nodes);
 }
 
 -- ---- what a state is
@@ -184,23 +184,20 @@ pub record IsSoundState (n : ℕ) (t : TourState) : Type 0 where
   pub position : ℕ
   pub inside : position < n
   pub there : t.positions position ≡ true
-  pub either : (v : ℕ) → v < n → t.must v ≡ true → t.may v ≡ false
-  pub no_must : t.must 0 ≡ false
-  pub no_may : t.may 0 ≡ false
+  pub no_must : t.pending.must 0 ≡ false
+  pub no_may : t.pending.may 0 ≡ false
 
 pub sound-gives : (n : ℕ) (t : TourState) → is_sound n t ≡ true → IsSoundState n t
 sound-gives n t e =
-    let first = (and_parts (not (all_below n (λ p. not (t.positions p)))) (all_below n (λ v. not (t.must v && t.may v)) && (not (t.must 0) && not (t.may 0))) e).0 in
-    let rest = (and_parts (not (all_below n (λ p. not (t.positions p)))) (all_below n (λ v. not (t.must v && t.may v)) && (not (t.must 0) && not (t.may 0))) e).1 in
-    let last = (and_parts (all_below n (λ v. not (t.must v && t.may v))) (not (t.must 0) && not (t.may 0)) rest).1 in
-    let some = all_below-not n (λ p. not (t.positions p)) (not-true (all_below n (λ p. not (t.positions p))) first) in
+    let parts = and_parts (not (all_below n (λ p. not (t.positions p)))) (not (t.pending.must 0) && not (t.pending.may 0)) e in
+    let home = and_parts (not (t.pending.must 0)) (not (t.pending.may 0)) parts.1 in
+    let some = all_below-not n (λ p. not (t.positions p)) (not-true (all_below n (λ p. not (t.positions p))) parts.0) in
     record {
       position = some.0;
       inside = some.1;
       there = still (t.positions some.0) some.2;
-      either = λ v l. one_of (t.must v) (t.may v) (all_below-gives n (λ v. not (t.must v && t.may v)) (and_parts (all_below n (λ v. not (t.must v && t.may v))) _ rest).0 v l);
-      no_must = not-true (t.must 0) (and_parts (not (t.must 0)) (not (t.may 0)) last).0;
-      no_may = not-true (t.may 0) (and_parts (not (t.must 0)) (not (t.may 0)) last).1;
+      no_must = not-true (t.pending.must 0) home.0;
+      no_may = not-true (t.pending.may 0) home.1;
     }
   where
     still : (b : Bool) → not b ≡ false → b ≡ true
@@ -210,47 +207,38 @@ sound-gives n t e =
 pub sound-from : (n : ℕ) (t : TourState) → IsSoundState n t → is_sound n t ≡ true
 sound-from n t s =
     and_from (not (all_below n (λ p. not (t.positions p)))) _ (ap not (some (cases_Bool (all_below n (λ p. not (t.positions p))))))
-    (and_from (all_below n (λ v. not (t.must v && t.may v))) _ (all_below-from n (λ v. not (t.must v && t.may v)) (λ v l. one_of-from (t.must v) (t.may v) (s.either v l)))
-    (and_from (not (t.must 0)) (not (t.may 0)) (ap not s.no_must) (ap not s.no_may)))
+    (and_from (not (t.pending.must 0)) (not (t.pending.may 0)) (ap not s.no_must) (ap not s.no_may))
   where
     some : (all_below n (λ p. not (t.positions p)) ≡ true) ⊎ (all_below n (λ p. not (t.positions p)) ≡ false) → all_below n (λ p. not (t.positions p)) ≡ false
     some (inl e) = absurd (false≢true (sym (not-true (t.positions s.position) (all_below-gives n (λ p. not (t.positions p)) e s.position s.inside)) ∙ s.there))
     some (inr e) = e
 
 pub moved-sound : (i : Instance) (t : TourState) (d : ℕ) → d < i.nodes → IsSoundState i.nodes t → IsSoundState i.nodes (moved i t d)
-unfolding moved
+unfolding moved done
 moved-sound i t d l s = record {
   position = d;
   inside = l;
   there = eq-eqb d d refl;
-  either = λ v m e. ap (λ x. x && not (nat_eq v d)) (s.either v m (and_parts (t.must v) (not (nat_eq v d)) e).0);
   no_must = ap (λ x. x && not (nat_eq 0 d)) s.no_must;
   no_may = ap (λ x. x && not (nat_eq 0 d)) s.no_may;
 }
 
 pub joined-sound : (n : ℕ) (a b : TourState) → IsSoundState n a → IsSoundState n b → IsSoundState n (joined a b)
-unfolding joined
+unfolding joined rows.joined
 joined-sound n a b p q = record {
   position = p.position;
   inside = p.inside;
   there = or_left (a.positions p.position) (b.positions p.position) p.there;
-  either = λ v m e. neither (is_open a v || is_open b v) (a.must v && b.must v) e;
-  no_must = ap (λ x. x && b.must 0) p.no_must;
-  no_may = ap (λ x. x && not (a.must 0 && b.must 0)) (ap₂ ◌||◌ (ap₂ ◌||◌ p.no_must p.no_may) (ap₂ ◌||◌ q.no_must q.no_may));
+  no_must = ap (λ x. x && b.pending.must 0) p.no_must;
+  no_may = ap (λ x. x && not (a.pending.must 0 && b.pending.must 0)) (ap₂ ◌||◌ (ap₂ ◌||◌ p.no_must p.no_may) (ap₂ ◌||◌ q.no_must q.no_may));
 }
-  where
-    neither : (x y : Bool) → y ≡ true → (x && not y) ≡ false
-    neither true true e = refl
-    neither false true e = refl
-    neither x false e = absurd (false≢true e)
 
 pub start-sound : (i : Instance) → 1 ≤ i.nodes → IsSoundState i.nodes (start i)
-unfolding start
+unfolding start rows.start done
 start-sound i some = record {
   position = 0;
   inside = omega arith;
   there = refl;
-  either = λ v m e. refl;
   no_must = no_home (nat_lt 0 i.nodes);
   no_may = refl;
 }

@@ -1,25 +1,25 @@
 -- The dynamic program of an instance within the limits meets the laws.
-use Rattle.std.proofs.Common.{◌≡◌, ℕ, ◌+◌, ◌-◌, ◌*◌, ◌<◌, ◌≤◌, ℤ, pos, negsuc, ◌+ℤ◌, ◌-ℤ◌, ◌≤ℤ◌, neg_ℤ, nat_abs, Bool, true, false, cond, not, ◌&&◌, ◌||◌, nat_eq, nat_le, List, [], ◌∷◌, length, drop, get_or, Some, None, refl, sym, ap, ap₂, ◌∙◌, subst, arith, inl, inr, ◌⊎◌, eq-eqb}
-use Rattle.std.specs.Prelude.{int_le}
+use Rattle.std.proofs.Common.{◌≡◌, ℕ, ◌+◌, ◌-◌, ◌*◌, ◌<◌, ◌≤◌, ℤ, pos, ◌+ℤ◌, ◌-ℤ◌, ◌≤ℤ◌, neg_ℤ, true, false, cond, not, ◌&&◌, ◌||◌, nat_eq, nat_le, List, [], ◌∷◌, length, get_or, Some, None, sym, ap, ap₂, ◌∙◌, subst, arith, inl, inr, ◌⊎◌}
 use Rattle.std.proofs.lemmas.Int.{ints}
-use Rattle.std.proofs.lemmas.Bool.{cases_lt, false≢true, eqb-true, and_parts, and_from, or_left, or_right, cases_Bool, leb-true, le-leb, lt-ltb, le-ltb}
-use Rattle.std.proofs.lemmas.List.{get_or-take, get_or-drop}
-use Rattle.dp_model.specs.NumberLaws.{each_small, small_natural, small_negated, small_difference, small_positive, small_gap}
+use Rattle.std.proofs.lemmas.Bool.{cases_lt, and_parts, and_from, or_left, or_right, cases_Bool, le-leb, lt-ltb, le-ltb}
+use Rattle.std.proofs.lemmas.List.{get_or-take, get_or-drop, length-drop}
+use Rattle.dp_model.specs.NumberLaws.{each_small, small_natural, small_negated, small_difference, small_gap}
 use Rattle.node_sets.specs.Sums.{count_below}
-use Rattle.node_sets.specs.Sets.{IsWord, IsSet, is_set, row_of, words_for}
+use Rattle.node_sets.specs.Sets.{IsSet, is_set, row_of, words_for}
 use Rattle.node_sets.proofs.Below.{all_below-from, sum_below-le}
-use Rattle.node_sets.proofs.Words.{has-past}
 use Rattle.node_sets.proofs.Counts.{is_set-gives, is_set-from}
-use Rattle.node_sets.proofs.Made.{length-row_of, AreWords-row_of, has-row_of}
 use Rattle.dp_model.specs.Dp.{IsAllowed}
 use Rattle.dp_model.specs.Prefixes.{IsContinuation, gain_of}
 use Rattle.dp_model.specs.Gaps.{IsStateOf, IsSoundGap, HasGap}
 use Rattle.dp_model.specs.Numbers.{AtMost, IsSmall as IsSmallNumber}
 use Rattle.dp_model.specs.Laws.{StepsAreStates, GapsAreSound, RoughBounds, SizesHold, IsLawful, IsChained}
-use Rattle.pending_rows.proofs.RowStates.{time-gives, word_small}
+use Rattle.pending_rows.specs.Pending as rows
+use Rattle.pending_rows.specs.Pending.{IsPendingRow, is_pending_row, latest}
+use Rattle.pending_rows.proofs.RowStates as row_laws
+use Rattle.pending_rows.proofs.RowStates.{IsApart, row-gives, apart_shown, set-row_of, done-time, done-apart, word_small}
 use Rattle.tsp_windows.specs.Instance.{Instance, IsTourInstance, distance, opening, closing, near, least_way}
-use Rattle.tsp_windows.specs.States.{TourState, positions_of, must_of, may_of, time_of, shown, row_for, arrival, departure, moved, joined, covers, is_lost, way_left, start, is_sound, is_state_row}
-use Rattle.tsp_windows.specs.Laws.States.{IsWithinNodes, shown-row_for, positions_of-row_for, must_of-row_for, may_of-row_for, time_of-row_for, length-row_for, words_enough}
+use Rattle.tsp_windows.specs.States.{TourState, positions_of, pending_of, shown, row_for, arrival, departure, moved, joined, covers, is_lost, way_left, start, is_sound, is_state_row}
+use Rattle.tsp_windows.specs.Laws.States.{IsWithinNodes, shown-row_for, positions_of-row_for, pending_of-row_for}
 use Rattle.tsp_windows.specs.Program.{program_of, rough_of, gap_of}
 use Rattle.tsp_windows.specs.Laws.Moves.{IsSoundState, sound-gives, sound-from, moved-sound, joined-sound, start-sound, moved-bounded, joined-bounded, start-bounded, least_amount-most, visits, returns, goes_on, goes_home}
 use Rattle.tsp_windows.specs.Laws.Walks.{IsGone, last_time, CoversTour, covers-gives, covers-from, CoversTour-self, CoversTour-chain, joined-covers-left, joined-covers-right, tour-covered, Costs, costs, tour-of_path, path-of_tour, gain-of_tour}
@@ -27,57 +27,41 @@ use Rattle.tsp_windows.specs.Laws.Walks.{IsGone, last_time, CoversTour, covers-g
 -- ---- rows that are states
 
 pub record IsStateRow (n : ℕ) (s : List ℤ) : Type 0 where
-  pub cells : length s ≡ 3 * words_for n + 1
   pub positions : IsSet n (positions_of (words_for n) s)
-  pub must : IsSet n (must_of (words_for n) s)
-  pub may : IsSet n (may_of (words_for n) s)
+  pub pending : IsPendingRow n (pending_of (words_for n) s)
   pub sound : IsSoundState n (shown (words_for n) s)
-  pub time : time_of (words_for n) s ≡ pos (shown (words_for n) s).time
-  pub in_time : (shown (words_for n) s).time ≤ 1000000000000
   pub bounded : IsWithinNodes n (shown (words_for n) s)
+  pub early : (shown (words_for n) s).pending.time ≤ latest
+  pub cells : length s ≡ 3 * words_for n + 1
 
 pub state_row-gives : (n : ℕ) (s : List ℤ) → is_state_row n s ≡ true → IsStateRow n s
 unfolding shown
-state_row-gives n s e0 =
-    let w = words_for n in
-    let e1 = (and_parts (nat_eq (length s) (3 * words_for n + 1)) (is_set n (positions_of (words_for n) s) && (is_set n (must_of (words_for n) s) && (is_set n (may_of (words_for n) s) && (is_sound n (shown (words_for n) s) && (int_le (pos 0) (time_of (words_for n) s) && int_le (time_of (words_for n) s) (pos 1000000000000)))))) e0).1 in
-    let e2 = (and_parts (is_set n (positions_of (words_for n) s)) (is_set n (must_of (words_for n) s) && (is_set n (may_of (words_for n) s) && (is_sound n (shown (words_for n) s) && (int_le (pos 0) (time_of (words_for n) s) && int_le (time_of (words_for n) s) (pos 1000000000000))))) e1).1 in
-    let e3 = (and_parts (is_set n (must_of (words_for n) s)) (is_set n (may_of (words_for n) s) && (is_sound n (shown (words_for n) s) && (int_le (pos 0) (time_of (words_for n) s) && int_le (time_of (words_for n) s) (pos 1000000000000)))) e2).1 in
-    let e4 = (and_parts (is_set n (may_of (words_for n) s)) (is_sound n (shown (words_for n) s) && (int_le (pos 0) (time_of (words_for n) s) && int_le (time_of (words_for n) s) (pos 1000000000000))) e3).1 in
-    let e5 = (and_parts (is_sound n (shown (words_for n) s)) (int_le (pos 0) (time_of (words_for n) s) && int_le (time_of (words_for n) s) (pos 1000000000000)) e4).1 in
-    let time = time-gives (time_of (words_for n) s) (and_parts (int_le (pos 0) (time_of (words_for n) s)) _ e5).0 (and_parts (int_le (pos 0) (time_of (words_for n) s)) _ e5).1 in
-    let p = is_set-gives n (positions_of (words_for n) s) (and_parts (is_set n (positions_of (words_for n) s)) _ e1).0 in
-    let m = is_set-gives n (must_of (words_for n) s) (and_parts (is_set n (must_of (words_for n) s)) _ e2).0 in
-    let y = is_set-gives n (may_of (words_for n) s) (and_parts (is_set n (may_of (words_for n) s)) _ e3).0 in
+state_row-gives n s e =
+    let parts = and_parts (is_set n (positions_of (words_for n) s)) (is_pending_row n (pending_of (words_for n) s) && is_sound n (shown (words_for n) s)) e in
+    let rest = and_parts (is_pending_row n (pending_of (words_for n) s)) (is_sound n (shown (words_for n) s)) parts.1 in
+    let positions = is_set-gives n (positions_of (words_for n) s) parts.0 in
+    let pending = row-gives n (pending_of (words_for n) s) rest.0 in
     record {
-      cells = eqb-true (length s) (3 * words_for n + 1) (and_parts (nat_eq (length s) (3 * words_for n + 1)) _ e0).0;
-      positions = p;
-      must = m;
-      may = y;
-      sound = sound-gives n (shown (words_for n) s) (and_parts (is_sound n (shown (words_for n) s)) _ e4).0;
-      time = time.is;
-      in_time = time.most;
-      bounded = record { positions = p.within; must = m.within; may = y.within };
+      positions = positions;
+      pending = pending;
+      sound = sound-gives n (shown (words_for n) s) rest.1;
+      bounded = record { positions = positions.within; pending = row_laws.bounded n (pending_of (words_for n) s) pending };
+      early = pending.early;
+      cells = (let behind = length-drop (words_for n) s in omega (arith, pending.cells, behind));
     }
 
-set-row_of : (n : ℕ) (test : ℕ → Bool) → ((v : ℕ) → n ≤ v → test v ≡ false) → is_set n (row_of (words_for n) test) ≡ true
-set-row_of n test h = is_set-from n (row_of (words_for n) test) (record {
-  words = length-row_of (words_for n) test;
-  cells = AreWords-row_of (words_for n) test;
-  within = λ v m. elim (cases_lt v (32 * words_for n)) [
-    | inl l ↦ has-row_of (words_for n) test v l ∙ h v m
-    | inr l ↦ has-past (row_of (words_for n) test) v (omega (arith, length-row_of (words_for n) test))
-  ];
-})
+pub state_row-from : (n : ℕ) (t : TourState) → IsWithinNodes n t → IsSoundState n t → IsApart t.pending → t.pending.time ≤ latest → is_state_row n (row_for (words_for n) t) ≡ true
+state_row-from n t b s apart l =
+    and_from (is_set n (positions_of (words_for n) (row_for (words_for n) t))) _
+    (ap (is_set n) (positions_of-row_for (words_for n) t) ∙ is_set-from n (row_of (words_for n) t.positions) (set-row_of n t.positions b.positions))
+    (and_from (is_pending_row n (pending_of (words_for n) (row_for (words_for n) t))) _
+    (ap (is_pending_row n) (pending_of-row_for (words_for n) t) ∙ row_laws.row-from n t.pending b.pending apart l)
+    (ap (is_sound n) (shown-row_for n t b) ∙ sound-from n t s))
 
-pub state_row-from : (n : ℕ) (t : TourState) → IsWithinNodes n t → IsSoundState n t → t.time ≤ 1000000000000 → is_state_row n (row_for (words_for n) t) ≡ true
-state_row-from n t b s l =
-    and_from (nat_eq (length (row_for (words_for n) t)) (3 * words_for n + 1)) _ (eq-eqb (length (row_for (words_for n) t)) (3 * words_for n + 1) (length-row_for (words_for n) t))
-    (and_from (is_set n (positions_of (words_for n) (row_for (words_for n) t))) _ (ap (is_set n) (positions_of-row_for (words_for n) t) ∙ set-row_of n t.positions b.positions)
-    (and_from (is_set n (must_of (words_for n) (row_for (words_for n) t))) _ (ap (is_set n) (must_of-row_for (words_for n) t) ∙ set-row_of n t.must b.must)
-    (and_from (is_set n (may_of (words_for n) (row_for (words_for n) t))) _ (ap (is_set n) (may_of-row_for (words_for n) t) ∙ set-row_of n t.may b.may)
-    (and_from (is_sound n (shown (words_for n) (row_for (words_for n) t))) _ (ap (is_sound n) (shown-row_for (words_for n) n t (words_enough n) b) ∙ sound-from n t s)
-    (ap (λ z. int_le (pos 0) z && int_le z (pos 1000000000000)) (time_of-row_for (words_for n) t) ∙ and_from (int_le (pos 0) (pos t.time)) _ (le-leb 0 t.time (omega arith)) (le-leb t.time 1000000000000 l))))))
+-- nothing both must and may be visited
+row_apart : (n : ℕ) (s : List ℤ) → IsStateRow n s → IsApart (shown (words_for n) s).pending
+unfolding shown
+row_apart n s row = apart_shown n (pending_of (words_for n) s) row.pending
 
 -- ---- steps are states
 
@@ -91,17 +75,29 @@ departure-most i k t d small g =
     let order = small.opens d in
     omega (arith, late, shut, order)
 
-moved-time : (i : Instance) (t : TourState) (d : ℕ) → (moved i t d).time ≡ departure i t d
+moved-time : (i : Instance) (t : TourState) (d : ℕ) → (moved i t d).pending.time ≡ departure i t d
 unfolding moved
-moved-time i t d = refl
+moved-time i t d = done-time t.pending d (departure i t d)
 
-start-time : (i : Instance) → (start i).time ≡ opening i 0
+moved-apart : (i : Instance) (t : TourState) (d : ℕ) → IsApart t.pending → IsApart (moved i t d).pending
+unfolding moved
+moved-apart i t d h = done-apart t.pending d (departure i t d) h
+
+start-time : (i : Instance) → (start i).pending.time ≡ opening i 0
 unfolding start
-start-time i = refl
+start-time i = done-time (rows.start i.nodes) 0 (opening i 0)
 
-joined-time : (a b : TourState) → (joined a b).time ≤ a.time
+start-apart : (i : Instance) → IsApart (start i).pending
+unfolding start
+start-apart i = done-apart (rows.start i.nodes) 0 (opening i 0) (row_laws.start-apart i.nodes)
+
+joined-time : (a b : TourState) → (joined a b).pending.time ≤ a.pending.time
 unfolding joined
-joined-time a b = omega arith
+joined-time a b = row_laws.joined-time a.pending b.pending
+
+joined-apart : (a b : TourState) → IsApart (joined a b).pending
+unfolding joined
+joined-apart a b = row_laws.joined-apart a.pending b.pending
 
 gone : (i : Instance) (k : ℕ) (s : List ℤ) (d : ℕ) → IsAllowed (program_of i) k s d → IsGone i k (shown (words_for i.nodes) s) d
 gone i k s d a = record { layer = a.layer; choice = a.choice; test = a.test }
@@ -109,34 +105,34 @@ gone i k s d a = record { layer = a.layer; choice = a.choice; test = a.test }
 pub steps_are_states : (i : Instance) → IsTourInstance i → StepsAreStates (program_of i)
 steps_are_states i small = record {
   root = (let at = small.opens 0 in let shut = small.closes 0 in
-      state_row-from i.nodes (start i) (start-bounded i small.some) (start-sound i small.some) (omega (arith, at, shut, start-time i)));
+      state_row-from i.nodes (start i) (start-bounded i small.some) (start-sound i small.some) (start-apart i) (omega (arith, at, shut, start-time i)));
   step = λ k s d state allowed.
       let row = state_row-gives i.nodes s state.test in
       let g = gone i k s d allowed in
       let most = departure-most i k (shown (words_for i.nodes) s) d small g in
-      state_row-from i.nodes (moved i (shown (words_for i.nodes) s) d) (moved-bounded i (shown (words_for i.nodes) s) d g.choice row.bounded) (moved-sound i (shown (words_for i.nodes) s) d g.choice row.sound) (omega (arith, most, moved-time i (shown (words_for i.nodes) s) d));
+      state_row-from i.nodes (moved i (shown (words_for i.nodes) s) d) (moved-bounded i (shown (words_for i.nodes) s) d g.choice row.bounded) (moved-sound i (shown (words_for i.nodes) s) d g.choice row.sound) (moved-apart i (shown (words_for i.nodes) s) d (row_apart i.nodes s row)) (omega (arith, most, moved-time i (shown (words_for i.nodes) s) d));
   merged = λ k a s left right.
       let one = state_row-gives i.nodes a left.test in
       let two = state_row-gives i.nodes s right.test in
       let earlier = joined-time (shown (words_for i.nodes) a) (shown (words_for i.nodes) s) in
-      state_row-from i.nodes (joined (shown (words_for i.nodes) a) (shown (words_for i.nodes) s)) (joined-bounded i.nodes (shown (words_for i.nodes) a) (shown (words_for i.nodes) s) one.bounded two.bounded) (joined-sound i.nodes (shown (words_for i.nodes) a) (shown (words_for i.nodes) s) one.sound two.sound) (omega (arith, one.in_time, earlier));
+      state_row-from i.nodes (joined (shown (words_for i.nodes) a) (shown (words_for i.nodes) s)) (joined-bounded i.nodes (shown (words_for i.nodes) a) (shown (words_for i.nodes) s) one.bounded two.bounded) (joined-sound i.nodes (shown (words_for i.nodes) a) (shown (words_for i.nodes) s) one.sound two.sound) (joined-apart (shown (words_for i.nodes) a) (shown (words_for i.nodes) s)) (omega (arith, one.early, earlier));
 }
 
 -- ---- gaps
 
 record IsGap (n : ℕ) (a b : TourState) (g : ℤ) : Type 0 where
   covered : CoversTour n a b
-  is : g ≡ pos b.time -ℤ pos a.time
+  is : g ≡ pos b.pending.time -ℤ pos a.pending.time
 
 gap-gives : (n : ℕ) (a b : TourState) (g : ℤ) → gap_of n a b ≡ Some g → IsGap n a b g
 gap-gives n a b g e =
     elim (cases_Bool (covers n a b)) [
-      | inl c ↦ record { covered = covers-gives n a b c; is = (let same : Some (pos b.time -ℤ pos a.time) ≡ Some g = sym (ap (λ x. cond x (Some (pos b.time -ℤ pos a.time)) None) c) ∙ e in cc) }
-      | inr c ↦ absurd (let same : None ≡ Some g = sym (ap (λ x. cond x (Some (pos b.time -ℤ pos a.time)) None) c) ∙ e in cc)
+      | inl c ↦ record { covered = covers-gives n a b c; is = (let same : Some (pos b.pending.time -ℤ pos a.pending.time) ≡ Some g = sym (ap (λ x. cond x (Some (pos b.pending.time -ℤ pos a.pending.time)) None) c) ∙ e in cc) }
+      | inr c ↦ absurd (let same : None ≡ Some g = sym (ap (λ x. cond x (Some (pos b.pending.time -ℤ pos a.pending.time)) None) c) ∙ e in cc)
     ]
 
-gap-from : (n : ℕ) (a b : TourState) → CoversTour n a b → gap_of n a b ≡ Some (pos b.time -ℤ pos a.time)
-gap-from n a b c = ap (λ x. cond x (Some (pos b.time -ℤ pos a.time)) None) (covers-from n a b c)
+gap-from : (n : ℕ) (a b : TourState) → CoversTour n a b → gap_of n a b ≡ Some (pos b.pending.time -ℤ pos a.pending.time)
+gap-from n a b c = ap (λ x. cond x (Some (pos b.pending.time -ℤ pos a.pending.time)) None) (covers-from n a b c)
 
 enough : (ta tb la lb : ℕ) (x y g : ℤ) → x ≡ pos tb -ℤ pos lb → y ≡ pos ta -ℤ pos la → g ≡ pos tb -ℤ pos ta → la ≤ lb → x ≤ℤ (y +ℤ g)
 enough ta tb la lb x y g p q r l = omega (arith, ints, p, q, r)
@@ -151,20 +147,20 @@ sound_gap i k a s g left right e c way =
     record {
       by = c;
       continuation = record { path = path-of_tour i k a c one.bounded other.0; whole = way.whole };
-      enough = enough (shown (words_for i.nodes) a).time (shown (words_for i.nodes) s).time (last_time i (shown (words_for i.nodes) a) c) (last_time i (shown (words_for i.nodes) s) c) (gain_of (program_of i) k s c) (gain_of (program_of i) k a c) g
+      enough = enough (shown (words_for i.nodes) a).pending.time (shown (words_for i.nodes) s).pending.time (last_time i (shown (words_for i.nodes) a) c) (last_time i (shown (words_for i.nodes) s) c) (gain_of (program_of i) k s c) (gain_of (program_of i) k a c) g
           (gain-of_tour i k s c two.bounded tour) (gain-of_tour i k a c one.bounded other.0) gap.is other.1;
     }
 
 own_gap : (n : ℕ) (t : TourState) → gap_of n t t ≡ Some (pos 0)
-own_gap n t = gap-from n t t (CoversTour-self n t) ∙ (let z : pos t.time -ℤ pos t.time ≡ pos 0 = omega (arith, ints) in ap Some z)
+own_gap n t = gap-from n t t (CoversTour-self n t) ∙ (let z : pos t.pending.time -ℤ pos t.pending.time ≡ pos 0 = omega (arith, ints) in ap Some z)
 
 has_gap : (i : Instance) (k : ℕ) (a s u : List ℤ) → IsStateOf (program_of i) k a → IsStateOf (program_of i) k s → CoversTour i.nodes (joined (shown (words_for i.nodes) a) (shown (words_for i.nodes) s)) (shown (words_for i.nodes) u) → HasGap (program_of i) k ((program_of i).merged k a s) u
 has_gap i k a s u left right c =
     let one = state_row-gives i.nodes a left.test in
     let two = state_row-gives i.nodes s right.test in
-    let same = shown-row_for (words_for i.nodes) i.nodes (joined (shown (words_for i.nodes) a) (shown (words_for i.nodes) s)) (words_enough i.nodes) (joined-bounded i.nodes (shown (words_for i.nodes) a) (shown (words_for i.nodes) s) one.bounded two.bounded) in
+    let same = shown-row_for i.nodes (joined (shown (words_for i.nodes) a) (shown (words_for i.nodes) s)) (joined-bounded i.nodes (shown (words_for i.nodes) a) (shown (words_for i.nodes) s) one.bounded two.bounded) in
     record {
-      gap = pos (shown (words_for i.nodes) u).time -ℤ pos (joined (shown (words_for i.nodes) a) (shown (words_for i.nodes) s)).time;
+      gap = pos (shown (words_for i.nodes) u).pending.time -ℤ pos (joined (shown (words_for i.nodes) a) (shown (words_for i.nodes) s)).pending.time;
       is = ap (λ t. gap_of i.nodes t (shown (words_for i.nodes) u)) same ∙ gap-from i.nodes (joined (shown (words_for i.nodes) a) (shown (words_for i.nodes) s)) (shown (words_for i.nodes) u) c;
     }
 
@@ -183,9 +179,9 @@ chained_program i k a b c g h p q r e f =
     let one = gap-gives i.nodes (shown (words_for i.nodes) a) (shown (words_for i.nodes) b) g e in
     let two = gap-gives i.nodes (shown (words_for i.nodes) b) (shown (words_for i.nodes) c) h f in
     record {
-      gap = pos (shown (words_for i.nodes) c).time -ℤ pos (shown (words_for i.nodes) a).time;
+      gap = pos (shown (words_for i.nodes) c).pending.time -ℤ pos (shown (words_for i.nodes) a).pending.time;
       is = gap-from i.nodes (shown (words_for i.nodes) a) (shown (words_for i.nodes) c) (CoversTour-chain i.nodes (shown (words_for i.nodes) a) (shown (words_for i.nodes) b) (shown (words_for i.nodes) c) one.covered two.covered);
-      within = chain (shown (words_for i.nodes) a).time (shown (words_for i.nodes) b).time (shown (words_for i.nodes) c).time g h one.is two.is;
+      within = chain (shown (words_for i.nodes) a).pending.time (shown (words_for i.nodes) b).pending.time (shown (words_for i.nodes) c).pending.time g h one.is two.is;
     }
   where
     chain : (x y z : ℕ) (g h : ℤ) → g ≡ pos y -ℤ pos x → h ≡ pos z -ℤ pos y → (pos z -ℤ pos x) ≤ℤ (g +ℤ h)
@@ -195,13 +191,13 @@ chained_program i k a b c g h p q r e f =
 
 not_lost : (i : Instance) (k : ℕ) (t : TourState) (ds : List ℕ) → Costs i k t ds → is_lost i k t ≡ false
 not_lost i k t ds c =
-    ap₂ ◌||◌ (le-ltb i.nodes (count_below i.nodes t.must + k + 1) c.few)
-    (ap₂ ◌||◌ (ap not (all_below-from i.nodes (λ v. nat_le (t.time + near i v) (closing i v) || not (t.must v)) (λ v l. on_time v l (cases_Bool (t.must v)))))
-    (le-ltb (closing i 0) (t.time + near i 0) c.home))
+    ap₂ ◌||◌ (le-ltb i.nodes (count_below i.nodes t.pending.must + k + 1) c.few)
+    (ap₂ ◌||◌ (ap not (all_below-from i.nodes (λ v. nat_le (t.pending.time + near i v) (closing i v) || not (t.pending.must v)) (λ v l. on_time v l (cases_Bool (t.pending.must v)))))
+    (le-ltb (closing i 0) (t.pending.time + near i 0) c.home))
   where
-    on_time : (v : ℕ) → v < i.nodes → (t.must v ≡ true) ⊎ (t.must v ≡ false) → (nat_le (t.time + near i v) (closing i v) || not (t.must v)) ≡ true
-    on_time v l (inl m) = or_left (nat_le (t.time + near i v) (closing i v)) (not (t.must v)) (le-leb (t.time + near i v) (closing i v) (c.on_time v l m))
-    on_time v l (inr m) = or_right (nat_le (t.time + near i v) (closing i v)) (not (t.must v)) (ap not m)
+    on_time : (v : ℕ) → v < i.nodes → (t.pending.must v ≡ true) ⊎ (t.pending.must v ≡ false) → (nat_le (t.pending.time + near i v) (closing i v) || not (t.pending.must v)) ≡ true
+    on_time v l (inl m) = or_left (nat_le (t.pending.time + near i v) (closing i v)) (not (t.pending.must v)) (le-leb (t.pending.time + near i v) (closing i v) (c.on_time v l m))
+    on_time v l (inr m) = or_right (nat_le (t.pending.time + near i v) (closing i v)) (not (t.pending.must v)) (ap not m)
 
 rough-inside : (i : Instance) (k : ℕ) (t : TourState) (ds : List ℕ) → k < i.nodes → Costs i k t ds → rough_of i k t ≡ Some (neg_ℤ (pos (way_left i t)))
 rough-inside i k t ds l c =
@@ -228,11 +224,11 @@ rough_bounds i = record {
         elim (cases_lt k i.nodes) [
           | inl l ↦ (let cost = costs i k (shown (words_for i.nodes) s) c l way.whole tour in
               subst (AtMost (gain_of (program_of i) k s c)) (sym (rough-inside i k (shown (words_for i.nodes) s) c l cost))
-              (at_most (shown (words_for i.nodes) s).time (last_time i (shown (words_for i.nodes) s) c) (way_left i (shown (words_for i.nodes) s)) (gain_of (program_of i) k s c) gain cost.later))
+              (at_most (shown (words_for i.nodes) s).pending.time (last_time i (shown (words_for i.nodes) s) c) (way_left i (shown (words_for i.nodes) s)) (gain_of (program_of i) k s c) gain cost.later))
           | inr l ↦ subst (AtMost (gain_of (program_of i) k s c)) (sym (rough-last i k (shown (words_for i.nodes) s) l)) (ended s c (shown (words_for i.nodes) s) gain (omega (arith, way.whole)))
         ]
       where
-        ended : (s : List ℤ) (c : List ℕ) (t : TourState) → gain_of (program_of i) k s c ≡ pos t.time -ℤ pos (last_time i t c) → length c ≡ 0 → gain_of (program_of i) k s c ≤ℤ pos 0
+        ended : (s : List ℤ) (c : List ℕ) (t : TourState) → gain_of (program_of i) k s c ≡ pos t.pending.time -ℤ pos (last_time i t c) → length c ≡ 0 → gain_of (program_of i) k s c ≤ℤ pos 0
         ended s [] t e l = omega (arith, ints, e)
         ended s (d ∷ ds) t e l = absurd (omega arith)
 
@@ -244,7 +240,7 @@ near-most i v small = least_amount-most i.nodes (λ u. not (nat_eq u v)) (λ u. 
 
 pub way-most : (i : Instance) (t : TourState) → IsTourInstance i → way_left i t ≤ 301000000000
 way-most i t small =
-    let ways = sum_below-le i.nodes t.must (near i) 1000000000 (λ v l. near-most i v small) in
+    let ways = sum_below-le i.nodes t.pending.must (near i) 1000000000 (λ v l. near-most i v small) in
     let home = near-most i 0 small in
     let few = small.few in
     let product : i.nodes * 1000000000 ≤ 300000000000 = omega (arith, few) in
@@ -252,21 +248,12 @@ way-most i t small =
 
 cell_small : (n : ℕ) (s : List ℤ) → IsStateRow n s → (k : ℕ) → k < length s → IsSmallNumber (get_or s k (pos 0))
 cell_small n s row k l =
-    let w = words_for n in
     elim (cases_lt k (words_for n)) [
       | inl a ↦ subst IsSmallNumber (get_or-take (words_for n) s k (pos 0) a) (word_small (get_or (positions_of (words_for n) s) k (pos 0)) (row.positions.cells k))
-      | inr a ↦ (elim (cases_lt k (2 * words_for n)) [
-        | inl b ↦ (let at : words_for n + (k - words_for n) ≡ k = omega arith in
-            subst IsSmallNumber (get_or-take (words_for n) (drop (words_for n) s) (k - words_for n) (pos 0) (omega arith) ∙ get_or-drop (words_for n) s (k - words_for n) (pos 0) ∙ ap (λ j. get_or s j (pos 0)) at)
-            (word_small (get_or (must_of (words_for n) s) (k - words_for n) (pos 0)) (row.must.cells (k - words_for n))))
-        | inr b ↦ (elim (cases_lt k (3 * words_for n)) [
-          | inl c ↦ (let at : 2 * words_for n + (k - 2 * words_for n) ≡ k = omega arith in
-              subst IsSmallNumber (get_or-take (words_for n) (drop (2 * words_for n) s) (k - 2 * words_for n) (pos 0) (omega arith) ∙ get_or-drop (2 * words_for n) s (k - 2 * words_for n) (pos 0) ∙ ap (λ j. get_or s j (pos 0)) at)
-              (word_small (get_or (may_of (words_for n) s) (k - 2 * words_for n) (pos 0)) (row.may.cells (k - 2 * words_for n))))
-          | inr c ↦ (let at : 3 * words_for n ≡ k = omega (arith, row.cells) in
-              subst IsSmallNumber (sym row.time ∙ ap (λ j. get_or s j (pos 0)) at) (small_natural (shown (words_for n) s).time (omega (arith, row.in_time))))
-        ])
-      ])
+      | inr a ↦ (let at : words_for n + (k - words_for n) ≡ k = omega arith in
+          let behind = length-drop (words_for n) s in
+          subst IsSmallNumber (get_or-drop (words_for n) s (k - words_for n) (pos 0) ∙ ap (λ j. get_or s j (pos 0)) at)
+          (row_laws.cell_small n (pending_of (words_for n) s) row.pending (k - words_for n) (omega (arith, behind, l))))
     ]
 
 gap_size : (a b : ℕ) (g : ℤ) → a ≤ b → b ≤ 1000000000000 → g ≡ pos b -ℤ pos a → (pos 0 ≤ℤ g) × IsSmallNumber g
@@ -295,10 +282,10 @@ sizes_hold i small = record {
   root_value = (let at = small.opens 0 in let shut = small.closes 0 in small_negated (opening i 0) (omega (arith, at, shut)));
   cells = λ k s state. (state_row-gives i.nodes s state.test).cells;
   state = λ k s state. each_small s (cell_small i.nodes s (state_row-gives i.nodes s state.test));
-  gain = λ k s d state allowed. small_difference (shown (words_for i.nodes) s).time (departure i (shown (words_for i.nodes) s) d) (omega (arith, (state_row-gives i.nodes s state.test).in_time)) (omega (arith, (departure-most i k (shown (words_for i.nodes) s) d small (gone i k s d allowed))));
+  gain = λ k s d state allowed. small_difference (shown (words_for i.nodes) s).pending.time (departure i (shown (words_for i.nodes) s) d) (omega (arith, (state_row-gives i.nodes s state.test).early)) (omega (arith, (departure-most i k (shown (words_for i.nodes) s) d small (gone i k s d allowed))));
   gap = λ k a s g left right e.
       let gap = gap-gives i.nodes (shown (words_for i.nodes) a) (shown (words_for i.nodes) s) g e in
-      gap_size (shown (words_for i.nodes) a).time (shown (words_for i.nodes) s).time g gap.covered.time (state_row-gives i.nodes s right.test).in_time gap.is;
+      gap_size (shown (words_for i.nodes) a).pending.time (shown (words_for i.nodes) s).pending.time g gap.covered.pending.time (state_row-gives i.nodes s right.test).early gap.is;
   rough = λ k s r state e. rough_size i k (shown (words_for i.nodes) s) r small e;
 }
 

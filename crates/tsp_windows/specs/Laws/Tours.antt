@@ -8,11 +8,13 @@ use Rattle.node_sets.specs.Sums.{count_below}
 use Rattle.node_sets.specs.Sets.{words_for}
 use Rattle.node_sets.proofs.Below.{sum_below-none, count_below-none, least_amount-none, least_amount-same, least_amount-skip, least_amount-next}
 use Rattle.dp_model.specs.Prefixes.{IsSolution, gain_of, value_of}
+use Rattle.pending_rows.specs.Pending as rows
+use Rattle.pending_rows.specs.Pending.{is_open, done}
 use Rattle.pending_rows.specs.Orders.{are_different}
 use Rattle.pending_rows.proofs.Covering.{sum-without}
 use Rattle.tsp_windows.specs.Instance.{Instance, IsTourInstance, distance, opening, closing}
 use Rattle.tsp_windows.specs.States.{TourState, from_elsewhere, leg, arrival, departure, moved, start, shown, row_for}
-use Rattle.tsp_windows.specs.Laws.States.{IsWithinNodes, shown-row_for, words_enough}
+use Rattle.tsp_windows.specs.Laws.States.{IsWithinNodes, shown-row_for}
 use Rattle.tsp_windows.specs.Program.{program_of}
 use Rattle.tsp_windows.specs.OwnWords.{ends_at_home, is_order, end_time, negated, tour_value}
 use Rattle.dp_model.specs.Solution.{IsSolutionWith, SolutionGives}
@@ -25,9 +27,9 @@ use Rattle.tsp_windows.specs.Laws.Walks.{IsGone, IsTour, last_time, tour-of_path
 pub record IsAtNode (n here : ℕ) (t : TourState) : Type 0 where
   pub inside : here < n
   pub there : (p : ℕ) → t.positions p ≡ nat_eq p here
-  pub none : (v : ℕ) → t.may v ≡ false
-  pub left : t.must here ≡ false
-  pub home : t.must 0 ≡ false
+  pub none : (v : ℕ) → t.pending.may v ≡ false
+  pub left : t.pending.must here ≡ false
+  pub home : t.pending.must 0 ≡ false
 
 elsewhere-at : (n here d p : ℕ) (t : TourState) → IsAtNode n here t → here ≢ d → from_elsewhere t d p ≡ nat_eq p here
 elsewhere-at n here d p t a apart_ =
@@ -44,8 +46,8 @@ leg-at i here d t a far =
     ∙ least_amount-skip (here + 1) i.nodes (λ p. nat_eq p here) (λ p. distance i p d) (omega (arith, a.inside)) (λ v l m. ne_eqb v here (omega arith))
     ∙ least_amount-next 0 here (λ p. nat_eq p here) (λ p. distance i p d) (omega arith) (λ v l m. ne_eqb v here (omega arith)) (eq-eqb here here refl)
 
-pub arrival-at : (i : Instance) (here d : ℕ) (t : TourState) → IsAtNode i.nodes here t → here ≢ d → arrival i t d ≡ t.time + distance i here d
-arrival-at i here d t a far = ap (λ o. t.time + unwrap_or o 0) (leg-at i here d t a far)
+pub arrival-at : (i : Instance) (here d : ℕ) (t : TourState) → IsAtNode i.nodes here t → here ≢ d → arrival i t d ≡ t.pending.time + distance i here d
+arrival-at i here d t a far = ap (λ o. t.pending.time + unwrap_or o 0) (leg-at i here d t a far)
 
 leg-same : (i : Instance) (here : ℕ) (t : TourState) → IsAtNode i.nodes here t → leg i t here ≡ None
 unfolding leg
@@ -61,22 +63,22 @@ leg-same i here t a = least_amount-none i.nodes (from_elsewhere t here) (λ p. d
     right x false e = absurd (false≢true e)
 
 -- nor is there a way to itself
-arrival-anywhere : (i : Instance) (here d : ℕ) (t : TourState) → IsTourInstance i → IsAtNode i.nodes here t → arrival i t d ≡ t.time + distance i here d
+arrival-anywhere : (i : Instance) (here d : ℕ) (t : TourState) → IsTourInstance i → IsAtNode i.nodes here t → arrival i t d ≡ t.pending.time + distance i here d
 arrival-anywhere i here d t small a =
     elim (cases_eq here d) [
       | inl s ↦ (let none = ap (λ v. leg i t v) (sym s) ∙ leg-same i here t a in
           let zero_way : distance i here d ≡ 0 = ap (distance i here) (sym s) ∙ small.home here a.inside in
-          ap (λ o. t.time + unwrap_or o 0) none ∙ ap (λ x. t.time + x) (sym zero_way))
+          ap (λ o. t.pending.time + unwrap_or o 0) none ∙ ap (λ x. t.pending.time + x) (sym zero_way))
       | inr s ↦ arrival-at i here d t a s
     ]
 
 pub moved-at : (i : Instance) (here d : ℕ) (t : TourState) → IsAtNode i.nodes here t → d < i.nodes → IsAtNode i.nodes d (moved i t d)
-unfolding moved
+unfolding moved done
 moved-at i here d t a l = record {
   inside = l;
   there = λ p. refl;
   none = λ v. ap (λ b. b && not (nat_eq v d)) (a.none v);
-  left = self (t.must d) (nat_eq d d) (eq-eqb d d refl);
+  left = self (t.pending.must d) (nat_eq d d) (eq-eqb d d refl);
   home = ap (λ b. b && not (nat_eq 0 d)) a.home;
 }
   where
@@ -141,23 +143,23 @@ wider d (v ∷ vs) test h =
     drop_not false y z e = e
 
 -- one node less must be visited
-count-moved : (i : Instance) (t : TourState) (d : ℕ) → d < i.nodes → t.must d ≡ true → count_below i.nodes t.must ≡ count_below i.nodes (moved i t d).must + 1
-unfolding moved
-count-moved i t d l e = sum-without i.nodes d t.must (λ _. 1) l e
+count-moved : (i : Instance) (t : TourState) (d : ℕ) → d < i.nodes → t.pending.must d ≡ true → count_below i.nodes t.pending.must ≡ count_below i.nodes (moved i t d).pending.must + 1
+unfolding moved done
+count-moved i t d l e = sum-without i.nodes d t.pending.must (λ _. 1) l e
 
-must-moved-is : (i : Instance) (t : TourState) (d v : ℕ) → (moved i t d).must v ≡ (t.must v && not (nat_eq v d))
-unfolding moved
+must-moved-is : (i : Instance) (t : TourState) (d v : ℕ) → (moved i t d).pending.must v ≡ (t.pending.must v && not (nat_eq v d))
+unfolding moved done
 must-moved-is i t d v = refl
 
-time-moved-is : (i : Instance) (t : TourState) (d : ℕ) → (moved i t d).time ≡ departure i t d
-unfolding moved
+time-moved-is : (i : Instance) (t : TourState) (d : ℕ) → (moved i t d).pending.time ≡ departure i t d
+unfolding moved done
 time-moved-is i t d = refl
 
 -- ---- a tour is such a list that is kept within the windows
 
 pub record IsInTime (i : Instance) (here : ℕ) (t : TourState) (ds : List ℕ) : Type 0 where
-  pub visits : Lists i.nodes t.must ds
-  pub time : end_time i here t.time ds ≡ Some (last_time i t ds)
+  pub visits : Lists i.nodes t.pending.must ds
+  pub time : end_time i here t.pending.time ds ≡ Some (last_time i t ds)
 
 on_time : (i : Instance) (here d : ℕ) (time : ℕ) (vs : List ℕ) → time + distance i here d ≤ closing i d → end_time i here time (d ∷ vs) ≡ end_time i d (max (time + distance i here d) (opening i d)) vs
 on_time i here d time vs l = ap (λ b. cond b (end_time i d (max (time + distance i here d) (opening i d)) vs) None) (le-leb (time + distance i here d) (closing i d) l)
@@ -166,11 +168,11 @@ all-same : (ds : List ℕ) (p q : ℕ → Bool) → ((v : ℕ) → p v ≡ q v) 
 all-same [] p q h = refl
 all-same (v ∷ vs) p q h = ap₂ ◌&&◌ (h v) (all-same vs p q h)
 
-far : (t : TourState) (here d : ℕ) → t.must here ≡ false → t.must d ≡ true → here ≢ d
-far t here d e f s = false≢true (sym e ∙ ap t.must s ∙ f)
+far : (t : TourState) (here d : ℕ) → t.pending.must here ≡ false → t.pending.must d ≡ true → here ≢ d
+far t here d e f s = false≢true (sym e ∙ ap t.pending.must s ∙ f)
 
-pending-must : (n here : ℕ) (t : TourState) (d : ℕ) → IsAtNode n here t → (t.must d || t.may d) ≡ true → t.must d ≡ true
-pending-must n here t d a e = only (t.must d) (t.may d) (a.none d) e
+pending-must : (n here : ℕ) (t : TourState) (d : ℕ) → IsAtNode n here t → is_open t.pending d ≡ true → t.pending.must d ≡ true
+pending-must n here t d a e = only (t.pending.must d) (t.pending.may d) (a.none d) e
   where
     only : (x y : Bool) → y ≡ false → (x || y) ≡ true → x ≡ true
     only true y e h = refl
@@ -183,13 +185,13 @@ kept-last i here t d k small a l g =
     let way = arrival-anywhere i here d t small a in
     record {
       visits = record {
-        whole = ap (λ c. c + 1) (sym (sum_below-none i.nodes t.must (λ _. 1) r.done));
+        whole = ap (λ c. c + 1) (sym (sum_below-none i.nodes t.pending.must (λ _. 1) r.done));
         inside = and_from (nat_lt d i.nodes) true (lt-ltb d i.nodes g.choice) refl;
         different = refl;
         home = eq-eqb d 0 r.home;
-        wanted = and_from (t.must d || nat_eq d 0) true (right (t.must d) (nat_eq d 0) (eq-eqb d 0 r.home)) refl;
+        wanted = and_from (t.pending.must d || nat_eq d 0) true (right (t.pending.must d) (nat_eq d 0) (eq-eqb d 0 r.home)) refl;
       };
-      time = on_time i here d t.time [] (omega (arith, way, r.on_time)) ∙ ap (λ x. Some (max x (opening i d))) (sym way) ∙ ap Some (sym (time-moved-is i t d));
+      time = on_time i here d t.pending.time [] (omega (arith, way, r.on_time)) ∙ ap (λ x. Some (max x (opening i d))) (sym way) ∙ ap Some (sym (time-moved-is i t d));
     }
   where
     right : (x y : Bool) → y ≡ true → (x || y) ≡ true
@@ -202,16 +204,16 @@ kept-more i here t d k ds a l g tail rest home =
     let must = pending-must i.nodes here t d a v.pending in
     let apart_ = far t here d a.left must in
     let way = arrival-at i here d t a apart_ in
-    let wanted = sym (all-same ds (λ v. (moved i t d).must v || nat_eq v 0) (λ v. (t.must v && not (nat_eq v d)) || nat_eq v 0) (λ v. ap (λ b. b || nat_eq v 0) (must-moved-is i t d v))) ∙ rest.visits.wanted in
+    let wanted = sym (all-same ds (λ v. (moved i t d).pending.must v || nat_eq v 0) (λ v. (t.pending.must v && not (nat_eq v d)) || nat_eq v 0) (λ v. ap (λ b. b || nat_eq v 0) (must-moved-is i t d v))) ∙ rest.visits.wanted in
     record {
       visits = record {
         whole = (let count = count-moved i t d g.choice must in omega (arith, count, rest.visits.whole));
         inside = and_from (nat_lt d i.nodes) _ (lt-ltb d i.nodes g.choice) rest.visits.inside;
-        different = and_from (not (list_any (λ u. nat_eq u d) ds)) _ (ap not (none-any d ds t.must v.away wanted)) rest.visits.different;
+        different = and_from (not (list_any (λ u. nat_eq u d) ds)) _ (ap not (none-any d ds t.pending.must v.away wanted)) rest.visits.different;
         home = home;
-        wanted = and_from (t.must d || nat_eq d 0) _ (or_left (t.must d) (nat_eq d 0) must) (wider d ds t.must wanted);
+        wanted = and_from (t.pending.must d || nat_eq d 0) _ (or_left (t.pending.must d) (nat_eq d 0) must) (wider d ds t.pending.must wanted);
       };
-      time = on_time i here d t.time ds (omega (arith, way, v.on_time))
+      time = on_time i here d t.pending.time ds (omega (arith, way, v.on_time))
           ∙ ap (λ x. end_time i d (max x (opening i d)) ds) (sym way) ∙ ap (λ x. end_time i d x ds) (sym (time-moved-is i t d)) ∙ rest.time;
     }
 
@@ -242,12 +244,12 @@ pub record IsTourWithEnd (i : Instance) (k : ℕ) (t : TourState) (ds : List ℕ
   pub tour : IsTour i k t ds
   pub last_is : last_time i t ds ≡ last
 
-made-last : (i : Instance) (k here : ℕ) (t : TourState) (d last : ℕ) → IsTourInstance i → IsAtNode i.nodes here t → k + 1 ≡ i.nodes → (here ≡ 0 → i.nodes ≡ 1) → Lists i.nodes t.must (d ∷ []) → end_time i here t.time (d ∷ []) ≡ Some last → IsTourWithEnd i k t (d ∷ []) last
+made-last : (i : Instance) (k here : ℕ) (t : TourState) (d last : ℕ) → IsTourInstance i → IsAtNode i.nodes here t → k + 1 ≡ i.nodes → (here ≡ 0 → i.nodes ≡ 1) → Lists i.nodes t.pending.must (d ∷ []) → end_time i here t.pending.time (d ∷ []) ≡ Some last → IsTourWithEnd i k t (d ∷ []) last
 made-last i k here t d last small a l single h e =
     let home : d ≡ 0 = eqb-true d 0 h.home in
-    let soon = late i here d t.time last [] e in
-    let finish : Some (max (t.time + distance i here d) (opening i d)) ≡ Some last = sym (on_time i here d t.time [] soon) ∙ e in
-    let last_is : max (t.time + distance i here d) (opening i d) ≡ last = cc in
+    let soon = late i here d t.pending.time last [] e in
+    let finish : Some (max (t.pending.time + distance i here d) (opening i d)) ≡ Some last = sym (on_time i here d t.pending.time [] soon) ∙ e in
+    let last_is : max (t.pending.time + distance i here d) (opening i d) ≡ last = cc in
     let way = arrival-anywhere i here d t small a in
     record {
       tour = (
@@ -256,7 +258,7 @@ made-last i k here t d last small a l single h e =
           choice = ltb-true d i.nodes (and_parts (nat_lt d i.nodes) true h.inside).0;
           test = goes_home i k t d (omega arith) ∙ may_return-from i t d (record {
             home = home;
-            done = count_below-none i.nodes t.must (omega (arith, h.whole));
+            done = count_below-none i.nodes t.pending.must (omega (arith, h.whole));
             reached = elim (cases_eq here d) [
               | inl s ↦ inr (single (s ∙ home))
               | inr s ↦ inl (ap is_some (leg-at i here d t a s))
@@ -279,7 +281,7 @@ home-behind d (v ∷ u ∷ vs) e n s = home-behind d (u ∷ vs) e (second (nat_e
     second false b e = e
 
 -- the rest of the list is one of the nodes that must be visited behind it
-lists-rest : (i : Instance) (t : TourState) (d f : ℕ) (ds : List ℕ) → Lists i.nodes t.must (d ∷ f ∷ ds) → d < i.nodes → t.must d ≡ true → Lists i.nodes (moved i t d).must (f ∷ ds)
+lists-rest : (i : Instance) (t : TourState) (d f : ℕ) (ds : List ℕ) → Lists i.nodes t.pending.must (d ∷ f ∷ ds) → d < i.nodes → t.pending.must d ≡ true → Lists i.nodes (moved i t d).pending.must (f ∷ ds)
 lists-rest i t d f ds h l must =
     let different = not-true (list_any (λ u. nat_eq u d) (f ∷ ds)) (and_parts (not (list_any (λ u. nat_eq u d) (f ∷ ds))) (are_different (f ∷ ds)) h.different).0 in
     record {
@@ -287,32 +289,32 @@ lists-rest i t d f ds h l must =
       inside = (and_parts (nat_lt d i.nodes) (list_all (λ v. nat_lt v i.nodes) (f ∷ ds)) h.inside).1;
       different = (and_parts (not (list_any (λ u. nat_eq u d) (f ∷ ds))) (are_different (f ∷ ds)) h.different).1;
       home = h.home;
-      wanted = all-same (f ∷ ds) (λ v. (moved i t d).must v || nat_eq v 0) (λ v. (t.must v && not (nat_eq v d)) || nat_eq v 0) (λ v. ap (λ b. b || nat_eq v 0) (must-moved-is i t d v))
-          ∙ any-none d (f ∷ ds) different t.must (and_parts (t.must d || nat_eq d 0) (list_all (λ v. t.must v || nat_eq v 0) (f ∷ ds)) h.wanted).1;
+      wanted = all-same (f ∷ ds) (λ v. (moved i t d).pending.must v || nat_eq v 0) (λ v. (t.pending.must v && not (nat_eq v d)) || nat_eq v 0) (λ v. ap (λ b. b || nat_eq v 0) (must-moved-is i t d v))
+          ∙ any-none d (f ∷ ds) different t.pending.must (and_parts (t.pending.must d || nat_eq d 0) (list_all (λ v. t.pending.must v || nat_eq v 0) (f ∷ ds)) h.wanted).1;
     }
 
-pub is_made : (i : Instance) (k here : ℕ) (t : TourState) (ds : List ℕ) (last : ℕ) → IsTourInstance i → IsAtNode i.nodes here t → k + length ds ≡ i.nodes → (here ≡ 0 → k ≡ 0) → Lists i.nodes t.must ds → end_time i here t.time ds ≡ Some last → IsTourWithEnd i k t ds last
+pub is_made : (i : Instance) (k here : ℕ) (t : TourState) (ds : List ℕ) (last : ℕ) → IsTourInstance i → IsAtNode i.nodes here t → k + length ds ≡ i.nodes → (here ≡ 0 → k ≡ 0) → Lists i.nodes t.pending.must ds → end_time i here t.pending.time ds ≡ Some last → IsTourWithEnd i k t ds last
 is_made i k here t [] last small a l single h e = absurd (omega (arith, h.whole))
 is_made i k here t (d ∷ []) last small a l single h e = made-last i k here t d last small a (omega arith) (λ z. omega (arith, single z)) h e
 is_made i k here t (d ∷ f ∷ ds) last small a l single h e =
     let choice = ltb-true d i.nodes (and_parts (nat_lt d i.nodes) (list_all (λ v. nat_lt v i.nodes) (f ∷ ds)) h.inside).0 in
     let different = not-true (list_any (λ u. nat_eq u d) (f ∷ ds)) (and_parts (not (list_any (λ u. nat_eq u d) (f ∷ ds))) (are_different (f ∷ ds)) h.different).0 in
     let away = home-behind d (f ∷ ds) h.home different in
-    let must = only (t.must d) (nat_eq d 0) (ne_eqb d 0 away) (and_parts (t.must d || nat_eq d 0) (list_all (λ v. t.must v || nat_eq v 0) (f ∷ ds)) h.wanted).0 in
+    let must = only (t.pending.must d) (nat_eq d 0) (ne_eqb d 0 away) (and_parts (t.pending.must d || nat_eq d 0) (list_all (λ v. t.pending.must v || nat_eq v 0) (f ∷ ds)) h.wanted).0 in
     let apart_ = far t here d a.left must in
     let way = arrival-at i here d t a apart_ in
-    let soon = late i here d t.time last (f ∷ ds) e in
+    let soon = late i here d t.pending.time last (f ∷ ds) e in
     let go : IsGone i k t d = record {
       layer = omega arith;
       choice = choice;
       test = goes_on i k t d (omega arith) ∙ may_visit-from i t d (record {
         away = away;
-        pending = or_left (t.must d) (t.may d) must;
+        pending = or_left (t.pending.must d) (t.pending.may d) must;
         reached = ap is_some (leg-at i here d t a apart_);
         on_time = omega (arith, way, soon);
       });
     } in
-    let then = ap (λ x. end_time i d x (f ∷ ds)) (time-moved-is i t d ∙ ap (λ x. max x (opening i d)) way) ∙ sym (on_time i here d t.time (f ∷ ds) soon) ∙ e in
+    let then = ap (λ x. end_time i d x (f ∷ ds)) (time-moved-is i t d ∙ ap (λ x. max x (opening i d)) way) ∙ sym (on_time i here d t.pending.time (f ∷ ds) soon) ∙ e in
     let rest = is_made i (k + 1) d (moved i t d) (f ∷ ds) last small (moved-at i here d t a choice) (omega arith) (λ z. absurd (away z)) (lists-rest i t d f ds h choice must) then in
     record { tour = (go, rest.tour); last_is = rest.last_is }
   where
@@ -323,7 +325,7 @@ is_made i k here t (d ∷ f ∷ ds) last small a l single h e =
 -- ---- from the start
 
 start-at : (i : Instance) → 1 ≤ i.nodes → IsAtNode i.nodes 0 (start i)
-unfolding start
+unfolding start rows.start done
 start-at i some = record {
   inside = some;
   there = λ p. refl;
@@ -351,15 +353,15 @@ count_others n (suc (suc m)) l =
     ap₂ (λ s b. s + cond b 1 0) (count_others n (suc m) (omega arith)) (and_from (nat_lt (suc m) n) (not (nat_eq (suc m) 0)) (lt-ltb (suc m) n (omega arith)) (ap not (ne_eqb (suc m) 0 (λ z. absurd (omega arith)))))
     ∙ (let e : suc m - 1 + 1 ≡ suc (suc m) - 1 = omega arith in e)
 
-start-must : (i : Instance) → (start i).must ≡ others i.nodes
-unfolding start others
+start-must : (i : Instance) → (start i).pending.must ≡ others i.nodes
+unfolding start others done rows.start
 start-must i = refl
 
-start-count : (i : Instance) → 1 ≤ i.nodes → count_below i.nodes (start i).must + 1 ≡ i.nodes
+start-count : (i : Instance) → 1 ≤ i.nodes → count_below i.nodes (start i).pending.must + 1 ≡ i.nodes
 start-count i some = ap (λ p. count_below i.nodes p + 1) (start-must i) ∙ (let c = count_others i.nodes i.nodes (omega arith) in omega (arith, c))
 
-start-time : (i : Instance) → (start i).time ≡ opening i 0
-unfolding start
+start-time : (i : Instance) → (start i).pending.time ≡ opening i 0
+unfolding start rows.start done
 start-time i = refl
 
 all-wanted : (n : ℕ) (ds : List ℕ) → list_all (λ v. nat_lt v n) ds ≡ true → list_all (λ v. others n v || nat_eq v 0) ds ≡ true
@@ -373,7 +375,7 @@ all-wanted n (v ∷ vs) e =
     either true false e = refl
     either false y e = absurd (false≢true e)
 
-order-gives : (i : Instance) (ds : List ℕ) → 1 ≤ i.nodes → is_order i.nodes ds ≡ true → Lists i.nodes (start i).must ds
+order-gives : (i : Instance) (ds : List ℕ) → 1 ≤ i.nodes → is_order i.nodes ds ≡ true → Lists i.nodes (start i).pending.must ds
 order-gives i ds some e =
     let e1 = (and_parts (nat_eq (length ds) i.nodes) (list_all (λ v. nat_lt v i.nodes) ds && (are_different ds && ends_at_home ds)) e).1 in
     let e2 = (and_parts (list_all (λ v. nat_lt v i.nodes) ds) (are_different ds && ends_at_home ds) e1).1 in
@@ -386,13 +388,13 @@ order-gives i ds some e =
       wanted = ap (λ (p : ℕ → Bool). list_all (λ v. p v || nat_eq v 0) ds) (start-must i) ∙ all-wanted i.nodes ds inside;
     }
 
-order-from : (i : Instance) (ds : List ℕ) → 1 ≤ i.nodes → Lists i.nodes (start i).must ds → is_order i.nodes ds ≡ true
+order-from : (i : Instance) (ds : List ℕ) → 1 ≤ i.nodes → Lists i.nodes (start i).pending.must ds → is_order i.nodes ds ≡ true
 order-from i ds some h =
     and_from (nat_eq (length ds) i.nodes) _ (eq-eqb (length ds) i.nodes (h.whole ∙ start-count i some))
     (and_from (list_all (λ v. nat_lt v i.nodes) ds) _ h.inside (and_from (are_different ds) (ends_at_home ds) h.different h.home))
 
 root-shown : (i : Instance) → 1 ≤ i.nodes → shown (words_for i.nodes) (row_for (words_for i.nodes) (start i)) ≡ start i
-root-shown i some = shown-row_for (words_for i.nodes) i.nodes (start i) (words_enough i.nodes) (start-bounded i some)
+root-shown i some = shown-row_for i.nodes (start i) (start-bounded i some)
 
 root-bounded : (i : Instance) → 1 ≤ i.nodes → IsWithinNodes i.nodes (shown (words_for i.nodes) (row_for (words_for i.nodes) (start i)))
 root-bounded i some = subst (IsWithinNodes i.nodes) (sym (root-shown i some)) (start-bounded i some)
@@ -403,7 +405,7 @@ value-is i ds last small tour e =
     let same = root-shown i small.some in
     let at_root = subst (λ t. IsTour i 0 t ds) (sym same) tour in
     let gain = gain-of_tour i 0 (row_for (words_for i.nodes) (start i)) ds (root-bounded i small.some) at_root in
-    let gain' = gain ∙ ap (λ t. pos t.time -ℤ pos (last_time i t ds)) same ∙ ap₂ (λ x y. pos x -ℤ pos y) (start-time i) e in
+    let gain' = gain ∙ ap (λ t. pos t.pending.time -ℤ pos (last_time i t ds)) same ∙ ap₂ (λ x y. pos x -ℤ pos y) (start-time i) e in
     sum (opening i 0) last (gain_of (program_of i) 0 (row_for (words_for i.nodes) (start i)) ds) gain'
   where
     sum : (a b : ℕ) (g : ℤ) → g ≡ pos a -ℤ pos b → neg_ℤ (pos b) ≡ neg_ℤ (pos a) +ℤ g

@@ -1,6 +1,5 @@
-use Rattle.std.proofs.Common.{◌≡◌, ◌++◌, drop, true}
-use Rattle.std.specs.List.{flat_map, list_all}
-use Rattle.one_machine.specs.Instance.{is_small_job}
+use Rattle.std.proofs.Common.{◌≡◌, ◌++◌, drop}
+use Rattle.std.specs.List.{flat_map}
 use Rattle.one_machine.specs.Texts.{line_of}
 use Rattle.one_machine.proofs.printing.push_jobs.Given as goal
 

@@ -1,4 +1,4 @@
-use Rattle.std.proofs.Common.{◌∙◌, sym, arith}
+use Rattle.std.proofs.Common.{◌∙◌, arith}
 use Rattle.node_sets.specs.Sets.{words_for}
 use Rattle.node_sets.proofs.Below.{count_below-le}
 use Rattle.pending_rows.specs.Pending.{shown}

@@ -1,20 +1,14 @@
-use Rattle.std.proofs.Common.{sym, arith}
+use Rattle.std.proofs.Common.{sym}
 use Rattle.node_sets.specs.Sets.{words_for}
-use Rattle.tsp_windows.proofs.StateLemmas.{positions_cover, must_cover, all_cover}
+use Rattle.tsp_windows.specs.States.{shown}
+use Rattle.tsp_windows.proofs.StateLemmas.{pending_no, positions_cover}
 use Rattle.tsp_windows.proofs.model.covers.Goals as goal
 
-pub returns-then-not-positions_within : goal.returns-then-not-positions_within
-returns-then-not-positions_within c =
-    sym (positions_cover c.args.nodes (words_for c.args.nodes) c.args.a.now c.args.s.now _ _ _ c.parts_of-part.ensures.positions c.parts_of-wide.ensures.positions c.parts_of-part.ensures.positions_set c.is_subset-positions_within.ensures.1 c.if-not-positions_within.true)
-
-pub returns-then-not-must_within : goal.returns-then-not-must_within
-returns-then-not-must_within c =
-    sym (must_cover c.args.nodes (words_for c.args.nodes) c.args.a.now c.args.s.now _ _ _ c.parts_of-wide.ensures.must c.parts_of-part.ensures.must c.parts_of-wide.ensures.must_set c.is_subset-must_within.ensures.1 c.if-not-must_within.true)
+pub returns-then-not-pending : goal.returns-then-not-pending
+returns-then-not-pending c =
+    sym (pending_no c.args.nodes (shown (words_for c.args.nodes) c.args.a.now) (shown (words_for c.args.nodes) c.args.s.now) _ _ c.covers-pending.ensures c.pending_of.ensures.shown c.pending_of-2.ensures.shown c.if-not-pending.true)
 
 pub returns : goal.returns
 returns c =
-    all_cover c.args.nodes (words_for c.args.nodes) c.args.a.now c.args.s.now _ _ _ _ _ _ _ _ _ _ _
-    c.parts_of-wide.ensures.positions c.parts_of-wide.ensures.must c.parts_of-wide.ensures.may c.parts_of-part.ensures.positions c.parts_of-part.ensures.must c.parts_of-part.ensures.may c.parts_of-wide.ensures.time c.parts_of-part.ensures.time
-    c.parts_of-part.ensures.must_set c.parts_of-part.ensures.may_set (omega arith)
-    c.if-not-positions_within.false c.is_subset-positions_within.ensures.0 c.if-not-must_within.false c.is_subset-must_within.ensures.0
-    c.is_union_subset.ensures.0 c.is_union_subset.ensures.1
+    positions_cover c.args.nodes (words_for c.args.nodes) c.args.a.now c.args.s.now _ _ _ _ c.positions_of-part.ensures.row c.positions_of-wide.ensures.row c.positions_of-part.ensures.set
+    c.covers-pending.ensures c.pending_of.ensures.shown c.pending_of-2.ensures.shown c.if-not-pending.false c.is_subset.ensures.0 c.is_subset.ensures.1

@@ -1,69 +1,43 @@
-use Rattle.std.proofs.Common.{◌*◌, pos, get_or, ap, sym, ◌∙◌, FitsSigned, w64, rules, arith}
-use Rattle.std.proofs.lemmas.Int.{to_z-of_z}
+use Rattle.std.proofs.Common.{take, length, ap, sym, ◌∙◌, arith}
+use Rattle.std.proofs.lemmas.List.{length-drop}
+use Rattle.node_sets.specs.Sets.{words_for}
 use Rattle.node_sets.proofs.Counts.{is_set-gives}
-use Rattle.tsp_windows.specs.States.{positions_of, must_of, may_of}
-use Rattle.tsp_windows.proofs.StateLemmas.{no_positions, no_must, no_may, state_sound, state_time, time_last, time_below}
+use Rattle.pending_rows.specs.Pending.{is_pending_row, must_of, may_of}
+use Rattle.tsp_windows.proofs.StateLemmas.{rest_of, no_positions, no_pending, state_last}
 use Rattle.tsp_windows.proofs.model.is_state_of.Goals as goal
 
-pub is_sound-sound-requires-clause-positions_cells : goal.is_sound-sound-requires-clause-positions_cells
-is_sound-sound-requires-clause-positions_cells c = (is_set-gives c.args.nodes _ (sym c.is_set.ensures ∙ c.if-not-is_set.false)).cells
+pub is_row-row-requires-clause-cells : goal.is_row-row-requires-clause-cells
+is_row-row-requires-clause-cells c =
+    let behind = length-drop (words_for c.args.nodes) c.args.s.now in
+    ap length (rest_of (words_for c.args.nodes) c.words_for-words.result c.args.s.now c.words_for-words.ensures) ∙ omega (arith, behind, c.requires.cells)
 
-pub is_sound-sound-requires-clause-must_cells : goal.is_sound-sound-requires-clause-must_cells
-is_sound-sound-requires-clause-must_cells c = (is_set-gives c.args.nodes _ (sym c.is_set-must_set.ensures ∙ c.if-not-must_set.false)).cells
+pub is_sound-requires-clause-positions_cells : goal.is_sound-requires-clause-positions_cells
+is_sound-requires-clause-positions_cells c = (is_set-gives c.args.nodes _ (sym c.is_set-set.ensures ∙ c.if-not-set.false)).cells
 
-pub is_sound-sound-requires-clause-may_cells : goal.is_sound-sound-requires-clause-may_cells
-is_sound-sound-requires-clause-may_cells c = (is_set-gives c.args.nodes _ (sym c.is_set-may_set.ensures ∙ c.if-not-may_set.false)).cells
+pub is_sound-requires-clause-must_cells : goal.is_sound-requires-clause-must_cells
+is_sound-requires-clause-must_cells c = c.parts_of-state.ensures.must_set.cells
 
-pub sets_of-requires-clause-few : goal.sets_of-requires-clause-few
-sets_of-requires-clause-few c = omega (arith, c.words_for-words.ensures, c.requires.few)
+pub is_sound-requires-clause-may_cells : goal.is_sound-requires-clause-may_cells
+is_sound-requires-clause-may_cells c = c.parts_of-state.ensures.may_set.cells
 
-pub returns-then-not-is_set : goal.returns-then-not-is_set
-returns-then-not-is_set c =
-    sym (no_positions c.args.nodes c.args.s.now _ (c.sets_of.ensures.positions ∙ ap (λ w. positions_of w c.args.s.now) c.words_for-words.ensures) (sym c.is_set.ensures ∙ c.if-not-is_set.true))
+pub is_sound-requires-clause-must_some : goal.is_sound-requires-clause-must_some
+is_sound-requires-clause-must_some c = omega (arith, c.requires.some, c.parts_of-state.ensures.must_set.words)
 
-pub returns-then-not-must_set : goal.returns-then-not-must_set
-returns-then-not-must_set c =
-    sym (no_must c.args.nodes c.args.s.now _ (c.sets_of.ensures.must ∙ ap (λ w. must_of w c.args.s.now) c.words_for-words.ensures) (sym c.is_set-must_set.ensures ∙ c.if-not-must_set.true))
+pub is_sound-requires-clause-may_some : goal.is_sound-requires-clause-may_some
+is_sound-requires-clause-may_some c = omega (arith, c.requires.some, c.parts_of-state.ensures.may_set.words)
 
-pub returns-then-not-may_set : goal.returns-then-not-may_set
-returns-then-not-may_set c =
-    sym (no_may c.args.nodes c.args.s.now _ (c.sets_of.ensures.may ∙ ap (λ w. may_of w c.args.s.now) c.words_for-words.ensures) (sym c.is_set-may_set.ensures ∙ c.if-not-may_set.true))
+pub returns-then-not-set : goal.returns-then-not-set
+returns-then-not-set c =
+    sym (no_positions c.args.nodes c.args.s.now _ (ap (λ w. take w c.args.s.now) c.words_for-words.ensures) (sym c.is_set-set.ensures ∙ c.if-not-set.true))
 
-pub returns-then-not-sound : goal.returns-then-not-sound
-returns-then-not-sound c =
-    sym (state_sound c.args.nodes c.args.s.now _ _ _ _
-    (c.sets_of.ensures.positions ∙ ap (λ w. positions_of w c.args.s.now) c.words_for-words.ensures)
-    (c.sets_of.ensures.must ∙ ap (λ w. must_of w c.args.s.now) c.words_for-words.ensures)
-    (c.sets_of.ensures.may ∙ ap (λ w. may_of w c.args.s.now) c.words_for-words.ensures)
-    (sym c.is_set-must_set.ensures ∙ c.if-not-must_set.false) c.is_sound-sound.ensures.1 c.if-not-sound.true)
+pub returns-then-not-row : goal.returns-then-not-row
+returns-then-not-row c =
+    sym (no_pending c.args.nodes c.args.s.now _ (rest_of (words_for c.args.nodes) c.words_for-words.result c.args.s.now c.words_for-words.ensures) (sym c.is_row-row.ensures ∙ c.if-not-row.true))
 
-pub returns-then-time-ge0 : goal.returns-then-time-ge0
-returns-then-time-ge0 c =
-    let fits : FitsSigned w64 (get_or c.args.s.now (3 * c.words_for-words.result) (pos 0)) = search rules in
-    time_last c.args.nodes c.args.s.now _ (get_or c.args.s.now (3 * c.words_for-words.result) (pos 0)) (to_z-of_z w64 (get_or c.args.s.now (3 * c.words_for-words.result) (pos 0)) fits)
-    (ap (λ w. get_or c.args.s.now (3 * w) (pos 0)) c.words_for-words.ensures) c.if-time-ge0.true
-    (state_time c.args.nodes c.args.s.now _ _ _ c.requires.cells
-    (c.sets_of.ensures.positions ∙ ap (λ w. positions_of w c.args.s.now) c.words_for-words.ensures)
-    (c.sets_of.ensures.must ∙ ap (λ w. must_of w c.args.s.now) c.words_for-words.ensures)
-    (c.sets_of.ensures.may ∙ ap (λ w. may_of w c.args.s.now) c.words_for-words.ensures)
-    (sym c.is_set.ensures ∙ c.if-not-is_set.false) (sym c.is_set-must_set.ensures ∙ c.if-not-must_set.false) (sym c.is_set-may_set.ensures ∙ c.if-not-may_set.false)
-    (c.is_sound-sound.ensures.0 c.if-not-sound.false))
-
-pub returns-else-time-ge0 : goal.returns-else-time-ge0
-returns-else-time-ge0 c =
-    let fits : FitsSigned w64 (get_or c.args.s.now (3 * c.words_for-words.result) (pos 0)) = search rules in
-    c.if-time-ge0.false ∙ time_below c.args.nodes c.args.s.now _ (get_or c.args.s.now (3 * c.words_for-words.result) (pos 0)) (to_z-of_z w64 (get_or c.args.s.now (3 * c.words_for-words.result) (pos 0)) fits)
-    (ap (λ w. get_or c.args.s.now (3 * w) (pos 0)) c.words_for-words.ensures) c.if-time-ge0.false
-    (state_time c.args.nodes c.args.s.now _ _ _ c.requires.cells
-    (c.sets_of.ensures.positions ∙ ap (λ w. positions_of w c.args.s.now) c.words_for-words.ensures)
-    (c.sets_of.ensures.must ∙ ap (λ w. must_of w c.args.s.now) c.words_for-words.ensures)
-    (c.sets_of.ensures.may ∙ ap (λ w. may_of w c.args.s.now) c.words_for-words.ensures)
-    (sym c.is_set.ensures ∙ c.if-not-is_set.false) (sym c.is_set-must_set.ensures ∙ c.if-not-must_set.false) (sym c.is_set-may_set.ensures ∙ c.if-not-may_set.false)
-    (c.is_sound-sound.ensures.0 c.if-not-sound.false))
-
-pub is_sound-sound-requires-clause-same : goal.is_sound-sound-requires-clause-same
-is_sound-sound-requires-clause-same c =
-    (is_set-gives c.args.nodes _ (sym c.is_set-must_set.ensures ∙ c.if-not-must_set.false)).words ∙ sym (is_set-gives c.args.nodes _ (sym c.is_set-may_set.ensures ∙ c.if-not-may_set.false)).words
-
-pub is_sound-sound-requires-clause-some : goal.is_sound-sound-requires-clause-some
-is_sound-sound-requires-clause-some c = omega (arith, c.requires.some, (is_set-gives c.args.nodes _ (sym c.is_set-must_set.ensures ∙ c.if-not-must_set.false)).words)
+pub returns : goal.returns
+returns c =
+    let rest = rest_of (words_for c.args.nodes) c.words_for-words.result c.args.s.now c.words_for-words.ensures in
+    state_last c.args.nodes c.args.s.now _ _ _ (ap (λ w. take w c.args.s.now) c.words_for-words.ensures)
+    (c.parts_of-state.ensures.must ∙ ap (must_of (words_for c.args.nodes)) rest) (c.parts_of-state.ensures.may ∙ ap (may_of (words_for c.args.nodes)) rest)
+    (sym c.is_set-set.ensures ∙ c.if-not-set.false) (ap (is_pending_row c.args.nodes) (sym rest) ∙ sym c.is_row-row.ensures ∙ c.if-not-row.false)
+    c.is_sound.ensures.0 c.is_sound.ensures.1

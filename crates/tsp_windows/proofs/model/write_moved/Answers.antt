@@ -1,5 +1,7 @@
 use Rattle.std.proofs.Common.{ℤ, List, ◌&&◌, not, nat_eq, length, sym, ap, ◌∙◌, arith}
 use Rattle.node_sets.specs.Sets.{words_for, row_of, has}
+use Rattle.pending_rows.specs.Pending as rows
+use Rattle.pending_rows.specs.Pending.{done}
 use Rattle.tsp_windows.specs.States.{shown, moved}
 use Rattle.tsp_windows.specs.Shown.{instance_in}
 use Rattle.pending_rows.proofs.Written.{time_cell}
@@ -31,11 +33,11 @@ pub write_split-requires-clause-may_same : goal.write_split-requires-clause-may_
 write_split-requires-clause-may_same c = c.split_at_mut-positions.ensures.front_len ∙ sym c.split_at_mut-may.ensures.front_len
 
 pub returns : goal.returns
-unfolding moved shown
+unfolding moved done shown rows.shown
 returns c =
     assembled (words_for c.args.model.now.nodes) (moved (instance_in c.args.model.now) (shown (words_for c.args.model.now.nodes) c.args.s.now) c.args.to) _ _ _ _ _ _ _ _
     c.write_split.ensures.one (omega (arith, c.split_at_mut-positions.ensures.front_len, c.min-words.ensures, c.words_for.ensures, c.args.model.now.few))
-    (c.write_split.ensures.must ∙ ap (λ (r : List ℤ). row_of (length c.split_at_mut-must.result.0.now) (λ v. has r v && not (nat_eq v c.args.to))) c.parts_of-state.ensures.must) (omega (arith, c.split_at_mut-must.ensures.front_len, c.min-words.ensures, c.words_for.ensures, c.args.model.now.few))
-    (c.write_split.ensures.may ∙ ap (λ (r : List ℤ). row_of (length c.split_at_mut-may.result.0.now) (λ v. has r v && not (nat_eq v c.args.to))) c.parts_of-state.ensures.may) (omega (arith, c.split_at_mut-may.ensures.front_len, c.min-words.ensures, c.words_for.ensures, c.args.model.now.few))
+    (c.write_split.ensures.must ∙ ap (λ (r : List ℤ). row_of (length c.split_at_mut-must.result.0.now) (λ v. has r v && not (nat_eq v c.args.to))) (c.parts_of-state.ensures.must ∙ ap (rows.must_of (words_for c.args.model.now.nodes)) c.pending_of.ensures.row)) (omega (arith, c.split_at_mut-must.ensures.front_len, c.min-words.ensures, c.words_for.ensures, c.args.model.now.few))
+    (c.write_split.ensures.may ∙ ap (λ (r : List ℤ). row_of (length c.split_at_mut-may.result.0.now) (λ v. has r v && not (nat_eq v c.args.to))) (c.parts_of-state.ensures.may ∙ ap (rows.may_of (words_for c.args.model.now.nodes)) c.pending_of.ensures.row)) (omega (arith, c.split_at_mut-may.ensures.front_len, c.min-words.ensures, c.words_for.ensures, c.args.model.now.few))
     (omega (arith, c.split_at_mut-positions.ensures.back_len, c.split_at_mut-must.ensures.back_len, c.split_at_mut-may.ensures.back_len, c.min-words.ensures, c.words_for.ensures, c.args.model.now.few, c.requires.cells))
     (time_cell _ _ c.requires.departure c.requires.small)

@@ -2,6 +2,8 @@ use Rattle.std.proofs.Common.{ap, arith}
 use Rattle.std.proofs.lemmas.List.{get_or_read}
 use Rattle.node_sets.specs.Sets.{words_for}
 use Rattle.tsp_windows.specs.Instance.{Window, no_window}
+use Rattle.pending_rows.specs.Pending as rows
+use Rattle.pending_rows.specs.Pending.{done}
 use Rattle.tsp_windows.specs.States.{start}
 use Rattle.tsp_windows.specs.Shown.{instance_in}
 use Rattle.pending_rows.proofs.Written.{time_cell}
@@ -9,7 +11,7 @@ use Rattle.tsp_windows.proofs.Assembled.{assembled}
 use Rattle.tsp_windows.proofs.model.write_root.Goals as goal
 
 pub returns : goal.returns
-unfolding start
+unfolding start rows.start done
 returns c =
     let at = ap (λ (w : Window). w.opening) (get_or_read c.args.model.now.windows.items 0 _ (omega (arith, c.args.model.now.each_window, c.args.model.now.some)) c.index.ensures no_window) in
     let opens = c.args.model.now.opens 0 in

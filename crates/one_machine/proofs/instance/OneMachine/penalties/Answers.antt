@@ -1,4 +1,4 @@
-use Rattle.std.proofs.Common.{◌≡◌, ℕ, ◌+◌, ◌*◌, ◌≤◌, List, ℤ, length, sym, ap₂, ◌∙◌, arith}
+use Rattle.std.proofs.Common.{ℕ, ◌+◌, ◌*◌, ◌≤◌, List, ℤ, length, sym, ap₂, ◌∙◌, arith}
 use Rattle.node_sets.specs.Sums.{sum_below}
 use Rattle.node_sets.specs.Sets.{has}
 use Rattle.node_sets.proofs.Below.{sum_below-le, sum_below-next, sum_below-skip}

@@ -8,4 +8,4 @@ pub returns : goal.returns
 unfolding leg shown
 returns c =
     c.least_leg.ensures
-    ∙ ap₂ (λ (r : List ℤ) (ds : List ℕ). least_amount c.args.self.now.nodes (λ p. has r p && not (nat_eq p c.args.to)) (λ p. get_or ds (p * c.args.self.now.nodes + c.args.to) 0)) c.parts_of.ensures.positions c.deref.ensures.value
+    ∙ ap₂ (λ (r : List ℤ) (ds : List ℕ). least_amount c.args.self.now.nodes (λ p. has r p && not (nat_eq p c.args.to)) (λ p. get_or ds (p * c.args.self.now.nodes + c.args.to) 0)) c.positions_of.ensures.row c.deref.ensures.value

@@ -10,9 +10,9 @@ use Rattle.tsp_windows.proofs.model.TspWindowsDpModel.bucket.Goals as goal
 pub returns-in-Some : goal.returns-in-Some
 returns-in-Some c =
     subst (λ (i : Instance). c.in-Some.position ≡ unwrap_or (least_amount i.nodes (shown (words_for i.nodes) c.args.s.now).positions (λ p. p)) 0) (sym c.args.self.now.spelled)
-    (least_position c.args.self.now.nodes (words_for c.args.self.now.nodes) c.args.s.now _ c.in-Some.position c.parts_of.ensures.positions c.parts_of.ensures.positions_set c.in-Some.ensures.next)
+    (least_position c.args.self.now.nodes (words_for c.args.self.now.nodes) c.args.s.now _ c.in-Some.position c.positions_of.ensures.row c.positions_of.ensures.set c.in-Some.ensures.next)
 
 pub returns-in-None : goal.returns-in-None
 returns-in-None c =
     subst (λ (i : Instance). 0 ≡ unwrap_or (least_amount i.nodes (shown (words_for i.nodes) c.args.s.now).positions (λ p. p)) 0) (sym c.args.self.now.spelled)
-    (no_position c.args.self.now.nodes (words_for c.args.self.now.nodes) c.args.s.now _ c.parts_of.ensures.positions c.in-None.ensures.none)
+    (no_position c.args.self.now.nodes (words_for c.args.self.now.nodes) c.args.s.now _ c.positions_of.ensures.row c.in-None.ensures.none)
