@@ -1,9 +1,9 @@
 -- The limits of a state's benefits, one by one.
-use Rattle.std.proofs.Common.{◌≡◌, ℕ, zero, suc, ◌+◌, ◌-◌, ◌^◌, ◌<◌, ◌≤◌, ℤ, pos, ◌+ℤ◌, ◌≤ℤ◌, Bool, true, List, [], ◌∷◌, length, drop, map, get_or, refl, arith, ap, sym, ◌∙◌, to_z, of_z, w64}
+use Rattle.std.proofs.Common.{◌≡◌, ℕ, zero, suc, ◌+◌, ◌-◌, ◌^◌, ◌<◌, ◌≤◌, ℤ, pos, ◌+ℤ◌, ◌≤ℤ◌, Bool, true, List, [], ◌∷◌, ◌++◌, length, drop, take, map, get_or, refl, arith, ap, sym, subst, inl, inr, ◌∙◌, to_z, of_z, w64}
 use Rattle.std.specs.Prelude.{IsTrue, ◌&&◌, int_le}
 use Rattle.std.proofs.lemmas.Int.{ints, to_z-of_z}
-use Rattle.std.proofs.lemmas.List.{drop_more, drop_all, length-drop}
-use Rattle.std.proofs.lemmas.Bool.{and_parts}
+use Rattle.std.proofs.lemmas.List.{drop_more, drop_all, length-drop, length-append, get_or_append_left, get_or_push, get_or_read, take_more, take_all, length-map}
+use Rattle.std.proofs.lemmas.Bool.{and_parts, cases_lt}
 use mir.Val.{SFits}
 use Rattle.dp_model.specs.NumberLaws.{int_le-is}
 use Rattle.max_two_sat.specs.declared.weights.UnitWeights.{UnitWeights}
@@ -11,6 +11,7 @@ use Rattle.max_two_sat.specs.declared.weights.PairWeights.{PairWeights}
 use Rattle.max_two_sat.specs.Instance.{Instance, rows_of, row_at, unit_total, pair_total, pairs_total, no_pair, no_unit, without_tautologies}
 use Rattle.max_two_sat.specs.Limits.{IsWithinLimits, PairIsPositive, pairs_are_positive}
 use Rattle.max_two_sat.specs.Program.{raised_limits, first_limits, limits_at, are_within, is_within, words_of}
+use Rattle.max_two_sat.specs.Table.{limits_through}
 use Rattle.max_two_sat.specs.Laws.Rows.{length-row_at, words_of-some}
 use Rattle.max_two_sat.specs.Laws.Sizes.{later-positive}
 use Rattle.max_two_sat.specs.Laws.Totals.{limits, none_negative, sum_of, sum_of-positive}
@@ -39,7 +40,7 @@ limit-first [] v h = absurd (omega arith)
 limit-first (u ∷ us) v h = get_or-units (u ∷ us) v h
 
 -- behind a decision each limit is raised by the weight of the pair
-pub limit-more : (i : Instance) (j v : ℕ) → IsWithinLimits i → j < v → v < length i.units →
+limit-more : (i : Instance) (j v : ℕ) → IsWithinLimits i → j < v → v < length i.units →
     get_or (limits_at i.units i.pairs (j + 1)) (v - (j + 1)) (pos 0) ≡
     get_or (limits_at i.units i.pairs j) (v - j) (pos 0) +ℤ pair_total (get_or (row_at (rows_of (length i.units) i.pairs) j) (v - j - 1) no_pair)
 limit-more i j v kept h g =
@@ -58,7 +59,7 @@ limit-more i j v kept h g =
     let before : get_or (drop 1 ls) m (pos 0) ≡ get_or ls (v - j) (pos 0) = get_or-behind ls m ∙ ap (λ n. get_or ls n (pos 0)) index in
     rw (next, place, raise, before) refl
 
-limit-within : (ls : List ℤ) (m : ℕ) → IsTrue (none_negative ls) → (pos 0 ≤ℤ get_or ls m (pos 0)) × (get_or ls m (pos 0) ≤ℤ sum_of ls)
+pub limit-within : (ls : List ℤ) (m : ℕ) → IsTrue (none_negative ls) → (pos 0 ≤ℤ get_or ls m (pos 0)) × (get_or ls m (pos 0) ≤ℤ sum_of ls)
 limit-within [] m h = (omega (arith, ints), omega (arith, ints))
 limit-within (l ∷ ls) zero h =
     (int_le-is (pos 0) l (and_parts _ _ h).0, omega (arith, ints, sum_of-positive ls (and_parts (int_le (pos 0) l) _ h).1))
@@ -66,11 +67,11 @@ limit-within (l ∷ ls) (suc m) h =
     let rest = limit-within ls m (and_parts (int_le (pos 0) l) _ h).1 in
     (rest.0, omega (arith, ints, rest.1, int_le-is (pos 0) l (and_parts _ _ h).0))
 
-pub record LimitIsSmall (limit : ℤ) : Type 0 where
+record LimitIsSmall (limit : ℤ) : Type 0 where
   pub low : pos 0 ≤ℤ limit
   pub high : limit ≤ℤ pos (2 ^ 48)
 
-pub limit-small : (i : Instance) (k m : ℕ) → IsWithinLimits i → k ≤ length i.units → LimitIsSmall (get_or (limits_at i.units i.pairs k) m (pos 0))
+limit-small : (i : Instance) (k m : ℕ) → IsWithinLimits i → k ≤ length i.units → LimitIsSmall (get_or (limits_at i.units i.pairs k) m (pos 0))
 limit-small i k m kept h =
     let there = limits i k kept h in
     let here = limit-within (limits_at i.units i.pairs k) m there.positive in
@@ -78,18 +79,12 @@ limit-small i k m kept h =
 
 -- a pass that tests the limits
 
-pub within-more : (i : Instance) (k m : ℕ) (ts : List ℤ) (answer : Bool) (limit : ℤ) → IsWithinLimits i → k ≤ length i.units → length ts + k ≡ words_of (length i.units) → m < length ts →
-    SFits w64 (get_or ts m (pos 0)) → answer ≡ is_within (to_z w64 (of_z w64 (get_or ts m (pos 0)))) (to_z w64 (of_z w64 limit)) → limit ≡ get_or (limits_at i.units i.pairs k) m (pos 0) →
-    are_within (drop m ts) (drop m (limits_at i.units i.pairs k)) ≡ are_within ts (limits_at i.units i.pairs k) →
-    are_within ts (limits_at i.units i.pairs k) ≡ (answer && are_within (drop (m + 1) ts) (drop (m + 1) (limits_at i.units i.pairs k)))
-within-more i k m ts answer limit kept layer cells h fits is limit_is before =
-    let ls : List ℤ = limits_at i.units i.pairs k in
-    let count = (limits i k kept layer).count in
-    let below : m < length ls = omega arith in
-    let small : LimitIsSmall limit = rw limit_is (limit-small i k m kept layer) in
-    let limit_read : to_z w64 (of_z w64 limit) ≡ limit = omega (arith, ints, small.low, small.high) in
-    let here : answer ≡ is_within (get_or ts m (pos 0)) (get_or ls m (pos 0)) = rw (to_z-of_z w64 (get_or ts m (pos 0)) fits, limit_read, limit_is) at is in
-    rw here (sym before ∙ rw (drop_more ts m (pos 0) h, drop_more ls m (pos 0) below) refl)
+pub within-more : (ts ls : List ℤ) (m : ℕ) (answer : Bool) → m < length ts → length ts ≤ length ls → SFits w64 (get_or ts m (pos 0)) → SFits w64 (get_or ls m (pos 0)) →
+    answer ≡ is_within (to_z w64 (of_z w64 (get_or ts m (pos 0)))) (to_z w64 (of_z w64 (get_or ls m (pos 0)))) → are_within (drop m ts) (drop m ls) ≡ are_within ts ls →
+    are_within ts ls ≡ (answer && are_within (drop (m + 1) ts) (drop (m + 1) ls))
+within-more ts ls m answer h cells fits limit_fits is before =
+    let here : answer ≡ is_within (get_or ts m (pos 0)) (get_or ls m (pos 0)) = rw (to_z-of_z w64 (get_or ts m (pos 0)) fits, to_z-of_z w64 (get_or ls m (pos 0)) limit_fits) at is in
+    rw here (sym before ∙ rw (drop_more ts m (pos 0) h, drop_more ls m (pos 0) (omega arith)) refl)
 
 pub within-done : (ts ls : List ℤ) (i : ℕ) → length ts ≤ i → are_within (drop i ts) (drop i ls) ≡ are_within ts ls → true ≡ are_within ts ls
 within-done ts ls i h before = ap (λ us. are_within us (drop i ls)) (sym (drop_all i ts h)) ∙ before
@@ -127,25 +122,85 @@ pair-there i j v row kept h g is =
       weight = omega (arith, ints, pair_total-at row (v - j - 1) no_pair inside positive);
     }
 
-pub record LimitAdds (i : Instance) (j v : ℕ) (total weight : ℤ) : Type 0 where
-  pub sum : total +ℤ weight ≡ get_or (limits_at i.units i.pairs (j + 1)) (v - (j + 1)) (pos 0)
-  pub low : pos 0 ≤ℤ (total +ℤ weight)
-  pub high : (total +ℤ weight) ≤ℤ pos (2 ^ 48)
-  pub total_low : pos 0 ≤ℤ total
-  pub weight_low : pos 0 ≤ℤ weight
+-- the limits behind layer k, one by one
 
-pub limit-adds : (i : Instance) (j v : ℕ) (total weight : ℤ) → IsWithinLimits i → j < v → v < length i.units → total ≡ get_or (limits_at i.units i.pairs j) (v - j) (pos 0) →
-    weight ≡ pair_total (get_or (row_at (rows_of (length i.units) i.pairs) j) (v - j - 1) no_pair) → LimitAdds i j v total weight
-limit-adds i j v total weight kept h g total_is weight_is =
-    let positive = (pair-there i j v (row_at (rows_of (length i.units) i.pairs) j) kept h g refl).positive in
-    let more = limit-more i j v kept h g in
-    let before = limit-small i j (v - j) kept (omega arith) in
-    let after = limit-small i (j + 1) (v - (j + 1)) kept (omega arith) in
-    let sum : total +ℤ weight ≡ get_or (limits_at i.units i.pairs (j + 1)) (v - (j + 1)) (pos 0) = omega (arith, ints) in
+pub record NextLimit (i : Instance) (k m : ℕ) (row : List PairWeights) (before : List ℤ) : Type 0 where
+  pub inside : m + 1 < length before
+  pub there : m < length (limits_at i.units i.pairs (k + 1))
+  pub positive : PairIsPositive (get_or row m no_pair)
+  pub weight : pair_total (get_or row m no_pair) ≤ℤ pos (2 ^ 48)
+  pub sum : get_or before (m + 1) (pos 0) +ℤ pair_total (get_or row m no_pair) ≡ get_or (limits_at i.units i.pairs (k + 1)) m (pos 0)
+  pub low : pos 0 ≤ℤ get_or (limits_at i.units i.pairs (k + 1)) m (pos 0)
+  pub high : get_or (limits_at i.units i.pairs (k + 1)) m (pos 0) ≤ℤ pos (2 ^ 48)
+
+pub next-limit : (i : Instance) (k m : ℕ) (row : List PairWeights) (before : List ℤ) → IsWithinLimits i → k < length i.units → m < length row →
+    row ≡ row_at (rows_of (length i.units) i.pairs) k → before ≡ limits_at i.units i.pairs k → NextLimit i k m row before
+next-limit i k m row before kept h g row_is before_is =
+    let entries = length-row_at (length i.units) i.pairs k kept.whole h in
+    let rows : length row ≡ length (row_at (rows_of (length i.units) i.pairs) k) = ap length row_is in
+    let befores : length before ≡ length (limits_at i.units i.pairs k) = ap length before_is in
+    let words = words_of-some (length i.units) k h in
+    let here = (limits i k kept (omega arith)).count in
+    let behind = (limits i (k + 1) kept (omega arith)).count in
+    let v : ℕ = k + 1 + m in
+    let place : v - k - 1 ≡ m = omega arith in
+    let more = limit-more i k v kept (omega arith) (omega arith) in
+    let there = pair-there i k v row kept (omega arith) (omega arith) row_is in
+    let small = limit-small i (k + 1) m kept (omega arith) in
+    let one : v - (k + 1) ≡ m = omega arith in
+    let two : v - k ≡ m + 1 = omega arith in
+    let sum : get_or (limits_at i.units i.pairs (k + 1)) m (pos 0) ≡ get_or before (m + 1) (pos 0) +ℤ pair_total (get_or row m no_pair) =
+    rw (row_is, before_is) (rw (one, place, two) at more) in
     record {
-      sum = sum;
-      low = omega (arith, ints);
-      high = omega (arith, ints);
-      total_low = omega (arith, ints);
-      weight_low = omega (arith, ints, positive.both, positive.first, positive.second, positive.neither);
+      inside = omega arith;
+      there = omega arith;
+      positive = subst (λ n. PairIsPositive (get_or row n no_pair)) place there.positive;
+      weight = subst (λ n. pair_total (get_or row n no_pair) ≤ℤ pos (2 ^ 48)) place there.weight;
+      sum = sym sum;
+      low = small.low;
+      high = small.high;
     }
+
+-- the limits of all layers, one by one
+
+pub length-limits_through : (us : List UnitWeights) (ps : List PairWeights) (k : ℕ) → length (limits_through us ps k) ≡ k + 1
+length-limits_through us ps zero = refl
+length-limits_through us ps (suc k) = omega (arith, length-append (limits_through us ps k) (limits_at us ps (suc k) ∷ []), length-limits_through us ps k)
+
+pub limits_through-at : (us : List UnitWeights) (ps : List PairWeights) (n k : ℕ) → k ≤ n → get_or (limits_through us ps n) k [] ≡ limits_at us ps k
+limits_through-at us ps zero k h =
+    let same : 0 ≡ k = omega arith in
+    subst (λ (j : ℕ). get_or (limits_through us ps 0) j [] ≡ limits_at us ps j) same refl
+limits_through-at us ps (suc n) k h =
+    elim (cases_lt k (suc n)) [
+      | inl a ↦ get_or_append_left (limits_through us ps n) (limits_at us ps (suc n) ∷ []) [] k (omega (arith, length-limits_through us ps n)) ∙ limits_through-at us ps n k (omega arith)
+      | inr a ↦ (let same : suc n ≡ k = omega arith in
+          subst (λ (j : ℕ). get_or (limits_through us ps (suc n)) j [] ≡ limits_at us ps j) same
+          (get_or_push (limits_through us ps n) (limits_at us ps (suc n)) [] (suc n) (omega (arith, length-limits_through us ps n))))
+    ]
+
+pub limits-at : (us : List UnitWeights) (ps : List PairWeights) (n k : ℕ) (layers : List (List ℤ)) (found : List ℤ) → layers ≡ limits_through us ps n → k ≤ n → found ≡ get_or layers k found → found ≡ limits_at us ps k
+limits-at us ps n k layers found is low read =
+    let long = length-limits_through us ps n in
+    let same : length layers ≡ length (limits_through us ps n) = ap length is in
+    get_or_read layers k found (omega arith) read [] ∙ (ap (λ l. get_or l k []) is ∙ limits_through-at us ps n k low)
+
+-- the limits behind a layer are as many as its entries
+pub behind-long : (i : Instance) (k : ℕ) (row : List PairWeights) → IsWithinLimits i → k < length i.units → row ≡ row_at (rows_of (length i.units) i.pairs) k → length row ≡ length (limits_at i.units i.pairs (k + 1))
+behind-long i k row kept h row_is =
+    let entries = length-row_at (length i.units) i.pairs k kept.whole h in
+    let rows : length row ≡ length (row_at (rows_of (length i.units) i.pairs) k) = ap length row_is in
+    let words = words_of-some (length i.units) k h in
+    let behind = (limits i (k + 1) kept (omega arith)).count in
+    omega arith
+
+-- one limit more, and all limits
+pub take-next : (ls cells : List ℤ) (i : ℕ) (x : ℤ) → i < length ls → x ≡ get_or ls i (pos 0) → cells ≡ take i ls → cells ++ x ∷ [] ≡ take (i + 1) ls
+take-next ls cells i x h e is = ap (λ l. l ++ x ∷ []) is ∙ (ap (λ z. take i ls ++ z ∷ []) e ∙ sym (take_more ls i (pos 0) h))
+
+pub take-done : (ls cells : List ℤ) (i : ℕ) → length ls ≤ i → cells ≡ take i ls → cells ≡ ls
+take-done ls cells i h is = is ∙ take_all i ls h
+
+pub length-first : (us : List UnitWeights) → length (first_limits us) ≡ words_of (length us)
+length-first [] = refl
+length-first (u ∷ us) = length-map (u ∷ us) unit_total

@@ -1,10 +1,13 @@
-ghost use Rattle.std.specs.Prelude.{◌≡◌, suc, ◌-◌, ◌<◌, ◌≤◌, length, take, drop};
+ghost use Rattle.std.specs.Prelude.{◌≡◌, suc, ◌+◌, ◌-◌, ◌<◌, ◌≤◌, length, take, drop, IsTrue};
 ghost use Rattle.max_two_sat.specs.Instance.{pair_count, row_at, rows_of};
 ghost use Rattle.max_two_sat.specs.Limits.{IsWithinLimits};
 ghost use Rattle.max_two_sat.specs.Shifts.{AreShifts, shifts_of, stakes_of};
-ghost use Rattle.max_two_sat.specs.Table.{entries_before, later_totals};
+ghost use Rattle.max_two_sat.specs.Table.{entries_before, later_totals, limits_through};
+ghost use Rattle.max_two_sat.specs.Program.{limits_at, words_of};
+ghost use Rattle.max_two_sat.specs.Laws.Totals.{none_negative};
 
 use crate::draft::Draft;
+use crate::limits::{LayerLimits, limits_in, limits_of_layers};
 use crate::shifts::Shifts;
 use crate::sums::sums_from;
 use crate::weights::{PairWeights, UnitWeights};
@@ -24,10 +27,13 @@ pub struct MaxTwoSat {
     /// What the decision for false does, and what that for true does.
     pub(crate) on_false: Shifts,
     pub(crate) on_true: Shifts,
+    /// For each layer, and for the end, how large the benefits of a state may be.
+    pub(crate) limits: Vec<LayerLimits>,
     ghost kept: { IsWithinLimits (record { tautologies = tautologies; units = units.items; pairs = pairs.items }) },
     ghost summed: { later.items ≡ later_totals (rows_of (length units.items) pairs.items) },
     ghost false_shifts: { AreShifts 0 (length units.items) pairs.items on_false.cells.items on_false.stakes.items },
     ghost true_shifts: { AreShifts 1 (length units.items) pairs.items on_true.cells.items on_true.stakes.items },
+    ghost limited: { limits.items ≡ limits_through units.items pairs.items (length units.items) },
 }
 
 impl MaxTwoSat {
@@ -53,6 +59,7 @@ impl MaxTwoSat {
         let later = sums_from(alloc, variables, pairs.as_slice())?;
         let on_false = Shifts::of_decision(alloc, variables, pairs.as_slice(), 0)?;
         let on_true = Shifts::of_decision(alloc, variables, pairs.as_slice(), 1)?;
+        let limits = limits_of_layers(alloc, units.as_slice(), pairs.as_slice())?;
         Ok(MaxTwoSat {
             tautologies,
             units,
@@ -60,6 +67,7 @@ impl MaxTwoSat {
             later,
             on_false,
             on_true,
+            limits,
         })
     }
 
@@ -95,6 +103,16 @@ impl MaxTwoSat {
         } else {
             self.on_true.stakes[k]
         }
+    }
+
+    /// How large the benefits of a state of layer `k` may be, from variable `k` on.
+    pub(crate) fn limits(&self, k: usize) -> &[i64]
+        requires { k ≤ length self.now.units.items }
+        ensures limits { result.now ≡ limits_at self.now.units.items self.now.pairs.items k }
+        ensures positive { IsTrue (none_negative result.now) }
+        ensures cells { length result.now + k ≡ words_of (length self.now.units.items) }
+    {
+        limits_in(self.limits.as_slice(), k)
     }
 }
 

@@ -1,5 +1,5 @@
 use crate::instance::MaxTwoSat;
-use crate::limits::are_within_limits;
+use crate::limits::are_within;
 use crate::row::{extend_row, is_zero_row, lesser_sum, step_gain, write_root, write_step};
 use benefit_rows::{gap, gap_within, merge_into, rank};
 use dp_model::{DpModel, Extended};
@@ -111,7 +111,6 @@ impl DpModel for MaxTwoSat {
     }
 
     fn is_state(&self, k: usize, s: &[i64]) -> bool {
-        is_zero_row(&s[..k])
-            && are_within_limits(self.units.as_slice(), self.pairs.as_slice(), k, &s[k..])
+        is_zero_row(&s[..k]) && are_within(&s[k..], self.limits(k))
     }
 }

@@ -1,4 +1,4 @@
-use Rattle.std.proofs.Common.{◌^◌, pos, ◌≤ℤ◌, arith}
+use Rattle.std.proofs.Common.{◌^◌, pos, ◌≤ℤ◌, arith, rules}
 use Rattle.std.proofs.lemmas.Int.{ints}
 use Rattle.max_two_sat.specs.declared.draft.Draft.{Draft}
 use Rattle.max_two_sat.specs.Drafted.{gathered_in}
@@ -27,3 +27,12 @@ of_decision-requires-clause-positive c = rw c.as_slice-2.ensures.value c.require
 
 pub of_decision-requires-2-clause-positive : goal.of_decision-requires-2-clause-positive
 of_decision-requires-2-clause-positive c = rw c.as_slice-3.ensures.value c.requires.gathered.pairs
+
+pub invariant_of-result : goal.invariant_of-result
+invariant_of-result c = record {
+  kept = search rules;
+  summed = search rules;
+  false_shifts = search rules;
+  true_shifts = search rules;
+  limited = rw (c.as_slice-4.ensures.value, c.as_slice-5.ensures.value) at c.in_ok-limits.ensures;
+}

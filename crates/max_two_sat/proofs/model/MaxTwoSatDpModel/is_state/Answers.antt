@@ -4,31 +4,25 @@ use Rattle.max_two_sat.specs.Instance.{Instance}
 use Rattle.max_two_sat.specs.Shown.{instance_in}
 use Rattle.max_two_sat.specs.Laws.Numbers.{instance_of-numbers_of}
 use Rattle.max_two_sat.specs.Program.{words_of}
-use Rattle.max_two_sat.proofs.LayerLimits.{without-tautologies}
-use Rattle.max_two_sat.proofs.Layers.{words-over, state-then, state-else}
+use Rattle.max_two_sat.proofs.Layers.{state-then, state-else}
 use Rattle.max_two_sat.proofs.Writing.{tail-is}
 use Rattle.max_two_sat.proofs.model.MaxTwoSatDpModel.is_state.Goals as goal
 
-pub are_within_limits-requires-clause-kept : goal.are_within_limits-requires-clause-kept
-are_within_limits-requires-clause-kept c =
-    rw (c.as_slice.ensures.value, c.as_slice-then-is_zero_row.ensures.value) (without-tautologies (instance_in c.args.self.now) c.args.self.now.kept)
+pub limits-requires : goal.limits-requires
+limits-requires c = rw instance_of-numbers_of at c.requires.layer
 
-pub are_within_limits-requires-clause-layer : goal.are_within_limits-requires-clause-layer
-are_within_limits-requires-clause-layer c = rw c.as_slice.ensures.value (rw instance_of-numbers_of at c.requires.layer)
-
-pub are_within_limits-requires-clause-cells : goal.are_within_limits-requires-clause-cells
-are_within_limits-requires-clause-cells c =
+pub are_within-requires-clause-cells : goal.are_within-requires-clause-cells
+are_within-requires-clause-cells c =
     let i : Instance = instance_in c.args.self.now in
-    let layer : c.args.k ≤ length i.units = rw instance_of-numbers_of at c.requires.layer in
     let cells : length c.args.s.now ≡ words_of (length i.units) = rw instance_of-numbers_of at c.requires.cells in
-    rw (tail-is, c.as_slice.ensures.value) (omega (arith, length-drop c.args.k c.args.s.now, words-over (length i.units)))
+    rw tail-is (omega (arith, length-drop c.args.k c.args.s.now, c.limits.ensures.cells))
 
 pub returns-then-is_zero_row : goal.returns-then-is_zero_row
 returns-then-is_zero_row c =
     let i : Instance = instance_in c.args.self.now in
     let cells : length c.args.s.now ≡ words_of (length i.units) = rw instance_of-numbers_of at c.requires.cells in
-    let within = rw (tail-is c.args.k c.args.s.now, c.as_slice.ensures.value, c.as_slice-then-is_zero_row.ensures.value) at c.are_within_limits.ensures in
-    rw (instance_of-numbers_of i) (state-then i c.args.k c.args.s.now c.is_zero_row.result c.are_within_limits.result cells c.if-is_zero_row.true c.is_zero_row.ensures within)
+    let within = rw (tail-is c.args.k c.args.s.now, c.limits.ensures.limits) at c.are_within.ensures in
+    rw (instance_of-numbers_of i) (state-then i c.args.k c.args.s.now c.is_zero_row.result c.are_within.result cells c.if-is_zero_row.true c.is_zero_row.ensures within)
 
 pub returns-else-is_zero_row : goal.returns-else-is_zero_row
 returns-else-is_zero_row c =
