@@ -8,3 +8,4 @@ pub mod Beginning
 pub mod GoingOn
 pub mod Drawn
 pub mod Left
+pub mod Whole

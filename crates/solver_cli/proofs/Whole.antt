@@ -1,0 +1,54 @@
+-- What is right for a text is right for an input that was read as this text.
+use Rattle.std.proofs.Common.{◌≡◌, ℕ, ℤ, List, Result, Ok, Err}
+use Rattle.std.specs.Prelude.{MatchResult}
+use Rattle.problem_names.specs.declared.ModelName.{ModelName}
+use Rattle.problem_theory.specs.Theory.{Theory}
+use Rattle.problem_theory.specs.declared.refusal.InstanceRefusal.{InstanceRefusal}
+use Rattle.solver_words.specs.declared.job.JobSettings.{JobSettings}
+use Rattle.solver_report.specs.declared.answer.Answer.{Answer}
+use Rattle.solver_report.specs.declared.answer.Answer.TheVariants as answers
+use Rattle.answers.specs.Answers.{Digests, DigestsText, Solves, SolvesText}
+use Rattle.answers.specs.Checks.{RefusesInstance}
+use Rattle.answers.specs.Covers.{IsCovered}
+use Rattle.answers.specs.Ended.{IsInputAnswer, Readings, RepliesTo, WasRead, text_limit}
+
+-- what a text may be answered, which is never that the input was too long or could not be read
+whole : (For : List ℕ → Answer → Type 0) (r : Readings) (bytes : List ℕ) (answer : Answer) → (For bytes answers.ReadFault → ⊥) → (For bytes answers.TooLong → ⊥)
+    → WasRead text_limit r bytes → For bytes answer → IsInputAnswer text_limit For r answer
+whole For r bytes (answers.Searched outcome counts) sound short read h = record { bytes = bytes; read = read; replies = h }
+whole For r bytes (answers.Covered outcome counts text) sound short read h = record { bytes = bytes; read = read; replies = h }
+whole For r bytes (answers.Digest digest) sound short read h = record { bytes = bytes; read = read; replies = h }
+whole For r bytes (answers.Drawn text) sound short read h = record { bytes = bytes; read = read; replies = h }
+whole For r bytes (answers.Checked given) sound short read h = record { bytes = bytes; read = read; replies = h }
+whole For r bytes (answers.Refused e) sound short read h = record { bytes = bytes; read = read; replies = h }
+whole For r bytes (answers.CoverRefused e) sound short read h = record { bytes = bytes; read = read; replies = h }
+whole For r bytes answers.TooLong sound short read h = absurd (short h)
+whole For r bytes answers.Width sound short read h = record { bytes = bytes; read = read; replies = h }
+whole For r bytes (answers.Words e) sound short read h = record { bytes = bytes; read = read; replies = h }
+whole For r bytes (answers.Journal e) sound short read h = record { bytes = bytes; read = read; replies = h }
+whole For r bytes answers.ReadFault sound short read h = absurd (sound h)
+whole For r bytes answers.OutOfMemory sound short read h = read.sound
+
+module _ (t : Theory) where
+  no_digest : (spelled : Result (List ℤ) InstanceRefusal) → MatchResult spelled (λ numbers. Digests (t.canonical numbers) answers.ReadFault) (λ e. RefusesInstance e answers.ReadFault) → ⊥
+  no_digest (Ok numbers) h = h
+  no_digest (Err e) h = h
+
+  no_long_digest : (spelled : Result (List ℤ) InstanceRefusal) → MatchResult spelled (λ numbers. Digests (t.canonical numbers) answers.TooLong) (λ e. RefusesInstance e answers.TooLong) → ⊥
+  no_long_digest (Ok numbers) h = h
+  no_long_digest (Err e) h = h
+
+  pub whole_digest : (r : Readings) (bytes : List ℕ) (answer : Answer) → WasRead text_limit r bytes → DigestsText t bytes answer → IsInputAnswer text_limit (DigestsText t) r answer
+  whole_digest r bytes answer read h = whole (DigestsText t) r bytes answer (no_digest (t.spelled bytes)) (no_long_digest (t.spelled bytes)) read h
+
+  module _ (name : ModelName) (search : JobSettings) where
+    no_search : (spelled : Result (List ℤ) InstanceRefusal) → MatchResult spelled (λ numbers. Solves (t.program numbers) (t.own_value numbers) search answers.ReadFault × IsCovered name (t.canonical numbers) answers.ReadFault) (λ e. RefusesInstance e answers.ReadFault) → ⊥
+    no_search (Ok numbers) h = h.0
+    no_search (Err e) h = h
+
+    no_long_search : (spelled : Result (List ℤ) InstanceRefusal) → MatchResult spelled (λ numbers. Solves (t.program numbers) (t.own_value numbers) search answers.TooLong × IsCovered name (t.canonical numbers) answers.TooLong) (λ e. RefusesInstance e answers.TooLong) → ⊥
+    no_long_search (Ok numbers) h = h.0
+    no_long_search (Err e) h = h
+
+    pub whole_search : (r : Readings) (bytes : List ℕ) (answer : Answer) → WasRead text_limit r bytes → SolvesText t name search bytes answer → IsInputAnswer text_limit (SolvesText t name search) r answer
+    whole_search r bytes answer read h = whole (SolvesText t name search) r bytes answer (no_search (t.spelled bytes)) (no_long_search (t.spelled bytes)) read h
