@@ -1,0 +1,5 @@
+pub mod Pages
+pub mod Books
+pub mod Readers
+pub mod Sizes
+pub mod Stored
