@@ -51,7 +51,7 @@ check-deb: deb
 	tools/package/check-deb build/hammockdove_*.deb
 
 test:
-	.ci/run
+	.ci/run all
 
 clean:
 	rm -rf build
