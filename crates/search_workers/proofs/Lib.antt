@@ -16,3 +16,4 @@ mod Slots
 mod Stopping
 mod TakenOut
 mod Taking
+pub mod Collected

@@ -20,6 +20,7 @@
 #![tactic(auto)]
 
 mod branched;
+mod collecting;
 mod desk;
 mod rounds;
 mod workers;
