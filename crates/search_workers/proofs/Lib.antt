@@ -1,6 +1,5 @@
 mod Branches
 mod Calls
-mod Causes
 mod Finishing
 mod FinishLater
 pub mod Histories

@@ -100,6 +100,7 @@ pub fn relax<M: DpModel, D: Disk>(
     requires width { space.old.width ≡ kept.old.board.board.settings.width }
     requires cutset { HoldsChildren (M.meaning (M.numbers model.now)) space.old.width kind cutset.old }
     ensures threshold { IfOk result (λ t. t ≡ reach kept.old.board.board) }
+    ensures subs { IfOk result (λ threshold. cutset.new.subs ≡ taken_from (M.meaning (M.numbers model.now)) (relaxed (M.meaning (M.numbers model.now)) (reached (M.meaning (M.numbers model.now)) taken.now.subproblem.decisions) space.old.width threshold) kind) }
     ensures branched { IfOk result (λ threshold. IsBranched (M.meaning (M.numbers model.now)) kept.new.board.board taken.now.subproblem.decisions threshold cutset.new.subs) }
     ensures offered { OnOk result (IsOffered (M.meaning (M.numbers model.now)) kept.old.board.board kept.new.board.board) }
     ensures refused { IfErr result (λ error. IsRefused (M.meaning (M.numbers model.now)) kept.old.board.board error kept.new.board.board) }

@@ -1,13 +1,15 @@
 //! What one worker does.
 
 ghost use Rattle.std.specs.Prelude.{◌≡◌, false, None, OnOk, IfOk, IfErr};
+ghost use Rattle.turn.specs.Order.{NoLess};
 ghost use Rattle.turn.specs.Seats.{first_of, seen_of, out_of};
 ghost use Rattle.board.specs.Contents.{contents};
 ghost use Rattle.search_workers.specs.Prepared.{IsPreparedDesk};
 ghost use Rattle.search_workers.specs.FinishLater.{MayFinishLater};
 ghost use Rattle.search_workers.specs.Ready.{IsWorker, IsReadySeat, IsOut};
 ghost use Rattle.search_workers.specs.Seen.{reach_seen};
-ghost use Rattle.search_workers.specs.Stopped.{IsLeftOut, WasStopped, HasEndedAt};
+ghost use Rattle.search_workers.specs.Taken.{AreOfDiagrams};
+ghost use Rattle.search_workers.specs.Stopped.{IsLeftOut, HasLeft, WasStopped, HasEndedAt};
 
 use super::gate::{Gate, Step};
 use super::holding_finish::finish_one;
@@ -43,7 +45,7 @@ pub fn work<M: DpModel, D: Disk + Send, G: Gate + Sync, R: Wait>(
     requires ready { IsReadySeat turn.now seat.old }
     requires prepared { IsPreparedDesk (M.meaning (M.numbers model.now)) (first_of turn.now).board.board.settings.width desk.old }
     ensures ready { IsReadySeat turn.now seat.new }
-    ensures ended { HasEndedAt (first_of turn.now) }
+    ensures ended { HasEndedAt turn.now seat.new }
     ensures number { seat.new.number ≡ seat.old.number }
     ensures prepared { IsPreparedDesk (M.meaning (M.numbers model.now)) (first_of turn.now).board.board.settings.width desk.new }
 {
@@ -69,7 +71,7 @@ fn round<M: DpModel, D: Disk + Send, G: Gate + Sync, R: Wait>(
     requires ready { IsReadySeat turn.now seat.old }
     requires prepared { IsPreparedDesk (M.meaning (M.numbers model.now)) (first_of turn.now).board.board.settings.width desk.old }
     ensures ready { IsReadySeat turn.now seat.new }
-    ensures ended { result ≡ false → HasEndedAt (first_of turn.now) }
+    ensures ended { result ≡ false → HasEndedAt turn.now seat.new }
     ensures number { seat.new.number ≡ seat.old.number }
     ensures prepared { IsPreparedDesk (M.meaning (M.numbers model.now)) (first_of turn.now).board.board.settings.width desk.new }
 {
@@ -102,11 +104,12 @@ fn go_on<M: DpModel, D: Disk + Send, G: Gate + Sync, R: Wait>(
 ) -> bool
     requires numbers { (first_of turn.now).board.numbers ≡ M.numbers model.now }
     requires worker { IsWorker turn.now seat.old }
+    requires left { HasLeft turn.now seat.old }
     requires reach { reach ≡ reach_seen turn.now seat.old }
     requires out { IsOut (M.meaning (M.numbers model.now)) (out_of seat.old) desk.old.taken.subproblem }
     requires prepared { IsPreparedDesk (M.meaning (M.numbers model.now)) (first_of turn.now).board.board.settings.width desk.old }
     ensures ready { IsReadySeat turn.now seat.new }
-    ensures ended { result ≡ false → HasEndedAt (first_of turn.now) }
+    ensures ended { result ≡ false → HasEndedAt turn.now seat.new }
     ensures number { seat.new.number ≡ seat.old.number }
     ensures prepared { IsPreparedDesk (M.meaning (M.numbers model.now)) (first_of turn.now).board.board.settings.width desk.new }
 {
@@ -145,6 +148,7 @@ fn expand<M: DpModel, D: Disk + Send, G: Gate + Sync, R: Wait>(
 ) -> Result<(), Stopped>
     requires numbers { (first_of turn.now).board.numbers ≡ M.numbers model.now }
     requires worker { IsWorker turn.now seat.old }
+    requires left { HasLeft turn.now seat.old }
     requires reach { reach ≡ reach_seen turn.now seat.old }
     requires out { IsOut (M.meaning (M.numbers model.now)) (out_of seat.old) desk.old.taken.subproblem }
     requires prepared { IsPreparedDesk (M.meaning (M.numbers model.now)) (first_of turn.now).board.board.settings.width desk.old }
@@ -152,7 +156,7 @@ fn expand<M: DpModel, D: Disk + Send, G: Gate + Sync, R: Wait>(
     ensures number { seat.new.number ≡ seat.old.number }
     ensures ok { OnOk result (out_of seat.new ≡ None) }
     ensures stopped { IfErr result (λ stopped. IsLeftOut stopped (out_of seat.old) (out_of seat.new)) }
-    ensures why { IfErr result (WasStopped D.Disk (first_of turn.now)) }
+    ensures why { IfErr result (WasStopped D.Disk M.meaning turn.now seat.old seat.new) }
     ensures prepared { IsPreparedDesk (M.meaning (M.numbers model.now)) (first_of turn.now).board.board.settings.width desk.new }
 {
     let mut branched = branch(rt, alloc, turn, seat, desk, model, gate, reach)?;
@@ -186,15 +190,18 @@ fn branch<M: DpModel, D: Disk + Send, G: Gate + Sync, R: Wait>(
 ) -> Result<Branched, Stopped>
     requires numbers { (first_of turn.now).board.numbers ≡ M.numbers model.now }
     requires worker { IsWorker turn.now seat.old }
+    requires left { HasLeft turn.now seat.old }
     requires reach { reach ≡ reach_seen turn.now seat.old }
     requires out { IsOut (M.meaning (M.numbers model.now)) (out_of seat.old) desk.old.taken.subproblem }
     requires prepared { IsPreparedDesk (M.meaning (M.numbers model.now)) (first_of turn.now).board.board.settings.width desk.old }
     ensures worker { IsWorker turn.now seat.new }
     ensures number { seat.new.number ≡ seat.old.number }
+    ensures no_less { NoLess (seen_of seat.old) (seen_of seat.new) }
     ensures out { OnOk result (out_of seat.new ≡ out_of seat.old) }
+    ensures diagrams { IfOk result (λ b. AreOfDiagrams (M.meaning (M.numbers model.now)) desk.old.space.width desk.old.kind desk.old.taken.subproblem.decisions b.threshold (contents b.children.items)) }
     ensures branched { IfOk result (λ b. MayFinishLater (M.meaning (M.numbers model.now)) (first_of turn.now).board.board.settings (out_of seat.new) (seen_of seat.new) b.threshold (contents b.children.items)) }
     ensures stopped { IfErr result (λ stopped. IsLeftOut stopped (out_of seat.old) (out_of seat.new)) }
-    ensures why { IfErr result (WasStopped D.Disk (first_of turn.now)) }
+    ensures why { IfErr result (WasStopped D.Disk M.meaning turn.now seat.old seat.new) }
     ensures prepared { IsPreparedDesk (M.meaning (M.numbers model.now)) (first_of turn.now).board.board.settings.width desk.new }
 {
     let restricted = restrict_one(
