@@ -1,23 +1,22 @@
 -- A relaxed diagram can be put into a book, and the book stays one of the program.
-use Rattle.std.proofs.Common.{◌≡◌, ℕ, zero, suc, ◌+◌, ◌-◌, ◌<◌, ◌≤◌, ◌^◌, IsTrue, List, [], ◌∷◌, ◌++◌, length, map, slice_get, take, Option, Some, None, option_map, unwrap_or, refl, sym, ◌∙◌, ap, subst, arith}
+use Rattle.std.proofs.Common.{◌≡◌, ℕ, zero, suc, ◌+◌, ◌<◌, IsTrue, List, [], ◌∷◌, ◌++◌, length, slice_get, take, Option, Some, None, option_map, unwrap_or, refl, sym, ◌∙◌, ap, arith}
 use Rattle.dp_model.specs.Dp.{Dp}
 use Rattle.dp_model.specs.Laws.{IsLawful, IsChained}
 use Rattle.dp_model.specs.Lists.{Each}
 use Rattle.dp_model.specs.declared.cut_kind.CutKind.{CutKind}
 use Rattle.dp_model.proofs.Members.{Each-then}
-use Rattle.dp_laws.specs.Diagrams.Nodes.{DdNode, DdLayers, node_at}
+use Rattle.dp_laws.specs.Diagrams.Nodes.{DdNode, DdLayers}
 use Rattle.dp_laws.specs.Diagrams.Cutsets.{ChildAt, children_at}
 use Rattle.dp_laws.specs.Diagrams.Placed.{IsChildPlaced}
-use Rattle.dp_laws.specs.Diagrams.Seen.{IsDiagram}
 use Rattle.dp_laws.proofs.Diagrams.Placed.{placed}
 use Rattle.dp_laws.proofs.Diagrams.Walks.{keeps-at}
 use Rattle.dp_model.proofs.Members.{each-of-all}
-use Rattle.relaxed_dd.specs.Shown.{IsRelaxed, last_of}
+use Rattle.relaxed_dd.specs.Shown.{IsRelaxed}
 use Rattle.exact_cutset.proofs.Cuts.{seen, last-is}
 use Rattle.board_laws.specs.declared.fate.Fate.{Fate}
 use Rattle.cover_pages.specs.declared.pages.Place.{Place}
 use Rattle.cover_pages.specs.Books.{BookView, IsBookOf, IsPageOf, places_of, with_page}
-use Rattle.cover_pages.specs.Pages.{CanKeep, IsExactPlace, PageView, page_of}
+use Rattle.cover_pages.specs.Pages.{CanKeep, IsExactPlace, page_of}
 
 -- what holds of the element at each place holds of each element
 each-by-place : {X : Type 0} (P : X → Type 0) (xs : List X) → ((i : ℕ) (x : X) → slice_get xs i ≡ Some x → P x) → Each P xs

@@ -2,8 +2,9 @@
 
 ghost use Rattle.std.specs.Prelude.{◌≡◌, ◌<◌, [], length, IfOk};
 ghost use Rattle.cover_pages.specs.Books.{IsBookOf, places_of};
-ghost use Rattle.search_workers.specs.Collected.{HoldsDiagram};
+ghost use Rattle.search_workers.specs.Collected.{HoldsDiagram, MayBeBook};
 
+use crate::desk::Desk;
 use board::Fate;
 use cover_pages::{CoverBook, Place};
 use dp_model::{DpModel, OutOfMemory};
@@ -25,10 +26,12 @@ fn places_of(alloc: Global, cutset: &Children) -> Result<Vec<Place>, OutOfMemory
 }
 
 /// Puts the diagram in the workspace into the book, with the ticket of its subproblem and with its children and their fates, unless the
-/// book has no room for it. Fails only for want of memory, and then the book is as it was.
+/// book has no room for it.
 ///
-/// A search goes on without what its book lacks, so the caller may pass over a failure.
-pub fn collect<M: DpModel>(
+/// # Errors
+///
+/// There was no memory, and the book is as it was.
+fn collect<M: DpModel>(
     alloc: Global,
     book: &mut CoverBook,
     ticket: u64,
@@ -45,4 +48,30 @@ pub fn collect<M: DpModel>(
     let places = places_of(alloc, cutset)?;
     let _ = book.collect(alloc, ticket, &shown(space), places.as_slice(), fates)?;
     Ok(())
+}
+
+/// Puts the diagram that lies on the desk into its book, where it has one, once its subproblem is finished with a fate for each child. A
+/// cover does without what a book lacks, so what has no room, or for which there is no memory, is left out.
+pub(crate) fn collect_from<M: DpModel>(alloc: Global, desk: &mut Desk, model: &M)
+    requires holds { HoldsDiagram (M.meaning (M.numbers model.now)) desk.old.space desk.old.cutset }
+    requires book { MayBeBook (M.meaning (M.numbers model.now)) desk.old.book }
+    ensures book { MayBeBook (M.meaning (M.numbers model.now)) desk.new.book }
+    ensures rest { desk.new ≡ record desk.old { book = desk.new.book } }
+{
+    let Some(book) = &mut desk.book else {
+        return;
+    };
+    let fates = desk.fates.as_slice();
+    if fates.len() != desk.cutset.len() {
+        return;
+    }
+    let _ = collect(
+        alloc,
+        book,
+        desk.ticket,
+        &desk.space,
+        &desk.cutset,
+        fates,
+        model,
+    );
 }

@@ -9,12 +9,13 @@ use exact_cutset::Children;
 use layer_build::{PrepareError, Workspace};
 use std::alloc::Global;
 
-/// All that one worker needs for its rounds: the subproblem that it has out, the memory in which diagrams are compiled, their
+/// All that one worker needs for its rounds: the subproblem that it has out with its ticket, the memory in which diagrams are compiled, their
 /// children and of which kind these are, a buffer for fates, which grows to the size that rounds need and is used again, and
 /// perhaps a book that collects the relaxed diagrams.
 #[derive(Drop)]
 pub struct Desk {
     pub taken: Sub,
+    pub ticket: u64,
     pub space: Workspace,
     pub cutset: Children,
     pub kind: CutKind,
@@ -42,6 +43,7 @@ impl Desk {
         match Sub::blank(alloc, model.vars(), model.words()) {
             Ok(taken) => Ok(Desk {
                 taken,
+                ticket: 0,
                 space,
                 cutset,
                 kind,
