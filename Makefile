@@ -18,7 +18,7 @@ MAN := $(DESTDIR)$(PREFIX)/share/man/man1
 DOC := $(DESTDIR)$(PREFIX)/share/doc/hammockdove
 MODULES := $(DESTDIR)$(PYTHONDIR)
 SOURCES := $(shell cd python && find hammockdove -name '*.py' -o -name py.typed)
-DOCUMENTS := $(wildcard README.md docs/FORMATS.md docs/USING.md docs/PYTHON.md docs/FILES.md docs/EDGE.md docs/PROVED.md docs/PROMISES.md)
+DOCUMENTS := $(wildcard README.md docs/FORMATS.md docs/USING.md docs/PYTHON.md docs/FILES.md docs/EDGE.md docs/OWN_PROBLEM.md docs/PROVED.md docs/PROMISES.md)
 
 .PHONY: all program install uninstall deb check-deb test clean
 
