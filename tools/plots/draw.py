@@ -12,7 +12,8 @@ IMAGES = os.path.join(os.path.dirname(os.path.dirname(os.path.dirname(os.path.ab
 INK, FAINT, GRID = "#222222", "#666666", "#e2e2e2"
 COLOURS = {"hammockdove": "#b3261e", "plain": "#7a7a7a", "ordered": "#e07b39", "toulbar2": "#1f6fb2", "clasp": "#2e8b57", "cbc": "#b8860b", "glpsol": "#7b4fa3"}
 LABELS = {"hammockdove": "Hammockdove", "plain": "plain Rust", "ordered": "plain Rust, ordered", "glpsol": "GLPK"}
-TITLES = {"knapsack": ("Knapsack", "items"), "maxcut": ("Maximum cut", "vertices"), "max2sat": ("MAX-2SAT", "variables"), "tsptw": ("Tours, narrow windows", "nodes")}
+TITLES = {"knapsack": ("Knapsack", "items"), "maxcut": ("Maximum cut", "vertices"), "max2sat": ("MAX-2SAT", "variables"), "tsptw": ("Tours, narrow windows", "nodes"),
+          "tardiness": ("Tardiness on one machine", "jobs")}
 
 
 def rows_of(name):
