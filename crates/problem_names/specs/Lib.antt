@@ -1,1 +1,2 @@
 pub mod ModelNames
+pub mod Parts

@@ -1,5 +1,5 @@
 //! The problems that the program knows: the word of each in commands and texts, its byte in journals, and the sizes of its drawn
-//! instances.
+//! instances; and which part of a problem is meant.
 //!
 //! It stands on std alone. A further problem adds a variant here, and a line to `ALL`, to each of `text`, `byte` and `sizes`, and to
 //! the definitions that these cite.
@@ -9,8 +9,12 @@
 //! ```
 #![tactic(auto)]
 
+mod part;
+
 ghost use Rattle.std.specs.Prelude.{◌≡◌, ◌≤◌, ◌<◌, IfSome};
 ghost use Rattle.problem_names.specs.ModelNames.{text_of, byte_of, sizes_of, model_named, model_of_byte, Names};
+
+pub use part::{MOST_PARTS, PartNumber};
 
 /// The problems that the program knows.
 #[derive(Clone, Copy, Debug, PartialEq, Eq, Hash)]
