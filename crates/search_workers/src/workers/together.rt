@@ -73,7 +73,6 @@ fn fan_all<M: DpModel, D: Disk + Send, G: Gate + Sync, R: Threads + Wait + Sync>
     ensures seats { map number_of seats.new.items ≡ map number_of seats.old.items }
     ensures prepared { All (IsPreparedDesk (M.meaning (M.numbers model.now)) (first_of turn.now).board.board.settings.width) desks.new.items }
     ensures desks { vec_len desks.new ≡ vec_len desks.old }
-    ensures ended { All (HasEndedAt turn.now) seats.new.items }
 {
     fan_out(
         rt,

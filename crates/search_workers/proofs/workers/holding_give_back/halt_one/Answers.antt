@@ -1,3 +1,5 @@
+use denote.Param.Send.{sendable}
+use Rattle.std.proofs.Crossing.{crosses}
 use Rattle.kept_board.proofs.Sent.{kept_send}
 use Rattle.std.proofs.Common.{rules, inr}
 use Rattle.search_workers.proofs.Moves.{may_leave}
@@ -9,10 +11,22 @@ leave-requires-clause-moves g c κs within =
     may_leave g.D.Disk g.M.DpModel.meaning c.hold-guard.result.found.value c.value.result.now c.halt_memory.new.self who who (search rules) (search rules) (inr (c.halt_memory.ensures.moves who))
 
 pub hold-guard-requires-send-V : goal.hold-guard-requires-send-V
-hold-guard-requires-send-V g c κs within = kept_send _ _ _ _ c.type_bounds.send-M c.type_bounds.sync-M c.type_bounds.send-D
+hold-guard-requires-send-V g c κs within =
+    let m = c.type_bounds.send-M in
+    let y = c.type_bounds.sync-M in
+    let d = c.type_bounds.send-D in
+    search (sendable, crosses, kept_send) depth 40 fits 4000
 
 pub value-requires-send-V : goal.value-requires-send-V
-value-requires-send-V g c κs within = kept_send _ _ _ _ c.type_bounds.send-M c.type_bounds.sync-M c.type_bounds.send-D
+value-requires-send-V g c κs within =
+    let m = c.type_bounds.send-M in
+    let y = c.type_bounds.sync-M in
+    let d = c.type_bounds.send-D in
+    search (sendable, crosses, kept_send) depth 40 fits 4000
 
 pub leave-requires-send-V : goal.leave-requires-send-V
-leave-requires-send-V g c κs within = kept_send _ _ _ _ c.type_bounds.send-M c.type_bounds.sync-M c.type_bounds.send-D
+leave-requires-send-V g c κs within =
+    let m = c.type_bounds.send-M in
+    let y = c.type_bounds.sync-M in
+    let d = c.type_bounds.send-D in
+    search (sendable, crosses, kept_send) depth 40 fits 4000
