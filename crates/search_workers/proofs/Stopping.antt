@@ -1,5 +1,5 @@
 -- Why workers stop, and where they find the search at its end.
-use Rattle.std.proofs.Common.{◌≡◌, ◌⊎◌, inl, ℕ, ℤ, List, [], ◌∷◌, true, false, Option, Some, None, cond, ⊎_elim, refl, sym, ◌∙◌, ap, subst}
+use Rattle.std.proofs.Common.{◌≡◌, inl, ℕ, ℤ, List, [], ◌∷◌, true, false, Option, Some, None, cond, ⊎_elim, refl, sym, ◌∙◌, ap, subst}
 use Rattle.std.specs.Prelude.{Bool, IsSome, Result, Ok, Err, IfErr}
 use Rattle.disk.specs.declared.disk.Disk.{Ghosts}
 use Rattle.disk.specs.Counts.{Rose}
@@ -25,7 +25,7 @@ use Rattle.kept_board.specs.declared.error.KeptError.TheVariants.{Journal, OutOf
 use Rattle.kept_board.specs.declared.tag.KeptTag.{KeptTag}
 use Rattle.search_workers.specs.Later.{NoRoundFollows}
 use Rattle.search_workers.specs.Ready.{IfOver}
-use Rattle.search_workers.specs.Stopped.{IsHalted, IsWhy, HasLeft, WasStopped, HasEndedAt}
+use Rattle.search_workers.specs.Stopped.{IsWhy, HasLeft, WasStopped, HasEndedAt}
 use Rattle.search_workers.specs.declared.workers.stopped.Stopped.{Stopped}
 use Rattle.search_workers.specs.declared.workers.stopped.Stopped.TheVariants.{GaveBack, Refused}
 use Rattle.search_workers.proofs.Moves.{MayLeave, no-less-then, still-tagged}

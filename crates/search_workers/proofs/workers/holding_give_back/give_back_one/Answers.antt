@@ -3,7 +3,7 @@ use Rattle.std.proofs.Crossing.{crosses}
 use Rattle.kept_board.proofs.Sent.{kept_send}
 use Rattle.std.proofs.Common.{◌∙◌, rules, ap, subst, sym}
 use Rattle.turn.specs.Order.{NoLess}
-use Rattle.turn.specs.Seats.{first_of, seen_of}
+use Rattle.turn.specs.Seats.{seen_of}
 use Rattle.board_laws.specs.Board.{incumbent_value}
 use Rattle.kept_board.specs.View.{KeptView, tag_of}
 use Rattle.search_workers.proofs.Stopping.{ended-here}

@@ -1,4 +1,4 @@
-use Rattle.std.proofs.Common.{ap, refl, subst}
+use Rattle.std.proofs.Common.{ap, subst}
 use Rattle.std.specs.Prelude.{Err}
 use Rattle.board_laws.specs.Board.{incumbent_value}
 use Rattle.board_laws.specs.GoodBoard.{IsBoard}
