@@ -18,6 +18,7 @@ pub(crate) const SOLVE: CommandSyntax = CommandSyntax {
         "journal",
         "cover-words",
         "within",
+        "part",
     ],
     flags: &["cover", "stats"],
 };
@@ -29,6 +30,12 @@ pub(crate) const RESUME: CommandSyntax = CommandSyntax {
 };
 
 pub(crate) const CHECK: CommandSyntax = CommandSyntax {
+    positional: &[],
+    valued: &[],
+    flags: &[],
+};
+
+pub(crate) const JOIN: CommandSyntax = CommandSyntax {
     positional: &[],
     valued: &[],
     flags: &[],
