@@ -11,16 +11,18 @@ use Rattle.tokens.proofs.Digits.{is_printed}
 use Rattle.dp_model.specs.Lists.{Each}
 use Rattle.bound_cover.specs.Covers.{CoverRow}
 use Rattle.problem_names.specs.ModelNames as names
+use Rattle.problem_names.specs.Parts.{MayBePart}
 use Rattle.problem_names.specs.declared.ModelName.{ModelName}
+use Rattle.problem_names.specs.declared.part.PartNumber.{PartNumber}
 use Rattle.cover_text.proofs.EachName.{for_each}
 use Rattle.cover_text.specs.Heads.{ClaimView}
 use Rattle.cover_text.specs.Instances.{behind_lines, parted}
-use Rattle.cover_text.specs.Outputs.{spaced, CountsView, printed_lines, proved_text, claim_lines, counts_lines, cover_lines, printed_output, IsToldClaim, MayBeCounts}
+use Rattle.cover_text.specs.Outputs.{spaced, CountsView, printed_lines, proved_text, claim_lines, counts_lines, part_lines, cover_lines, printed_output, IsToldClaim, MayBeCounts}
 use Rattle.dp_model.specs.Distances.{IsDistance}
 use Rattle.cover_text.specs.Printed.{printed_cover}
 use Rattle.cover_text.specs.Texts.{text_of}
 use Rattle.cover_text.specs.Written.{IsWritten}
-use Rattle.cover_text.proofs.PrintedHeads.{word-small, distance-small, distance_text, claim_then, counts_then, head_then, head_height, MayBeClaim, head-read}
+use Rattle.cover_text.proofs.PrintedHeads.{word-small, distance-small, distance_text, claim_then, counts_then, part_told, head_then, head_height, MayBeClaim, head-read}
 use Rattle.cover_text.proofs.RoundTrip.{texts_read}
 
 -- ---- the instance begins behind the last of the lines
@@ -72,28 +74,46 @@ behind-counts None more l told = refl
 behind-counts (Some counts) more l told =
     over-number (suc l) (pos counts.taken) (10 ∷ (codes "finished" ++ (32 ∷ (decimal counts.finished ++ (10 ∷ more))))) told.taken ∙ over-number l (pos counts.finished) (10 ∷ more) told.finished
 
-behind-cover : (model : ModelName) (size : ℕ) (more : List ℕ) → size < 2 ^ 32
-    → behind_lines (suc (suc zero)) (codes "cover" ++ (32 ∷ (names.text_of model ++ (10 ∷ (codes "instance" ++ (32 ∷ (decimal size ++ (10 ∷ more)))))))) ≡ behind_lines zero more
-behind-cover model size more few =
-    over-solid (suc zero) (names.text_of model) (10 ∷ (codes "instance" ++ (32 ∷ (decimal size ++ (10 ∷ more))))) (for_each (λ name. list_all is_solid (names.text_of name)) refl model)
-    ∙ over-number zero (pos size) (10 ∷ more) (omega arith)
+abbrev part_down : Option PartNumber → ℕ → ℕ
+part_down None l = l
+part_down (Some part) l = suc l
+
+behind-part : (part : Option PartNumber) (more : List ℕ) (l : ℕ) → MayBePart part → behind_lines (part_down part l) (part_told part more) ≡ behind_lines l more
+behind-part None more l meant = refl
+behind-part (Some part) more l meant =
+    let below = meant.index in
+    let few : part.of ≤ 1024 = meant.few in
+    over-number l (pos part.index) (32 ∷ (decimal part.of ++ (10 ∷ more))) (omega arith) ∙ over-number l (pos part.of) (10 ∷ more) (omega arith)
+
+behind-cover : (model : ModelName) (part : Option PartNumber) (size : ℕ) (more : List ℕ) → MayBePart part → size < 2 ^ 32
+    → behind_lines (suc (part_down part (suc zero))) (codes "cover" ++ (32 ∷ (names.text_of model ++ (10 ∷ part_told part (codes "instance" ++ (32 ∷ (decimal size ++ (10 ∷ more)))))))) ≡ behind_lines zero more
+behind-cover model part size more meant few =
+    let last = codes "instance" ++ (32 ∷ (decimal size ++ (10 ∷ more))) in
+    over-solid (part_down part (suc zero)) (names.text_of model) (10 ∷ part_told part last) (for_each (λ name. list_all is_solid (names.text_of name)) refl model)
+    ∙ (behind-part part last (suc zero) meant ∙ over-number zero (pos size) (10 ∷ more) (omega arith))
 
 behind-none : (more : List ℕ) → behind_lines zero more ≡ more
 behind-none [] = refl
 behind-none (b ∷ bs) = refl
 
-heights : (claim : ClaimView) (counts : Option CountsView) → (best : Option ℤ) → claim.best ≡ best → head_height claim counts ≡ claim_down best (counts_down counts (suc (suc zero)))
-heights claim None None e = rw e refl
-heights claim (Some counts) None e = rw e refl
-heights claim None (Some value) e = rw e refl
-heights claim (Some counts) (Some value) e = rw e refl
+heights : (claim : ClaimView) (counts : Option CountsView) (part : Option PartNumber) → (best : Option ℤ) → claim.best ≡ best → head_height claim counts part ≡ claim_down best (counts_down counts (suc (part_down part (suc zero))))
+heights claim None None None e = rw e refl
+heights claim (Some counts) None None e = rw e refl
+heights claim None (Some part) None e = rw e refl
+heights claim (Some counts) (Some part) None e = rw e refl
+heights claim None None (Some value) e = rw e refl
+heights claim (Some counts) None (Some value) e = rw e refl
+heights claim None (Some part) (Some value) e = rw e refl
+heights claim (Some counts) (Some part) (Some value) e = rw e refl
 
-behind-head : (most : ℕ) (claim : ClaimView) (counts : Option CountsView) (model : ModelName) (size : ℕ) (more : List ℕ) → MayBeClaim most claim.best claim.within claim.assignment → MayBeCounts counts → size < 2 ^ 32 → behind_lines (head_height claim counts) (head_then claim counts model size more) ≡ more
-behind-head most claim counts model size more fits told few =
-    let third = codes "cover" ++ (32 ∷ (names.text_of model ++ (10 ∷ (codes "instance" ++ (32 ∷ (decimal size ++ (10 ∷ more))))))) in
-    ap (λ l. behind_lines l (head_then claim counts model size more)) (heights claim counts claim.best refl)
-    ∙ (behind-claim most claim.best claim.within claim.assignment (counts_then counts third) (counts_down counts (suc (suc zero))) fits
-    ∙ (behind-counts counts third (suc (suc zero)) told ∙ (behind-cover model size more few ∙ behind-none more)))
+behind-head : (most : ℕ) (claim : ClaimView) (counts : Option CountsView) (model : ModelName) (part : Option PartNumber) (size : ℕ) (more : List ℕ) → MayBeClaim most claim.best claim.within claim.assignment → MayBeCounts counts → MayBePart part → size < 2 ^ 32
+    → behind_lines (head_height claim counts part) (head_then claim counts model part size more) ≡ more
+behind-head most claim counts model part size more fits told meant few =
+    let third = codes "cover" ++ (32 ∷ (names.text_of model ++ (10 ∷ part_told part (codes "instance" ++ (32 ∷ (decimal size ++ (10 ∷ more))))))) in
+    let down = suc (part_down part (suc zero)) in
+    ap (λ l. behind_lines l (head_then claim counts model part size more)) (heights claim counts part claim.best refl)
+    ∙ (behind-claim most claim.best claim.within claim.assignment (counts_then counts third) (counts_down counts down) fits
+    ∙ (behind-counts counts third down told ∙ (behind-cover model part size more meant few ∙ behind-none more)))
 
 -- it has its bytes, and the sections stand behind them
 parted-there : (bytes instance behind : List ℕ) (lines : ℕ) → behind_lines lines bytes ≡ instance ++ behind → parted bytes lines (length instance) ≡ Ok (instance, behind)
@@ -147,26 +167,36 @@ counts-parts : (counts : Option CountsView) (rest : List ℕ) → printed_lines 
 counts-parts None rest = refl
 counts-parts (Some counts) rest = two-lines (codes "taken" ++ 32 ∷ decimal counts.taken) (codes "finished" ++ 32 ∷ decimal counts.finished) rest
 
-output-parts : (claim : ClaimView) (counts : Option CountsView) (model : ModelName) (instance : List ℕ) (cover : List (List CoverRow))
-    → printed_output claim counts model instance cover ≡ head_then claim counts model (length instance) (instance ++ printed_cover cover)
-output-parts claim counts model instance cover =
+cover-parts : (model : ModelName) (part : Option PartNumber) (size : ℕ) (rest : List ℕ)
+    → printed_lines (cover_lines model part size) ++ rest ≡ codes "cover" ++ (32 ∷ (names.text_of model ++ (10 ∷ part_told part (codes "instance" ++ (32 ∷ (decimal size ++ (10 ∷ rest)))))))
+cover-parts model None size rest = two-lines (codes "cover" ++ 32 ∷ names.text_of model) (codes "instance" ++ 32 ∷ decimal size) rest
+cover-parts model (Some part) size rest =
+    let first = codes "cover" ++ 32 ∷ names.text_of model in
+    let second = codes "part" ++ 32 ∷ (decimal part.index ++ 32 ∷ decimal part.of) in
+    let third = codes "instance" ++ 32 ∷ decimal size in
+    lines-first first (second ∷ third ∷ []) rest
+    ∙ ap (λ l. first ++ (10 ∷ l)) (two-lines second third rest ∙ ap (λ l. codes "part" ++ (32 ∷ l)) (append_assoc (decimal part.index) (32 ∷ decimal part.of) (10 ∷ (third ++ (10 ∷ rest)))))
+
+output-parts : (claim : ClaimView) (counts : Option CountsView) (model : ModelName) (part : Option PartNumber) (instance : List ℕ) (cover : List (List CoverRow))
+    → printed_output claim counts model part instance cover ≡ head_then claim counts model part (length instance) (instance ++ printed_cover cover)
+output-parts claim counts model part instance cover =
     let sections = instance ++ printed_cover cover in
-    let last = printed_lines (cover_lines model (length instance)) ++ sections in
+    let last = printed_lines (cover_lines model part (length instance)) ++ sections in
     claim-parts claim.best claim.within claim.assignment (printed_lines (counts_lines counts) ++ last)
     ∙ ap (claim_then claim.best claim.within claim.assignment) (counts-parts counts last
-    ∙ ap (counts_then counts) (two-lines (codes "cover" ++ 32 ∷ names.text_of model) (codes "instance" ++ 32 ∷ decimal (length instance)) sections))
+    ∙ ap (counts_then counts) (cover-parts model part (length instance) sections))
 
-pub outputs_read : (claim : ClaimView) (counts : Option CountsView) (model : ModelName) (instance : List ℕ) (cover : List (List CoverRow))
-    → IsToldClaim claim.best claim.within claim.assignment → MayBeCounts counts → length instance < 2 ^ 32 → IsWritten cover
-    → text_of (printed_output claim counts model instance cover) ≡ Ok (record { model = model; best = claim.best; within = claim.within; assignment = claim.assignment; instance = instance; cover = cover })
-outputs_read claim counts model instance cover told counted few written =
+pub outputs_read : (claim : ClaimView) (counts : Option CountsView) (model : ModelName) (part : Option PartNumber) (instance : List ℕ) (cover : List (List CoverRow))
+    → IsToldClaim claim.best claim.within claim.assignment → MayBeCounts counts → MayBePart part → length instance < 2 ^ 32 → IsWritten cover
+    → text_of (printed_output claim counts model part instance cover) ≡ Ok (record { model = model; part = part; best = claim.best; within = claim.within; assignment = claim.assignment; instance = instance; cover = cover })
+outputs_read claim counts model part instance cover told counted meant few written =
     let sections = instance ++ printed_cover cover in
-    let bytes = printed_output claim counts model instance cover in
-    let is : bytes ≡ head_then claim counts model (length instance) sections = output-parts claim counts model instance cover in
-    let third = codes "cover" ++ (32 ∷ (names.text_of model ++ (10 ∷ (codes "instance" ++ (32 ∷ (decimal (length instance) ++ (10 ∷ sections))))))) in
+    let bytes = printed_output claim counts model part instance cover in
+    let is : bytes ≡ head_then claim counts model part (length instance) sections = output-parts claim counts model part instance cover in
+    let third = codes "cover" ++ (32 ∷ (names.text_of model ++ (10 ∷ part_told part (codes "instance" ++ (32 ∷ (decimal (length instance) ++ (10 ∷ sections))))))) in
     let fits : MayBeClaim (length bytes) claim.best claim.within claim.assignment =
     subst (λ (b : List ℕ). MayBeClaim (length b) claim.best claim.within claim.assignment) (sym is) (claim-few claim.best claim.within claim.assignment (counts_then counts third) told) in
-    let head = head-read claim counts model (length instance) sections bytes is fits counted few in
-    let behind = ap (behind_lines (head_height claim counts)) is ∙ behind-head (length bytes) claim counts model (length instance) sections fits counted few in
-    texts_read bytes instance (record { claim = claim; model = model; size = record { bytes = length instance; line = head_height claim counts } }) cover written head
-    (parted-there bytes instance (printed_cover cover) (head_height claim counts) behind)
+    let head = head-read claim counts model part (length instance) sections bytes is fits counted meant few in
+    let behind = ap (behind_lines (head_height claim counts part)) is ∙ behind-head (length bytes) claim counts model part (length instance) sections fits counted meant few in
+    texts_read bytes instance (record { claim = claim; model = model; part = part; size = record { bytes = length instance; line = head_height claim counts part } }) cover written head
+    (parted-there bytes instance (printed_cover cover) (head_height claim counts part) behind)

@@ -17,9 +17,11 @@ use Rattle.tokens.proofs.Printing.{before_start, ends_line_LF, ends_line_number}
 use Rattle.tokens.proofs.Repeats.{fold_pushes}
 use Rattle.dp_model.specs.Lists.{Each}
 use Rattle.problem_names.specs.ModelNames as names
+use Rattle.problem_names.specs.Parts.{IsPart, MayBePart}
 use Rattle.problem_names.specs.declared.ModelName.{ModelName}
+use Rattle.problem_names.specs.declared.part.PartNumber.{PartNumber}
 use Rattle.cover_text.specs.Grammar.{until}
-use Rattle.cover_text.specs.Heads.{ClaimView, decision_at, distance_at, solution_at, claim_at, is_count, count_at, counts_at, name_at, size_at, head_at}
+use Rattle.cover_text.specs.Heads.{ClaimView, decision_at, distance_at, solution_at, claim_at, is_count, count_at, counts_at, name_at, part_number_at, part_at, size_at, head_at}
 use Rattle.cover_text.specs.Outputs.{spaced, CountsView, MayBeCounts}
 use Rattle.dp_model.specs.Distances.{IsDistance}
 use Rattle.cover_text.specs.Written.{IsWord}
@@ -297,13 +299,57 @@ size-on line size more s few on =
     let number = passes_small size (10 ∷ more) s few (LF-first more) here.ahead in
     rw (number.value, ends_line_LF more (after_token s) number.at.rest_is) (ap (λ l. Ok (record { bytes = size; line = l }, after_token s)) here.line_is)
 
--- all lines before the instance, and what stands behind them
-abbrev pub head_then : ClaimView → Option CountsView → ModelName → ℕ → List ℕ → List ℕ
-head_then claim counts model size more =
-    claim_then claim.best claim.within claim.assignment (counts_then counts (codes "cover" ++ (32 ∷ (names.text_of model ++ (10 ∷ (codes "instance" ++ (32 ∷ (decimal size ++ (10 ∷ more)))))))))
+-- the line of a part where one is meant, and what stands after it
+abbrev pub part_told : Option PartNumber → List ℕ → List ℕ
+part_told None more = more
+part_told (Some part) more = codes "part" ++ (32 ∷ (decimal part.index ++ (32 ∷ (decimal part.of ++ (10 ∷ more)))))
 
-abbrev pub head_height : ClaimView → Option CountsView → ℕ
-head_height claim counts = claim_height claim.best + (counts_height counts + 1) + 1
+abbrev pub part_height : Option PartNumber → ℕ
+part_height None = 0
+part_height (Some part) = 1
+
+part-number-on : (line : ℕ) (part : PartNumber) (more : List ℕ) (s : TextState) → IsPart part → IsOn line (32 ∷ (decimal part.index ++ (32 ∷ (decimal part.of ++ (10 ∷ more))))) s → Gives (IsOn line (10 ∷ more)) (part_number_at s) part
+unfolding part_number_at
+part-number-on line part more s fits on =
+    let below = fits.index in
+    let few : part.of ≤ 1024 = fits.few in
+    let last = decimal part.of ++ (10 ∷ more) in
+    let first = number-ahead line (pos part.index) (32 ∷ last) s (omega arith) on in
+    let one = passes_number (pos part.index) (pos 0) (pos 1023) (32 ∷ last) s (omega arith) (omega (arith, ints)) (omega (arith, ints)) (space-first last) first.ahead in
+    let t = after_token s in
+    let second = number-ahead line (pos part.of) (10 ∷ more) t (omega arith) (record { at = one.at; line_is = after-line s ∙ first.line_is }) in
+    let two = passes_number (pos part.of) (pos (part.index + 1)) (pos 1024) (10 ∷ more) t (omega arith) (omega (arith, ints)) (omega (arith, ints)) (LF-first more) second.ahead in
+    record { state = after_token t; is = rw (one.value, two.value) refl; there = record { at = two.at; line_is = after-line t ∙ second.line_is } }
+
+instance-word : (line : ℕ) (more : List ℕ) (s : TextState) → IsOn line (10 ∷ (codes "instance" ++ (32 ∷ more))) s → PassesOn (line + 1) (codes "instance") (32 ∷ more) s
+instance-word line more s on = word-on (line + 1) 105 (codes "nstance") (32 ∷ more) s refl (lit< tt) (space-first more) (next-line line 105 (codes "nstance" ++ (32 ∷ more)) s refl on)
+
+-- the part is read, and the word after it is passed over
+part-on : (line : ℕ) (part : Option PartNumber) (more : List ℕ) (s : TextState) → MayBePart part → IsOn line (10 ∷ part_told part (codes "instance" ++ (32 ∷ more))) s → Gives (IsOn (line + (part_height part + 1)) (32 ∷ more)) (part_at s) part
+unfolding part_at
+part-on line None more s fits on =
+    let word = instance-word line more s on in
+    record { state = after_token s; is = rw word.word_is.value refl; there = word.on }
+part-on line (Some part) more s fits on =
+    let next = codes "instance" ++ (32 ∷ more) in
+    let numbers = decimal part.index ++ (32 ∷ (decimal part.of ++ (10 ∷ next))) in
+    let one = word-on (line + 1) 112 (codes "art") (32 ∷ numbers) s refl (lit< tt) (space-first numbers) (next-line line 112 (codes "art" ++ (32 ∷ numbers)) s refl on) in
+    let read = part-number-on (line + 1) part next (after_token s) fits one.on in
+    let last = instance-word (line + 1) more read.state read.there in
+    let height : line + 1 + 1 ≡ line + (1 + 1) = omega arith in
+    record {
+      state = after_token read.state;
+      is = rw (one.word_is.value, read.is, passes_fixed 105 (codes "nstance") (32 ∷ more) read.state last.word_is) refl;
+      there = subst (λ l. IsOn l (32 ∷ more) (after_token read.state)) height last.on;
+    }
+
+-- all lines before the instance, and what stands behind them
+abbrev pub head_then : ClaimView → Option CountsView → ModelName → Option PartNumber → ℕ → List ℕ → List ℕ
+head_then claim counts model part size more =
+    claim_then claim.best claim.within claim.assignment (counts_then counts (codes "cover" ++ (32 ∷ (names.text_of model ++ (10 ∷ part_told part (codes "instance" ++ (32 ∷ (decimal size ++ (10 ∷ more)))))))))
+
+abbrev pub head_height : ClaimView → Option CountsView → Option PartNumber → ℕ
+head_height claim counts part = claim_height claim.best + (counts_height counts + 1) + (part_height part + 1)
 
 -- a token begins the bytes
 record BeginsSolid (bytes : List ℕ) : Type 0 where
@@ -330,20 +376,23 @@ starts-on best within ds more =
       line_is = ap (λ (b : List ℕ). (place_of (text_start Never b)).line) begins.is ∙ first-line begins.first begins.others begins.solid;
     }
 
+part-blank : (part : Option PartNumber) (more : List ℕ) → BeginsBlank (10 ∷ part_told part more)
+part-blank part more = record { blank = 10; more = part_told part more; is = refl; is_blank = refl }
+
 -- the head is read, with the line of the instance's size
-pub head-read : (claim : ClaimView) (counts : Option CountsView) (model : ModelName) (size : ℕ) (more bytes : List ℕ) → bytes ≡ head_then claim counts model size more → MayBeClaim (length bytes) claim.best claim.within claim.assignment → MayBeCounts counts → size < 2 ^ 32
-    → head_at bytes ≡ Ok (record { claim = claim; model = model; size = record { bytes = size; line = head_height claim counts } })
+pub head-read : (claim : ClaimView) (counts : Option CountsView) (model : ModelName) (part : Option PartNumber) (size : ℕ) (more bytes : List ℕ) → bytes ≡ head_then claim counts model part size more → MayBeClaim (length bytes) claim.best claim.within claim.assignment → MayBeCounts counts → MayBePart part → size < 2 ^ 32
+    → head_at bytes ≡ Ok (record { claim = claim; model = model; part = part; size = record { bytes = size; line = head_height claim counts part } })
 unfolding head_at
-head-read claim counts model size more bytes is fits told few =
-    let behind = 32 ∷ (decimal size ++ (10 ∷ more)) in
-    let third = 10 ∷ (codes "instance" ++ behind) in
-    let second = names.text_of model ++ third in
+head-read claim counts model part size more bytes is fits told meant few =
+    let behind = decimal size ++ (10 ∷ more) in
+    let third = codes "instance" ++ (32 ∷ behind) in
+    let second = names.text_of model ++ (10 ∷ part_told part third) in
     let first = counts_then counts (codes "cover" ++ (32 ∷ second)) in
     let s = text_start Never bytes in
     let here = subst (λ (b : List ℕ). IsAheadOn 1 (claim_then claim.best claim.within claim.assignment first) (text_start Never b)) (sym is) (starts-on claim.best claim.within claim.assignment first) in
     let one = claim-on (length bytes) claim.best claim.within claim.assignment first s fits here in
     let two = counts-on (claim_height claim.best) counts second one.state told one.there in
     let line = claim_height claim.best + (counts_height counts + 1) in
-    let three = name-on line model third two.state (record { blank = 10; more = codes "instance" ++ behind; is = refl; is_blank = refl }) two.there in
-    let word = word-on (line + 1) 105 (codes "nstance") behind three.state refl (lit< tt) (space-first (decimal size ++ (10 ∷ more))) (next-line line 105 (codes "nstance" ++ behind) three.state refl three.there) in
-    rw (one.is, two.is, three.is, passes_fixed 105 (codes "nstance") behind three.state word.word_is, size-on (line + 1) size more (after_token three.state) few word.on) refl
+    let three = name-on line model (10 ∷ part_told part third) two.state (part-blank part third) two.there in
+    let four = part-on line part behind three.state meant three.there in
+    rw (one.is, two.is, three.is, four.is, size-on (line + (part_height part + 1)) size more four.state few four.there) refl

@@ -132,6 +132,6 @@ sections_read cover held =
 -- behind what is read before it it is the cover of the text
 pub texts_read : (bytes instance : List ℕ) (head : HeadView) (cover : List (List CoverRow)) → IsWritten cover
     → head_at bytes ≡ Ok head → parted bytes head.size.line head.size.bytes ≡ Ok (instance, printed_cover cover)
-    → text_of bytes ≡ Ok (record { model = head.model; best = head.claim.best; within = head.claim.within; assignment = head.claim.assignment; instance = instance; cover = cover })
+    → text_of bytes ≡ Ok (record { model = head.model; part = head.part; best = head.claim.best; within = head.claim.within; assignment = head.claim.assignment; instance = instance; cover = cover })
 unfolding text_of opened cover_behind
 texts_read bytes instance head cover held head_is parts_are = rw (head_is, parts_are, sections_read cover held) refl

@@ -1,11 +1,13 @@
--- The lines before the instance: the report, perhaps taken and finished, cover MODEL, instance BYTES.
-use Rattle.std.specs.Prelude.{ℕ, ◌-◌, ◌^◌, List, [], ◌∷◌, ◌++◌, length, ℤ, pos, neg_ℤ, Bool, not, ◌&&◌, nat_le, nat_eq, cond, codes, Option, Some, None, Result, Ok, Err}
+-- The lines before the instance: the report, perhaps taken and finished, cover MODEL, perhaps part I K, instance BYTES.
+use Rattle.std.specs.Prelude.{ℕ, ◌+◌, ◌-◌, ◌^◌, List, [], ◌∷◌, ◌++◌, length, ℤ, pos, neg_ℤ, nat_abs, Bool, not, ◌&&◌, nat_le, nat_eq, cond, codes, Option, Some, None, Result, Ok, Err}
 use Rattle.std.specs.Str.{all_ascii_digits}
 use Rattle.tokens.specs.Text.{TextState, text_start, ends_line, place_of}
 use Rattle.tokens.specs.declared.comment.Comment.TheVariants.{Never}
 use Rattle.dp_model.specs.declared.limits.TheConstants.{MOST_DISTANCE}
 use Rattle.problem_names.specs.ModelNames.{word_same, model_named}
 use Rattle.problem_names.specs.declared.ModelName.{ModelName}
+use Rattle.problem_names.specs.declared.part.PartNumber.{PartNumber}
+use Rattle.problem_names.specs.declared.part.TheConstants.{MOST_PARTS}
 use Rattle.cover_text.specs.declared.head.Claim.{Claim}
 use Rattle.cover_text.specs.declared.head.Size.{Size}
 use Rattle.cover_text.specs.declared.head.Head.{Head}
@@ -22,6 +24,7 @@ pub record ClaimView : Type 0 where
 pub record HeadView : Type 0 where
   pub claim : ClaimView
   pub model : ModelName
+  pub part : Option PartNumber
   pub size : Size
 
 -- a claim as its readers see it
@@ -30,7 +33,7 @@ claim_in c = record { best = c.best; within = c.within; assignment = c.assignmen
 
 -- a head as its readers see it
 abbrev pub head_in : Head → HeadView
-head_in h = record { claim = claim_in h.claim; model = h.model; size = h.size }
+head_in h = record { claim = claim_in h.claim; model = h.model; part = h.part; size = h.size }
 
 -- a decision behind those before it
 unfoldable pub decision_at : List ℕ → TextState → Result (List ℕ × TextState) CoverError
@@ -89,6 +92,23 @@ name_or fault (Some name) t = Ok (name, t)
 unfoldable pub name_at : TextState → Result (ModelName × TextState) CoverError
 name_at s = word_then s (λ w t. name_or (Word (place_of s)) (model_named w) t)
 
+-- the number of a part, and how many parts there are
+unfoldable pub part_number_at : TextState → Result (PartNumber × TextState) CoverError
+part_number_at s =
+    number_then (pos 0) (pos (MOST_PARTS - 1)) s (λ index t.
+    number_then (pos (nat_abs index + 1)) (pos MOST_PARTS) t (λ of u.
+    Ok (record { index = nat_abs index; of = nat_abs of }, u)))
+
+-- the word instance, perhaps after the line of a part: the part that is meant, and what stands after the word
+unfoldable pub part_at : TextState → Result (Option PartNumber × TextState) CoverError
+part_at s = word_then s (λ w t.
+    cond (word_same w (codes "instance")) (Ok (None, t))
+    (cond (word_same w (codes "part"))
+    (part_then (part_number_at t) (λ part u.
+    passed_then (fixed_at (codes "instance") u) (λ v.
+    Ok (Some part, v))))
+    (Err (Word (place_of s)))))
+
 -- how many bytes the instance has, the last word of its line
 unfoldable pub size_at : TextState → Result (Size × TextState) CoverError
 size_at s =
@@ -101,6 +121,6 @@ head_at bytes =
     part_then (claim_at (length bytes) (text_start Never bytes)) (λ claim t.
     passed_then (counts_at t) (λ u.
     part_then (name_at u) (λ model v.
-    passed_then (fixed_at (codes "instance") v) (λ w.
+    part_then (part_at v) (λ part w.
     part_then (size_at w) (λ size x.
-    Ok (record { claim = claim; model = model; size = size }))))))
+    Ok (record { claim = claim; model = model; part = part; size = size }))))))

@@ -5,7 +5,9 @@ use Rattle.tokens.specs.Decimal.{decimal_of}
 use Rattle.dp_model.specs.Distances.{IsDistance}
 use Rattle.dp_model.specs.Lists.{Each}
 use Rattle.problem_names.specs.ModelNames as names
+use Rattle.problem_names.specs.Parts.{MayBePart}
 use Rattle.problem_names.specs.declared.ModelName.{ModelName}
+use Rattle.problem_names.specs.declared.part.PartNumber.{PartNumber}
 use Rattle.cover_text.specs.Heads.{ClaimView}
 use Rattle.cover_text.specs.Printed.{printed_cover}
 use Rattle.cover_text.specs.Texts.{text_of}
@@ -38,18 +40,23 @@ abbrev pub counts_lines : Option CountsView → List (List ℕ)
 counts_lines None = []
 counts_lines (Some counts) = (codes "taken" ++ 32 ∷ decimal counts.taken) ∷ (codes "finished" ++ 32 ∷ decimal counts.finished) ∷ []
 
--- the lines of a cover before its instance, which has so many bytes
-abbrev pub cover_lines : ModelName → ℕ → List (List ℕ)
-cover_lines model size = (codes "cover" ++ 32 ∷ names.text_of model) ∷ (codes "instance" ++ 32 ∷ decimal size) ∷ []
+-- the line of a part, where a part is meant
+abbrev pub part_lines : Option PartNumber → List (List ℕ)
+part_lines None = []
+part_lines (Some part) = (codes "part" ++ 32 ∷ (decimal part.index ++ 32 ∷ decimal part.of)) ∷ []
+
+-- the lines of a cover before its instance, which has this number of bytes
+abbrev pub cover_lines : ModelName → Option PartNumber → ℕ → List (List ℕ)
+cover_lines model part size = (codes "cover" ++ 32 ∷ names.text_of model) ∷ (part_lines part ++ (codes "instance" ++ 32 ∷ decimal size) ∷ [])
 
 -- the cover of an instance: its lines, the instance, and the sections
-abbrev pub printed_whole : ModelName → List ℕ → List (List CoverRow) → List ℕ
-printed_whole model instance cover = printed_lines (cover_lines model (length instance)) ++ (instance ++ printed_cover cover)
+abbrev pub printed_whole : ModelName → Option PartNumber → List ℕ → List (List CoverRow) → List ℕ
+printed_whole model part instance cover = printed_lines (cover_lines model part (length instance)) ++ (instance ++ printed_cover cover)
 
 -- the report with its counts, and the cover behind it
-abbrev pub printed_output : ClaimView → Option CountsView → ModelName → List ℕ → List (List CoverRow) → List ℕ
-printed_output claim counts model instance cover =
-    printed_lines (claim_lines claim.best claim.within claim.assignment) ++ (printed_lines (counts_lines counts) ++ printed_whole model instance cover)
+abbrev pub printed_output : ClaimView → Option CountsView → ModelName → Option PartNumber → List ℕ → List (List CoverRow) → List ℕ
+printed_output claim counts model part instance cover =
+    printed_lines (claim_lines claim.best claim.within claim.assignment) ++ (printed_lines (counts_lines counts) ++ printed_whole model part instance cover)
 
 -- a value of 64 bits with a distance and decisions of 32 bits; where there is none there are no decisions, and the distance is 0
 abbrev pub IsToldClaim : Option ℤ → ℤ → List ℕ → Type 0
@@ -68,6 +75,6 @@ MayBeCounts (Some counts) = AreToldCounts counts
 
 -- a whole output that is printed is read as what was printed
 abbrev pub OutputsAreRead : Type 0
-OutputsAreRead = (claim : ClaimView) (counts : Option CountsView) (model : ModelName) (instance : List ℕ) (cover : List (List CoverRow))
-    → IsToldClaim claim.best claim.within claim.assignment → MayBeCounts counts → length instance < 2 ^ 32 → IsWritten cover
-    → text_of (printed_output claim counts model instance cover) ≡ Ok (record { model = model; best = claim.best; within = claim.within; assignment = claim.assignment; instance = instance; cover = cover })
+OutputsAreRead = (claim : ClaimView) (counts : Option CountsView) (model : ModelName) (part : Option PartNumber) (instance : List ℕ) (cover : List (List CoverRow))
+    → IsToldClaim claim.best claim.within claim.assignment → MayBeCounts counts → MayBePart part → length instance < 2 ^ 32 → IsWritten cover
+    → text_of (printed_output claim counts model part instance cover) ≡ Ok (record { model = model; part = part; best = claim.best; within = claim.within; assignment = claim.assignment; instance = instance; cover = cover })

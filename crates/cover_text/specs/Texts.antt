@@ -3,6 +3,7 @@ use Rattle.std.specs.Prelude.{ℕ, ◌-◌, List, length, take, ℤ, Option, Res
 use Rattle.dp_model.specs.Dp.{Dp}
 use Rattle.tokens.specs.declared.place.Place.{Place}
 use Rattle.problem_names.specs.declared.ModelName.{ModelName}
+use Rattle.problem_names.specs.declared.part.PartNumber.{PartNumber}
 use Rattle.bound_cover.specs.Covers.{CoverRow}
 use Rattle.bound_cover.specs.Verdicts.{verdict}
 use Rattle.bound_cover.specs.declared.cover.Verdict.{Verdict}
@@ -16,6 +17,7 @@ use Rattle.cover_text.specs.Instances.{parted, end_place, moved}
 -- what a text of a cover holds
 pub record CoverTextView : Type 0 where
   pub model : ModelName
+  pub part : Option PartNumber
   pub best : Option ℤ
   pub within : ℤ
   pub assignment : List ℕ
@@ -24,7 +26,7 @@ pub record CoverTextView : Type 0 where
 
 -- a text as its readers see it
 abbrev pub text_in : CoverText → CoverTextView
-text_in t = record { model = t.model; best = t.best; within = t.within; assignment = t.assignment.items; instance = t.instance.items; cover = t.cover }
+text_in t = record { model = t.model; part = t.part; best = t.best; within = t.within; assignment = t.assignment.items; instance = t.instance.items; cover = t.cover }
 
 -- what was read goes on
 abbrev pub and_then : {A B : Type 0} → Result A CoverError → (A → Result B CoverError) → Result B CoverError
@@ -43,6 +45,7 @@ cover_behind before behind = moved_by (end_place before) (sections_at behind)
 -- a text up to its sections, and the sections
 pub record OpenView : Type 0 where
   pub model : ModelName
+  pub part : Option PartNumber
   pub best : Option ℤ
   pub within : ℤ
   pub assignment : List ℕ
@@ -52,18 +55,18 @@ pub record OpenView : Type 0 where
 
 -- an open cover as its readers see it
 abbrev pub opened_in : OpenCover → OpenView
-opened_in o = record { model = o.model; best = o.best; within = o.within; assignment = o.assignment.items; instance = o.instance.now; before = o.before.now; behind = o.behind.now }
+opened_in o = record { model = o.model; part = o.part; best = o.best; within = o.within; assignment = o.assignment.items; instance = o.instance.now; before = o.before.now; behind = o.behind.now }
 
 -- what stands before the sections, or its first fault
 unfoldable pub opened : List ℕ → Result OpenView CoverError
 opened bytes =
     and_then (head_at bytes) (λ head.
     and_then (parted bytes head.size.line head.size.bytes) (λ parts.
-    Ok (record { model = head.model; best = head.claim.best; within = head.claim.within; assignment = head.claim.assignment; instance = parts.0; before = take (length bytes - length parts.1) bytes; behind = parts.1 })))
+    Ok (record { model = head.model; part = head.part; best = head.claim.best; within = head.claim.within; assignment = head.claim.assignment; instance = parts.0; before = take (length bytes - length parts.1) bytes; behind = parts.1 })))
 
 -- what the text holds where its sections are this cover
 abbrev pub held_with : OpenView → List (List CoverRow) → CoverTextView
-held_with o cover = record { model = o.model; best = o.best; within = o.within; assignment = o.assignment; instance = o.instance; cover = cover }
+held_with o cover = record { model = o.model; part = o.part; best = o.best; within = o.within; assignment = o.assignment; instance = o.instance; cover = cover }
 
 -- the verdict on the sections, or their first fault
 abbrev pub verdict_behind : Dp → OpenView → Result Verdict CoverError

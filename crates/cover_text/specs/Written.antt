@@ -64,4 +64,4 @@ SectionsAreRead = (cover : List (List CoverRow)) → IsWritten cover → section
 abbrev pub TextsAreRead : Type 0
 TextsAreRead = (bytes instance : List ℕ) (head : HeadView) (cover : List (List CoverRow)) → IsWritten cover
     → head_at bytes ≡ Ok head → parted bytes head.size.line head.size.bytes ≡ Ok (instance, printed_cover cover)
-    → text_of bytes ≡ Ok (record { model = head.model; best = head.claim.best; within = head.claim.within; assignment = head.claim.assignment; instance = instance; cover = cover })
+    → text_of bytes ≡ Ok (record { model = head.model; part = head.part; best = head.claim.best; within = head.claim.within; assignment = head.claim.assignment; instance = instance; cover = cover })

@@ -1,11 +1,13 @@
 use bound_cover::Cover;
-use problem_names::ModelName;
+use problem_names::{ModelName, PartNumber};
 
 /// What the text of a cover holds.
 #[derive(Debug, Drop)]
 pub struct CoverText {
     /// The problem.
     pub model: ModelName,
+    /// The part of the problem that the cover is of; none where it is of the whole problem.
+    pub part: Option<PartNumber>,
     /// The reported value; none where the report is `infeasible`.
     pub best: Option<i64>,
     /// How far the best value may be above the reported one, from 0 to 2^50; 0 where none is reported.
@@ -23,6 +25,8 @@ pub struct CoverText {
 pub struct OpenCover<'t> {
     /// The problem.
     pub model: ModelName,
+    /// The part of the problem that the cover is of; none where it is of the whole problem.
+    pub part: Option<PartNumber>,
     /// The reported value; none where the report is `infeasible`.
     pub best: Option<i64>,
     /// How far the best value may be above the reported one, from 0 to 2^50; 0 where none is reported.

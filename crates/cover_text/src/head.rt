@@ -4,15 +4,16 @@ ghost use Rattle.std.specs.Prelude.{◌≡◌, ◌<◌, ◌-◌, ◌^◌, length
 ghost use Rattle.std.specs.Str.{all_ascii_digits};
 ghost use Rattle.dp_model.specs.Distances.{IsDistance};
 ghost use Rattle.problem_names.specs.ModelNames.{model_named};
+ghost use Rattle.problem_names.specs.Parts.{IsPart, MayBePart};
 ghost use Rattle.tokens.specs.Text.{ends_line, text_start};
 ghost use Rattle.tokens.specs.declared.comment.Comment.TheVariants.{Never};
 ghost use Rattle.cover_text.specs.Grammar.{Reads, until};
-ghost use Rattle.cover_text.specs.Heads.{claim_in, claim_at, counts_at, decision_at, distance_at, head_in, head_at, is_count, count_at, name_at, size_at, solution_at};
+ghost use Rattle.cover_text.specs.Heads.{claim_in, claim_at, counts_at, decision_at, distance_at, head_in, head_at, is_count, count_at, name_at, part_at, part_number_at, size_at, solution_at};
 
 use crate::cover_error::CoverError;
 use crate::fixed::{is_word, next_small, pass_word};
 use dp_model::MOST_DISTANCE;
-use problem_names::ModelName;
+use problem_names::{MOST_PARTS, ModelName, PartNumber};
 use std::alloc::Global;
 use tokens::{Comment, Tokens};
 
@@ -36,6 +37,7 @@ pub(crate) struct Size {
 pub(crate) struct Head {
     pub(crate) claim: Claim,
     pub(crate) model: ModelName,
+    pub(crate) part: Option<PartNumber>,
     pub(crate) size: Size,
 }
 
@@ -202,6 +204,39 @@ fn read_name(tokens: &mut Tokens<'_>) -> Result<ModelName, CoverError>
     }
 }
 
+/// Reads the number of a part, and how many parts there are.
+#[tactic(auto, unfolding(crate::specs::Heads::part_number_at))]
+fn read_part_number(tokens: &mut Tokens<'_>) -> Result<PartNumber, CoverError>
+    ensures read { Reads (λ part. (part, tokens.new)) result (part_number_at tokens.old) }
+    ensures part { IfOk result (λ part. IsPart part) }
+{
+    let index = tokens.next_natural(0, u64::from(MOST_PARTS - 1))?;
+    let of = tokens.next_natural(index + 1, u64::from(MOST_PARTS))?;
+    Ok(PartNumber {
+        index: index as u32,
+        of: of as u32,
+    })
+}
+
+/// Reads the part, which is none where no line of a part stands here, and passes over the word `instance` after it.
+#[tactic(auto, unfolding(crate::specs::Heads::part_at), using(crate::proofs::Chains::part_fails, crate::proofs::Chains::passed_fails))]
+fn read_part(tokens: &mut Tokens<'_>) -> Result<Option<PartNumber>, CoverError>
+    ensures read { Reads (λ part. (part, tokens.new)) result (part_at tokens.old) }
+    ensures part { IfOk result (λ part. MayBePart part) }
+{
+    let place = tokens.place();
+    let word = tokens.next_word()?;
+    if is_word(word, b"instance") {
+        return Ok(None);
+    }
+    if !is_word(word, b"part") {
+        return Err(CoverError::Word(place));
+    }
+    let part = read_part_number(tokens)?;
+    pass_word(tokens, b"instance")?;
+    Ok(Some(part))
+}
+
 /// Reads how many bytes the instance has, to the line's end.
 #[tactic(auto, unfolding(crate::specs::Heads::size_at), using(crate::proofs::Chains::part_fails))]
 fn read_size(tokens: &mut Tokens<'_>) -> Result<Size, CoverError>
@@ -221,12 +256,18 @@ pub(crate) fn read_head(alloc: Global, bytes: &[u8]) -> Result<Head, CoverError>
     requires { length bytes.now < 2 ^ 32 - 1 }
     ensures read { Reads head_in result (head_at bytes.now) }
     ensures distance { IfOk result (λ head. IsDistance head.claim.within) }
+    ensures part { IfOk result (λ head. MayBePart head.part) }
 {
     let mut tokens = Tokens::new(bytes, Comment::Never);
     let claim = read_claim(alloc, &mut tokens, bytes.len())?;
     pass_counts(&mut tokens)?;
     let model = read_name(&mut tokens)?;
-    pass_word(&mut tokens, b"instance")?;
+    let part = read_part(&mut tokens)?;
     let size = read_size(&mut tokens)?;
-    Ok(Head { claim, model, size })
+    Ok(Head {
+        claim,
+        model,
+        part,
+        size,
+    })
 }

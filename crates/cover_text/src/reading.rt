@@ -2,6 +2,7 @@
 
 ghost use Rattle.std.specs.Prelude.{◌≡◌, ◌<◌, ◌≤◌, ◌-◌, ◌^◌, ◌++◌, length, vec_len, IfOk};
 ghost use Rattle.dp_model.specs.Distances.{IsDistance};
+ghost use Rattle.problem_names.specs.Parts.{MayBePart};
 ghost use Rattle.cover_text.specs.Grammar.{Reads};
 ghost use Rattle.cover_text.specs.Instances.{end_place, moved};
 ghost use Rattle.cover_text.specs.Texts.{cover_behind, opened, opened_in, text_in, text_of, verdict_behind};
@@ -70,6 +71,7 @@ pub fn open_cover(alloc: Global, bytes: &[u8]) -> Result<OpenCover<'_>, CoverErr
     requires { length bytes.now < 2 ^ 32 - 1 }
     ensures read { Reads opened_in result (opened bytes.now) }
     ensures distance { IfOk result (λ o. IsDistance o.within) }
+    ensures part { IfOk result (λ o. MayBePart o.part) }
     ensures inside { IfOk result (λ o. length o.instance.now ≤ length bytes.now) }
     ensures before { IfOk result (λ o. length o.before.now ≤ length bytes.now) }
     ensures behind { IfOk result (λ o. length o.behind.now ≤ length bytes.now) }
@@ -79,6 +81,7 @@ pub fn open_cover(alloc: Global, bytes: &[u8]) -> Result<OpenCover<'_>, CoverErr
     let claim = head.claim;
     Ok(OpenCover {
         model: head.model,
+        part: head.part,
         best: claim.best,
         within: claim.within,
         assignment: claim.assignment,
@@ -99,6 +102,7 @@ pub fn read_cover(alloc: Global, bytes: &[u8]) -> Result<CoverText, CoverError>
     requires { length bytes.now < 2 ^ 32 - 1 }
     ensures read { Reads text_in result (text_of bytes.now) }
     ensures distance { IfOk result (λ t. IsDistance t.within) }
+    ensures part { IfOk result (λ t. MayBePart t.part) }
     ensures inside { IfOk result (λ t. vec_len t.instance ≤ length bytes.now) }
 {
     let open = open_cover(alloc, bytes)?;
@@ -106,6 +110,7 @@ pub fn read_cover(alloc: Global, bytes: &[u8]) -> Result<CoverText, CoverError>
     let instance = open.instance.to_vec(alloc)?;
     Ok(CoverText {
         model: open.model,
+        part: open.part,
         best: open.best,
         within: open.within,
         assignment: open.assignment,
