@@ -22,11 +22,6 @@ pub fn part_of<M: DpModel>(
     ensures part { IfOk result (λ r. part_numbers r.1.index r.1.of (M.numbers (arc_value r.1.model)) ≡ part_numbers number.index number.of (M.numbers model)) }
 {
     let whole = Arc::new(alloc, model)?;
-    let part = Part::new(
-        alloc,
-        Arc::try_clone(&whole)?,
-        number.index,
-        number.of,
-    )?;
+    let part = Part::new(alloc, Arc::try_clone(&whole)?, number.index, number.of)?;
     Ok((whole, part))
 }

@@ -1,6 +1,7 @@
 mod covers;
 mod journals;
 mod meeting;
+mod parts;
 mod tables;
 mod words;
 
