@@ -1,7 +1,7 @@
 mod covers;
 mod journals;
 mod meeting;
-mod parts;
+mod partial;
 mod tables;
 mod words;
 
