@@ -2,5 +2,6 @@ pub mod Conclusions
 pub mod Covered
 pub mod Ending
 pub mod Reports
+pub mod Parts
 pub mod Checked
 pub mod Journaled

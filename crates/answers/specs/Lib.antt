@@ -1,6 +1,7 @@
 -- when what a job answers is right
 pub mod Widths
 pub mod Reports
+pub mod Parts
 pub mod Checks
 pub mod Covers
 pub mod Over
