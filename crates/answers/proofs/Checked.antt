@@ -1,5 +1,5 @@
 -- What is answered to a text up to its sections and to these, seen from the whole text.
-use Rattle.std.proofs.Common.{◌≡◌, ℕ, ℤ, List, Option, Some, None, sym, ◌∙◌}
+use Rattle.std.proofs.Common.{◌≡◌, ℕ, ℤ, List, Option, Some, None, sym, subst, ◌∙◌}
 use Rattle.std.specs.Prelude.{Result, Ok, Err, MatchResult}
 use Rattle.dp_model.specs.Dp.{Dp}
 use Rattle.dp_model.specs.Laws.{IsLawful}
@@ -11,12 +11,14 @@ use Rattle.cover_text.specs.Grammar.{Fails}
 use Rattle.cover_text.specs.Texts.{CoverTextView, OpenView, and_then, cover_behind, held_with, opened, text_of, verdict_behind}
 use Rattle.cover_text.specs.declared.cover_error.CoverError.{CoverError}
 use Rattle.cover_text.specs.declared.cover_error.CoverError.TheVariants.{Text, Word, OutOfMemory}
+use Rattle.problem_names.specs.declared.part.PartNumber.{PartNumber}
 use Rattle.problem_theory.specs.declared.refusal.InstanceRefusal.{InstanceRefusal}
 use Rattle.problems.specs.Theories.{theory_of}
 use Rattle.problem_theory.specs.Theory.{Agrees, Theory}
 use Rattle.solver_report.specs.declared.answer.Answer.{Answer}
 use Rattle.solver_report.specs.declared.answer.Answer.TheVariants as answers
 use Rattle.answers.specs.Checks.{Checks, ChecksOpened, ChecksText, IsChecked, RefusesCover, RefusesInstance, ToSections}
+use Rattle.answers.specs.Parts.{own_in, program_in}
 use Rattle.answers.proofs.Reports.{true-report}
 
 made-then : {A B : Type 0} (read : Result A CoverError) (f : A → B) (fine : B → Type 0) (fault : CoverError → Type 0) → MatchResult read (λ x. fine (f x)) fault → MatchResult (and_then read (λ x. Ok (f x))) fine fault
@@ -31,7 +33,7 @@ opened-checked bytes o answer is h =
 
 -- ---- want of memory
 
-unspelled : (t : Theory) (held : CoverTextView) (spelled : Result (List ℤ) InstanceRefusal) → MatchResult spelled (λ numbers. Checks (t.program numbers) (t.own_value numbers) held answers.OutOfMemory) (λ e. RefusesInstance e answers.OutOfMemory)
+unspelled : (t : Theory) (held : CoverTextView) (spelled : Result (List ℤ) InstanceRefusal) → MatchResult spelled (λ numbers. Checks (program_in held.part (t.program numbers)) (own_in held.part (t.own_value numbers)) held answers.OutOfMemory) (λ e. RefusesInstance e answers.OutOfMemory)
 unspelled t held (Ok numbers) = tt
 unspelled t held (Err e) = tt
 
@@ -47,6 +49,7 @@ unopened bytes (answers.Drawn text) h = absurd h
 unopened bytes (answers.Checked given) h = absurd h
 unopened bytes (answers.Refused e) h = absurd h
 unopened bytes (answers.CoverRefused e) h = absurd (let clash : None ≡ Some e = h in cc)
+unopened bytes (answers.PartsRefused e) h = absurd h
 unopened bytes answers.TooLong h = absurd h
 unopened bytes answers.Width h = absurd h
 unopened bytes (answers.Words e) h = absurd h
@@ -77,3 +80,8 @@ module _ (dp : Dp) (own : List ℕ → Option ℤ) (laws : IsLawful dp) (agrees 
   -- the verdict on the sections is right
   pub verdict-given : verdict_behind dp o ≡ Ok given → ToSections o (λ cover. Checks dp own (held_with o cover)) (answers.Checked given)
   verdict-given is = of-cover (cover_behind o.before o.behind) is
+
+-- what is right for the part that is meant, or for the whole problem
+pub is-meant : (dp : Dp) (own : List ℕ → Option ℤ) (o : OpenView) (meant : Option PartNumber) (answer : Answer) → o.part ≡ meant
+    → ToSections o (λ cover. Checks (program_in meant dp) (own_in meant own) (held_with o cover)) answer → ToSections o (λ cover. Checks (program_in o.part dp) (own_in o.part own) (held_with o cover)) answer
+is-meant dp own o meant answer is h = subst (λ (part : Option PartNumber). ToSections o (λ cover. Checks (program_in part dp) (own_in part own) (held_with o cover)) answer) (sym is) h

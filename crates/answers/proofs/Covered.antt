@@ -4,6 +4,7 @@ use Rattle.std.specs.Prelude.{codes, Ok, MatchResult}
 use Rattle.std.specs.declared.alloc.Global.{Global}
 use Rattle.std.proofs.lemmas.Int.{ints}
 use Rattle.std.proofs.lemmas.List.{append-nil}
+use Rattle.std.specs.Fmt.{decimal}
 use Rattle.tokens.specs.Decimal.{decimal_of}
 use Rattle.dp_model.specs.Best.{best}
 use Rattle.dp_model.specs.Dp.{Dp}
@@ -22,12 +23,15 @@ use Rattle.bound_cover.specs.declared.cover.Verdict.TheVariants.{Accepted}
 use Rattle.bound_cover.proofs.Sound.{checked-by}
 use Rattle.bound_cover.proofs.Worths.{worth-whole}
 use Rattle.cover_text.specs.Heads.{ClaimView}
-use Rattle.cover_text.specs.Outputs.{CountsView, IsToldClaim, MayBeCounts, claim_lines, counts_lines, cover_lines, printed_lines, printed_output, printed_whole, proved_text}
+use Rattle.cover_text.specs.Outputs.{CountsView, IsToldClaim, MayBeCounts, claim_lines, counts_lines, cover_lines, part_lines, printed_lines, printed_output, printed_whole, proved_text}
 use Rattle.dp_model.specs.Distances.{IsDistance}
 use Rattle.cover_text.specs.Printed.{printed_cover}
 use Rattle.cover_text.specs.Texts.{CoverTextView, text_of}
 use Rattle.cover_text.proofs.OutputsRead.{outputs_read}
+use Rattle.problem_names.specs.ModelNames as names
+use Rattle.problem_names.specs.Parts.{MayBePart}
 use Rattle.problem_names.specs.declared.ModelName.{ModelName}
+use Rattle.problem_names.specs.declared.part.PartNumber.{PartNumber}
 use Rattle.problems.specs.Theories.{theory_of}
 use Rattle.problem_theory.specs.Theory.{Theory}
 use Rattle.solver_report.specs.Report.{assignment_line, count_line, count_lines, distance_told, is_final, line, number_line, outcome_lines, proved_line, report, value_told}
@@ -37,8 +41,9 @@ use Rattle.solver_report.specs.declared.answer.Outcome.{Outcome}
 use Rattle.solver_report.specs.declared.answer.Outcome.TheVariants.{Proved, Infeasible, Stopped}
 use Rattle.answers.specs.Answers.{AreSized}
 use Rattle.answers.specs.Checks.{Checks, ChecksText, IsTrueReport, RefusesCover, RefusesInstance}
-use Rattle.answers.specs.Covers.{IsAccepted, IsCoverText, IsCovered}
+use Rattle.answers.specs.Covers.{IsAccepted, IsCoverText, IsCoveredIn}
 use Rattle.answers.specs.Outcomes.{IsTrueOf}
+use Rattle.answers.specs.Parts.{own_in, program_in}
 use Rattle.answers.proofs.Conclusions.{none_exceeds}
 
 -- ---- what is told
@@ -71,7 +76,7 @@ path-small dp laws k s (d ∷ x) path =
     let most = laws.sizes.choices k path.0.layer in (omega arith, path-small dp laws (k + 1) (dp.step k s d) x path.1)
 
 -- value and decisions can be printed
-told-fits : (dp : Dp) → IsLawful dp → (own : List ℕ → Option ℤ) (budget : ℕ) (outcome : Outcome) → IsTrueOf dp own budget outcome → IsToldClaim (value_told outcome) (distance_told outcome) (assignment_told outcome)
+pub told-fits : (dp : Dp) → IsLawful dp → (own : List ℕ → Option ℤ) (budget : ℕ) (outcome : Outcome) → IsTrueOf dp own budget outcome → IsToldClaim (value_told outcome) (distance_told outcome) (assignment_told outcome)
 told-fits dp laws own budget (Proved found within) h =
     let solution = h.1.found_one.solution in
     let far = value_of-far dp laws found.decisions solution.prefix in
@@ -104,24 +109,32 @@ counts-printed : (counts : Option Counts) → count_lines counts ≡ printed_lin
 counts-printed None = refl
 counts-printed (Some counts) = ap (λ z. count_line (codes "taken") counts.taken ++ z) (sym (append-nil (count_line (codes "finished") counts.finished)))
 
-whole-printed : (outcome : Outcome) (counts : Option Counts) (name : ModelName) (instance : List ℕ) (cover : List (List CoverRow)) (text : List ℕ) → is_final outcome ≡ true → text ≡ printed_whole name instance cover
-    → outcome_lines outcome ++ (count_lines counts ++ text) ≡ printed_output (claim_told outcome) (counts_told counts) name instance cover
-whole-printed outcome counts name instance cover text final e =
+pub whole-printed : (outcome : Outcome) (counts : Option Counts) (name : ModelName) (part : Option PartNumber) (instance : List ℕ) (cover : List (List CoverRow)) (text : List ℕ) → is_final outcome ≡ true → text ≡ printed_whole name part instance cover
+    → outcome_lines outcome ++ (count_lines counts ++ text) ≡ printed_output (claim_told outcome) (counts_told counts) name part instance cover
+whole-printed outcome counts name part instance cover text final e =
     ap (λ z. z ++ (count_lines counts ++ text)) (outcome-printed outcome final)
     ∙ (ap (λ z. printed_lines (claim_lines (value_told outcome) (distance_told outcome) (assignment_told outcome)) ++ (z ++ text)) (counts-printed counts)
     ∙ ap (λ z. printed_lines (claim_lines (value_told outcome) (distance_told outcome) (assignment_told outcome)) ++ (printed_lines (counts_lines (counts_told counts)) ++ z)) e)
 
 -- the lines, the instance and the sections, appended one after another to nothing
-pub whole-made : (name : ModelName) (size : ℕ) (instance nothing head part both text : List ℕ) (cover : List (List CoverRow)) → nothing ≡ [] → head ≡ nothing ++ printed_lines (cover_lines name size) → both ≡ head ++ part → text ≡ both ++ printed_cover cover
-    → part ≡ instance → size ≡ length instance → text ≡ printed_whole name instance cover
-whole-made name size instance nothing head part both text cover none lines more sections same long =
-    let behind = part ++ printed_cover cover in
-    let begun : head ≡ printed_lines (cover_lines name size) = lines ∙ ap (λ z. z ++ printed_lines (cover_lines name size)) none in
-    sections ∙ (ap (λ z. z ++ printed_cover cover) more ∙ (append_assoc head part (printed_cover cover) ∙ (ap (λ z. z ++ behind) begun
-    ∙ (ap (λ z. printed_lines (cover_lines name size) ++ (z ++ printed_cover cover)) same ∙ ap (λ n. printed_lines (cover_lines name n) ++ (instance ++ printed_cover cover)) long))))
+pub whole-made : (name : ModelName) (part : Option PartNumber) (size : ℕ) (instance nothing head body both text : List ℕ) (cover : List (List CoverRow)) → nothing ≡ [] → head ≡ nothing ++ printed_lines (cover_lines name part size) → both ≡ head ++ body → text ≡ both ++ printed_cover cover
+    → body ≡ instance → size ≡ length instance → text ≡ printed_whole name part instance cover
+whole-made name part size instance nothing head body both text cover none lines more sections same long =
+    let behind = body ++ printed_cover cover in
+    let begun : head ≡ printed_lines (cover_lines name part size) = lines ∙ ap (λ z. z ++ printed_lines (cover_lines name part size)) none in
+    sections ∙ (ap (λ z. z ++ printed_cover cover) more ∙ (append_assoc head body (printed_cover cover) ∙ (ap (λ z. z ++ behind) begun
+    ∙ (ap (λ z. printed_lines (cover_lines name part size) ++ (z ++ printed_cover cover)) same ∙ ap (λ n. printed_lines (cover_lines name part n) ++ (instance ++ printed_cover cover)) long))))
+
+-- the lines before the instance, appended one after another
+pub head_made : (name : ModelName) (part : Option PartNumber) (size : ℕ) → line (codes "cover " ++ names.text_of name) ++ (printed_lines (part_lines part) ++ line (codes "instance " ++ decimal size)) ≡ printed_lines (cover_lines name part size)
+head_made name None size = ap (λ z. line (codes "cover " ++ names.text_of name) ++ z) (sym (append-nil (line (codes "instance " ++ decimal size))))
+head_made name (Some part) size =
+    let last = line (codes "instance " ++ decimal size) in
+    let middle = line (codes "part " ++ (decimal part.index ++ 32 ∷ decimal part.of)) in
+    ap (λ z. line (codes "cover " ++ names.text_of name) ++ (z ++ last)) (append-nil middle) ∙ ap (λ z. line (codes "cover " ++ names.text_of name) ++ (middle ++ z)) (sym (append-nil last))
 
 -- a part of a text is no longer than the text
-part-short : (a b head part tail text : List ℕ) (most : ℕ) → text ≡ head ++ (part ++ tail) → length (a ++ (b ++ text)) ≤ most → length part ≤ most
+pub part-short : (a b head part tail text : List ℕ) (most : ℕ) → text ≡ head ++ (part ++ tail) → length (a ++ (b ++ text)) ≤ most → length part ≤ most
 part-short a b head part tail text most e short =
     let one = length-append a (b ++ text) in
     let two = length-append b text in
@@ -144,33 +157,34 @@ passes-whole dp own (Some value) within x cover h e =
     ap verdict_of (sym (checked-by dp (Some value) within x cover (fine-value value (worth dp x) worth_is) e))
 
 -- what was read is checked
-checks-read : (name : ModelName) (t : Theory) (numbers : List ℤ) (held : CoverTextView) (text : List ℕ) → theory_of name ≡ t → held.model ≡ name → t.spelled held.instance ≡ Ok numbers → text_of text ≡ Ok held
-    → Checks (t.program numbers) (t.own_value numbers) held (answers.Checked Accepted) → IsAccepted name held.instance text
+pub checks-read : (name : ModelName) (t : Theory) (numbers : List ℤ) (held : CoverTextView) (text : List ℕ) → theory_of name ≡ t → held.model ≡ name → t.spelled held.instance ≡ Ok numbers → text_of text ≡ Ok held
+    → Checks (program_in held.part (t.program numbers)) (own_in held.part (t.own_value numbers)) held (answers.Checked Accepted) → IsAccepted name held.part held.instance text
 checks-read name t numbers held text named problem spelled is_read checks =
     let answer = answers.Checked Accepted in
-    let here : ChecksText t held answer = subst (λ r. MatchResult r (λ ns. Checks (t.program ns) (t.own_value ns) held answer) (λ e. RefusesInstance e answer)) (sym spelled) checks in
+    let here : ChecksText t held answer = subst (λ r. MatchResult r (λ ns. Checks (program_in held.part (t.program ns)) (own_in held.part (t.own_value ns)) held answer) (λ e. RefusesInstance e answer)) (sym spelled) checks in
     record {
       held = held;
       is_read = is_read;
       of_problem = problem;
+      of_part = refl;
       of_instance = refl;
       accepted = subst (λ r. MatchResult r (λ h. ChecksText (theory_of h.model) h answer) (λ e. RefusesCover e answer)) (sym is_read) (subst (λ u. ChecksText u held answer) (sym (ap theory_of problem ∙ named)) here);
     }
 
 -- a true report with its printed cover is accepted
-pub covered-told : (name : ModelName) (t : Theory) (numbers : List ℤ) (dp : Dp) (budget : ℕ) (outcome : Outcome) (counts : Option Counts) (cover : Vec ℕ Global)
-    → theory_of name ≡ t → dp ≡ t.program numbers → IsLawful dp → is_final outcome ≡ true → IsTrueOf dp (t.own_value numbers) budget outcome → MayBeCounts (counts_told counts)
-    → t.spelled (t.canonical numbers) ≡ Ok numbers → IsCoverText dp name (t.canonical numbers) (claim_of (value_told outcome) (distance_told outcome)) cover.items → IsCovered name (t.canonical numbers) (answers.Covered outcome counts (Some cover))
-covered-told name t numbers dp budget outcome counts cover named same laws final true_one fits spelled made = λ short.
+pub covered-told : (name : ModelName) (part : Option PartNumber) (t : Theory) (numbers : List ℤ) (dp : Dp) (budget : ℕ) (outcome : Outcome) (counts : Option Counts) (cover : Vec ℕ Global)
+    → theory_of name ≡ t → MayBePart part → dp ≡ program_in part (t.program numbers) → IsLawful dp → is_final outcome ≡ true → IsTrueOf dp (own_in part (t.own_value numbers)) budget outcome → MayBeCounts (counts_told counts)
+    → t.spelled (t.canonical numbers) ≡ Ok numbers → IsCoverText dp name part (t.canonical numbers) (claim_of (value_told outcome) (distance_told outcome)) cover.items → IsCoveredIn name part (t.canonical numbers) (answers.Covered outcome counts (Some cover))
+covered-told name part t numbers dp budget outcome counts cover named meant same laws final true_one fits spelled made = λ short.
     let instance = t.canonical numbers in
-    let own = t.own_value numbers in
+    let own = own_in part (t.own_value numbers) in
     let answer = answers.Covered outcome counts (Some cover) in
     let told : IsTrueReport dp own (value_told outcome) (distance_told outcome) (assignment_told outcome) = true-told dp own budget outcome final true_one in
-    let held : CoverTextView = record { model = name; best = value_told outcome; within = distance_told outcome; assignment = assignment_told outcome; instance = instance; cover = made.cover } in
-    let few = part-short (outcome_lines outcome) (count_lines counts) (printed_lines (cover_lines name (length instance))) instance (printed_cover made.cover) cover.items (2 ^ 28) made.printed short in
+    let held : CoverTextView = record { model = name; part = part; best = value_told outcome; within = distance_told outcome; assignment = assignment_told outcome; instance = instance; cover = made.cover } in
+    let few = part-short (outcome_lines outcome) (count_lines counts) (printed_lines (cover_lines name part (length instance))) instance (printed_cover made.cover) cover.items (2 ^ 28) made.printed short in
     let is_read : text_of (report answer) ≡ Ok held =
-    ap text_of (whole-printed outcome counts name instance made.cover cover.items final made.printed)
-    ∙ outputs_read (claim_told outcome) (counts_told counts) name instance made.cover (told-fits dp laws own budget outcome true_one) fits (omega arith) made.written in
+    ap text_of (whole-printed outcome counts name part instance made.cover cover.items final made.printed)
+    ∙ outputs_read (claim_told outcome) (counts_told counts) name part instance made.cover (told-fits dp laws own budget outcome true_one) fits meant (omega arith) made.written in
     let checks : Checks dp own held (answers.Checked Accepted) =
     record { exact = passes-whole dp own (value_told outcome) (distance_told outcome) (assignment_told outcome) made.cover told made.passes; sound = λ _. told } in
     checks-read name t numbers held (report answer) named refl spelled is_read (subst (λ d. Checks d own held (answers.Checked Accepted)) same checks)

@@ -24,6 +24,7 @@ report-ends dp search Has outcome counts (answers.Drawn text) h has = absurd h
 report-ends dp search Has outcome counts (answers.Checked given) h has = absurd h
 report-ends dp search Has outcome counts (answers.Refused e) h has = absurd h
 report-ends dp search Has outcome counts (answers.CoverRefused e) h has = absurd h
+report-ends dp search Has outcome counts (answers.PartsRefused e) h has = absurd h
 report-ends dp search Has outcome counts answers.TooLong h has = absurd h
 report-ends dp search Has outcome counts answers.Width h has = absurd h
 report-ends dp search Has outcome counts (answers.Words e) h has = absurd h

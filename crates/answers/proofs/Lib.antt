@@ -2,5 +2,9 @@ pub mod Conclusions
 pub mod Covered
 pub mod Ending
 pub mod Reports
+pub mod Parts
 pub mod Checked
+pub mod Writable
+pub mod Wholes
+pub mod JoinFaults
 pub mod Journaled

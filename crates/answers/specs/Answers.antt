@@ -3,6 +3,8 @@ use Rattle.std.specs.Prelude.{◌≡◌, ◌≢◌, ℕ, ◌-◌, ◌^◌, ◌<�
 use Rattle.dp_model.specs.Dp.{Dp}
 use Rattle.dp_model.specs.declared.cut_kind.CutKind.TheVariants.{LastExactLayer}
 use Rattle.problem_names.specs.declared.ModelName.{ModelName}
+use Rattle.problem_names.specs.declared.part.PartNumber.{PartNumber}
+use Rattle.parts.specs.Part.{part_program}
 use Rattle.problem_theory.specs.Theory.{Theory, drawn}
 use Rattle.board_laws.specs.Board.{BoardState}
 use Rattle.board_laws.specs.Steps.{first_board}
@@ -14,8 +16,9 @@ use Rattle.solver_report.specs.declared.answer.Answer.{Answer}
 use Rattle.solver_report.specs.declared.answer.Answer.TheVariants as answers
 use Rattle.solver_words.specs.declared.job.JobSettings.{JobSettings}
 use Rattle.answers.specs.Checks.{RefusesInstance}
-use Rattle.answers.specs.Covers.{IsCovered}
+use Rattle.answers.specs.Covers.{IsCovered, IsCoveredIn}
 use Rattle.answers.specs.Outcomes.{HasSearched}
+use Rattle.answers.specs.Parts.{part_own}
 use Rattle.answers.specs.Widths.{IsRefusedWidth}
 use Rattle.solver_report.specs.Report.{is_final}
 
@@ -87,6 +90,12 @@ Replies t IsFor bytes answer = MatchResult (t.spelled bytes) (λ numbers. IsFor 
 abbrev pub SolvesText : Theory → ModelName → JobSettings → List ℕ → Answer → Type 0
 SolvesText t name search bytes answer =
     Replies t (λ numbers found. Solves (t.program numbers) (t.own_value numbers) search found × IsCovered name (t.canonical numbers) found) bytes answer
+
+-- where a search of a part is asked for: how that of the part ends, and a cover behind a report is accepted as that of the part
+abbrev pub SolvesPart : Theory → ModelName → PartNumber → JobSettings → List ℕ → Answer → Type 0
+SolvesPart t name part search bytes answer =
+    Replies t (λ numbers found. Solves (part_program (t.program numbers) part.index part.of) (part_own part.index part.of (t.own_value numbers)) search found
+    × IsCoveredIn name (Some part) (t.canonical numbers) found) bytes answer
 
 -- where a digest is asked for
 abbrev pub DigestsText : Theory → List ℕ → Answer → Type 0

@@ -16,6 +16,7 @@ use Rattle.problems.specs.Theories.{theory_of}
 use Rattle.problem_theory.specs.Theory.{Theory}
 use Rattle.solver_report.specs.declared.answer.Answer.{Answer}
 use Rattle.solver_report.specs.declared.answer.Answer.TheVariants as answers
+use Rattle.answers.specs.Parts.{own_in, program_in}
 use Rattle.answers.specs.Reports.{IsProvedWithin, IsInfeasible}
 
 -- a report is true: its solution is feasible, and none is further above it than the distance, or there is none, in both senses
@@ -40,9 +41,9 @@ RefusesInstance e (answers.Refused given) = given ≡ e
 RefusesInstance e answers.OutOfMemory = Unit {0}
 RefusesInstance e _ = ⊥
 
--- what may be answered for what a text holds: for its instance, or the first fault of that
+-- what may be answered for what a text holds: for its instance, or the part of it that is meant, or the first fault of that
 abbrev pub ChecksText : Theory → CoverTextView → Answer → Type 0
-ChecksText t held answer = MatchResult (t.spelled held.instance) (λ numbers. Checks (t.program numbers) (t.own_value numbers) held answer) (λ e. RefusesInstance e answer)
+ChecksText t held answer = MatchResult (t.spelled held.instance) (λ numbers. Checks (program_in held.part (t.program numbers)) (own_in held.part (t.own_value numbers)) held answer) (λ e. RefusesInstance e answer)
 
 -- how a fault is told, where it is not want of memory
 abbrev pub told : CoverError → Option InstanceError

@@ -12,7 +12,7 @@ use Rattle.solver_words.specs.Words.{JobView, solve, resume, check, digest, gene
 use Rattle.solver_report.specs.declared.answer.Answer.{Answer}
 use Rattle.solver_report.specs.declared.answer.Answer.TheVariants as answers
 use Rattle.solver_report.specs.Report.{report, status_of}
-use Rattle.answers.specs.Answers.{DigestsText, Draws, SolvesText}
+use Rattle.answers.specs.Answers.{DigestsText, Draws, SolvesPart, SolvesText}
 use Rattle.answers.specs.Checks.{IsChecked}
 use Rattle.answers.specs.Covers.{cover_limit}
 use Rattle.answers.specs.Journals.{Attaches, HasLeftBegun}
@@ -96,10 +96,14 @@ module _ {D : Type 0} (on : Ghosts D) where
   LeavesOfSearch name path r before now = (now ≡ before) ⊎ (Attaches on path before now × ((bytes : List ℕ) × WasRead text_limit r bytes
       × IsOkAnd ((theory_of name).spelled bytes) (λ numbers. HasLeftBegun on ((theory_of name).program numbers) (head_of (theory_of name) name numbers) now)))
 
-  -- what a job may answer; nothing is read for an instance that is drawn and for a journal, and the disk is as it was where no journal is kept
+  -- what a job may answer; nothing is read for an instance that is drawn and for a journal, and the disk is as it was where no journal is kept; no search of
+  -- a part keeps one
   abbrev pub IsJobAnswer : JobView → Readings → D → D → Answer → Type 0
-  IsJobAnswer (solve name search None) r before now answer = IsInputAnswer text_limit (SolvesText (theory_of name) name search) r answer × (now ≡ before)
-  IsJobAnswer (solve name search (Some path)) r before now answer =
+  IsJobAnswer (solve name search None None) r before now answer = IsInputAnswer text_limit (SolvesText (theory_of name) name search) r answer × (now ≡ before)
+  IsJobAnswer (solve name search None (Some part)) r before now answer =
+      IsInputAnswer text_limit (SolvesPart (theory_of name) name part search) r answer × (now ≡ before)
+  IsJobAnswer (solve name given (Some path) (Some part)) r before now answer = ⊥
+  IsJobAnswer (solve name search (Some path) None) r before now answer =
       IsInputAnswer text_limit (RepliesKept on name search before now) r answer × LeavesOfSearch name path r before now
   IsJobAnswer (resume path search) r before now answer = IsUntouched r × Resumes on search before now answer × LeavesAfterResume on MayFollow path before now
   IsJobAnswer check r before now answer = IsInputAnswer cover_limit IsChecked r answer × (now ≡ before)

@@ -1,10 +1,12 @@
 -- when what a job answers is right
 pub mod Widths
 pub mod Reports
+pub mod Parts
 pub mod Checks
 pub mod Covers
 pub mod Over
 pub mod Outcomes
+pub mod Joins
 pub mod Answers
 -- what a run leaves on its disk where it keeps a journal, and what it then answers
 pub mod Journals

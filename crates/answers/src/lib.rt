@@ -9,7 +9,7 @@
 //! A search that keeps a journal begins it by `begin_journal`, or goes on from one that `open_journal` opened. What it may leave on
 //! its disk, and when its answer is right, is defined in `specs/Journals.antt` and `specs/Kept.antt`.
 //!
-//! It stands on `problems` for instances, on `board` for the board of a search, on `disk` and `journal_file` for
+//! It stands on `problems` for instances, on `parts` for parts of them, on `board` for the board of a search, on `disk` and `journal_file` for
 //! journals, on `journal_replay` and `kept_board` for what their records make, on `bound_cover`, `cover_book` and
 //! `cover_text` for covers, on `sha2` for digests, on `streams` for streams, on `solver_words` for the words and on `solver_report`
 //! for answers and their texts. It starts no search: the program does.
@@ -25,15 +25,19 @@ mod concluding;
 mod covering;
 mod digesting;
 mod inputs;
+mod joining;
 mod journaling;
+mod parting;
 mod printing;
 mod saying;
 
 pub use checking::check;
 pub use concluding::conclude;
-pub use covering::told;
+pub use covering::{Subject, told};
 pub use digesting::digest_text;
 pub use inputs::{answer_cover, unread};
+pub use joining::join_texts;
 pub use journaling::{begin_journal, open_journal};
+pub use parting::part_of;
 pub use printing::printed;
 pub use saying::say;

@@ -41,7 +41,7 @@ module _ (dp : Dp) (index of : ℕ) where
   path_in_whole [] k s h = tt
   path_in_whole (d ∷ c) k s h = (allowed_in_whole k s d h.0, path_in_whole c (k + 1) (dp.step k s d) h.1)
 
-  path_in_part : (c : List ℕ) (k : ℕ) (s : List ℤ) → 1 ≤ k → IsPath dp k s c → IsPath part k s c
+  pub path_in_part : (c : List ℕ) (k : ℕ) (s : List ℤ) → 1 ≤ k → IsPath dp k s c → IsPath part k s c
   path_in_part [] k s below h = tt
   path_in_part (d ∷ c) k s below h = (allowed_in_the_part k s d below h.0, path_in_part c (k + 1) (dp.step k s d) (omega arith) h.1)
 

@@ -1,19 +1,21 @@
 ghost use Rattle.std.specs.Prelude.{◌≡◌, map, string_bytes};
+ghost use Rattle.problem_names.specs.Parts.{IsPart};
 ghost use Rattle.problems.specs.Theories.{theory_of};
 ghost use Rattle.solver_words.specs.Possible.{IsPossible, MayDraw, MaySearch, MaySearchKept};
 ghost use Rattle.solver_words.specs.Words.{job_view};
-ghost use Rattle.answers.specs.Answers.{DigestsText, Draws, SolvesText};
+ghost use Rattle.answers.specs.Answers.{DigestsText, Draws, SolvesPart, SolvesText};
 ghost use Rattle.answers.specs.Ended.{IsInputAnswer, IsJobAnswer, IsRight, LeavesOfSearch, readings, text_limit};
 ghost use Rattle.answers.specs.Kept.{RepliesKept};
 
 use crate::drawing::draw;
 use crate::keeping::read_kept;
+use crate::parting::part_text;
 use crate::replying::solve_text;
 use crate::resuming::resume;
 use crate::runner::Runner;
 use answers::{answer_cover, digest_text, unread};
 use disk::Disk;
-use problem_names::ModelName;
+use problem_names::{ModelName, PartNumber};
 use problems::by_name;
 use search_workers::Gate;
 use solver_report::Answer;
@@ -57,12 +59,26 @@ fn answer_job<S: Source, D: Disk + Send, G: Gate + Sync, R: Threads + Wait + Syn
             model,
             settings,
             journal: None,
+            part: None,
         } => solve_input(run, model, settings, input, disk),
         Job::Solve {
             model,
             settings,
+            journal: None,
+            part: Some(part),
+        } => part_input(run, model, part, settings, input, disk),
+        Job::Solve {
+            model,
+            settings,
             journal: Some(path),
+            part: None,
         } => keep_input(run, model, settings, path.as_str(), input, disk),
+        // No words ask for it.
+        Job::Solve {
+            journal: Some(_),
+            part: Some(_),
+            ..
+        } => unreachable!(),
         Job::Resume { path, settings } => resume(run, path.as_str(), settings, disk),
         Job::Check => (answer_cover(run.alloc, input), disk),
         Job::Digest { model } => (digest_input(run.alloc, model, input), disk),
@@ -91,6 +107,32 @@ fn solve_input<S: Source, D: Disk + Send, G: Gate + Sync, R: Threads + Wait + Sy
         Ok(text) => {
             let text = text.as_slice();
             by_name!(name, solve_text::<D, G, R>(run, name, search, text, disk))
+        }
+        Err(error) => (unread(error), disk),
+    }
+}
+
+/// The answer to a search of a part of the instance in the input.
+fn part_input<S: Source, D: Disk + Send, G: Gate + Sync, R: Threads + Wait + Sync>(
+    run: &Runner<'_, G, R>,
+    name: ModelName,
+    part: PartNumber,
+    search: JobSettings,
+    input: &mut S,
+    disk: D,
+) -> (Answer, D)
+    requires may { MaySearch search }
+    requires part { IsPart part }
+    ensures answer { IsInputAnswer text_limit (SolvesPart (theory_of name) name part search) (readings S.left S.faults input.old input.new) result.0 }
+    ensures disk { result.1 ≡ disk }
+{
+    match read_all(run.alloc, input, TEXT_LIMIT) {
+        Ok(text) => {
+            let text = text.as_slice();
+            by_name!(
+                name,
+                part_text::<D, G, R>(run, name, part, search, text, disk)
+            )
         }
         Err(error) => (unread(error), disk),
     }

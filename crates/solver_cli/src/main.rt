@@ -18,6 +18,7 @@
 mod answering;
 mod drawing;
 mod keeping;
+mod parting;
 mod replying;
 mod resuming;
 mod run;

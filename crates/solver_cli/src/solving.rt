@@ -1,17 +1,19 @@
 ghost use Rattle.std.specs.Prelude.{◌≡◌, IfOk};
+ghost use Rattle.problem_names.specs.Parts.{MayBePart};
 ghost use Rattle.problems.specs.Theories.{theory_of};
 ghost use Rattle.answers.specs.Answers.{AreSized, Solves};
 ghost use Rattle.solver_words.specs.Possible.{MaySearch};
-ghost use Rattle.answers.specs.Covers.{IsCovered};
+ghost use Rattle.answers.specs.Covers.{IsCovered, IsCoveredIn};
 ghost use Rattle.answers.specs.Outcomes.{IsTrueOf};
+ghost use Rattle.answers.specs.Parts.{own_in, program_in};
 ghost use Rattle.solver_cli.specs.Searches.{IsAnswerTo};
 
 use crate::runner::Runner;
 use crate::searching::search_from;
 use crate::starting::{Start, begin_search};
-use answers::told;
+use answers::{Subject, told};
 use disk::Disk;
-use dp_model::OutOfMemory;
+use dp_model::{DpModel, OutOfMemory};
 use kept_board::Kept;
 use problem_names::ModelName;
 use problem_theory::Problem;
@@ -68,8 +70,29 @@ pub fn answer_of<P: Problem>(
     ensures answers { IsAnswerTo search ended result }
     ensures covered { IsCovered name (P.theory.canonical (P.numbers model.now)) result }
 {
+    let subject = Subject { name, part: None };
+    answer_in(alloc, subject, model, model, ended, search)
+}
+
+/// The same for a search of an instance or of a part of it. `model` is the instance, and `program` is what was searched.
+pub fn answer_in<P: Problem, M: DpModel>(
+    alloc: Global,
+    subject: Subject,
+    model: &P,
+    program: &M,
+    ended: Result<(Outcome, Option<Counts>), OutOfMemory>,
+    search: JobSettings,
+) -> Answer
+    requires named { theory_of subject.name ≡ P.theory }
+    requires part { MayBePart subject.part }
+    requires program { M.meaning (M.numbers program.now) ≡ program_in subject.part (P.theory.program (P.numbers model.now)) }
+    requires true_told { IfOk ended (λ told. IsTrueOf (M.meaning (M.numbers program.now)) (own_in subject.part (P.theory.own_value (P.numbers model.now))) search.budget told.0) }
+    requires sized { IfOk ended (λ told. AreSized told.1) }
+    ensures answers { IsAnswerTo search ended result }
+    ensures covered { IsCoveredIn subject.name subject.part (P.theory.canonical (P.numbers model.now)) result }
+{
     match ended {
-        Ok((outcome, counts)) => told(alloc, name, model, outcome, counts, search),
+        Ok((outcome, counts)) => told(alloc, subject, model, program, outcome, counts, search),
         Err(_) => Answer::OutOfMemory,
     }
 }

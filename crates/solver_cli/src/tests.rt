@@ -1,6 +1,7 @@
 mod covers;
 mod journals;
 mod meeting;
+mod partial;
 mod tables;
 mod words;
 

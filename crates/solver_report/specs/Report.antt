@@ -29,6 +29,8 @@ use Rattle.solver_words.specs.declared.words_error.WordsError.TheVariants as err
 use Rattle.solver_report.specs.declared.answer.Outcome.{Outcome}
 use Rattle.solver_report.specs.declared.answer.Outcome.TheVariants.{Proved, Infeasible, Stopped}
 use Rattle.solver_report.specs.declared.answer.Counts.{Counts}
+use Rattle.solver_report.specs.declared.answer.JoinRefusal.{JoinRefusal}
+use Rattle.solver_report.specs.declared.answer.JoinRefusal.TheVariants as joins
 use Rattle.solver_report.specs.declared.answer.Answer.{Answer}
 use Rattle.solver_report.specs.declared.answer.Answer.TheVariants as answers
 
@@ -111,6 +113,12 @@ abbrev pub verdict_line : Verdict → List ℕ
 verdict_line verdicts.Accepted = line (codes "accepted")
 verdict_line (verdicts.Refused why) = line (codes "refused " ++ why_words why)
 
+-- why outputs are not joined; the numbers are places of outputs, and a cover is refused as a check refuses it
+abbrev pub join_line : JoinRefusal → List ℕ
+join_line (joins.Order index) = number_line (codes "parts order") (pos index)
+join_line (joins.Instance index) = number_line (codes "parts instance") (pos index)
+join_line (joins.Refused index why) = codes "part" ++ spaced (index ∷ []) ++ (32 ∷ verdict_line (verdicts.Refused why))
+
 -- the first line of a report with a solution, by how far a better one may be
 abbrev pub proved_line : ℤ → List ℕ
 proved_line within = cond (int_lt (pos 0) within) (number_line (codes "proved within") within) (line (codes "proved"))
@@ -179,6 +187,7 @@ report (answers.Drawn text) = text.items
 report (answers.Checked verdict) = verdict_line verdict
 report (answers.Refused e) = refusal_line e
 report (answers.CoverRefused e) = fault_line (codes "cover ") e
+report (answers.PartsRefused refusal) = join_line refusal
 report answers.TooLong = line (codes "input too-long")
 report answers.Width = line (codes "width")
 report (answers.Words e) = words_line e
@@ -209,6 +218,11 @@ abbrev pub verdict_status : Verdict → ℕ
 verdict_status verdicts.Accepted = 0
 verdict_status (verdicts.Refused why) = 9
 
+abbrev pub join_status : JoinRefusal → ℕ
+join_status (joins.Order index) = 3
+join_status (joins.Instance index) = 3
+join_status (joins.Refused index why) = 9
+
 -- the status that goes with an answer
 abbrev pub status_of : Answer → ℕ
 status_of (answers.Searched outcome counts) = outcome_status outcome
@@ -218,6 +232,7 @@ status_of (answers.Drawn text) = 0
 status_of (answers.Checked verdict) = verdict_status verdict
 status_of (answers.Refused e) = 3
 status_of (answers.CoverRefused e) = 3
+status_of (answers.PartsRefused refusal) = join_status refusal
 status_of answers.TooLong = 3
 status_of answers.Width = 4
 status_of (answers.Words e) = words_status e

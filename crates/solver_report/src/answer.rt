@@ -1,7 +1,7 @@
 ghost use Rattle.std.specs.Prelude.{◌≡◌, IfOk};
 ghost use Rattle.solver_report.specs.Report.{is_final, value_told, distance_told};
 
-use bound_cover::Verdict;
+use bound_cover::{Verdict, Why};
 use dp_model::{Found, OutOfMemory};
 use journal_file::JournalError;
 use problem_theory::InstanceRefusal;
@@ -115,6 +115,17 @@ pub struct Counts {
     pub finished: u64,
 }
 
+/// Why the outputs of the parts of a problem are not joined. `index` is the place of an output, from 0.
+#[derive(Clone, Copy, Debug, PartialEq, Eq)]
+pub enum JoinRefusal {
+    /// The output at this place is not that of the part that belongs there, or is missing, or stands after that of the last part.
+    Order { index: u32 },
+    /// Its problem or its instance is not that of the first output.
+    Instance { index: u32 },
+    /// Its cover is refused, for this reason.
+    Refused { index: u32, why: Why },
+}
+
 /// What the program answers.
 #[derive(Debug, Drop)]
 pub enum Answer {
@@ -132,6 +143,8 @@ pub enum Answer {
     Refused(InstanceRefusal),
     /// The input spells no cover.
     CoverRefused(InstanceError),
+    /// The outputs in the input are not joined, for this reason.
+    PartsRefused(JoinRefusal),
     /// The input is longer than the limit.
     TooLong,
     /// The width asked for is 0 or above the greatest width of the instance.

@@ -14,5 +14,5 @@
 mod answer;
 mod report;
 
-pub use answer::{Answer, Counts, Outcome, Solution, Stop};
+pub use answer::{Answer, Counts, JoinRefusal, Outcome, Solution, Stop};
 pub use report::{report_text, status};

@@ -1,9 +1,10 @@
 ghost use Rattle.std.specs.Prelude.{◌≡◌, ◌∷◌, [], ◌++◌, pos, IfOk, OnOk, codes, option_map};
 ghost use Rattle.std.specs.Fmt.{decimal};
+ghost use Rattle.bound_cover.specs.declared.cover.Verdict.TheVariants.{Refused};
 ghost use Rattle.hex.specs.Hex.{encode_lower};
-ghost use Rattle.solver_report.specs.Report.{report, status_of, outcome_status, covered_status, text_behind, words_status, journal_status, journal_line, line, number_line, spaced, assignment_line, solution_lines, proved_line, outcome_lines, count_line, count_lines, words_line, incumbent_lines, stop_line, fault_word, fault_line, failure_numbers, table_words, refusal_line, why_words, verdict_line, verdict_status};
+ghost use Rattle.solver_report.specs.Report.{report, status_of, outcome_status, covered_status, text_behind, words_status, journal_status, journal_line, line, number_line, spaced, assignment_line, solution_lines, proved_line, outcome_lines, count_line, count_lines, words_line, incumbent_lines, stop_line, fault_word, fault_line, failure_numbers, table_words, refusal_line, why_words, verdict_line, verdict_status, join_line, join_status};
 
-use crate::answer::{Answer, Counts, Outcome, Solution, Stop};
+use crate::answer::{Answer, Counts, JoinRefusal, Outcome, Solution, Stop};
 use bound_cover::{Verdict, Why};
 use dp_model::OutOfMemory;
 use itoa::Buffer;
@@ -24,6 +25,7 @@ pub fn status(answer: &Answer) -> u8
         Answer::Digest(_) | Answer::Drawn(_) => 0,
         Answer::Checked(verdict) => verdict_status(*verdict),
         Answer::Refused(_) | Answer::CoverRefused(_) | Answer::TooLong => 3,
+        Answer::PartsRefused(refusal) => join_status(*refusal),
         Answer::Width => 4,
         Answer::Words(error) => words_status(*error),
         Answer::Journal(error) => journal_status(*error),
@@ -60,6 +62,16 @@ fn verdict_status(verdict: Verdict) -> u8
     match verdict {
         Verdict::Accepted => 0,
         Verdict::Refused(_) => 9,
+    }
+}
+
+/// The exit status of outputs that are not joined.
+fn join_status(refusal: JoinRefusal) -> u8
+    ensures { result ≡ join_status refusal }
+{
+    match refusal {
+        JoinRefusal::Order { .. } | JoinRefusal::Instance { .. } => 3,
+        JoinRefusal::Refused { .. } => 9,
     }
 }
 
@@ -104,6 +116,7 @@ pub fn report_text(alloc: Global, answer: &Answer) -> Result<Vec<u8>, OutOfMemor
         Answer::Checked(verdict) => push_verdict(&mut out, *verdict)?,
         Answer::Refused(refusal) => push_unspelled(&mut out, refusal)?,
         Answer::CoverRefused(error) => push_fault(&mut out, "cover ", error)?,
+        Answer::PartsRefused(refusal) => push_join_refusal(&mut out, *refusal)?,
         Answer::TooLong => push_line(&mut out, "input too-long")?,
         Answer::Width => push_line(&mut out, "width")?,
         Answer::Words(error) => push_words(&mut out, *error)?,
@@ -348,6 +361,30 @@ fn push_refusal(out: &mut Vec<u8>, why: Why) -> Result<(), OutOfMemory>
     push_text(out, "refused ")?;
     push_why(out, why)?;
     push_text(out, "\n")
+}
+
+/// Appends why outputs are not joined.
+fn push_join_refusal(out: &mut Vec<u8>, refusal: JoinRefusal) -> Result<(), OutOfMemory>
+    ensures { OnOk result (out.new.items ≡ out.old.items ++ join_line refusal) }
+{
+    match refusal {
+        JoinRefusal::Order { index } => push_number_line(out, "parts order", i64::from(index)),
+        JoinRefusal::Instance { index } => push_number_line(
+            out,
+            "parts instance",
+            i64::from(index),
+        ),
+        JoinRefusal::Refused { index, why } => push_part_refusal(out, index, why),
+    }
+}
+
+/// Appends that the cover of a part is refused, and why.
+fn push_part_refusal(out: &mut Vec<u8>, index: u32, why: Why) -> Result<(), OutOfMemory>
+    ensures { OnOk result (out.new.items ≡ out.old.items ++ (codes "part" ++ spaced (index ∷ []) ++ (32 ∷ verdict_line (Refused why)))) }
+{
+    push_at(out, "part", &[index])?;
+    push_text(out, " ")?;
+    push_refusal(out, why)
 }
 
 /// Appends the test that fails, and where.

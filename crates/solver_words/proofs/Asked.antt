@@ -1,22 +1,26 @@
 -- Which searches the words ask for, and which instances.
-use Rattle.std.proofs.Common.{◌≡◌, ℕ, ◌≤◌, ◌<◌, ◌^◌, pos, int_lt, ◌∷◌, [], List, Bool, true, false, cond, Option, Some, None, refl, subst, arith}
+use Rattle.std.proofs.Common.{◌≡◌, ℕ, ◌≤◌, ◌<◌, ◌^◌, ◌-◌, pos, int_lt, ◌∷◌, [], List, Bool, true, false, cond, Option, Some, None, refl, subst, arith}
 use Rattle.std.proofs.lemmas.Int.{ints}
-use Rattle.std.specs.Prelude.{codes, nat_le, ◌&&◌, Result, Ok, Err, IfOk, IfSome, slice_get}
-use Rattle.std.specs.List.{list_any}
+use Rattle.std.specs.Prelude.{codes, nat_le, length, is_some, option_map, ◌==◌, ◌&&◌, ◌||◌, Result, Ok, Err, IfOk, IfSome, slice_get}
+use Rattle.std.specs.List.{list_any, before_first, after_first}
 use Rattle.std.specs.Option.{option_and_then}
 use Rattle.std.specs.Str.{bytes_eq}
+use Rattle.tokens.specs.Text.{natural_of}
 use Rattle.dp_model.specs.NumberLaws.{int_lt-is_not}
 use Rattle.dp_model.specs.declared.limits.TheConstants.{MOST_DISTANCE, MOST_WIDTH, MOST_WORKERS}
 use Rattle.problem_names.specs.declared.ModelName.{ModelName}
 use Rattle.problem_names.specs.declared.Sizes.{Sizes}
 use Rattle.problem_names.specs.ModelNames.{sizes_of}
+use Rattle.problem_names.specs.declared.part.PartNumber.{PartNumber}
+use Rattle.problem_names.specs.declared.part.TheConstants.{MOST_PARTS}
+use Rattle.problem_names.specs.Parts.{IsPart, MayBePart}
 use Rattle.solver_words.specs.Grammar.{Argument, Text, has_flag, line_of, setting_of, words_of}
-use Rattle.solver_words.specs.Words.{IsAnswer, JobView, Refusal, and_then, asked, by_command, check, check_line, check_syntax, cut_of, digest, digest_line, digest_of, digest_syntax, generate, generate_line, generate_of, generate_syntax, is_refused, extended, job_view, meaning, model_of, optional, or_default, or_model, or_number, positional_number, ranged, resume, resume_line, resume_of, resume_syntax, searched, settings_of, solve, solve_line, solve_of, solve_syntax, usage}
+use Rattle.solver_words.specs.Words.{IsAnswer, JobView, Refusal, and_then, asked, by_command, check_line, check_syntax, cut_of, digest_line, digest_of, digest_syntax, generate, generate_line, generate_of, generate_syntax, is_refused, extended, job_view, meaning, model_of, optional, or_default, or_model, or_number, part_asked, part_written, positional_number, ranged, resume_line, resume_of, resume_syntax, searched, settings_of, solve, solve_line, solve_of, solve_syntax, usage}
 use Rattle.solver_words.specs.declared.job.Job.{Job}
 use Rattle.solver_words.specs.declared.job.JobSettings.{JobSettings}
 use Rattle.solver_words.specs.declared.limits.TheConstants.{MOST_COVER_WORDS}
 use Rattle.solver_words.specs.declared.words_error.WordsError.{WordsError}
-use Rattle.solver_words.specs.Possible.{IsPossible, MayDraw, MaySearch, MaySearchKept}
+use Rattle.solver_words.specs.Possible.{IsPossible, MaySearch, MaySearchKept}
 
 -- ---- an answer, and then what is made of it
 
@@ -66,6 +70,27 @@ by_default-within : (o : Option ℕ) → IfSome o (IsWithin 1 MOST_WORKERS) → 
 by_default-within None h = (omega arith, omega arith)
 by_default-within (Some n) h = h
 
+-- ---- parts
+
+index-within : (of : ℕ) → IsWithin 1 MOST_PARTS of → (o : Option ℕ) → IfSome o (IsWithin 0 (of - 1)) → IfSome (option_map (λ (index : ℕ). record { index = index; of = of }) o) IsPart
+index-within of few None h = tt
+index-within of few (Some index) h = record { index = omega arith; few = few.1 }
+
+part-within : (index : Text) (o : Option ℕ) → IfSome o (IsWithin 1 MOST_PARTS)
+    → IfSome (option_and_then (λ (of : ℕ). option_map (λ (index : ℕ). record { index = index; of = of }) (ranged 0 (of - 1) index)) o) IsPart
+part-within index None h = tt
+part-within index (Some of) h = index-within of h (ranged 0 (of - 1) index) (then-within 0 (of - 1) (cond (nat_le (length index) 20) (natural_of index) None))
+
+written-asked : (o : Option PartNumber) → IfSome o IsPart → IfOk (and_then (λ part. Ok (Some part)) (or_number (codes "part") o)) MayBePart
+written-asked None h = tt
+written-asked (Some part) h = h
+
+part-asked : (word : Option Text) → IfOk (part_asked word) MayBePart
+part-asked None = tt
+part-asked (Some word) =
+    let of = after_first (λ (b : ℕ). b == 47) word in
+    written-asked (part_written word) (part-within (before_first (λ (b : ℕ). b == 47) word) (ranged 1 MOST_PARTS of) (then-within 1 MOST_PARTS (cond (nat_le (length of) 20) (natural_of of) None)))
+
 -- ---- searches
 
 -- settings with from 1 to 16 workers, no distance and no cover
@@ -100,24 +125,33 @@ may-keep settings exact =
 
 -- ---- jobs
 
--- a search with a journal is asked for only without a distance
-kept-asked : (model : ModelName) (settings : JobSettings) (path : Text) (b : Bool) → int_lt (pos 0) settings.within ≡ b → MaySearch settings
-    → IfOk (cond b (Err usage) (Ok (solve model settings (Some path)))) IsPossible
-kept-asked model settings path true far may = tt
-kept-asked model settings path false near may =
+-- a search with a journal, or of a part, is asked for only without a distance
+near-kept : (settings : JobSettings) → int_lt (pos 0) settings.within ≡ false → MaySearch settings → MaySearchKept settings
+near-kept settings near may =
     let least = may.distance.least in let most = int_lt-is_not (pos 0) settings.within near in
     record { may = may; exact = omega (arith, ints) }
 
-searched-asked : (model : ModelName) (settings : JobSettings) (journal : Option Text) → MaySearch settings → IfOk (searched model settings journal) IsPossible
-searched-asked model settings None may = may
-searched-asked model settings (Some path) may = kept-asked model settings path (int_lt (pos 0) settings.within) refl may
+asked-searched : (model : ModelName) (settings : JobSettings) (journal : Option Text) (part : Option PartNumber) (far : Bool) → int_lt (pos 0) settings.within ≡ far → MaySearch settings → MayBePart part
+    → IfOk (cond (is_some journal && far) (Err usage) (cond (is_some part && (is_some journal || far)) (Err usage) (Ok (solve model settings journal part)))) IsPossible
+asked-searched model settings None None far e may whole = may
+asked-searched model settings None (Some part) true e may is = tt
+asked-searched model settings None (Some part) false e may is = (near-kept settings e may, is)
+asked-searched model settings (Some path) part true e may is = tt
+asked-searched model settings (Some path) None false e may is = near-kept settings e may
+asked-searched model settings (Some path) (Some part) false e may is = tt
+
+searched-asked : (model : ModelName) (settings : JobSettings) (journal : Option Text) (part : Option PartNumber) → MaySearch settings → MayBePart part
+    → IfOk (searched model settings journal part) IsPossible
+searched-asked model settings journal part may is = asked-searched model settings journal part (int_lt (pos 0) settings.within) refl may is
 
 solve-asked : (name : Option Text) (value : Text → Option Text) (flag : Text → Bool) → IfOk (solve_of name value flag) IsPossible
 solve-asked name value flag =
     behind IsPossible _ (λ model.
     next AreExact IsPossible _ (λ settings exact.
     behind IsPossible _ (λ words.
-    next (λ o. IfSome o (IsWithin 0 MOST_DISTANCE)) IsPossible _ (λ within few. searched-asked model (extended settings within _) (value (codes "journal")) (may-search settings within _ exact few))
+    next (λ o. IfSome o (IsWithin 0 MOST_DISTANCE)) IsPossible _ (λ within few.
+    next MayBePart IsPossible _ (λ part is. searched-asked model (extended settings within _) (value (codes "journal")) part (may-search settings within _ exact few) is)
+    (part_asked (value (codes "part"))) (part-asked (value (codes "part"))))
     (optional (codes "within") 0 MOST_DISTANCE (value (codes "within"))) (optional-within (codes "within") 0 MOST_DISTANCE (value (codes "within"))))
     (optional (codes "cover-words") 0 MOST_COVER_WORDS (value (codes "cover-words"))))
     (settings_of value (flag (codes "stats"))) (settings-exact value (flag (codes "stats"))))

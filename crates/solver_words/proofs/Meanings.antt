@@ -12,6 +12,7 @@ use Rattle.dp_model.specs.declared.limits.TheConstants.{MOST_DISTANCE}
 use Rattle.problem_names.specs.declared.ModelName.{ModelName}
 use Rattle.problem_names.specs.declared.Sizes.{Sizes}
 use Rattle.problem_names.specs.ModelNames.{sizes_of}
+use Rattle.problem_names.specs.declared.part.PartNumber.{PartNumber}
 use Rattle.solver_words.specs.declared.job.Job.{Job}
 use Rattle.solver_words.specs.declared.job.JobSettings.{JobSettings}
 use Rattle.solver_words.specs.declared.limits.TheConstants.{MOST_COVER_WORDS}
@@ -19,7 +20,7 @@ use Rattle.solver_words.specs.declared.words_error.WordsError.{WordsError}
 use Rattle.solver_words.specs.declared.words_error.WordsError.TheVariants.{Usage, Model, Number, Cutset, OutOfMemory}
 use Rattle.solver_words.specs.Grammar.{Syntax, Argument, Text, contains, has_flag, setting_of, words_of}
 use Rattle.solver_words.specs.Commands.{IsOutside, RowsTell, Tells}
-use Rattle.solver_words.specs.Words.{IsAnswer, by_command, meaning, is_refused, last_is_equals, asked, digest, digest_syntax, digest_line, usage, Refusal, JobView, and_then, digest_of, extended, model_of, or_model, positional_number, optional, cover_of, generate, resume, refusal_of, job_view, generate_syntax, generate_line, generate_of, resume_syntax, resume_line, resume_of, searched, settings_of, solve_syntax, solve_line}
+use Rattle.solver_words.specs.Words.{IsAnswer, by_command, meaning, is_refused, last_is_equals, asked, digest, digest_syntax, digest_line, usage, Refusal, JobView, and_then, digest_of, extended, model_of, or_model, positional_number, optional, cover_of, generate, part_asked, resume, refusal_of, job_view, generate_syntax, generate_line, generate_of, resume_syntax, resume_line, resume_of, searched, settings_of, solve_syntax, solve_line}
 
 -- what the matches tell of a line
 module _ (f : Syntax) (arguments : List Argument) (m : ArgMatches) (reads : RowsTell f arguments (rows_of (found_of m))) where
@@ -168,14 +169,28 @@ module _ (m : ArgMatches) (arguments : List Argument) (reads : RowsTell solve_sy
             (rw (at_model, at_settings, at_cover) (fails _ (distanced (setting_of (codes "within") arguments)) (refusal_of e)
             (moved (distanced (value (codes "within"))) (distanced (setting_of (codes "within") arguments)) (refusal_of e) distance_same h)))
 
-        pub solve_all : (within : Option ℕ) (journal : Option Text) (cover : Bool) → distanced (value (codes "within")) ≡ Ok within → journal ≡ value (codes "journal")
-            → ((b : Bool) → one_text (found_of m) (codes "cover") ≡ Some (cond b (codes "true") (codes "false")) → cover ≡ b)
-            → solve_line arguments ≡ searched name (extended settings within (cover_of cover words)) journal
-        solve_all within journal cover h j wanted =
-            let at_distance : distanced (setting_of (codes "within") arguments) ≡ Ok within = sym distance_same ∙ h in
-            let at_journal : setting_of (codes "journal") arguments ≡ journal = sym (j ∙ value_read solve_syntax arguments m reads (codes "journal") refl) in
-            let is : cover ≡ has_flag (codes "cover") arguments = wanted (has_flag (codes "cover") arguments) (flag_read solve_syntax arguments m reads (codes "cover") refl) in
-            rw (at_model, at_settings, at_cover, at_distance, at_journal, ← is) refl
+        module _ (within : Option ℕ) (at_within : distanced (value (codes "within")) ≡ Ok within) where
+          part_same : part_asked (value (codes "part")) ≡ part_asked (setting_of (codes "part") arguments)
+          part_same = ap part_asked (value_read solve_syntax arguments m reads (codes "part") refl)
+
+          at_distance : distanced (setting_of (codes "within") arguments) ≡ Ok within
+          at_distance = sym distance_same ∙ at_within
+
+          pub solve_no_part : (r : Result Job WordsError) (e : WordsError) → IsErrAnd r (λ y. y ≡ e) → IfSome (refusal_of e) (λ why. part_asked (value (codes "part")) ≡ Err why)
+              → IsAnswer job_view (solve_line arguments) r
+          solve_no_part r e is h =
+              gives_up job_view (solve_line arguments) r e is
+              (rw (at_model, at_settings, at_cover, at_distance) (fails _ (part_asked (setting_of (codes "part") arguments)) (refusal_of e)
+              (moved (part_asked (value (codes "part"))) (part_asked (setting_of (codes "part") arguments)) (refusal_of e) part_same h)))
+
+          pub solve_all : (part : Option PartNumber) (journal : Option Text) (cover : Bool) → part_asked (value (codes "part")) ≡ Ok part → journal ≡ value (codes "journal")
+              → ((b : Bool) → one_text (found_of m) (codes "cover") ≡ Some (cond b (codes "true") (codes "false")) → cover ≡ b)
+              → solve_line arguments ≡ searched name (extended settings within (cover_of cover words)) journal part
+          solve_all part journal cover h j wanted =
+              let at_part : part_asked (setting_of (codes "part") arguments) ≡ Ok part = sym part_same ∙ h in
+              let at_journal : setting_of (codes "journal") arguments ≡ journal = sym (j ∙ value_read solve_syntax arguments m reads (codes "journal") refl) in
+              let is : cover ≡ has_flag (codes "cover") arguments = wanted (has_flag (codes "cover") arguments) (flag_read solve_syntax arguments m reads (codes "cover") refl) in
+              rw (at_model, at_settings, at_cover, at_distance, at_part, at_journal, ← is) refl
 
 -- ---- resume and digest
 

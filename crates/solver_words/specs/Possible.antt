@@ -1,10 +1,11 @@
 -- Which searches the words ask for, and which instances.
-use Rattle.std.specs.Prelude.{◌≡◌, ◌≤◌, ◌<◌, ◌^◌, ℕ, pos, Option, Some, None}
+use Rattle.std.specs.Prelude.{◌≡◌, ◌≤◌, ◌<◌, ◌^◌, ℕ, pos, Some, None}
 use Rattle.dp_model.specs.Distances.{IsDistance}
 use Rattle.dp_model.specs.declared.limits.TheConstants.{MOST_WORKERS}
 use Rattle.problem_names.specs.declared.ModelName.{ModelName}
 use Rattle.problem_names.specs.declared.Sizes.{Sizes}
 use Rattle.problem_names.specs.ModelNames.{sizes_of}
+use Rattle.problem_names.specs.Parts.{IsPart}
 use Rattle.solver_words.specs.Words.{JobView, solve, resume, check, digest, generate}
 use Rattle.solver_words.specs.declared.job.JobSettings.{JobSettings}
 
@@ -14,7 +15,7 @@ pub record MaySearch (settings : JobSettings) : Type 0 where
   pub few_workers : settings.workers ≤ MOST_WORKERS
   pub distance : IsDistance settings.within
 
--- a search that keeps a journal has the distance 0
+-- a search that keeps a journal, or of a part, has the distance 0
 pub record MaySearchKept (settings : JobSettings) : Type 0 where
   pub may : MaySearch settings
   pub exact : settings.within ≡ pos 0
@@ -27,10 +28,13 @@ pub record MayDraw (name : ModelName) (n seed : ℕ) : Type 0 where
   pub most : n ≤ sizes.most
   pub seeded : seed < 2 ^ 31
 
--- where a job is a search it may be made so, with no cover where a journal goes on, and what is to be drawn can be drawn
+-- where a job is a search it may be made so, of a part only where no journal is kept, with no cover where a journal goes on, and what is to be drawn can
+-- be drawn
 abbrev pub IsPossible : JobView → Type 0
-IsPossible (solve model settings None) = MaySearch settings
-IsPossible (solve model settings (Some path)) = MaySearchKept settings
+IsPossible (solve model settings None None) = MaySearch settings
+IsPossible (solve model settings None (Some part)) = MaySearchKept settings × IsPart part
+IsPossible (solve model settings (Some path) None) = MaySearchKept settings
+IsPossible (solve model settings (Some path) (Some part)) = ⊥
 IsPossible (resume path settings) = MaySearchKept settings × (settings.cover_words ≡ None)
 IsPossible check = Unit {0}
 IsPossible (digest model) = Unit {0}

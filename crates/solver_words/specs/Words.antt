@@ -1,9 +1,11 @@
 -- The commands, and what their lines ask for.
-use Rattle.std.specs.Prelude.{◌≡◌, ◌-◌, ◌^◌, ◌&&◌, ◌==◌, ℕ, pos, int_lt, Bool, true, false, nat_le, cond, codes, List, [], ◌∷◌, length, Option, Some, None, IfSome, is_some, option_map, option_and_then, slice_get, Result, Ok, Err, string_bytes}
-use Rattle.std.specs.List.{list_any}
+use Rattle.std.specs.Prelude.{◌≡◌, ◌-◌, ◌^◌, ◌&&◌, ◌||◌, ◌==◌, ℕ, pos, int_lt, Bool, true, false, nat_le, cond, codes, List, [], ◌∷◌, length, Option, Some, None, IfSome, is_some, option_map, option_and_then, slice_get, Result, Ok, Err, string_bytes}
+use Rattle.std.specs.List.{list_any, before_first, after_first}
 use Rattle.std.specs.Str.{bytes_eq}
 use Rattle.tokens.specs.Text.{natural_of}
 use Rattle.problem_names.specs.declared.ModelName.{ModelName}
+use Rattle.problem_names.specs.declared.part.PartNumber.{PartNumber}
+use Rattle.problem_names.specs.declared.part.TheConstants.{MOST_PARTS}
 use Rattle.dp_model.specs.declared.cut_kind.CutKind.{CutKind}
 use Rattle.dp_model.specs.declared.cut_kind.CutKind.TheVariants.{LastExactLayer, Frontier}
 use Rattle.dp_model.specs.declared.limits.TheConstants.{MOST_DISTANCE, MOST_WIDTH, MOST_WORKERS}
@@ -21,7 +23,7 @@ use Rattle.solver_words.specs.declared.words_error.WordsError.TheVariants.{Usage
 abbrev pub solve_syntax : Syntax
 solve_syntax = record {
   positional = codes "model" ∷ [];
-  valued = codes "width" ∷ codes "workers" ∷ codes "budget" ∷ codes "cutset" ∷ codes "journal" ∷ codes "cover-words" ∷ codes "within" ∷ [];
+  valued = codes "width" ∷ codes "workers" ∷ codes "budget" ∷ codes "cutset" ∷ codes "journal" ∷ codes "cover-words" ∷ codes "within" ∷ codes "part" ∷ [];
   flags = codes "cover" ∷ codes "stats" ∷ [];
 }
 
@@ -44,7 +46,7 @@ generate_syntax = record { positional = codes "model" ∷ codes "n" ∷ codes "s
 -- ---- what words ask for, and why they are refused
 
 pub data JobView : Type 0 where
-  solve : ModelName → JobSettings → Option Text → JobView
+  solve : ModelName → JobSettings → Option Text → Option PartNumber → JobView
   resume : Text → JobSettings → JobView
   check : JobView
   digest : ModelName → JobView
@@ -58,7 +60,7 @@ pub data Refusal : Type 0 where
 
 -- a job without what its texts hold of memory
 abbrev pub job_view : Job → JobView
-job_view (Solve name settings journal) = solve name settings (option_map string_bytes journal)
+job_view (Solve name settings journal part) = solve name settings (option_map string_bytes journal) part
 job_view (Resume path settings) = resume (string_bytes path) settings
 job_view Check = check
 job_view (Digest name) = digest name
@@ -99,7 +101,7 @@ abbrev pub ranged : ℕ → ℕ → Text → Option ℕ
 ranged least most word =
     option_and_then (λ n. cond (nat_le least n && nat_le n most) (Some n) None) (cond (nat_le (length word) 20) (natural_of word) None)
 
-abbrev pub or_number : Text → Option ℕ → Result ℕ Refusal
+abbrev pub or_number : {X : Type 0} → Text → Option X → Result X Refusal
 or_number name (Some n) = Ok n
 or_number name None = Err (number name)
 
@@ -107,6 +109,19 @@ or_number name None = Err (number name)
 abbrev pub optional : Text → ℕ → ℕ → Option Text → Result (Option ℕ) Refusal
 optional name least most None = Ok None
 optional name least most (Some word) = and_then (λ n. Ok (Some n)) (or_number name (ranged least most word))
+
+-- the part of a number below the number of parts
+abbrev pub part_from : Text → Text → Option PartNumber
+part_from index of = option_and_then (λ parts. option_map (λ n. record { index = n; of = parts }) (ranged 0 (parts - 1) index)) (ranged 1 MOST_PARTS of)
+
+-- the part that a word writes: what stands before its first slash (47), of what stands after it
+abbrev pub part_written : Text → Option PartNumber
+part_written word = part_from (before_first (λ b. b == 47) word) (after_first (λ b. b == 47) word)
+
+-- the part of an option, where it is given
+abbrev pub part_asked : Option Text → Result (Option PartNumber) Refusal
+part_asked None = Ok None
+part_asked (Some word) = and_then (λ part. Ok (Some part)) (or_number (codes "part") (part_written word))
 
 abbrev pub or_default : ℕ → Option ℕ → ℕ
 or_default n None = n
@@ -157,16 +172,20 @@ cover_of true words = Some (or_default DEFAULT_COVER_WORDS words)
 abbrev pub extended : JobSettings → Option ℕ → Option ℕ → JobSettings
 extended settings within words = record settings { within = pos (or_default 0 within); cover_words = words }
 
--- a search; its journal would not tell a distance, so with one above 0 none is kept
-abbrev pub searched : ModelName → JobSettings → Option Text → Result JobView Refusal
-searched name settings journal = cond (is_some journal && int_lt (pos 0) settings.within) (Err usage) (Ok (solve name settings journal))
+-- a search; its journal would tell neither a distance nor a part, so with a part or a distance above 0 none is kept, and a part has the distance 0
+abbrev pub searched : ModelName → JobSettings → Option Text → Option PartNumber → Result JobView Refusal
+searched name settings journal part =
+    let far = int_lt (pos 0) settings.within in
+    cond (is_some journal && far) (Err usage) (cond (is_some part && (is_some journal || far)) (Err usage) (Ok (solve name settings journal part)))
 
 abbrev pub solve_of : Option Text → (Text → Option Text) → (Text → Bool) → Result JobView Refusal
 solve_of name value flag =
     and_then (λ name.
     and_then (λ settings.
     and_then (λ words.
-    and_then (λ within. searched name (extended settings within (cover_of (flag (codes "cover")) words)) (value (codes "journal")))
+    and_then (λ within.
+    and_then (λ part. searched name (extended settings within (cover_of (flag (codes "cover")) words)) (value (codes "journal")) part)
+    (part_asked (value (codes "part"))))
     (optional (codes "within") 0 MOST_DISTANCE (value (codes "within"))))
     (optional (codes "cover-words") 0 MOST_COVER_WORDS (value (codes "cover-words"))))
     (settings_of value (flag (codes "stats"))))

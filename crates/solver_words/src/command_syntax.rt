@@ -18,6 +18,7 @@ pub(crate) const SOLVE: CommandSyntax = CommandSyntax {
         "journal",
         "cover-words",
         "within",
+        "part",
     ],
     flags: &["cover", "stats"],
 };

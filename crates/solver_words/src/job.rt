@@ -1,5 +1,5 @@
 use dp_model::CutKind;
-use problem_names::ModelName;
+use problem_names::{ModelName, PartNumber};
 
 /// The settings of a search.
 #[derive(Clone, Copy, Debug, PartialEq, Eq)]
@@ -25,11 +25,13 @@ pub struct JobSettings {
 #[derive(Debug, Drop)]
 pub enum Job {
     /// Search for a best solution, or one within the distance of the settings. `journal` is the file of its journal, if it keeps one;
-    /// then the distance is 0.
+    /// then the distance is 0. `part` is the part of the problem that is searched, if it is not the whole; then the distance is 0 and
+    /// there is no journal.
     Solve {
         model: ModelName,
         settings: JobSettings,
         journal: Option<String>,
+        part: Option<PartNumber>,
     },
     /// Go on with the search whose journal is in the file `path`. The distance is 0, and no cover is asked for.
     Resume {

@@ -13,11 +13,11 @@ use crate::command::parse;
 use crate::command_syntax::{CHECK, DIGEST, GENERATE, RESUME, SOLVE};
 use crate::job::{Job, JobSettings};
 use crate::limits::{DEFAULT_COVER_WORDS, MOST_COVER_WORDS};
-use crate::values::{is_given, read_model, read_optional, read_placed, read_settings};
+use crate::values::{is_given, read_model, read_optional, read_part, read_placed, read_settings};
 use crate::words_error::WordsError;
 use clap::ArgMatches;
 use dp_model::MOST_DISTANCE;
-use problem_names::{ModelName, Sizes};
+use problem_names::{ModelName, PartNumber, Sizes};
 use std::alloc::{AllocError, Global};
 
 /// The job that the words ask for. The words leave out the program's name.
@@ -25,7 +25,7 @@ use std::alloc::{AllocError, Global};
 /// # Errors
 ///
 /// - `Usage` exactly if the words are outside the grammar, or if all values are good and a search within a distance above 0 is to keep a
-///   journal.
+///   journal, or a search of a part is to keep a journal or has a distance above 0.
 /// - Otherwise `Model` exactly if the problem is not known, or has no drawn instances and one is asked for.
 /// - Otherwise `Number` with its name, or `Cutset`, for the first bad value, in the order of the values.
 /// - `OutOfMemory` at any words.
@@ -92,9 +92,10 @@ fn solve_job(alloc: Global, matches: &ArgMatches) -> Result<Job, WordsError>
     let settings = read_settings(matches, is_given(matches, "stats"))?;
     let words = read_optional(matches, "cover-words", 0, MOST_COVER_WORDS)?;
     let within = read_optional(matches, "within", 0, MOST_DISTANCE)?;
+    let part = read_part(matches)?;
     let journal = copied(alloc, matches.get_str("journal"))?;
     let cover = cover_words(is_given(matches, "cover"), words);
-    searched(model, extended(settings, within, cover), journal)
+    searched(model, extended(settings, within, cover), journal, part)
 }
 
 /// The settings with that distance, where one is given, or else with 0, and with a cover of that many words.
@@ -109,21 +110,26 @@ fn extended(settings: JobSettings, within: Option<u64>, cover_words: Option<u64>
     }
 }
 
-/// The search, unless its journal would have to tell a distance.
+/// The search, unless its journal would have to tell a distance or a part, or its part a distance.
 fn searched(
     model: ModelName,
     settings: JobSettings,
     journal: Option<String>,
+    part: Option<PartNumber>,
 ) -> Result<Job, WordsError>
-    ensures { IsAnswer job_view (searched model settings (option_map string_bytes journal)) result }
+    ensures { IsAnswer job_view (searched model settings (option_map string_bytes journal) part) result }
 {
     if journal.is_some() && settings.within > 0 {
+        return Err(WordsError::Usage);
+    }
+    if part.is_some() && (journal.is_some() || settings.within > 0) {
         return Err(WordsError::Usage);
     }
     Ok(Job::Solve {
         model,
         settings,
         journal,
+        part,
     })
 }
 

@@ -1,12 +1,12 @@
 ghost use Rattle.std.specs.Prelude.{◌≡◌, ◌≤◌, ◌<◌, Bool, IfOk, IfSome, Some, cond, codes};
 ghost use Rattle.clap.specs.Matches.{first_value, found_of, one_text};
-ghost use Rattle.solver_words.specs.Words.{IsAnswer, natural_in_64_bits, ranged, optional, settings_of, cut_named, model_of, positional_number};
+ghost use Rattle.solver_words.specs.Words.{IsAnswer, natural_in_64_bits, ranged, optional, settings_of, cut_named, model_of, part_asked, part_from, part_written, positional_number};
 
 use crate::job::JobSettings;
 use crate::words_error::WordsError;
 use clap::ArgMatches;
 use dp_model::{CutKind, MOST_WIDTH, MOST_WORKERS};
-use problem_names::ModelName;
+use problem_names::{MOST_PARTS, ModelName, PartNumber};
 
 /// The number of 1 to 20 digits, where it is below 2^64.
 #[tactic(auto, using(crate::proofs::Numbers::no_plus, crate::proofs::Numbers::parsed))]
@@ -52,6 +52,41 @@ pub(crate) fn read_optional(
     match read_number(word, least, most) {
         Some(number) => Ok(Some(number)),
         None => Err(WordsError::Number { option }),
+    }
+}
+
+/// The part that a word `I/K` writes.
+fn part_of(word: &str) -> Option<PartNumber>
+    ensures { result ≡ part_written word.now }
+{
+    match word.split_once('/') {
+        Some((index, of)) => part_from(index, of),
+        None => None,
+    }
+}
+
+/// The part with the number `index` of `of` parts.
+fn part_from(index: &str, of: &str) -> Option<PartNumber>
+    ensures { result ≡ part_from index.now of.now }
+{
+    let of = read_number(of, 1, MOST_PARTS as u64)?;
+    let index = read_number(index, 0, of - 1)?;
+    Some(PartNumber {
+        index: index as u32,
+        of: of as u32,
+    })
+}
+
+/// The part that is to be searched, where one is given.
+pub(crate) fn read_part(matches: &ArgMatches) -> Result<Option<PartNumber>, WordsError>
+    ensures { IsAnswer (λ p. p) (part_asked (first_value (found_of matches.now) (codes "part"))) result }
+{
+    let Some(word) = matches.get_str("part") else {
+        return Ok(None);
+    };
+    match part_of(word) {
+        Some(part) => Ok(Some(part)),
+        None => Err(WordsError::Number { option: "part" }),
     }
 }
 

@@ -19,11 +19,11 @@ const DEFAULTS: &str =
 const ASKED: &[(&str, &str)] = &[
     (
         "solve|knapsack",
-        "Ok(Solve { model: Knapsack, settings: DEFAULTS, journal: None })",
+        "Ok(Solve { model: Knapsack, settings: DEFAULTS, journal: None, part: None })",
     ),
     (
         "solve|--width=64|--cover|maxcut|--workers|2|--budget=9|--cutset|lel|--journal=a=b|--cover-words|50|--within|0|--stats",
-        "Ok(Solve { model: MaxCut, settings: JobSettings { width: Some(64), workers: 2, budget: 9, cutset: LastExactLayer, stats: true, within: 0, cover_words: Some(50) }, journal: Some(\"a=b\") })",
+        "Ok(Solve { model: MaxCut, settings: JobSettings { width: Some(64), workers: 2, budget: 9, cutset: LastExactLayer, stats: true, within: 0, cover_words: Some(50) }, journal: Some(\"a=b\"), part: None })",
     ),
     (
         "resume|j|--cutset=frontier",
@@ -31,15 +31,19 @@ const ASKED: &[(&str, &str)] = &[
     ),
     (
         "solve|max2sat|--cover",
-        "Ok(Solve { model: MaxTwoSat, settings: JobSettings { width: None, workers: 1, budget: 18446744073709551615, cutset: LastExactLayer, stats: false, within: 0, cover_words: Some(67108864) }, journal: None })",
+        "Ok(Solve { model: MaxTwoSat, settings: JobSettings { width: None, workers: 1, budget: 18446744073709551615, cutset: LastExactLayer, stats: false, within: 0, cover_words: Some(67108864) }, journal: None, part: None })",
     ),
     (
         "solve|max2sat|--cover-words=5|--within=1125899906842624",
-        "Ok(Solve { model: MaxTwoSat, settings: JobSettings { width: None, workers: 1, budget: 18446744073709551615, cutset: LastExactLayer, stats: false, within: 1125899906842624, cover_words: None }, journal: None })",
+        "Ok(Solve { model: MaxTwoSat, settings: JobSettings { width: None, workers: 1, budget: 18446744073709551615, cutset: LastExactLayer, stats: false, within: 1125899906842624, cover_words: None }, journal: None, part: None })",
     ),
     (
         "resume|--|-j",
         "Ok(Resume { path: \"-j\", settings: DEFAULTS })",
+    ),
+    (
+        "solve|knapsack|--part|0003/1024",
+        "Ok(Solve { model: Knapsack, settings: DEFAULTS, journal: None, part: Some(PartNumber { index: 3, of: 1024 }) })",
     ),
     ("check", "Ok(Check)"),
     ("digest|tsptw", "Ok(Digest { model: TspWindows })"),
@@ -57,6 +61,34 @@ const ASKED: &[(&str, &str)] = &[
     ("solve|knapsack|--width|", "Err(Usage)"),
     ("solve|knapsack|--stats=1", "Err(Usage)"),
     ("solve|--|knapsack|--stats", "Err(Usage)"),
+    ("join", "Err(Usage)"),
+    ("resume|j|--part=0/1", "Err(Usage)"),
+    ("solve|knapsack|--part=0/2|--journal=j", "Err(Usage)"),
+    ("solve|knapsack|--part=0/2|--within=1", "Err(Usage)"),
+    (
+        "solve|knapsack|--part=2/2|--within=1|--journal=j",
+        "Err(Number { option: \"part\" })",
+    ),
+    (
+        "solve|knapsack|--part=0/1025",
+        "Err(Number { option: \"part\" })",
+    ),
+    (
+        "solve|knapsack|--part=0/0",
+        "Err(Number { option: \"part\" })",
+    ),
+    (
+        "solve|knapsack|--part=1",
+        "Err(Number { option: \"part\" })",
+    ),
+    (
+        "solve|knapsack|--part=0/2/",
+        "Err(Number { option: \"part\" })",
+    ),
+    (
+        "solve|knapsack|--part=x|--within=x",
+        "Err(Number { option: \"within\" })",
+    ),
     ("solve|help", "Err(Model)"),
     ("solve|knap|--width=0", "Err(Model)"),
     (

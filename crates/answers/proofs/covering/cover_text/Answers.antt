@@ -18,5 +18,5 @@ returns-clause-text g c =
       cover = cover;
       passes = passes;
       written = c.in_ok-push_cover.ensures.written c.in_ok-cover.ensures.writable;
-      printed = whole-made c.args.name c.len.result instance c.new-text.result.items c.push_head.new.out.items c.as_slice.result.now c.extend_from_slice.new.self.items c.push_cover.new.out.items cover h6 h1 h2 h3 (h5 ∙ same) (h4 ∙ (c.in_ok-instance.instance.ok.0 ∙ ap length same));
+      printed = whole-made c.args.subject.name c.args.subject.part c.len.result instance c.new-text.result.items c.push_head.new.out.items c.as_slice.result.now c.extend_from_slice.new.self.items c.push_cover.new.out.items cover h6 h1 h2 h3 (h5 ∙ same) (h4 ∙ (c.in_ok-instance.instance.ok.0 ∙ ap length same));
     }

@@ -9,15 +9,12 @@ use Rattle.answers.proofs.Covered.{claim-told, counts-fit, covered-told, distanc
 use Rattle.answers.proofs.covering.told.Given as given
 use Rattle.answers.proofs.covering.told.Goals as goal
 
-laws_of : (g : given.Over) (m : g.row.P.Denot) → IsLawful (g.P.DpModel.meaning (g.P.DpModel.numbers m))
-laws_of g m = (g.met.P.DpModel g.world.𝓛 g.world.𝓜 g.world.𝓡 ((λ s x. x), (λ x. x), (λ x. x), λ x. x)).lawful m
-
-same_program : (g : given.Over) (m : g.row.P.Denot) → g.P.DpModel.meaning (g.P.DpModel.numbers m) ≡ g.P.Problem.theory.program (g.P.DpModel.numbers m)
-same_program g m = (g.met.P.Problem g.world.𝓛 g.world.𝓜 g.world.𝓡 ((λ s x. x), (λ x. x), (λ x. x), λ x. x)).same_program (g.P.DpModel.numbers m)
+laws_of : (g : given.Over) (m : g.row.M.Denot) → IsLawful (g.M.DpModel.meaning (g.M.DpModel.numbers m))
+laws_of g m = (g.met.M.DpModel g.world.𝓛 g.world.𝓜 g.world.𝓡 ((λ s x. x), (λ x. x), (λ x. x), λ x. x)).lawful m
 
 pub claim_of-claim-requires-clause-value : goal.claim_of-claim-requires-clause-value
 claim_of-claim-requires-clause-value g c =
-    subst IsWritable (sym c.value.ensures) (value-writable _ (laws_of g c.args.model.now) _ c.args.search.budget c.args.outcome c.requires.true_told)
+    subst IsWritable (sym c.value.ensures) (value-writable _ (laws_of g c.args.program.now) _ c.args.search.budget c.args.outcome c.requires.true_told)
 
 pub claim_of-claim-requires-clause-distance : goal.claim_of-claim-requires-clause-distance
 claim_of-claim-requires-clause-distance g c =
@@ -26,29 +23,30 @@ claim_of-claim-requires-clause-distance g c =
 
 pub cover_text-requires-clause-holds : goal.cover_text-requires-clause-holds
 cover_text-requires-clause-holds g c κs within =
-    let m = c.args.model.now in
+    let m = c.args.program.now in
     let final = sym c.is_final.ensures ∙ c.if-not-is_final.false in
     let read : to_z w64 (of_z w64 c.distance.result) ≡ c.distance.result = search rules in
     let claim = claim-told _ (laws_of g m) _ c.args.search.budget c.args.outcome final c.requires.true_told in
-    subst (HoldsAll (g.P.DpModel.meaning (g.P.DpModel.numbers m))) (sym (same-claim _ _ _ _ _ c.value.ensures (read ∙ c.distance.ensures) c.claim_of-claim.ensures)) claim.0
+    subst (HoldsAll (g.M.DpModel.meaning (g.M.DpModel.numbers m))) (sym (same-claim _ _ _ _ _ c.value.ensures (read ∙ c.distance.ensures) c.claim_of-claim.ensures)) claim.0
 
 pub cover_text-requires-clause-reachable : goal.cover_text-requires-clause-reachable
 cover_text-requires-clause-reachable g c κs within =
     let final = sym c.is_final.ensures ∙ c.if-not-is_final.false in
     let read : to_z w64 (of_z w64 c.distance.result) ≡ c.distance.result = search rules in
-    let claim = claim-told _ (laws_of g c.args.model.now) _ c.args.search.budget c.args.outcome final c.requires.true_told in
+    let claim = claim-told _ (laws_of g c.args.program.now) _ c.args.search.budget c.args.outcome final c.requires.true_told in
     subst IsReachable (sym (same-claim _ _ _ _ _ c.value.ensures (read ∙ c.distance.ensures) c.claim_of-claim.ensures)) claim.1
 
 pub returns-in-Ok-clause-covered : goal.returns-in-Ok-clause-covered
 returns-in-Ok-clause-covered g c =
-    let m = c.args.model.now in
-    let numbers = g.P.DpModel.numbers m in
-    let dp = g.P.DpModel.meaning numbers in
+    let numbers = g.P.DpModel.numbers c.args.model.now in
+    let program = c.args.program.now in
+    let dp = g.M.DpModel.meaning (g.M.DpModel.numbers program) in
     let t : Theory = g.P.Problem.theory in
+    let subject = c.args.subject in
     let read : to_z w64 (of_z w64 c.distance.result) ≡ c.distance.result = search rules in
     let final = sym c.is_final.ensures ∙ c.if-not-is_final.false in
-    covered-told c.args.name t numbers dp c.args.search.budget c.args.outcome c.args.counts c.in-Ok.text c.requires.named (same_program g m) (laws_of g m) final
+    covered-told subject.name subject.part t numbers dp c.args.search.budget c.args.outcome c.args.counts c.in-Ok.text c.requires.named c.requires.part c.requires.program (laws_of g program) final
     c.requires.true_told
     (counts-fit c.args.counts c.requires.sized)
     c.in-Ok.ensures.reads_back
-    (subst (λ v. IsCoverText dp c.args.name (t.canonical numbers) v c.in-Ok.text.items) (same-claim _ _ _ _ _ c.value.ensures (read ∙ c.distance.ensures) c.claim_of-claim.ensures) c.in-Ok.ensures.text)
+    (subst (λ v. IsCoverText dp subject.name subject.part (t.canonical numbers) v c.in-Ok.text.items) (same-claim _ _ _ _ _ c.value.ensures (read ∙ c.distance.ensures) c.claim_of-claim.ensures) c.in-Ok.ensures.text)

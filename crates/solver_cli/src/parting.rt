@@ -1,0 +1,111 @@
+//! Searches of a part of an instance.
+
+ghost use Rattle.std.specs.Prelude.{◌≡◌, ◌^◌, ◌-◌, ◌<◌, Some, length};
+ghost use Rattle.parts.specs.Part.{part_program};
+ghost use Rattle.std.specs.Arc.{arc_value};
+ghost use Rattle.problem_names.specs.Parts.{IsPart, MayBePart};
+ghost use Rattle.problems.specs.Theories.{theory_of};
+ghost use Rattle.solver_words.specs.Possible.{MaySearch};
+ghost use Rattle.answers.specs.Answers.{Solves, SolvesPart};
+ghost use Rattle.answers.specs.Covers.{IsCoveredIn};
+ghost use Rattle.answers.specs.Parts.{own_in, part_own, program_in};
+ghost use Rattle.solver_cli.specs.Starts.{HasBegun};
+
+use crate::runner::Runner;
+use crate::searching::search_from;
+use crate::solving::answer_in;
+use crate::starting::{Start, begin_search};
+use answers::{Subject, part_of};
+use disk::Disk;
+use dp_model::DpModel;
+use kept_board::Kept;
+use problem_names::{ModelName, PartNumber};
+use problem_theory::{Problem, ReadInstanceError};
+use search_workers::Gate;
+use solver_report::Answer;
+use solver_words::JobSettings;
+use std::sync::Wait;
+use std::thread::Threads;
+
+/// Searches a part of the instance of the named problem that the text spells, and answers how the search ended. If the text spells none,
+/// answers its first fault. No journal is kept, and the disk comes back unchanged.
+pub fn part_text<P: Problem, D: Disk + Send, G: Gate + Sync, R: Threads + Wait + Sync>(
+    run: &Runner<'_, G, R>,
+    name: ModelName,
+    part: PartNumber,
+    search: JobSettings,
+    text: &[u8],
+    disk: D,
+) -> (Answer, D)
+    requires short { length text.now < 2 ^ 32 - 1 }
+    requires may { MaySearch search }
+    requires part { IsPart part }
+    requires named { theory_of name ≡ P.theory }
+    ensures reply { SolvesPart P.theory name part search text.now result.0 }
+    ensures disk { result.1 ≡ disk }
+{
+    match P::read(run.alloc, text) {
+        Ok(model) => solve_part(run, name, part, model, search, disk),
+        Err(ReadInstanceError::Refused(refusal)) => (Answer::Refused(refusal), disk),
+        Err(ReadInstanceError::OutOfMemory) => (Answer::OutOfMemory, disk),
+    }
+}
+
+/// Searches a part of the instance of the named problem by the workers that are asked for. The width is refused if it is 0 or above the
+/// greatest width of the part.
+fn solve_part<P: Problem, D: Disk + Send, G: Gate + Sync, R: Threads + Wait + Sync>(
+    run: &Runner<'_, G, R>,
+    name: ModelName,
+    part: PartNumber,
+    model: P,
+    search: JobSettings,
+    disk: D,
+) -> (Answer, D)
+    requires may { MaySearch search }
+    requires part { IsPart part }
+    requires named { theory_of name ≡ P.theory }
+    ensures solves { Solves (part_program (P.theory.program (P.numbers model)) part.index part.of) (part_own part.index part.of (P.theory.own_value (P.numbers model))) search result.0 }
+    ensures covered { IsCoveredIn name (Some part) (P.theory.canonical (P.numbers model)) result.0 }
+    ensures disk { result.1 ≡ disk }
+{
+    let Ok((whole, program)) = part_of(run.alloc, model, part) else {
+        return (Answer::OutOfMemory, disk);
+    };
+    let subject = Subject {
+        name,
+        part: Some(part),
+    };
+    match begin_search(run.alloc, program, search) {
+        Ok(start) => search_program(run, subject, &*whole, start, search, disk),
+        Err(answer) => (answer, disk),
+    }
+}
+
+/// Searches a program of the instance from its start on, and keeps no journal: the disk comes back unchanged.
+fn search_program<P: Problem, M: DpModel, D: Disk + Send, G: Gate + Sync, R: Threads + Wait + Sync>(
+    run: &Runner<'_, G, R>,
+    subject: Subject,
+    whole: &P,
+    start: Start<M>,
+    search: JobSettings,
+    disk: D,
+) -> (Answer, D)
+    requires named { theory_of subject.name ≡ P.theory }
+    requires part { MayBePart subject.part }
+    requires program { M.meaning (M.numbers (arc_value start.model)) ≡ program_in subject.part (P.theory.program (P.numbers whole.now)) }
+    requires numbers { start.board.numbers ≡ M.numbers (arc_value start.model) }
+    requires begun { HasBegun (M.meaning (M.numbers (arc_value start.model))) search start.board start.desks }
+    ensures solves { Solves (program_in subject.part (P.theory.program (P.numbers whole.now))) (own_in subject.part (P.theory.own_value (P.numbers whole.now))) search result.0 }
+    ensures covered { IsCoveredIn subject.name subject.part (P.theory.canonical (P.numbers whole.now)) result.0 }
+    ensures disk { result.1 ≡ disk }
+{
+    let Start {
+        model,
+        board,
+        desks,
+    } = start;
+    let kept = Kept::new(board, disk, None);
+    let (ended, disk) = search_from(run, kept, desks, &*model, search);
+    let answer = answer_in(run.alloc, subject, whole, &*model, ended, search);
+    (answer, disk)
+}
