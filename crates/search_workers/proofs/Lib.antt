@@ -15,3 +15,4 @@ mod Slots
 mod Stopping
 mod TakenOut
 mod Taking
+pub mod Collected

@@ -167,6 +167,7 @@ fn branch_on<M: DpModel, D: Disk>(
         return Ok(Branched {
             threshold: restricted.threshold,
             children: Vec::new(alloc),
+            on_desk: false,
         });
     }
     let threshold = relax(
@@ -182,6 +183,7 @@ fn branch_on<M: DpModel, D: Disk>(
     Ok(Branched {
         threshold,
         children,
+        on_desk: true,
     })
 }
 

@@ -23,10 +23,11 @@ use dp_model::{DpModel, Sub};
 use kept_board::Kept;
 use std::alloc::Global;
 
-/// What a worker got that asked for a subproblem, and the reach as it was then.
+/// What a worker got that asked for a subproblem, with its ticket, which is 0 where it got none, and the reach as it was then.
 #[derive(Clone, Copy, Debug)]
 pub struct Asked {
     pub taken: Taken,
+    pub ticket: u64,
     pub reach: Option<i64>,
 }
 
@@ -52,8 +53,13 @@ pub fn take<M: DpModel, D: Disk>(
     let taken = kept.take(who, into);
     // What every board keeps of what is out.
     kept.board().facts();
+    let ticket = kept.board().slot_ticket(who).unwrap_or(0);
     let reach = kept.board().reach();
-    Asked { taken, reach }
+    Asked {
+        taken,
+        ticket,
+        reach,
+    }
 }
 
 /// Offers a solution. Gives the reach that is left: the solution's value is at most the incumbent's, and this is at most the reach.

@@ -12,6 +12,7 @@ ghost use Rattle.dp_laws.specs.Rules.Compiling.{relaxed};
 ghost use Rattle.board_laws.specs.GoodBoard.{IncumbentHolds};
 ghost use Rattle.layer_build.specs.Layers.{IsPreparedFor};
 ghost use Rattle.search_workers.specs.Branched.{AreBranched};
+ghost use Rattle.search_workers.specs.Collected.{HoldsDiagram};
 ghost use Rattle.search_workers.specs.Offered.{beam_value, found_solution};
 ghost use Rattle.search_workers.specs.Prepared.{HoldsChildren};
 ghost use Rattle.search_workers.specs.Ready.{IsWorker};
@@ -156,6 +157,7 @@ pub fn relax_one<M: DpModel, D: Disk + Send, G: Gate, R: Wait>(
     ensures no_less { NoLess (seen_of seat.old) (seen_of seat.new) }
     ensures subs { OnOk result (cutset.new.subs ≡ taken_from (M.meaning (M.numbers model.now)) (relaxed (M.meaning (M.numbers model.now)) (reached (M.meaning (M.numbers model.now)) taken.now.subproblem.decisions) space.old.width reach) kind) }
     ensures branched { OnOk result (AreBranched (M.meaning (M.numbers model.now)) (first_of turn.now).board.board.settings.width (reach_seen turn.now seat.new) taken.now.subproblem.decisions reach cutset.new.subs) }
+    ensures holds { HoldsDiagram (M.meaning (M.numbers model.now)) space.new cutset.new }
     ensures stopped { IfErr result (λ stopped. IsLeftOut stopped (out_of seat.old) (out_of seat.new)) }
     ensures why { IfErr result (WasStopped D.Disk M.meaning turn.now seat.old seat.new) }
     ensures prepared { IsPreparedFor (M.meaning (M.numbers model.now)) space.new }

@@ -48,4 +48,5 @@ returns-in-Sub-clause-prepared g c =
         cutset = room.cutset;
       };
       no_fates = c.requires.prepared.no_fates;
+      book = c.requires.prepared.book;
     }

@@ -1,5 +1,6 @@
 use denote.Param.Send.{sendable}
 use Rattle.std.proofs.Crossing.{crosses}
+use Rattle.cover_pages.proofs.Sent.{book_send}
 use Rattle.kept_board.proofs.Sent.{kept_send}
 use Rattle.search_workers.proofs.Sent.{seat_send, turn_sync}
 use Rattle.std.proofs.Common.{rules, ◌≡◌, subst, sym, ap, ◌∙◌}
@@ -64,3 +65,6 @@ returns-clause-ended g c =
     let Q : Seat (KeptView _) → Seat (KeptView _) → Type 0 = λ a b. HasEndedAt t b in
     let pairs = have_left _ _ Q (λ a b k l x. subst (HasEndedAt t) x.seat_left x.call.3) c.args.seats.now c.side_by_side.new.seats c.args.desks.now c.side_by_side.new.desks c.side_by_side.ensures in
     all_right Q (HasEndedAt t) (λ a b h. h) c.args.seats.now c.side_by_side.new.seats pairs
+
+pub side_by_side-requires-send-K : goal.side_by_side-requires-send-K
+side_by_side-requires-send-K g c κs within = search (sendable, crosses, book_send) depth 40 fits 4000
