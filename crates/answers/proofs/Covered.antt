@@ -76,7 +76,7 @@ path-small dp laws k s (d ∷ x) path =
     let most = laws.sizes.choices k path.0.layer in (omega arith, path-small dp laws (k + 1) (dp.step k s d) x path.1)
 
 -- value and decisions can be printed
-told-fits : (dp : Dp) → IsLawful dp → (own : List ℕ → Option ℤ) (budget : ℕ) (outcome : Outcome) → IsTrueOf dp own budget outcome → IsToldClaim (value_told outcome) (distance_told outcome) (assignment_told outcome)
+pub told-fits : (dp : Dp) → IsLawful dp → (own : List ℕ → Option ℤ) (budget : ℕ) (outcome : Outcome) → IsTrueOf dp own budget outcome → IsToldClaim (value_told outcome) (distance_told outcome) (assignment_told outcome)
 told-fits dp laws own budget (Proved found within) h =
     let solution = h.1.found_one.solution in
     let far = value_of-far dp laws found.decisions solution.prefix in
@@ -109,7 +109,7 @@ counts-printed : (counts : Option Counts) → count_lines counts ≡ printed_lin
 counts-printed None = refl
 counts-printed (Some counts) = ap (λ z. count_line (codes "taken") counts.taken ++ z) (sym (append-nil (count_line (codes "finished") counts.finished)))
 
-whole-printed : (outcome : Outcome) (counts : Option Counts) (name : ModelName) (part : Option PartNumber) (instance : List ℕ) (cover : List (List CoverRow)) (text : List ℕ) → is_final outcome ≡ true → text ≡ printed_whole name part instance cover
+pub whole-printed : (outcome : Outcome) (counts : Option Counts) (name : ModelName) (part : Option PartNumber) (instance : List ℕ) (cover : List (List CoverRow)) (text : List ℕ) → is_final outcome ≡ true → text ≡ printed_whole name part instance cover
     → outcome_lines outcome ++ (count_lines counts ++ text) ≡ printed_output (claim_told outcome) (counts_told counts) name part instance cover
 whole-printed outcome counts name part instance cover text final e =
     ap (λ z. z ++ (count_lines counts ++ text)) (outcome-printed outcome final)
@@ -134,7 +134,7 @@ head_made name (Some part) size =
     ap (λ z. line (codes "cover " ++ names.text_of name) ++ (z ++ last)) (append-nil middle) ∙ ap (λ z. line (codes "cover " ++ names.text_of name) ++ (middle ++ z)) (sym (append-nil last))
 
 -- a part of a text is no longer than the text
-part-short : (a b head part tail text : List ℕ) (most : ℕ) → text ≡ head ++ (part ++ tail) → length (a ++ (b ++ text)) ≤ most → length part ≤ most
+pub part-short : (a b head part tail text : List ℕ) (most : ℕ) → text ≡ head ++ (part ++ tail) → length (a ++ (b ++ text)) ≤ most → length part ≤ most
 part-short a b head part tail text most e short =
     let one = length-append a (b ++ text) in
     let two = length-append b text in
@@ -157,7 +157,7 @@ passes-whole dp own (Some value) within x cover h e =
     ap verdict_of (sym (checked-by dp (Some value) within x cover (fine-value value (worth dp x) worth_is) e))
 
 -- what was read is checked
-checks-read : (name : ModelName) (t : Theory) (numbers : List ℤ) (held : CoverTextView) (text : List ℕ) → theory_of name ≡ t → held.model ≡ name → t.spelled held.instance ≡ Ok numbers → text_of text ≡ Ok held
+pub checks-read : (name : ModelName) (t : Theory) (numbers : List ℤ) (held : CoverTextView) (text : List ℕ) → theory_of name ≡ t → held.model ≡ name → t.spelled held.instance ≡ Ok numbers → text_of text ≡ Ok held
     → Checks (program_in held.part (t.program numbers)) (own_in held.part (t.own_value numbers)) held (answers.Checked Accepted) → IsAccepted name held.part held.instance text
 checks-read name t numbers held text named problem spelled is_read checks =
     let answer = answers.Checked Accepted in

@@ -4,4 +4,7 @@ pub mod Ending
 pub mod Reports
 pub mod Parts
 pub mod Checked
+pub mod Writable
+pub mod Wholes
+pub mod JoinFaults
 pub mod Journaled

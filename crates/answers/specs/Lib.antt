@@ -6,6 +6,7 @@ pub mod Checks
 pub mod Covers
 pub mod Over
 pub mod Outcomes
+pub mod Joins
 pub mod Answers
 -- what a run leaves on its disk where it keeps a journal, and what it then answers
 pub mod Journals

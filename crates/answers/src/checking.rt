@@ -29,7 +29,7 @@ pub fn check(alloc: Global, text: &[u8]) -> Answer
 }
 
 /// The answer to a fault of the text.
-fn refused(fault: CoverError) -> Answer
+pub(crate) fn refused(fault: CoverError) -> Answer
     ensures { RefusesCover fault result }
 {
     match fault {

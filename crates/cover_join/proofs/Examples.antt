@@ -1,8 +1,6 @@
 -- The joined cover of two parts of the knapsack of one item, of profit 4 and weight 1, with capacity 1.
-use Rattle.std.proofs.Common.{◌≡◌, ℕ, pos, List, [], ◌∷◌, Some, None, refl}
-use Rattle.bound_cover.specs.Covers.{CoverRow}
+use Rattle.std.proofs.Common.{◌≡◌, pos, [], ◌∷◌, Some, None, refl}
 use Rattle.bound_cover.proofs.Examples.{one_item}
-use Rattle.parts.specs.Part.{part_program}
 use Rattle.cover_join.specs.Joined.{PartAnswer, joined, AreAccepted, IsAccepted}
 
 -- without the item

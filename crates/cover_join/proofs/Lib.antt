@@ -3,3 +3,8 @@ pub mod Layers
 pub mod Roots
 pub mod Accepting
 pub mod Examples
+pub mod RootRows
+pub mod ArcSteps
+pub mod Rows
+pub mod Checks
+pub mod Faultless

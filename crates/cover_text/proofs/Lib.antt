@@ -11,3 +11,4 @@ pub mod OutputsRead
 pub mod Writing
 pub mod InTurn
 pub mod EachName
+pub mod Ends

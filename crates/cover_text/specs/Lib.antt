@@ -8,3 +8,4 @@ pub mod Texts
 pub mod Printed
 pub mod Written
 pub mod Outputs
+pub mod Several

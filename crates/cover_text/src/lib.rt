@@ -25,6 +25,7 @@ mod layers;
 mod printing;
 mod reading;
 mod rows;
+mod several;
 mod tested;
 mod theory;
 
@@ -32,4 +33,5 @@ pub use cover_error::CoverError;
 pub use cover_text::{CoverText, OpenCover};
 pub use printing::push_cover;
 pub use reading::{open_cover, read_cover};
+pub use several::read_covers;
 pub use theory::{outputs_are_read, pushed_is_read};

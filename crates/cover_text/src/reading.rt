@@ -1,11 +1,12 @@
 //! The text of a cover, read.
 
-ghost use Rattle.std.specs.Prelude.{◌≡◌, ◌<◌, ◌≤◌, ◌-◌, ◌^◌, ◌++◌, length, vec_len, IfOk};
+ghost use Rattle.std.specs.Prelude.{◌≡◌, ◌<◌, ◌≤◌, ◌-◌, ◌^◌, ◌++◌, length, vec_len, IfOk, OnErr, Err};
 ghost use Rattle.dp_model.specs.Distances.{IsDistance};
 ghost use Rattle.problem_names.specs.Parts.{MayBePart};
 ghost use Rattle.cover_text.specs.Grammar.{Reads};
 ghost use Rattle.cover_text.specs.Instances.{end_place, moved};
-ghost use Rattle.cover_text.specs.Texts.{cover_behind, opened, opened_in, text_in, text_of, verdict_behind};
+ghost use Rattle.cover_text.specs.declared.cover_error.CoverError.TheVariants.{OutOfMemory};
+ghost use Rattle.cover_text.specs.Texts.{cover_behind, held_with, opened, opened_in, text_in, text_of, verdict_behind};
 
 use crate::cover_error::CoverError;
 use crate::cover_text::{CoverText, OpenCover};
@@ -26,17 +27,46 @@ impl<'t> OpenCover<'t> {
         moved(end_place(self.before), fault)
     }
 
-    /// Reads the sections, with the places of their faults in the whole text.
+    /// Reads these sections, with the places of their faults in the text that they end.
     #[tactic(auto, unfolding(crate::specs::Texts::cover_behind))]
+    pub(crate) fn read_part(&self, alloc: Global, sections: &[u8]) -> Result<Cover, CoverError>
+        requires before { length self.now.before.now < 2 ^ 32 - 1 }
+        requires sections { length sections.now < 2 ^ 32 - 1 }
+        ensures { Reads (λ c. c) result (cover_behind self.now.before.now sections.now) }
+    {
+        match read_sections(alloc, sections) {
+            Ok(cover) => Ok(cover),
+            Err(fault) => Err(self.placed(fault)),
+        }
+    }
+
+    /// Reads the sections, with the places of their faults in the whole text.
     pub fn read(&self, alloc: Global) -> Result<Cover, CoverError>
         requires before { length self.now.before.now < 2 ^ 32 - 1 }
         requires behind { length self.now.behind.now < 2 ^ 32 - 1 }
         ensures { Reads (λ c. c) result (cover_behind self.now.before.now self.now.behind.now) }
     {
-        match read_sections(alloc, self.behind) {
-            Ok(cover) => Ok(cover),
-            Err(fault) => Err(self.placed(fault)),
-        }
+        self.read_part(alloc, self.behind)
+    }
+
+    /// The text with these rows.
+    pub(crate) fn held(self, alloc: Global, cover: Cover) -> Result<CoverText, CoverError>
+        ensures text { IfOk result (λ t. text_in t ≡ held_with (opened_in self.entry) cover) }
+        ensures within { IfOk result (λ t. t.within ≡ self.entry.within) }
+        ensures part { IfOk result (λ t. t.part ≡ self.entry.part) }
+        ensures instance { IfOk result (λ t. vec_len t.instance ≡ length self.entry.instance.now) }
+        ensures cause { OnErr result (result ≡ Err OutOfMemory) }
+    {
+        let instance = self.instance.to_vec(alloc)?;
+        Ok(CoverText {
+            model: self.model,
+            part: self.part,
+            best: self.best,
+            within: self.within,
+            assignment: self.assignment,
+            instance,
+            cover,
+        })
     }
 
     /// The verdict of `Checker::check` on the sections, which are tested as they are read, or the first fault as `read` gives it. Two
@@ -107,14 +137,5 @@ pub fn read_cover(alloc: Global, bytes: &[u8]) -> Result<CoverText, CoverError>
 {
     let open = open_cover(alloc, bytes)?;
     let cover = open.read(alloc)?;
-    let instance = open.instance.to_vec(alloc)?;
-    Ok(CoverText {
-        model: open.model,
-        part: open.part,
-        best: open.best,
-        within: open.within,
-        assignment: open.assignment,
-        instance,
-        cover,
-    })
+    open.held(alloc, cover)
 }
