@@ -8,13 +8,14 @@ use Rattle.streams.specs.Told.{IsAllOf, Ends, Skips, TakesSome}
 use Rattle.streams.specs.declared.reading.ReadError.{ReadError}
 use Rattle.streams.specs.declared.reading.ReadError.TheVariants.{Fault, TooLong, OutOfMemory}
 use Rattle.problems.specs.Theories.{theory_of}
-use Rattle.solver_words.specs.Words.{JobView, solve, resume, check, digest, generate, meaning, refusal_of}
+use Rattle.solver_words.specs.Words.{JobView, solve, resume, check, join, digest, generate, meaning, refusal_of}
 use Rattle.solver_report.specs.declared.answer.Answer.{Answer}
 use Rattle.solver_report.specs.declared.answer.Answer.TheVariants as answers
 use Rattle.solver_report.specs.Report.{report, status_of}
 use Rattle.answers.specs.Answers.{DigestsText, Draws, SolvesPart, SolvesText}
 use Rattle.answers.specs.Checks.{IsChecked}
 use Rattle.answers.specs.Covers.{cover_limit}
+use Rattle.answers.specs.Joins.{IsJoined}
 use Rattle.answers.specs.Journals.{Attaches, HasLeftBegun}
 use Rattle.answers.specs.Kept.{LeavesAfterResume, MayFollow, RepliesKept, Resumes, head_of}
 
@@ -107,6 +108,7 @@ module _ {D : Type 0} (on : Ghosts D) where
       IsInputAnswer text_limit (RepliesKept on name search before now) r answer × LeavesOfSearch name path r before now
   IsJobAnswer (resume path search) r before now answer = IsUntouched r × Resumes on search before now answer × LeavesAfterResume on MayFollow path before now
   IsJobAnswer check r before now answer = IsInputAnswer cover_limit IsChecked r answer × (now ≡ before)
+  IsJobAnswer join r before now answer = IsInputAnswer cover_limit IsJoined r answer × (now ≡ before)
   IsJobAnswer (digest name) r before now answer = IsInputAnswer text_limit (DigestsText (theory_of name)) r answer × (now ≡ before)
   IsJobAnswer (generate name n seed solved) r before now answer = IsUntouched r × Draws (theory_of name) n seed solved answer × (now ≡ before)
 

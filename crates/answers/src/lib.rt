@@ -35,7 +35,7 @@ pub use checking::check;
 pub use concluding::conclude;
 pub use covering::{Subject, told};
 pub use digesting::digest_text;
-pub use inputs::{answer_cover, unread};
+pub use inputs::{answer_cover, answer_parts, unread};
 pub use joining::join_texts;
 pub use journaling::{begin_journal, open_journal};
 pub use parting::part_of;

@@ -9,4 +9,4 @@ pub mod GoingOn
 pub mod Drawn
 pub mod Left
 pub mod Whole
-pub mod Parting
+pub mod Unready

@@ -13,7 +13,7 @@ use crate::parting::part_text;
 use crate::replying::solve_text;
 use crate::resuming::resume;
 use crate::runner::Runner;
-use answers::{answer_cover, digest_text, unread};
+use answers::{answer_cover, answer_parts, digest_text, unread};
 use disk::Disk;
 use problem_names::{ModelName, PartNumber};
 use problems::by_name;
@@ -81,6 +81,7 @@ fn answer_job<S: Source, D: Disk + Send, G: Gate + Sync, R: Threads + Wait + Syn
         } => unreachable!(),
         Job::Resume { path, settings } => resume(run, path.as_str(), settings, disk),
         Job::Check => (answer_cover(run.alloc, input), disk),
+        Job::Join => (answer_parts(run.alloc, input), disk),
         Job::Digest { model } => (digest_input(run.alloc, model, input), disk),
         Job::Generate {
             model,

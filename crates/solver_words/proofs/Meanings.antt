@@ -297,13 +297,14 @@ other_name a b other = by (bytes_eq a b) refl
     by false e = e
     by true e = absurd (other (are_same a b e))
 
-pub no_command : (c : Text) (ws : List Text) → (c ≡ codes "solve" → ⊥) → (c ≡ codes "resume" → ⊥) → (c ≡ codes "check" → ⊥) → (c ≡ codes "digest" → ⊥) → (c ≡ codes "generate" → ⊥)
+pub no_command : (c : Text) (ws : List Text) → (c ≡ codes "solve" → ⊥) → (c ≡ codes "resume" → ⊥) → (c ≡ codes "check" → ⊥) → (c ≡ codes "join" → ⊥) → (c ≡ codes "digest" → ⊥) → (c ≡ codes "generate" → ⊥)
     → by_command c ws ≡ Err usage
-no_command c ws a b d e g =
+no_command c ws a b d j e g =
     rw (
       other_name c (codes "solve") a,
       other_name c (codes "resume") b,
       other_name c (codes "check") d,
+      other_name c (codes "join") j,
       other_name c (codes "digest") e,
       other_name c (codes "generate") g,
     ) refl

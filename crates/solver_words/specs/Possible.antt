@@ -6,7 +6,7 @@ use Rattle.problem_names.specs.declared.ModelName.{ModelName}
 use Rattle.problem_names.specs.declared.Sizes.{Sizes}
 use Rattle.problem_names.specs.ModelNames.{sizes_of}
 use Rattle.problem_names.specs.Parts.{IsPart}
-use Rattle.solver_words.specs.Words.{JobView, solve, resume, check, digest, generate}
+use Rattle.solver_words.specs.Words.{JobView, solve, resume, check, join, digest, generate}
 use Rattle.solver_words.specs.declared.job.JobSettings.{JobSettings}
 
 -- a search has from 1 to 16 workers, and its distance from the best is from 0 to 2^50
@@ -37,5 +37,6 @@ IsPossible (solve model settings (Some path) None) = MaySearchKept settings
 IsPossible (solve model settings (Some path) (Some part)) = ⊥
 IsPossible (resume path settings) = MaySearchKept settings × (settings.cover_words ≡ None)
 IsPossible check = Unit {0}
+IsPossible join = Unit {0}
 IsPossible (digest model) = Unit {0}
 IsPossible (generate model n seed solved) = MayDraw model n seed

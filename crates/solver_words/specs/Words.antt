@@ -12,7 +12,7 @@ use Rattle.dp_model.specs.declared.limits.TheConstants.{MOST_DISTANCE, MOST_WIDT
 use Rattle.problem_names.specs.ModelNames.{model_named, sizes_of}
 use Rattle.solver_words.specs.Grammar.{Syntax, Argument, Text, has_flag, line_of, setting_of, words_of}
 use Rattle.solver_words.specs.declared.job.Job.{Job}
-use Rattle.solver_words.specs.declared.job.Job.TheVariants.{Solve, Resume, Check, Digest, Generate}
+use Rattle.solver_words.specs.declared.job.Job.TheVariants.{Solve, Resume, Check, Join, Digest, Generate}
 use Rattle.solver_words.specs.declared.job.JobSettings.{JobSettings}
 use Rattle.solver_words.specs.declared.limits.TheConstants.{DEFAULT_COVER_WORDS, MOST_COVER_WORDS}
 use Rattle.solver_words.specs.declared.words_error.WordsError.{WordsError}
@@ -37,6 +37,9 @@ resume_syntax = record {
 abbrev pub check_syntax : Syntax
 check_syntax = record { positional = []; valued = []; flags = [] }
 
+abbrev pub join_syntax : Syntax
+join_syntax = record { positional = []; valued = []; flags = [] }
+
 abbrev pub digest_syntax : Syntax
 digest_syntax = record { positional = codes "model" ∷ []; valued = []; flags = [] }
 
@@ -49,6 +52,7 @@ pub data JobView : Type 0 where
   solve : ModelName → JobSettings → Option Text → Option PartNumber → JobView
   resume : Text → JobSettings → JobView
   check : JobView
+  join : JobView
   digest : ModelName → JobView
   generate : ModelName → ℕ → ℕ → Bool → JobView
 
@@ -63,6 +67,7 @@ abbrev pub job_view : Job → JobView
 job_view (Solve name settings journal part) = solve name settings (option_map string_bytes journal) part
 job_view (Resume path settings) = resume (string_bytes path) settings
 job_view Check = check
+job_view Join = join
 job_view (Digest name) = digest name
 job_view (Generate name n seed solved) = generate name n seed solved
 
@@ -226,6 +231,9 @@ resume_line arguments = resume_of (slice_get (words_of arguments) 0) (λ n. sett
 abbrev pub check_line : List Argument → Result JobView Refusal
 check_line arguments = Ok check
 
+abbrev pub join_line : List Argument → Result JobView Refusal
+join_line arguments = Ok join
+
 abbrev pub digest_line : List Argument → Result JobView Refusal
 digest_line arguments = digest_of (slice_get (words_of arguments) 0)
 
@@ -242,8 +250,9 @@ by_command command ws =
     cond (bytes_eq command (codes "solve")) (asked solve_line (line_of solve_syntax ws))
     (cond (bytes_eq command (codes "resume")) (asked resume_line (line_of resume_syntax ws))
     (cond (bytes_eq command (codes "check")) (asked check_line (line_of check_syntax ws))
+    (cond (bytes_eq command (codes "join")) (asked join_line (line_of join_syntax ws))
     (cond (bytes_eq command (codes "digest")) (asked digest_line (line_of digest_syntax ws))
-    (cond (bytes_eq command (codes "generate")) (asked generate_line (line_of generate_syntax ws)) (Err usage)))))
+    (cond (bytes_eq command (codes "generate")) (asked generate_line (line_of generate_syntax ws)) (Err usage))))))
 
 abbrev pub last_is_equals : ℕ → List ℕ → Bool
 last_is_equals b [] = b == 61

@@ -35,6 +35,12 @@ pub(crate) const CHECK: CommandSyntax = CommandSyntax {
     flags: &[],
 };
 
+pub(crate) const JOIN: CommandSyntax = CommandSyntax {
+    positional: &[],
+    valued: &[],
+    flags: &[],
+};
+
 pub(crate) const DIGEST: CommandSyntax = CommandSyntax {
     positional: &["model"],
     valued: &[],

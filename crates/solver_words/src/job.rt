@@ -40,6 +40,8 @@ pub enum Job {
     },
     /// Check the report and the cover in the input.
     Check,
+    /// Join the reports and the covers of all parts of a problem, one after another in the input.
+    Join,
     /// Print the digest of the canonical text of the instance in the input.
     Digest {
         model: ModelName,

@@ -6,11 +6,11 @@ ghost use Rattle.dp_model.specs.declared.limits.TheConstants.{MOST_DISTANCE};
 ghost use Rattle.problem_names.specs.ModelNames.{sizes_of};
 ghost use Rattle.solver_words.specs.Grammar.{Argument, line_of};
 ghost use Rattle.solver_words.specs.Commands.{RowsTell};
-ghost use Rattle.solver_words.specs.Words.{IsAnswer, asked, cover_of, extended, job_view, or_model, solve_syntax, solve_line, resume_syntax, resume_line, check_syntax, check_line, digest_syntax, digest_line, generate_syntax, generate_line, is_refused, meaning, searched};
+ghost use Rattle.solver_words.specs.Words.{IsAnswer, asked, cover_of, extended, job_view, or_model, solve_syntax, solve_line, resume_syntax, resume_line, check_syntax, check_line, join_syntax, join_line, digest_syntax, digest_line, generate_syntax, generate_line, is_refused, meaning, searched};
 ghost use Rattle.solver_words.specs.Possible.{IsPossible};
 
 use crate::command::parse;
-use crate::command_syntax::{CHECK, DIGEST, GENERATE, RESUME, SOLVE};
+use crate::command_syntax::{CHECK, DIGEST, GENERATE, JOIN, RESUME, SOLVE};
 use crate::job::{Job, JobSettings};
 use crate::limits::{DEFAULT_COVER_WORDS, MOST_COVER_WORDS};
 use crate::values::{is_given, read_model, read_optional, read_part, read_placed, read_settings};
@@ -53,6 +53,7 @@ fn read_command(alloc: Global, words: &[String]) -> Result<Job, WordsError>
         "solve" => read_solve(alloc, words),
         "resume" => read_resume(alloc, words),
         "check" => read_check(alloc, words),
+        "join" => read_join(alloc, words),
         "digest" => read_digest(alloc, words),
         "generate" => read_generate(alloc, words),
         _ => Err(WordsError::Usage),
@@ -180,6 +181,14 @@ fn read_check(alloc: Global, words: &[String]) -> Result<Job, WordsError>
 {
     parse(alloc, &CHECK, words)?;
     Ok(Job::Check)
+}
+
+fn read_join(alloc: Global, words: &[String]) -> Result<Job, WordsError>
+    requires { 0 < length words.now }
+    ensures { IsAnswer job_view (asked join_line (line_of join_syntax (drop 1 (map string_bytes words.now)))) result }
+{
+    parse(alloc, &JOIN, words)?;
+    Ok(Job::Join)
 }
 
 fn read_digest(alloc: Global, words: &[String]) -> Result<Job, WordsError>

@@ -46,6 +46,7 @@ const ASKED: &[(&str, &str)] = &[
         "Ok(Solve { model: Knapsack, settings: DEFAULTS, journal: None, part: Some(PartNumber { index: 3, of: 1024 }) })",
     ),
     ("check", "Ok(Check)"),
+    ("join", "Ok(Join)"),
     ("digest|tsptw", "Ok(Digest { model: TspWindows })"),
     (
         "generate|maxcut|024|--solve|7",
@@ -61,7 +62,7 @@ const ASKED: &[(&str, &str)] = &[
     ("solve|knapsack|--width|", "Err(Usage)"),
     ("solve|knapsack|--stats=1", "Err(Usage)"),
     ("solve|--|knapsack|--stats", "Err(Usage)"),
-    ("join", "Err(Usage)"),
+    ("join|x", "Err(Usage)"),
     ("resume|j|--part=0/1", "Err(Usage)"),
     ("solve|knapsack|--part=0/2|--journal=j", "Err(Usage)"),
     ("solve|knapsack|--part=0/2|--within=1", "Err(Usage)"),

@@ -4,7 +4,7 @@ use Rattle.parts.specs.Part.{part_of_numbers, part_program}
 use Rattle.answers.specs.Answers.{Solves}
 use Rattle.answers.specs.Covers.{IsCoveredIn}
 use Rattle.answers.specs.Parts.{part_own}
-use Rattle.solver_cli.proofs.Parting.{unready}
+use Rattle.solver_cli.proofs.Unready.{unready}
 use Rattle.solver_cli.proofs.parting.solve_part.Given as given
 use Rattle.solver_cli.proofs.parting.solve_part.Goals as goal
 

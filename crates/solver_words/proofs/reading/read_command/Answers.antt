@@ -27,6 +27,13 @@ returns-in-check c =
     (meaning_is c.args.words.now c.command-item.result c.as_str.result.now (omega arith) c.command-item.is c.as_str.ensures.value (test_is c.args.words.now c.has_refused.result c.has_refused.ensures ∙ c.if-has_refused.false))
     c.in-check.is c.read_check.ensures
 
+pub returns-in-join : goal.returns-in-join
+returns-in-join c =
+    let words = map string_bytes c.args.words.now in
+    by_name (meaning words) c.as_str.result.now (codes "join") (drop 1 words) c.read_join.result
+    (meaning_is c.args.words.now c.command-item.result c.as_str.result.now (omega arith) c.command-item.is c.as_str.ensures.value (test_is c.args.words.now c.has_refused.result c.has_refused.ensures ∙ c.if-has_refused.false))
+    c.in-join.is c.read_join.ensures
+
 pub returns-in-digest : goal.returns-in-digest
 returns-in-digest c =
     let words = map string_bytes c.args.words.now in
@@ -46,4 +53,4 @@ returns-in_default-as_str c =
     let words = map string_bytes c.args.words.now in
     let other = c.in_default-as_str in
     meaning_is c.args.words.now c.command-item.result c.as_str.result.now (omega arith) c.command-item.is c.as_str.ensures.value (test_is c.args.words.now c.has_refused.result c.has_refused.ensures ∙ c.if-has_refused.false)
-    ∙ no_command c.as_str.result.now (drop 1 words) other.not-solve other.not-resume other.not-check other.not-digest other.not-generate
+    ∙ no_command c.as_str.result.now (drop 1 words) other.not-solve other.not-resume other.not-check other.not-join other.not-digest other.not-generate
