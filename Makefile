@@ -18,7 +18,7 @@ MAN := $(DESTDIR)$(PREFIX)/share/man/man1
 DOC := $(DESTDIR)$(PREFIX)/share/doc/hammockdove
 MODULES := $(DESTDIR)$(PYTHONDIR)
 SOURCES := $(shell cd python && find hammockdove -name '*.py' -o -name py.typed)
-DOCUMENTS := $(wildcard README.md docs/FORMATS.md docs/USING.md docs/PYTHON.md docs/FILES.md docs/EDGE.md docs/OWN_PROBLEM.md docs/PROVED.md docs/PROMISES.md)
+DOCUMENTS := $(wildcard README.md docs/FORMATS.md docs/USING.md docs/PYTHON.md docs/FILES.md docs/EDGE.md docs/OWN_PROBLEM.md docs/CLUSTER.md docs/PROVED.md docs/PROMISES.md)
 
 .PHONY: all program install uninstall deb check-deb test clean
 
@@ -36,6 +36,7 @@ install: program
 	install -m 755 $(PROGRAM) $(BIN)/hammockdove
 	$(PYTHON) tools/man_page.py docs/USING.md README.md | gzip -9n > $(MAN)/hammockdove.1.gz
 	install -m 644 $(DOCUMENTS) $(DOC)
+	cp -r examples/cluster $(DOC)/
 	tools/package/identity $(PROGRAM) > $(DOC)/IDENTITY
 	@set -e; for file in $(SOURCES); do install -D -m 644 python/$$file $(MODULES)/$$file; done
 	@echo "installed $(BIN)/hammockdove, and the client in $(MODULES); if Python does not look there, add it to PYTHONPATH"
