@@ -13,8 +13,7 @@ use Rattle.dp_model.specs.NumberLaws.{int_le-from}
 use Rattle.tokens.specs.Text.{TextState, text_start, number_at, place_of, after_token}
 use Rattle.tokens.specs.declared.comment.Comment.{Comment}
 use Rattle.tokens.specs.declared.place.Place.{Place}
-use Rattle.tokens.specs.Chain.{until, never}
-use Rattle.tokens.specs.Grammar.{times}
+use Rattle.tokens.specs.Chain.{until, never, times}
 use Rattle.tokens.specs.Decimal.{decimal_of}
 use Rattle.tokens.specs.Printed.{IsBefore}
 use Rattle.tokens.proofs.Printing.{before_start, passes_number, passes_natural, finishes}
