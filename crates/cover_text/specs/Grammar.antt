@@ -1,47 +1,30 @@
--- Grammars of covers, as chains: a token, and what is read behind it. No grammar answers want of memory.
-use Rattle.std.specs.Prelude.{◌≡◌, ℕ, zero, suc, ◌-◌, ◌^◌, List, ℤ, pos, nat_abs, Bool, false, cond, Result, Ok, Err}
+-- Grammars of covers, as chains. No grammar answers want of memory.
+use Rattle.std.specs.Prelude.{◌≡◌, ℕ, ◌-◌, ◌^◌, List, ℤ, pos, nat_abs, Bool, cond, Result, Ok, Err}
 use Rattle.tokens.specs.declared.text_error.TextError.{TextError}
 use Rattle.tokens.specs.declared.place.Place.{Place}
-use Rattle.tokens.specs.Text.{TextState, number_at, word_at, finish_at, after_token, token, place_of}
+use Rattle.tokens.specs.Text.{TextState, word_at, token, place_of}
+use Rattle.tokens.specs.Chain as chain
+pub use Rattle.tokens.specs.Chain.{part_then, passed_then, never}
+unfoldable pub use Rattle.tokens.specs.Chain.{until}
 use Rattle.problem_names.specs.ModelNames.{word_same}
 pub use Rattle.cover_text.specs.declared.cover_error.CoverError.{CoverError}
 use Rattle.cover_text.specs.declared.cover_error.CoverError.TheVariants.{Text, Word, OutOfMemory}
 
 -- what was read goes on, and a fault ends the reading
 abbrev pub read_then : {A B : Type 0} → Result A TextError → (A → Result B CoverError) → Result B CoverError
-read_then (Ok x) more = more x
-read_then (Err e) more = Err (Text e)
+read_then read more = chain.read_then Text read more
 
 -- a number from least to greatest, and what is read behind it
 abbrev pub number_then : {B : Type 0} → ℤ → ℤ → TextState → (ℤ → TextState → Result B CoverError) → Result B CoverError
-number_then least greatest s more = read_then (number_at least greatest s) (λ z. more z (after_token s))
+number_then least greatest s more = chain.number_then Text least greatest s more
 
 -- a word, and what is read behind it
 abbrev pub word_then : {B : Type 0} → TextState → (List ℕ → TextState → Result B CoverError) → Result B CoverError
-word_then s more = read_then (word_at s) (λ w. more w (after_token s))
+word_then s more = chain.word_then Text s more
 
 -- the end of the text
 abbrev pub end_then : {B : Type 0} → TextState → Result B CoverError → Result B CoverError
-end_then s outcome = read_then (finish_at s) (λ _. outcome)
-
--- a part of the text, with where reading stands behind it, and what is read behind it
-abbrev pub part_then : {A B : Type 0} → Result (A × TextState) CoverError → (A → TextState → Result B CoverError) → Result B CoverError
-part_then (Ok (x, s)) more = more x s
-part_then (Err e) more = Err e
-
--- a part that is passed over, and what is read behind it
-abbrev pub passed_then : {B : Type 0} → Result TextState CoverError → (TextState → Result B CoverError) → Result B CoverError
-passed_then (Ok s) more = more s
-passed_then (Err e) more = Err e
-
--- parts up to where they end, at most so many, each read with what was made of those before it
-unfoldable pub until : {A : Type 0} → (TextState → Bool) → (A → TextState → Result (A × TextState) CoverError) → ℕ → A → TextState → Result (A × TextState) CoverError
-until ends step zero made s = Ok (made, s)
-until ends step (suc n) made s = cond (ends s) (Ok (made, s)) (part_then (step made s) (λ more t. until ends step n more t))
-
--- parts that don't end but by their number
-abbrev pub never : TextState → Bool
-never s = false
+end_then s outcome = chain.end_then Text s outcome
 
 -- whether the next token is this word
 abbrev pub stands : List ℕ → TextState → Bool
