@@ -1,6 +1,6 @@
 # make install     installs the proved program, the client, the man page and the program's identity under PREFIX
 # make deb         makes a Debian package of the same in build/
-# make test        runs the merge gate: the proofs, the tests and wrong bodies, the client's tests
+# make test        runs the merge gate: the proofs, the tests and wrong bodies, the examples of the documents and the client's tests
 # make check-deb   installs the package in a Debian 12 of its own and solves there; it needs root, debootstrap and the network
 #
 # DESTDIR is put before each path, as packagers want it. PROGRAM names a program that was built elsewhere.
@@ -18,7 +18,7 @@ MAN := $(DESTDIR)$(PREFIX)/share/man/man1
 DOC := $(DESTDIR)$(PREFIX)/share/doc/hammockdove
 MODULES := $(DESTDIR)$(PYTHONDIR)
 SOURCES := $(shell cd python && find hammockdove -name '*.py' -o -name py.typed)
-DOCUMENTS := $(wildcard README.md docs/FORMATS.md docs/USING.md docs/PYTHON.md docs/FILES.md docs/EDGE.md docs/PROVED.md docs/PROMISES.md)
+DOCUMENTS := $(wildcard README.md docs/FORMATS.md docs/USING.md docs/PYTHON.md docs/FILES.md docs/EDGE.md docs/OWN_PROBLEM.md docs/CLUSTER.md docs/PROVED.md docs/PROMISES.md)
 
 .PHONY: all program install uninstall deb check-deb test clean
 
@@ -36,6 +36,7 @@ install: program
 	install -m 755 $(PROGRAM) $(BIN)/hammockdove
 	$(PYTHON) tools/man_page.py docs/USING.md README.md | gzip -9n > $(MAN)/hammockdove.1.gz
 	install -m 644 $(DOCUMENTS) $(DOC)
+	cp -r examples/cluster $(DOC)/
 	tools/package/identity $(PROGRAM) > $(DOC)/IDENTITY
 	@set -e; for file in $(SOURCES); do install -D -m 644 python/$$file $(MODULES)/$$file; done
 	@echo "installed $(BIN)/hammockdove, and the client in $(MODULES); if Python does not look there, add it to PYTHONPATH"
@@ -51,7 +52,7 @@ check-deb: deb
 	tools/package/check-deb build/hammockdove_*.deb
 
 test:
-	.ci/run all
+	.ci/run
 
 clean:
 	rm -rf build

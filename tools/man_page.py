@@ -17,6 +17,7 @@ SYNOPSIS = (
     "solve MODEL [OPTION]..",
     "resume FILE [OPTION]..",
     "check",
+    "join",
     "digest MODEL",
     "generate MODEL N SEED [--solve]",
 )

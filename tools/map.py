@@ -2,10 +2,11 @@
 """Puts what crates.txt says into the tables of docs/ARCHITECTURE.md: what each crate stands on.
 
     tools/map.py              prints each row that is not as crates.txt has it
-    tools/map.py --write      writes the rows
+    tools/map.py --write      writes the rows, and draws the rooms (docs/img/rooms.svg)
 """
 import os
 import re
+import subprocess
 import sys
 
 TOP = os.path.dirname(os.path.dirname(os.path.abspath(__file__)))
@@ -52,6 +53,7 @@ def main():
     if sys.argv[1:] == ["--write"]:
         with open(PAGE, "w", encoding="utf-8") as page:
             page.write(text)
+        subprocess.run([sys.executable, f"{TOP}/tools/plots/rooms.py"], check=True)
     for name in changed:
         print(f"docs/ARCHITECTURE.md: the row of {name} is not as in crates.txt")
     sys.exit(1 if changed and sys.argv[1:] != ["--write"] else 0)

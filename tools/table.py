@@ -22,7 +22,8 @@ The tool enumerates the states of each layer, and works from the last layer back
 continuation gains, and the gap of a state to another is the least with which every continuation of the other is matched,
 decision by decision. A merge is the state whose gaps to both are least. One of the two always has a gap to the other, the one
 that leads on for more layers, so there is always such a state. With `merge` a merge is the state that it gives, which is added
-where it is new, unless that has no gap to both. With `--states` the states and their numbers go to standard error.
+where it is new, unless that has no gap to both. A layer that no decision leads to has one state, which is not reached: then there is
+no solution. With `--states` the states and their numbers go to standard error.
 
 A table has at most 64 decisions in a row, 32 states in a layer, 32 decisions in a state, and numbers of at most 2^50 in size.
 The tool says which limit a program passes, and where.
@@ -37,6 +38,13 @@ MOST_LAYERS = 64
 MOST_STATES = 32
 MOST_CHOICES = 32
 MOST_NUMBER = 2**50
+
+
+class Unreached:
+    """The state of a layer that no decision leads to."""
+
+    def __repr__(self):
+        return "not reached"
 
 
 class TableError(Exception):
@@ -116,6 +124,10 @@ def enumerate_layers(program):
     layers = [Layer(k) for k in range(n + 1)]
     layers[0].add(program.initial())
     for layer in layers:
+        if not layer.states:
+            layer.add(Unreached())
+            layer.moves.append({})
+            continue
         add_merges(program, layer)
         for state in layer.states:
             moves = moves_of(program, layer.number, state) if layer.number < n else {}

@@ -73,7 +73,7 @@ class Laws(unittest.TestCase):
 
     def keeps_shape(self, layer):
         m = layer["states"]
-        self.assertLessEqual(m, table.MOST_STATES)
+        self.assertIn(m, range(1, table.MOST_STATES + 1))
         for rows in (layer["gap"], layer["merge"]):
             self.assertEqual([len(row) for row in rows], [m] * m)
         for number in layer["rough"] + [g for row in layer["gap"] for g in row]:
@@ -154,6 +154,14 @@ class Drawn(Laws):
                 self.assertEqual(best_of_document(document), best_of_program(program))
                 self.keeps_laws(document)
                 self.assertEqual(json.loads(table.text_of(document)), document)
+
+    def test_no_solution(self):
+        for last in range(3):
+            with self.subTest(last=last):
+                document, layers = table.make(plain(layers=3, decisions=lambda k, s: [0] if k < last else []))
+                self.assertIsNone(best_of_document(document))
+                self.keeps_laws(document)
+                self.assertEqual(repr(layers[3].states), "[not reached]")
 
 
 def plain(**changes):

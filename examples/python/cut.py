@@ -1,4 +1,4 @@
-"""A cut from a graph to a checked answer, cell by cell as in a notebook:  python3 examples/python/cut.py [VERTICES]
+"""A cut from a graph to a checked answer, cell by cell as in a notebook:  python3 examples/python/cut.py [VERTICES [SECONDS]]
 
 It needs the client on the path of Python (PYTHONPATH=python in this folder's checkout). networkx and matplotlib are used where they are there.
 """
@@ -11,7 +11,8 @@ from pathlib import Path
 from hammockdove import MaxCut, Progress, Result, Solver
 from hammockdove.plot import plot
 
-size, draw = int(sys.argv[1]) if len(sys.argv) > 1 else 36, random.Random(7)
+size, seconds = int(sys.argv[1]) if len(sys.argv) > 1 else 36, float(sys.argv[2]) if len(sys.argv) > 2 else 2.0
+draw = random.Random(7)
 roads = [(i, j, draw.randint(1, 20)) for i in range(size) for j in range(i + 1, size) if draw.random() < 0.25]
 try:
     import networkx
@@ -32,7 +33,7 @@ def tell(progress: Progress) -> None:
 
 
 Path("cut.journal").unlink(missing_ok=True)
-result: Result = solver.solve(cut, journal="cut.journal", width=10, timeout=2, progress=tell, every=0.5)
+result: Result = solver.solve(cut, journal="cut.journal", width=10, timeout=seconds, progress=tell, every=0.5)
 print(result, "|", result.proves)
 
 # %% It goes on where it was stopped, as often as it takes

@@ -20,6 +20,9 @@ needs_program = unittest.skipUnless(PROGRAM, "no program is built: rt ci builds 
 TEXT = b"3 10\n60 5\n50 4\n70 6\n"
 NO_TICKET = 2**64 - 1
 
+PATIENCE = 400.0
+"""How many seconds a test waits, on a machine with much other work, for what takes less than one where there is none."""
+
 
 class RoomCase(unittest.TestCase):
     """A test with a folder of its own."""

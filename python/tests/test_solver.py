@@ -6,7 +6,7 @@ import time
 import unittest
 from pathlib import Path
 
-from support import PROGRAM, TOP, ProgramCase, RoomCase, best_of, needs_program
+from support import PATIENCE, PROGRAM, TOP, ProgramCase, RoomCase, best_of, needs_program
 
 import hammockdove
 import hammockdove.journal
@@ -159,10 +159,10 @@ class SolveTests(ProgramCase):
 class StopTests(ProgramCase):
     def test_timeout(self):
         # (a machine with other work may need more than the first time to begin)
-        for seconds in (1, 4, 16):
+        for seconds in (1, 4, 16, 64):
             began = time.monotonic()
             result = self.solver.solve(self.solver.generate(*LONG), width=2, timeout=seconds)
-            self.assertLess(time.monotonic() - began, seconds + 60)
+            self.assertLess(time.monotonic() - began, seconds + PATIENCE)
             self.assertEqual((result.outcome, result.stop), (Outcome.STOPPED, Stop.TIMEOUT))
             if result.value is not None:
                 break
@@ -183,12 +183,12 @@ class StopTests(ProgramCase):
         words = [sys.executable, "-c", INTERRUPTED, PROGRAM, str(path)]
         environment = {**os.environ, "PYTHONPATH": str(TOP / "python"), "PYTHONDONTWRITEBYTECODE": "1"}
         with subprocess.Popen(words, stdout=subprocess.PIPE, text=True, env=environment) as child:
-            end = time.monotonic() + 60
-            while time.monotonic() < end and not (path.exists() and path.stat().st_size > 4_000):
+            end = time.monotonic() + PATIENCE
+            while time.monotonic() < end and child.poll() is None and not (path.exists() and path.stat().st_size > 4_000):
                 time.sleep(0.05)
             child.send_signal(signal.SIGINT)
             try:
-                printed, _ = child.communicate(timeout=60)
+                printed, _ = child.communicate(timeout=PATIENCE)
             finally:
                 child.kill()
         found = self.solver.status(path)

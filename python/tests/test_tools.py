@@ -12,7 +12,7 @@ import subprocess
 import sys
 import unittest
 
-from support import PROGRAM, SAMPLES, TOP, ProgramCase, RoomCase, bytes_of, needs_program, small_search
+from support import PATIENCE, PROGRAM, SAMPLES, TOP, ProgramCase, RoomCase, bytes_of, needs_program, small_search
 
 from hammockdove.__main__ import main
 
@@ -104,7 +104,7 @@ class BenchmarkTests(ProgramCase):
 
     def test_table_and_profile(self):
         (self.folder / "known.csv").write_text("rota,2\n")
-        words = (self.folder, "--limit", 60, "--jobs", 2, "--config", "plain=", "--config", "narrow=--width 2")
+        words = (self.folder, "--limit", PATIENCE, "--jobs", 2, "--config", "plain=", "--config", "narrow=--width 2")
         status, out, _ = said(self.benchmark.main, *words)
         self.assertEqual(status, 0, out)
         table = (self.folder / "results/table.md").read_text()
@@ -117,7 +117,7 @@ class BenchmarkTests(ProgramCase):
     def test_another_optimum_and_a_bad_file(self):
         (self.folder / "known.csv").write_text("rota.wcnf,3\n")
         (self.folder / "bad.mc").write_text("2 1\n1 9 1\n")
-        status, out, err = said(self.benchmark.main, self.folder, "--limit", 60)
+        status, out, err = said(self.benchmark.main, self.folder, "--limit", PATIENCE)
         self.assertEqual(status, 1)
         self.assertIn("3 **differs**", out)
         self.assertIn("line 2, column 3", out)
@@ -151,7 +151,7 @@ class InstallTests(RoomCase):
 class ExampleTests(ProgramCase):
     def test_cut(self):
         environment = {**os.environ, "HAMMOCKDOVE": PROGRAM, "PYTHONPATH": str(TOP / "python"), "PYTHONDONTWRITEBYTECODE": "1"}
-        words = [sys.executable, TOP / "examples/python/cut.py", "12"]
+        words = [sys.executable, TOP / "examples/python/cut.py", "12", str(PATIENCE)]
         ran = subprocess.run(words, cwd=self.room, env=environment, capture_output=True, text=True)
         self.assertEqual(ran.returncode, 0, ran.stderr)
         self.assertIn("accepted: True", ran.stdout)

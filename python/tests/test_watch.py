@@ -3,7 +3,7 @@ import threading
 import unittest
 from xml.etree import ElementTree
 
-from support import ProgramCase, RoomCase, bytes_of, needs_program, small_search
+from support import PATIENCE, ProgramCase, RoomCase, bytes_of, needs_program, small_search
 
 from hammockdove import HammockdoveError, JournalDamaged, NotBegun
 from hammockdove.journal import Journal
@@ -45,7 +45,7 @@ class WatchTests(RoomCase):
     def test_growing_file(self):
         for version in (1, 2):
             out = Growing(self.room / f"journal{version}", version)
-            last = watch(out.path, every=0.001, seconds=60, out=out)
+            last = watch(out.path, every=0.001, seconds=PATIENCE, out=out)
             self.assertEqual((last.best, last.bound, last.finished, last.open, last.is_done), (120, 120, 2, 0, True))
             lines = out.getvalue().splitlines()
             self.assertEqual([line.split("  ")[1] for line in lines], ["best -", "best -", "best 110", "best 110", "best 110", "best 120"])
@@ -90,7 +90,7 @@ class WatchTests(RoomCase):
 class SearchTests(ProgramCase):
     def test_while_a_search_goes_on(self):
         path, seen = self.room / "kept", []
-        watcher = threading.Thread(target=lambda: seen.extend(follow(path, every=0.01, seconds=60)))
+        watcher = threading.Thread(target=lambda: seen.extend(follow(path, every=0.01, seconds=PATIENCE)), daemon=True)
         watcher.start()
         result = self.solver.solve(self.solver.generate("knapsack", 30, 5), width=2, journal=path)
         watcher.join()

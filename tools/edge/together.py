@@ -55,7 +55,7 @@ class Alone:
 
 def main():
     program, times, draw = os.path.abspath(sys.argv[1]), int(sys.argv[2]), random.Random(int(sys.argv[3]))
-    bad, late, seen = 0, 0, {}
+    bad, early, late, seen = 0, 0, 0, {}
     with tempfile.TemporaryDirectory(dir=sys.argv[4] if len(sys.argv) > 4 else None) as folder:
         path, given = os.path.join(folder, "j"), os.path.join(folder, "cut")
         prepare(given, run(program, "generate maxcut %s 7" % size(sys.argv), folder)[1])
@@ -74,6 +74,10 @@ def main():
             while first is not second and not has_open(one, path) and one.poll() is None:
                 time.sleep(0.0005)
             time.sleep(draw.uniform(0, first.seconds / 2))
+            if one.poll() is not None:
+                bad += end(one) != first.ended
+                early += 1
+                continue
             two = begin(program, second.words, folder, given)
             ends = end(one), end(two)
             if ends == (first.ended, finished[second.words]) and content(path) == first.journal:
@@ -93,8 +97,8 @@ def main():
             seen[kind] = seen.get(kind, 0) + 1
             if wrong:
                 print("run %d, %s: %s" % (number, kind, "; ".join(wrong)), flush=True)
-    print("%d runs, %d wrong: %r; in %d more the first had ended before the second began" % (times, bad, seen, late))
-    # Of a search that leaves half of its time few may end so soon: more would hide a lock that is not there.
+    print("%d runs, %d wrong: %r; in %d more the first had ended before the second began, in %d while it began" % (times, bad, seen, early, late))
+    # Few end within the moments in which the second begins: more would hide a lock that is not there.
     return 1 if bad or late > times // 5 else 0
 
 

@@ -25,7 +25,7 @@ def decisions(draw):
 def body(draw, kind):
     if kind == 1:
         text = draw.choice([b"", b"0 5\n", b"x" * 20])
-        return struct.pack(">IBI", draw.choice([1] * 30 + [0, 2, 3]), draw.choice([1, 2, 3, 4] * 8 + [0, 5, 255]), len(text)) + text
+        return struct.pack(">IBI", draw.choice([1] * 30 + [0, 2, 3]), draw.choice([1, 2, 3, 4, 5, 6] * 6 + [0, 7, 255]), len(text)) + text
     if kind == 2:
         return struct.pack(">q", draw.choice([0, -1, 110, 2**63 - 1])) + decisions(draw)
     if kind == 3:

@@ -5,7 +5,8 @@
 
 PROGRAM is the solver's binary (crates/solver_cli/out/solver_cli). For each command the first allocation is refused, then the second, and so on, until no
 further one is reached: sixty runs in a row end as the one without a refusal. A run may print what it prints without one; `out of memory` (8), alone or after a
-report for whose cover there was no memory; or a search that is stopped for memory (2). It needs clang, and a program that loads the C library at run time.
+report for whose cover there was no memory; `disk fault` (10) where a journal's file is opened; or a search that is stopped for memory (2). It needs clang, and a
+program that loads the C library at run time.
 """
 import collections
 import os
@@ -16,6 +17,8 @@ import tempfile
 
 HERE = os.path.dirname(os.path.abspath(__file__))
 ITEMS = b"3 10\n60 5\n50 4\n70 6\n"
+# What a command prints that could not open its journal.
+NOT_OPENED = (10, b"disk fault\n", b"")
 REPORT = rb"(proved( within \d+)?\nvalue -?\d+\nassignment( \d+)*\n|infeasible\n)"
 COUNTS = rb"(taken \d+\nfinished \d+\n)?"
 ENDS = {
@@ -49,6 +52,7 @@ class Runs:
 
     def sweep(self, words, given=b"", journal=None):
         """How many runs ended how, and the first that ended as it may not."""
+        keeps = journal is not None or "--journal" in words
         def prepare():
             path = os.path.join(self.folder, "j")
             if os.path.exists(path):
@@ -70,6 +74,9 @@ class Runs:
                 seen["as without"] += 1
                 continue
             same = 0
+            if keeps and end == NOT_OPENED:
+                seen["disk fault"] += 1
+                continue
             names = [name for name, (status, text) in ENDS.items() if end[0] == status and text.match(end[1]) and not end[2]]
             if not names:
                 return seen, (refused, end)

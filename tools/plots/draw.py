@@ -12,7 +12,8 @@ IMAGES = os.path.join(os.path.dirname(os.path.dirname(os.path.dirname(os.path.ab
 INK, FAINT, GRID = "#222222", "#666666", "#e2e2e2"
 COLOURS = {"hammockdove": "#b3261e", "plain": "#7a7a7a", "ordered": "#e07b39", "toulbar2": "#1f6fb2", "clasp": "#2e8b57", "cbc": "#b8860b", "glpsol": "#7b4fa3"}
 LABELS = {"hammockdove": "Hammockdove", "plain": "plain Rust", "ordered": "plain Rust, ordered", "glpsol": "GLPK"}
-TITLES = {"knapsack": ("Knapsack", "items"), "maxcut": ("Maximum cut", "vertices"), "max2sat": ("MAX-2SAT", "variables"), "tsptw": ("Tours, narrow windows", "nodes")}
+TITLES = {"knapsack": ("Knapsack", "items"), "maxcut": ("Maximum cut", "vertices"), "max2sat": ("MAX-2SAT", "variables"), "tsptw": ("Tours, narrow windows", "nodes"),
+          "tardiness": ("Tardiness on one machine", "jobs")}
 
 
 def rows_of(name):
@@ -148,13 +149,13 @@ def progress():
         picture.text(place_x(power), top + high + 18, f"{power:,}", 11, FAINT, "middle")
         power *= 10
     picture.text(left + wide / 2, top + high + 38, "subproblems taken", 12, FAINT, "middle")
-    for column, colour in ((2, "#1f6fb2"), (1, "#b3261e")):
+    for column, colour in ((2, "#b3261e"), (1, "#1f6fb2")):
         spots = [(place_x(row[0]), place_y(row[column])) for row in rows]
         picture.path(spots, colour)
         for x, y in spots:
             picture.parts.append(f'<circle cx="{x:.1f}" cy="{y:.1f}" r="2.2" fill="{colour}"/>')
-    picture.text(place_x(12), place_y([b for t, _, b in rows if t <= 12][-1]) - 8, "bound: no solution exceeds it", 12, "#1f6fb2")
-    picture.text(place_x(12), place_y([v for t, v, _ in rows if t <= 12][-1]) + 20, "incumbent: the best solution so far", 12, "#b3261e")
+    picture.text(place_x(12), place_y([b for t, _, b in rows if t <= 12][-1]) - 8, "bound: no solution exceeds it", 12, "#b3261e")
+    picture.text(place_x(12), place_y([v for t, v, _ in rows if t <= 12][-1]) + 20, "incumbent: the best solution so far", 12, "#1f6fb2")
     last = rows[-1]
     picture.dot(place_x(last[0]), place_y(last[1]), INK)
     picture.text(place_x(last[0]) + 10, place_y(last[1]) - 2, f"proved {last[1]}", 12, INK, weight="bold")

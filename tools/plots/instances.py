@@ -4,7 +4,7 @@
     tools/plots/instances.py MODEL N SEED [FORM]     prints one of them
 
 FORM is `own` (the text that this program reads), `wcnf` (clasp, toulbar2) or `lp` (cbc, glpsol). The draws are those of docs/FORMATS.md.
-A wcnf tells the weight that is *not* satisfied: `value_of_cost` gives the value back. Tours have no translation here.
+A wcnf tells the weight that is *not* satisfied: `value_of_cost` gives the value back. Tours and jobs have no translation here.
 """
 import sys
 
@@ -60,6 +60,12 @@ def tour(size, seed):
         windows.append((max(0, time - 40), time + 40))
     windows[0] = (0, time + distances[size - 1][0] + 40)
     return distances, windows
+
+
+def jobs(size, seed):
+    """The processing time, the weight and the due time of each job."""
+    drawn = draws(seed)
+    return [(1 + next(drawn) % 10, 1 + next(drawn) % 10, next(drawn) % (10 * size)) for _ in range(size)]
 
 
 def cut_clauses(edges):
@@ -120,6 +126,8 @@ def own(model, size, seed):
     elif model == "tsptw":
         distances, windows = tour(size, seed)
         lines = [str(size)] + [" ".join(map(str, row)) for row in distances + windows]
+    elif model == "tardiness":
+        lines = [str(size)] + [" ".join(map(str, job)) for job in jobs(size, seed)]
     else:
         made = clauses(size, seed)
         lines = [f"p wcnf {size} {len(made)}"] + [f"{w} {' '.join(map(str, ls))} 0" for w, ls in made]

@@ -23,8 +23,10 @@ SOLVES = {
     "maxcut": ("hammockdove", "plain", "toulbar2", "clasp", "cbc"),
     "max2sat": ("hammockdove", "plain", "toulbar2", "clasp"),
     "tsptw": ("hammockdove", "plain"),
+    "tardiness": ("hammockdove",),
 }
-SIZES = {"knapsack": [100, 200, 400, 700, 1000], "maxcut": [20, 30, 40, 44, 48, 50], "max2sat": [20, 40, 60, 70, 80, 84], "tsptw": [50, 100, 150, 200]}
+SIZES = {"knapsack": [100, 200, 400, 700, 1000], "maxcut": [20, 30, 40, 44, 48, 50], "max2sat": [20, 40, 60, 70, 80, 84], "tsptw": [50, 100, 150, 200],
+         "tardiness": [10, 20, 25, 30, 35, 40]}
 COST = {"toulbar2": rb"Optimum: (\d+)", "clasp": rb"Optimization\s*: (\d+)"}
 
 

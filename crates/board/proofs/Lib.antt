@@ -6,4 +6,5 @@ mod Sums
 mod Roots
 mod Keeping
 mod Listed
+mod Orders
 mod Starts

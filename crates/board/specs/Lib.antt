@@ -1,5 +1,6 @@
 pub mod View
 pub mod Contents
+pub mod Frontier
 pub mod Opened
 pub mod Kept
 pub mod Starting

@@ -1,4 +1,4 @@
-ghost use Rattle.std.specs.Prelude.{◌≡◌, ℕ, ◌+◌, ◌-◌, ◌^◌, ◌<◌, ◌≤◌, ◌≢◌, pos, List, [], length, slice_get, Option, Some, None, option_map, IsTrue, IfOk, OnOk, OnErr, IsSome, vec_capacity, vec_len};
+ghost use Rattle.std.specs.Prelude.{◌≡◌, ℕ, ◌+◌, ◌-◌, ◌^◌, ◌<◌, ◌≤◌, ◌≢◌, pos, List, [], length, map, slice_get, Option, Some, None, option_map, IsPermutation, IsTrue, IfOk, OnOk, OnErr, IsSome, vec_capacity, vec_len};
 ghost use Rattle.std.specs.Arc.{arc_value};
 ghost use Rattle.dp_model.specs.declared.limits.TheConstants.{MOST_WIDTH};
 ghost use Rattle.dp_model.specs.Best.{IsBest};
@@ -8,7 +8,9 @@ ghost use Rattle.dp_model.specs.Lists.{Each};
 ghost use Rattle.dp_model.specs.Numbers.{AtMost};
 ghost use Rattle.dp_model.specs.Prefixes.{IsSolution, value_of};
 ghost use Rattle.dp_model.specs.Subproblem.{IsOwn};
-ghost use Rattle.board_laws.specs.Board.{AreSettings, incumbent_value, reach, full_slots, slot_at, is_explored};
+ghost use Rattle.fringe.specs.Listing.{referred};
+ghost use Rattle.fringe.specs.Tickets.{HasTickets};
+ghost use Rattle.board_laws.specs.Board.{AreSettings, incumbent_value, reach, full_slots, slot_at, frontier, is_explored};
 ghost use Rattle.board_laws.specs.Bound.{board_bound, IsGreatestBound};
 ghost use Rattle.board_laws.specs.Fates.{fates_on};
 ghost use Rattle.board_laws.specs.Finishing.{MayFinish};
@@ -18,6 +20,7 @@ ghost use Rattle.board_laws.specs.Restoring.{MayRestore, restored_board};
 ghost use Rattle.board_laws.specs.Steps.{empty_slots, first_board, finished_by, given_back, halted};
 ghost use Rattle.board_laws.specs.Taking.{take_gives, after_take, handed_out, HasFirst};
 ghost use Rattle.board.specs.Contents.{contents};
+ghost use Rattle.board.specs.Frontier.{frontier_of};
 ghost use Rattle.board.specs.Opened.{solution_in, ticketed};
 ghost use Rattle.board.specs.Starting.{IsStart, board_of};
 ghost use Rattle.board.specs.View.{tag_of};
@@ -29,6 +32,7 @@ use crate::entering::{enter_all, put_back, reserve_rows};
 use crate::first::FirstBoard;
 use crate::full::{count_full, raised_by_fringe, raised_by_slots};
 use crate::halting::cause_after;
+use crate::listing::list_frontier;
 use crate::restoring::{reach_of, restored_start};
 use crate::solving::{copy_decisions, solution_value};
 use crate::start::Start;
@@ -450,6 +454,33 @@ impl<M: DpModel> Board<M> {
             Some(one) => Some(one.ticket),
             None => None,
         }
+    }
+
+    /// All subproblems that are open or out, each once and with its ticket, in order of ticket. Fails only for want of memory.
+    pub fn frontier(&self) -> Result<Vec<(u64, &Sub)>, OutOfMemory>
+        ensures list { IfOk result (λ list. map referred list.items ≡ frontier_of self.now.board) }
+
+        // They are those that are open or out, in increasing order of ticket.
+        ensures all { IfOk result (λ list. IsPermutation (frontier self.now.board) (map referred list.items)) }
+        ensures ordered { IfOk result (λ list. HasTickets (map referred list.items)) }
+    {
+        list_frontier(self.slots.as_slice(), &self.fringe)
+    }
+
+    /// How many subproblems are open or out.
+    pub fn live(&self) -> usize
+        ensures { result ≡ length (frontier self.now.board) }
+    {
+        // Their tickets differ and are less than the next one, so their number is at most that.
+        let _next = self.next_ticket;
+        self.fringe.len() + count_full(self.slots.as_slice())
+    }
+
+    /// The ticket of the next subproblem that enters. Every ticket that was given out is less.
+    pub fn next_ticket(&self) -> u64
+        ensures { result ≡ self.now.board.next_ticket }
+    {
+        self.next_ticket
     }
 
     /// The incumbent: the best solution found so far, or `None` exactly if none was found.

@@ -29,6 +29,7 @@ mod entering;
 mod first;
 mod full;
 mod halting;
+mod listing;
 mod restoring;
 mod solving;
 mod start;

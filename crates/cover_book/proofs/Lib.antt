@@ -7,3 +7,4 @@ pub mod Written
 pub mod Stepping
 pub mod Widths
 pub mod Compiled
+pub mod Writable

@@ -3,3 +3,4 @@ pub mod Adding
 pub mod Waits
 pub mod Steps
 pub mod UnderWay
+pub mod Servers

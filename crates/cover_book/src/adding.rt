@@ -99,7 +99,7 @@ pub(crate) fn add_layers<M: DpModel, D: ShownDiagram>(
 }
 
 /// Whether all nodes of a layer wait for diagrams of their own.
-fn all_wait<D: ShownDiagram>(claim: Option<i64>, diagram: &D, depth: usize) -> bool
+pub(crate) fn all_wait<D: ShownDiagram>(claim: Option<i64>, diagram: &D, depth: usize) -> bool
     requires first { (D.layers diagram.now).first ≤ depth }
     requires last { depth ≤ last_of (D.layers diagram.now) }
     ensures { result ≡ all_wait claim (layer_in (D.layers diagram.now) depth) }

@@ -6,6 +6,11 @@
 //! claim. Once no row waits, `finish` writes the cover. Where no feasible solution exceeds the claim, the checker's `check_rows` then
 //! answers `None`, so that the checker accepts the cover with every best solution. `explore_whole` makes such a cover from nothing.
 //!
+//! First `explore_whole` explores thinly: an arc may go to any row whose bound, lifted by the gap to the state that the arc leads to, is
+//! at most what the arc allows, so a row that another one of its layer serves goes, and gets no diagram. Nothing is proved of that
+//! cover but that its bounds can be written; it is given where `check_rows` answers `None`, and the exploration above is made where
+//! it does not.
+//!
 //! ```
 //! let cover = explore_whole(alloc, &model, claim_of(Some(120), 0))?;
 //! ```
@@ -17,7 +22,10 @@ mod diagrams;
 mod drafting;
 mod exploration;
 mod exploring;
+mod gathering;
 mod rows;
+mod serving;
+mod thinning;
 mod waiting;
 mod whole;
 mod writing;

@@ -59,7 +59,7 @@ pub(crate) fn arcs_of<D: ShownDiagram>(
 }
 
 /// What the row of a node claims: what its value leaves of the claim, and below the last exact layer the suffix where that is greater.
-fn claim_of<D: ShownDiagram>(
+pub(crate) fn claim_of<D: ShownDiagram>(
     claim: Option<i64>,
     deep: bool,
     diagram: &D,
@@ -103,7 +103,7 @@ pub(crate) fn row_with<D: ShownDiagram>(
 }
 
 /// Whether the layer at the depth is the first reduced one or stands below it.
-fn is_deep(reduced: Option<usize>, depth: usize) -> bool
+pub(crate) fn is_deep(reduced: Option<usize>, depth: usize) -> bool
     ensures { result ≡ is_deep reduced depth }
 {
     let Some(reduced) = reduced else {
@@ -139,7 +139,7 @@ pub(crate) fn leads_at<D: ShownDiagram>(
 }
 
 /// Whether the row of a node has arcs: not in the last layer, and not where it waits for a diagram of its own.
-fn has_arcs<M: DpModel, D: ShownDiagram>(
+pub(crate) fn has_arcs<M: DpModel, D: ShownDiagram>(
     model: &M,
     claim: Option<i64>,
     diagram: &D,

@@ -1,6 +1,6 @@
 //! The exploration of a whole problem.
 
-ghost use Rattle.std.specs.Prelude.{◌≡◌, ◌+◌, ◌^◌, ◌<◌, None, Ok, true, false, IfOk, OnOk};
+ghost use Rattle.std.specs.Prelude.{◌≡◌, ◌+◌, ◌^◌, ◌<◌, None, Ok, true, false, IfOk, IfSome, OnOk};
 ghost use Rattle.dp_model.specs.Best.{best};
 ghost use Rattle.bound_cover.specs.Clamping.{AreWritable, IsReachable};
 ghost use Rattle.bound_cover.specs.Exploring.{HoldsAll};
@@ -9,7 +9,8 @@ ghost use Rattle.layer_build.specs.Layers.{IsPreparedFor};
 ghost use Rattle.cover_book.specs.UnderWay.{IsUnderWay, waits_next};
 
 use crate::exploration::Exploration;
-use bound_cover::Cover;
+use crate::thinning::explore_thin;
+use bound_cover::{Checker, Cover};
 use dp_model::{DpModel, OutOfMemory};
 use layer_build::{PrepareError, Workspace, greatest_width};
 use relaxed_dd::relaxed;
@@ -33,6 +34,39 @@ pub fn explore_whole<M: DpModel>(
     ensures passes { IfOk result (λ cover. HoldsAll (M.meaning (M.numbers model.now)) claim → IsReachable claim → checked_rows (M.meaning (M.numbers model.now)) claim cover ≡ None) }
     ensures writable { IfOk result (λ cover. AreWritable cover) }
 {
+    if let Some(cover) = thin_cover(alloc, model, claim)? {
+        return Ok(cover);
+    }
+    explore_each(alloc, model, claim)
+}
+
+/// The cover of a thin exploration, where it passes the checker's tests.
+fn thin_cover<M: DpModel>(
+    alloc: Global,
+    model: &M,
+    claim: Option<i64>,
+) -> Result<Option<Cover>, OutOfMemory>
+    ensures passes { IfOk result (λ o. IfSome o (λ cover. checked_rows (M.meaning (M.numbers model.now)) claim cover ≡ None)) }
+    ensures writable { IfOk result (λ o. IfSome o (λ cover. AreWritable cover)) }
+{
+    let cover = explore_thin(alloc, model, claim)?;
+    let mut checker = Checker::prepare(alloc, model)?;
+    match checker.check_rows(model, claim, &cover) {
+        None => Ok(Some(cover)),
+        Some(_) => Ok(None),
+    }
+}
+
+/// The cover of an exploration of the whole problem: the root's diagram, and one more for each row that waits, until none does.
+fn explore_each<M: DpModel>(
+    alloc: Global,
+    model: &M,
+    claim: Option<i64>,
+) -> Result<Cover, OutOfMemory>
+    ensures best { IfOk result (λ cover. claim ≡ best (M.meaning (M.numbers model.now)) → checked_rows (M.meaning (M.numbers model.now)) claim cover ≡ None) }
+    ensures passes { IfOk result (λ cover. HoldsAll (M.meaning (M.numbers model.now)) claim → IsReachable claim → checked_rows (M.meaning (M.numbers model.now)) claim cover ≡ None) }
+    ensures writable { IfOk result (λ cover. AreWritable cover) }
+{
     let mut space = space_for(alloc, model)?;
     let mut exploration = Exploration::start(alloc, model, claim)?;
     put_all(alloc, model, &mut space, &mut exploration)?;
@@ -40,7 +74,7 @@ pub fn explore_whole<M: DpModel>(
 }
 
 /// A workspace for the diagrams of an exploration.
-fn space_for<M: DpModel>(alloc: Global, model: &M) -> Result<Workspace, OutOfMemory>
+pub(crate) fn space_for<M: DpModel>(alloc: Global, model: &M) -> Result<Workspace, OutOfMemory>
     ensures { IfOk result (λ space. IsPreparedFor (M.meaning (M.numbers model.now)) space) }
 {
     match Workspace::prepare(alloc, model, greatest_width(model).min(WIDTH)) {

@@ -10,7 +10,7 @@ use dp_model::{DpModel, OutOfMemory};
 use std::alloc::Global;
 
 /// The least bound of a layer.
-fn lowest(k: usize) -> i64
+pub(crate) fn lowest(k: usize) -> i64
     requires { k ≤ 1024 }
     ensures { result ≡ lowest k }
 {
@@ -18,7 +18,7 @@ fn lowest(k: usize) -> i64
 }
 
 /// The greatest bound of a layer.
-fn highest<M: DpModel>(model: &M, k: usize) -> i64
+pub(crate) fn highest<M: DpModel>(model: &M, k: usize) -> i64
     requires { k ≤ (M.meaning (M.numbers model.now)).vars }
     ensures { result ≡ highest (M.meaning (M.numbers model.now)) k }
 {
@@ -39,7 +39,7 @@ fn clamped(low: i64, high: i64, bound: i128) -> i64
 }
 
 /// A bound that is brought between two numbers; none stays.
-fn clamped_bound(low: i64, high: i64, bound: Option<i128>) -> Option<i64>
+pub(crate) fn clamped_bound(low: i64, high: i64, bound: Option<i128>) -> Option<i64>
     ensures { result ≡ option_map (clamped low high) bound }
 {
     let bound = bound?;

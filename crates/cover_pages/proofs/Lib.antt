@@ -4,3 +4,4 @@ pub mod Sized
 pub mod Rows
 pub mod Shown
 pub mod Read
+pub mod Sent

@@ -1,15 +1,15 @@
 -- Pages that are made.
-use Rattle.std.proofs.Common.{◌≡◌, ℕ, zero, suc, ◌+◌, ◌<◌, ℤ, Bool, List, [], ◌∷◌, ◌++◌, length, map, take, slice_get, Option, Some, None, option_map, option_and_then, unwrap_or, refl, sym, ◌∙◌, ap, ap₂, arith}
-use Rattle.std.proofs.lemmas.Option.{none-some, same_Some, slice_get_within}
+use Rattle.std.proofs.Common.{◌≡◌, ℕ, zero, suc, ◌+◌, ℤ, Bool, List, [], ◌∷◌, ◌++◌, length, map, take, slice_get, Option, Some, None, option_map, option_and_then, unwrap_or, refl, sym, ◌∙◌, ap, ap₂, arith}
+use Rattle.std.proofs.lemmas.Option.{none-some, same_Some}
 use Rattle.dp_laws.specs.declared.arc.DdArc.{DdArc}
 use Rattle.dp_laws.specs.Diagrams.Nodes.{DdNode, DdLayers, node_at}
 use Rattle.bound_cover.specs.declared.cover.CoverArc.{CoverArc}
 use Rattle.board_laws.specs.declared.fate.Fate.{Fate}
 use Rattle.cover_pages.specs.declared.pages.Place.{Place}
-use Rattle.cover_pages.specs.Pages.{ChildView, IsExactPlace, bare_arc, children_of, path_in}
+use Rattle.cover_pages.specs.Pages.{ChildView, bare_arc, children_of, path_in}
 use Rattle.cover_pages.specs.Stored.{NodeBody, LayerBody, body_of, numbered}
 use Rattle.cover_pages.specs.Sizes.{nodes_of}
-use Rattle.cover_pages.proofs.Lists.{map-more, take-next}
+use Rattle.cover_pages.proofs.Lists.{map-more}
 
 -- the arcs of a node, and none where there is no node
 abbrev pub arcs_in : Option DdNode → List DdArc

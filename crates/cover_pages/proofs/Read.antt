@@ -1,10 +1,10 @@
 -- The nodes of a stored page, one by one.
-use Rattle.std.proofs.Common.{◌≡◌, ℕ, zero, suc, ◌+◌, ◌<◌, ◌≤◌, ℤ, List, [], ◌∷◌, length, map, drop, slice_get, get_or, Option, Some, None, option_map, unwrap_or, refl, sym, ◌∙◌, ap, ap₂, subst, arith}
+use Rattle.std.proofs.Common.{◌≡◌, ℕ, zero, suc, ◌+◌, ◌<◌, ◌≤◌, ℤ, List, [], ◌∷◌, length, map, drop, slice_get, get_or, Option, Some, None, option_map, unwrap_or, refl, sym, ◌∙◌, ap, subst, arith}
 use Rattle.std.specs.Slice.{IsItemAt}
 use Rattle.std.proofs.lemmas.Option.{none-some, same_Some, slice_get_within, slice_get-get_or, get_or_from_slice_get}
 use Rattle.dp_model.specs.Lists.{Each}
 use denote.Ref.{Bor}
-use Rattle.row_region.specs.Region.{RegionView, IsLive, row_or}
+use Rattle.row_region.specs.Region.{RegionView, row_or}
 use Rattle.row_region.specs.declared.region.RowId.{RowId}
 use Rattle.cover_pages.specs.Pages.{NodeView, PageView}
 use Rattle.cover_pages.specs.declared.pages.PageNode.{PageNode}

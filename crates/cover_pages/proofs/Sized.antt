@@ -1,12 +1,11 @@
 -- How many words a diagram counts for.
-use Rattle.std.proofs.Common.{◌≡◌, ℕ, zero, suc, ◌+◌, ◌*◌, ◌<◌, ◌≤◌, List, [], ◌∷◌, ◌++◌, length, map, take, slice_get, Option, Some, None, option_map, refl, sym, ◌∙◌, ap, ap₂, arith}
+use Rattle.std.proofs.Common.{◌≡◌, ℕ, ◌+◌, ◌*◌, ◌<◌, ◌≤◌, List, [], ◌∷◌, length, map, take, slice_get, Option, Some, None, option_map, refl, sym, ◌∙◌, ap, arith}
 use Rattle.std.specs.List.{sum_by}
 use Rattle.std.proofs.lemmas.List.Sums.{sum_by-cons, sum_by_push, sum_by-take-le}
 use Rattle.std.proofs.lemmas.List.{length-map, take_all}
 use Rattle.std.proofs.lemmas.Option.{none-some, same_Some}
 use Rattle.dp_laws.specs.Diagrams.Nodes.{DdNode, DdLayers, node_at}
-use Rattle.bound_cover.specs.declared.cover.CoverArc.{CoverArc}
-use Rattle.cover_pages.specs.Pages.{NodeView, PageView, bare_arc, node_of, node_size, size_of, page_of}
+use Rattle.cover_pages.specs.Pages.{NodeView, PageView, bare_arc, node_of, node_size, size_of}
 use Rattle.cover_pages.specs.Sizes.{node_words, layer_words, words_of, Leaves, LeavesAt}
 use Rattle.cover_pages.proofs.Lists.{take-next, node-here}
 use Rattle.relaxed_dd.specs.Shown.{layer_in}

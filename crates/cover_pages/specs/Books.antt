@@ -1,5 +1,5 @@
 -- Books of pages.
-use Rattle.std.specs.Prelude.{◌≡◌, ℕ, List, [], ◌∷◌, ◌++◌, map, sum_by, slice_get, Option, option_map, unwrap_or}
+use Rattle.std.specs.Prelude.{◌≡◌, ℕ, List, [], ◌∷◌, ◌++◌, map, sum_by}
 use Rattle.dp_model.specs.Dp.{Dp}
 use Rattle.dp_model.specs.Lists.{Each}
 use Rattle.dp_model.specs.declared.cut_kind.CutKind.{CutKind}

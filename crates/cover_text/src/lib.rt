@@ -2,13 +2,15 @@
 //!
 //! It stands on `bound_cover` for covers in memory, on `tokens` for tokens and places, on `dp_model`, `problem_names` and `itoa`. A text is the lines
 //! of a report of `proved`, `proved within` with a distance, or `infeasible`, perhaps with the lines `taken` and `finished`; then
-//! `cover` with the problem's name, `instance` with a number of bytes, so many bytes, a section for each layer, and `end`. A row is a
-//! line: a bound, the words of a state, and perhaps arcs.
+//! `cover` with the problem's name, perhaps `part` with the number of a part and how many parts there are, `instance` with a number of
+//! bytes, so many bytes, a section for each layer, and `end`. A row is a line: a bound, the words of a state, and perhaps arcs.
 //!
 //! Promised: `read_cover` answers exactly what the grammar gives, the first fault with its place included; `open_cover` does so up to the
 //! sections, and `OpenCover::check` gives the verdict on these, which are tested as they are read. `push_cover` appends
 //! exactly the sections of a cover, which are read as that cover (the law `pushed_is_read`). A whole output that is printed is read as
 //! what was printed (`outputs_are_read`), for each cover whose bounds are none or from -2^62 to 2^62 (`push_cover`). Only want of memory has no stated cause.
+//!
+//! `read_covers` answers what the grammar gives for one or more texts up to the end of the input.
 //!
 //! ```
 //! let text = read_cover(alloc, &bytes)?;

@@ -18,7 +18,7 @@ use crate::preparing::{choices_of, prepare_stack, room_for};
 use crate::stack::{Stack, drop_above, expand_newest, place_above, place_of};
 use crate::width::greatest_width;
 use dp_model::{DpModel, OutOfMemory, Sub};
-use layer_candidates::{Beam, Beamed};
+use layer_candidates::{Beam, Beamed, Limits, Start};
 use layer_nodes::{Expansion, Redirects, Strikes, drop_dominated, keep_first, merge_rest, strike};
 use std::alloc::Global;
 use std::marker::Model;
@@ -325,14 +325,20 @@ impl Workspace {
         ensures beam { IsFirst (beam (M.meaning (M.numbers model.now)) sub.now.subproblem.decisions self.old.width threshold) result.value self.new.path }
         ensures reduced { result.reduced ≡ is_some (wide (M.meaning (M.numbers model.now)) sub.now.subproblem.decisions self.old.width threshold) }
     {
+        let start = Start {
+            prefix: sub.decisions.as_slice(),
+            row: sub.row.as_slice(),
+            value: sub.value,
+        };
+        let limits = Limits {
+            width: self.width,
+            threshold,
+        };
         self.beam.beam(
             &mut self.stack.region,
             model,
-            sub.decisions.as_slice(),
-            sub.row.as_slice(),
-            sub.value,
-            self.width,
-            threshold,
+            start,
+            limits,
             self.path.as_mut_slice(),
         )
     }

@@ -12,7 +12,9 @@ ghost use Rattle.row_region.specs.Region.{RegionView};
 
 use crate::candidates::Candidates;
 use crate::holding::{give_rows, put_row};
+use crate::limits::Limits;
 use crate::member::Member;
+use crate::start::Start;
 use crate::step::Step;
 use crate::walking::write_path;
 use dp_model::{DpModel, OutOfMemory};
@@ -100,15 +102,11 @@ impl Beam {
         requires small { length self.old.steps.items + most < 2 ^ 32 }
         ensures { IsNext (M.meaning (M.numbers model.now)) k threshold most self.old region.old self.new region.new result }
     {
-        self.candidates.next_layer(
-            model,
-            k,
+        let limits = Limits {
+            width: most,
             threshold,
-            most,
-            region,
-            &mut self.members,
-            &mut self.steps,
-        )
+        };
+        self.candidates.next_layer(model, k, limits, region, &mut self.members, &mut self.steps)
     }
 
     /// Makes all layers below the prefix, whose own one stands there. Answers whether the width took something from one.
@@ -186,29 +184,26 @@ impl Beam {
         &mut self,
         region: &mut Region,
         model: &M,
-        prefix: &[u32],
-        row: &[i64],
-        value: i64,
-        width: usize,
-        threshold: Option<i64>,
+        start: Start,
+        limits: Limits,
         out: &mut [u32],
     ) -> Beamed
-        requires prefix { IsPrefix (M.meaning (M.numbers model.now)) prefix.now }
-        requires shorter { length prefix.now < (M.meaning (M.numbers model.now)).vars }
-        requires row { row.now ≡ state_of (M.meaning (M.numbers model.now)) prefix.now }
-        requires value { value ≡ value_of (M.meaning (M.numbers model.now)) prefix.now }
-        requires layers { HasLayers (M.meaning (M.numbers model.now)) width self.old }
+        requires prefix { IsPrefix (M.meaning (M.numbers model.now)) start.prefix.now }
+        requires shorter { length start.prefix.now < (M.meaning (M.numbers model.now)).vars }
+        requires row { start.row.now ≡ state_of (M.meaning (M.numbers model.now)) start.prefix.now }
+        requires value { start.value ≡ value_of (M.meaning (M.numbers model.now)) start.prefix.now }
+        requires layers { HasLayers (M.meaning (M.numbers model.now)) limits.width self.old }
         requires cells { length out.old ≡ (M.meaning (M.numbers model.now)).vars }
         requires region_words { region.old.words ≡ (M.meaning (M.numbers model.now)).words }
-        requires region_room { HasBeamRows (M.meaning (M.numbers model.now)) width region.old.spare }
-        ensures beam { IsFirst (beam (M.meaning (M.numbers model.now)) prefix.now width threshold) result.value out.new }
-        ensures reduced { result.reduced ≡ is_some (wide (M.meaning (M.numbers model.now)) prefix.now width threshold) }
-        ensures layers { HasLayers (M.meaning (M.numbers model.now)) width self.new }
+        requires region_room { HasBeamRows (M.meaning (M.numbers model.now)) limits.width region.old.spare }
+        ensures beam { IsFirst (beam (M.meaning (M.numbers model.now)) start.entry.prefix.now limits.width limits.threshold) result.value out.new }
+        ensures reduced { result.reduced ≡ is_some (wide (M.meaning (M.numbers model.now)) start.entry.prefix.now limits.width limits.threshold) }
+        ensures layers { HasLayers (M.meaning (M.numbers model.now)) limits.width self.new }
         ensures region { IsSameRegion region.old region.new }
     {
-        self.begin(region, model, prefix, row, value);
-        let reduced = self.compile(region, model, prefix, width, threshold);
-        let value = self.first(prefix, out);
+        self.begin(region, model, start.prefix, start.row, start.value);
+        let reduced = self.compile(region, model, start.prefix, limits.width, limits.threshold);
+        let value = self.first(start.prefix, out);
         give_rows(region, self.members.as_slice());
         Beamed { value, reduced }
     }

@@ -9,6 +9,7 @@ ghost use Rattle.layer_candidates.specs.Steps.{path_at, AreBackward, IsReachedWi
 use crate::descending::descend;
 use crate::extending::extend_layer;
 use crate::key::Key;
+use crate::limits::Limits;
 use crate::member::Member;
 use crate::ordering::sort;
 use crate::pruning::{MOST_LEADERS, prune};
@@ -83,14 +84,13 @@ impl Candidates {
         sort(region, model.first_live(k + 1), &mut self.keys);
     }
 
-    /// Makes the layer below the one at depth `k`, as many of its first members as `most`: the members are exchanged, and so are
-    /// their rows in the region; each new one has a step of its own. Answers whether there are more. It takes no memory.
+    /// Makes the layer below the one at depth `k`, as many of its first members as the limits allow: the members are exchanged, and so
+    /// are their rows in the region; each new one has a step of its own. Answers whether there are more. It takes no memory.
     pub fn next_layer<M: DpModel>(
         &mut self,
         model: &M,
         k: usize,
-        threshold: Option<i64>,
-        most: usize,
+        limits: Limits,
         region: &mut Region,
         members: &mut Vec<Member>,
         steps: &mut Vec<Step>,
@@ -102,26 +102,26 @@ impl Candidates {
         requires reached { Each (IsReachedWithin (length steps.old.items)) members.old.items }
         requires memory { HasMemory (M.meaning (M.numbers model.now)).words (length members.old.items * (M.meaning (M.numbers model.now)).choices k) self.old }
         requires spare { length members.old.items * (M.meaning (M.numbers model.now)).choices k + 1 ≤ region.old.spare }
-        requires members_room { most ≤ vec_capacity members.old }
-        requires steps_room { length steps.old.items + most ≤ vec_capacity steps.old }
-        requires small { length steps.old.items + most < 2 ^ 32 }
-        ensures list { (prefix : List ℕ) → members_as (path_at prefix steps.new.items) region.new members.new.items ≡ take most (whole_layer (M.meaning (M.numbers model.now)) k threshold (members_as (path_at prefix steps.old.items) region.old members.old.items)) }
-        ensures more { (prefix : List ℕ) → result ≡ nat_lt most (length (whole_layer (M.meaning (M.numbers model.now)) k threshold (members_as (path_at prefix steps.old.items) region.old members.old.items))) }
+        requires members_room { limits.width ≤ vec_capacity members.old }
+        requires steps_room { length steps.old.items + limits.width ≤ vec_capacity steps.old }
+        requires small { length steps.old.items + limits.width < 2 ^ 32 }
+        ensures list { (prefix : List ℕ) → members_as (path_at prefix steps.new.items) region.new members.new.items ≡ take limits.width (whole_layer (M.meaning (M.numbers model.now)) k limits.threshold (members_as (path_at prefix steps.old.items) region.old members.old.items)) }
+        ensures more { (prefix : List ℕ) → result ≡ nat_lt limits.width (length (whole_layer (M.meaning (M.numbers model.now)) k limits.threshold (members_as (path_at prefix steps.old.items) region.old members.old.items))) }
         ensures held { Each (IsHeldAt (M.meaning (M.numbers model.now)) (k + 1) region.new) members.new.items }
         ensures exchanged { HasExchanged region.old (member_rows members.old.items) region.new (member_rows members.new.items) }
         ensures reached { Each (IsReachedWithin (length steps.new.items)) members.new.items }
-        ensures few { length members.new.items ≤ most }
+        ensures few { length members.new.items ≤ limits.width }
         ensures steps { length steps.new.items ≡ length steps.old.items + length members.new.items }
         ensures backward { AreBackward steps.old.items → AreBackward steps.new.items }
         ensures memory { (words count : ℕ) → HasMemory words count self.old → HasMemory words count self.new }
         ensures members_capacity { vec_capacity members.new ≡ vec_capacity members.old }
         ensures steps_capacity { vec_capacity steps.new ≡ vec_capacity steps.old }
     {
-        self.list_next(model, k, threshold, region, members.as_slice());
+        self.list_next(model, k, limits.threshold, region, members.as_slice());
         let more = prune(
             model,
             k + 1,
-            most,
+            limits.width,
             region,
             self.keys.as_slice(),
             &mut self.leaders,

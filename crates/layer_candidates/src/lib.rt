@@ -10,7 +10,9 @@
 //!
 //! ```
 //! // The way to the last layer with at most `width` members a layer, or that there is none.
-//! let found = beam.beam(&mut region, &model, prefix, &row, value, width, None, &mut decisions);
+//! let start = Start { prefix, row: &row, value };
+//! let limits = Limits { width, threshold: None };
+//! let found = beam.beam(&mut region, &model, start, limits, &mut decisions);
 //! ```
 #![tactic(auto)]
 
@@ -22,11 +24,13 @@ mod extending;
 mod holding;
 mod joining;
 mod key;
+mod limits;
 mod member;
 mod ordering;
 mod parent;
 mod pruning;
 mod rows;
+mod start;
 mod step;
 mod striking;
 mod table;
@@ -38,11 +42,13 @@ pub use candidates::Candidates;
 pub use extending::{Taken, extend_by};
 pub use holding::{HasRow, give_rows, put_row, take_row};
 pub use key::Key;
+pub use limits::Limits;
 pub use member::Member;
 pub use ordering::{put_in_order, sort};
 pub use parent::Parent;
 pub use pruning::MOST_LEADERS;
 pub use rows::row_of;
+pub use start::Start;
 pub use step::Step;
 pub use striking::{is_struck_by, list_unstruck};
 pub use table::WayTable;

@@ -14,11 +14,11 @@ ghost use Rattle.layer_nodes.specs.Stored.{rows_in};
 use crate::extending::{MarkedWays, extend_layer};
 use crate::layer::Layer;
 use crate::node::Node;
-use crate::numbering::{arrange, arrange_unstruck};
+use crate::numbering::Arrangement;
 use crate::striking::Strikes;
 use dp_laws::DdArc;
 use dp_model::{DpModel, OutOfMemory};
-use layer_candidates::{Key, WayTable};
+use layer_candidates::WayTable;
 use row_region::Region;
 use std::alloc::Global;
 use std::marker::Model;
@@ -30,9 +30,7 @@ pub struct Expansion {
     room: usize,
     // the parent's state, while it is extended
     from: Vec<i64>,
-    found: MarkedWays,
-    keys: Vec<Key>,
-    places: Vec<u32>,
+    ways: Arrangement,
 }
 
 impl Model for Expansion {
@@ -43,7 +41,7 @@ impl Model for Expansion {
 
     ghost view = { λ e. record { most = e.room; words = vec_len e.from } };
 
-    ghost invariant = { λ e. HasExpansion e.room e.found.table (vec_capacity e.keys) (length e.found.marks.items) (vec_len e.places) };
+    ghost invariant = { λ e. HasExpansion e.room e.ways.found.table (vec_capacity e.ways.keys) (length e.ways.found.marks.items) (vec_len e.ways.places) };
 }
 
 impl Expansion {
@@ -55,38 +53,46 @@ impl Expansion {
         Ok(Expansion {
             room,
             from: vec![in alloc; 0i64; words]?,
-            found: MarkedWays {
-                table: WayTable::prepare(alloc, room)?,
-                marks: vec![in alloc; false; room]?,
+            ways: Arrangement {
+                found: MarkedWays {
+                    table: WayTable::prepare(alloc, room)?,
+                    marks: vec![in alloc; false; room]?,
+                },
+                keys: Vec::with_capacity(alloc, room)?,
+                places: vec![in alloc; 0u32; room]?,
             },
-            keys: Vec::with_capacity(alloc, room)?,
-            places: vec![in alloc; 0u32; room]?,
         })
     }
 }
 
-/// Extends the nodes of the layer at depth `k`, whose rows the region has, and makes the nodes of the next layer that are not
+/// From which layer the next one is made, and which nodes of the next one are struck.
+#[derive(Clone, Copy, Debug)]
+struct Descent {
+    k: usize,
+    strikes: Strikes,
+}
+
+/// Extends the nodes of a layer, whose rows the region has, and makes the nodes of the next layer that are not
 /// struck, whose rows are put into it.
 fn expand_nodes<M: DpModel>(
     model: &M,
-    k: usize,
-    strikes: Strikes,
+    descent: Descent,
     region: &mut Region,
     above: &mut [Node],
     arcs: &mut Vec<DdArc>,
     below: &mut Vec<Node>,
     expansion: &mut Expansion,
 )
-    requires layer { k < (M.meaning (M.numbers model.now)).vars }
+    requires layer { descent.k < (M.meaning (M.numbers model.now)).vars }
     requires region_words { region.old.words ≡ (M.meaning (M.numbers model.now)).words }
     requires row_words { expansion.old.words ≡ (M.meaning (M.numbers model.now)).words }
-    requires members { Each (IsMemberOf (M.meaning (M.numbers model.now)) k region.old) (members_from 0 above.old) }
+    requires members { Each (IsMemberOf (M.meaning (M.numbers model.now)) descent.k region.old) (members_from 0 above.old) }
     requires few_nodes { length above.old < 2 ^ 32 }
-    requires arcs_room { length above.old * (M.meaning (M.numbers model.now)).choices k ≤ vec_capacity arcs.old }
-    requires below_room { length above.old * (M.meaning (M.numbers model.now)).choices k ≤ vec_capacity below.old }
-    requires room { length above.old * (M.meaning (M.numbers model.now)).choices k ≤ expansion.old.most }
-    requires spare { length above.old * (M.meaning (M.numbers model.now)).choices k + 1 ≤ region.old.spare }
-    ensures expanded { IsExpanded (expanded_by strikes (M.meaning (M.numbers model.now)) k) (M.meaning (M.numbers model.now)) k (held_row region.old) above.old above.new arcs.new.items (held_row region.new) below.new.items }
+    requires arcs_room { length above.old * (M.meaning (M.numbers model.now)).choices descent.k ≤ vec_capacity arcs.old }
+    requires below_room { length above.old * (M.meaning (M.numbers model.now)).choices descent.k ≤ vec_capacity below.old }
+    requires room { length above.old * (M.meaning (M.numbers model.now)).choices descent.k ≤ expansion.old.most }
+    requires spare { length above.old * (M.meaning (M.numbers model.now)).choices descent.k + 1 ≤ region.old.spare }
+    ensures expanded { IsExpanded (expanded_by descent.strikes (M.meaning (M.numbers model.now)) descent.k) (M.meaning (M.numbers model.now)) descent.k (held_row region.old) above.old above.new arcs.new.items (held_row region.new) below.new.items }
     ensures exchanged { HasExchanged region.old [] region.new (rows_in below.new.items) }
     ensures arcs_capacity { vec_capacity arcs.new ≡ vec_capacity arcs.old }
     ensures below_capacity { vec_capacity below.new ≡ vec_capacity below.old }
@@ -94,33 +100,25 @@ fn expand_nodes<M: DpModel>(
 {
     extend_layer(
         model,
-        k,
+        descent.k,
         region,
         expansion.from.as_mut_slice(),
         above,
         arcs,
-        &mut expansion.found,
+        &mut expansion.ways.found,
     );
-    match strikes {
-        Strikes::AtMost(threshold) => arrange_unstruck(
+    match descent.strikes {
+        Strikes::AtMost(threshold) => expansion.ways.arrange_unstruck(
             model,
-            k + 1,
+            descent.k + 1,
             threshold,
             region,
-            expansion.found.table.ways.as_slice(),
-            expansion.found.marks.as_slice(),
-            &mut expansion.keys,
-            expansion.places.as_mut_slice(),
             arcs.as_mut_slice(),
             below,
         ),
-        Strikes::Nothing => arrange(
+        Strikes::Nothing => expansion.ways.arrange(
             region,
-            model.first_live(k + 1),
-            expansion.found.table.ways.as_slice(),
-            expansion.found.marks.as_slice(),
-            &mut expansion.keys,
-            expansion.places.as_mut_slice(),
+            model.first_live(descent.k + 1),
             arcs.as_mut_slice(),
             below,
         ),
@@ -166,8 +164,7 @@ pub fn expand<M: DpModel>(
 {
     expand_nodes(
         model,
-        k,
-        strikes,
+        Descent { k, strikes },
         region,
         above.nodes.as_mut_slice(),
         &mut above.arcs,

@@ -34,24 +34,31 @@ fn mark(marks: &mut [bool], count: usize, place: usize, exact: bool)
     marks[place] = exact && (place == count || marks[place]);
 }
 
+/// A node that is tried by a decision.
+#[derive(Clone, Copy)]
+struct Attempt<'s> {
+    parent: Parent<'s>,
+    // whether the node stands for one state exactly
+    exact: bool,
+    decision: u32,
+}
+
 /// Tries a node by a decision: where it is allowed, its way is taken in and marked, and its arc put after the others. The state
 /// is written into the row at the spot.
 fn try_by<M: DpModel>(
     model: &M,
     k: usize,
-    parent: Parent,
-    exact: bool,
-    decision: u32,
+    attempt: Attempt,
     region: &mut Region,
     spot: &mut RowId,
     found: &mut MarkedWays,
     arcs: &mut Vec<DdArc>,
 )
     requires layer { k < (M.meaning (M.numbers model.now)).vars }
-    requires state { IsTrue ((M.meaning (M.numbers model.now)).is_state k parent.state.now) }
-    requires value { IsNear parent.value }
-    requires rank { parent.rank ≡ (M.meaning (M.numbers model.now)).rank k parent.state.now }
-    requires choice { decision < (M.meaning (M.numbers model.now)).choices k }
+    requires state { IsTrue ((M.meaning (M.numbers model.now)).is_state k attempt.parent.state.now) }
+    requires value { IsNear attempt.parent.value }
+    requires rank { attempt.parent.rank ≡ (M.meaning (M.numbers model.now)).rank k attempt.parent.state.now }
+    requires choice { attempt.decision < (M.meaning (M.numbers model.now)).choices k }
     requires live { found.old.table.live ≤ (M.meaning (M.numbers model.now)).words }
     requires zeros { AllHaveZeros (M.meaning (M.numbers model.now)) (k + 1) found.old.table.live }
     requires words { region.old.words ≡ (M.meaning (M.numbers model.now)).words }
@@ -61,10 +68,10 @@ fn try_by<M: DpModel>(
     requires room { HasTableRoom (length found.old.table.ways.items + 1) found.old.table }
     requires marks_room { length found.old.table.ways.items < length found.old.marks.items }
     requires arcs_room { length arcs.old.items < vec_capacity arcs.old }
-    ensures extended { TookIn (M.meaning (M.numbers model.now)) k parent.entry.step parent.entry.state.now parent.entry.value (decision ∷ []) region.old found.old.table region.new found.new.table }
+    ensures extended { TookIn (M.meaning (M.numbers model.now)) k attempt.entry.parent.step attempt.entry.parent.state.now attempt.entry.parent.value (attempt.entry.decision ∷ []) region.old found.old.table region.new found.new.table }
     ensures exchanged { HasExchanged region.old (spot.old.place ∷ table_rows found.old.table) region.new (spot.new.place ∷ table_rows found.new.table) }
     ensures tried { (ts : List Trial) → AreTried (M.meaning (M.numbers model.now)) k (way_row region.old found.old.table.ways.items) (length found.old.table.ways.items) ts found.old.marks.items arcs.old.items
-        → AreTried (M.meaning (M.numbers model.now)) k (way_row region.new found.new.table.ways.items) (length found.new.table.ways.items) (ts ++ trials_by (M.meaning (M.numbers model.now)) k parent.entry.state.now exact (decision ∷ [])) found.new.marks.items arcs.new.items }
+        → AreTried (M.meaning (M.numbers model.now)) k (way_row region.new found.new.table.ways.items) (length found.new.table.ways.items) (ts ++ trials_by (M.meaning (M.numbers model.now)) k attempt.entry.parent.state.now attempt.entry.exact (attempt.entry.decision ∷ [])) found.new.marks.items arcs.new.items }
     ensures live { found.new.table.live ≡ found.old.table.live }
     ensures room { KeepsTableRoom found.old.table found.new.table }
     ensures marks { length found.new.marks.items ≡ length found.old.marks.items }
@@ -72,34 +79,54 @@ fn try_by<M: DpModel>(
     ensures arcs_capacity { vec_capacity arcs.new ≡ vec_capacity arcs.old }
 {
     let count = found.table.ways.len();
-    let Some(taken) = extend_by(model, k, parent, decision, region, spot, &mut found.table) else {
+    let Some(taken) = extend_by(
+        model,
+        k,
+        attempt.parent,
+        attempt.decision,
+        region,
+        spot,
+        &mut found.table,
+    ) else {
         return;
     };
-    mark(found.marks.as_mut_slice(), count, taken.place, exact);
+    mark(
+        found.marks.as_mut_slice(),
+        count,
+        taken.place,
+        attempt.exact,
+    );
     arcs.push_reserved(DdArc {
-        decision,
+        decision: attempt.decision,
         target: Some(taken.place as u32),
         gain: taken.gain,
         longer: 0,
     });
 }
 
+/// A node that is tried by all decisions.
+#[derive(Clone, Copy)]
+struct TriedNode<'s> {
+    member: Member,
+    state: &'s [i64],
+    // whether it stands for one state exactly
+    exact: bool,
+}
+
 /// Tries a node by all decisions, the lesser first.
 fn try_node<M: DpModel>(
     model: &M,
     k: usize,
-    parent: Member,
-    exact: bool,
-    s: &[i64],
+    node: TriedNode,
     region: &mut Region,
     spot: &mut RowId,
     found: &mut MarkedWays,
     arcs: &mut Vec<DdArc>,
 )
     requires layer { k < (M.meaning (M.numbers model.now)).vars }
-    requires state { IsTrue ((M.meaning (M.numbers model.now)).is_state k s.now) }
-    requires value { IsNear parent.value }
-    requires rank { parent.rank ≡ (M.meaning (M.numbers model.now)).rank k s.now }
+    requires state { IsTrue ((M.meaning (M.numbers model.now)).is_state k node.state.now) }
+    requires value { IsNear node.member.value }
+    requires rank { node.member.rank ≡ (M.meaning (M.numbers model.now)).rank k node.state.now }
     requires live { found.old.table.live ≤ (M.meaning (M.numbers model.now)).words }
     requires zeros { AllHaveZeros (M.meaning (M.numbers model.now)) (k + 1) found.old.table.live }
     requires words { region.old.words ≡ (M.meaning (M.numbers model.now)).words }
@@ -109,22 +136,27 @@ fn try_node<M: DpModel>(
     requires room { HasTableRoom (length found.old.table.ways.items + (M.meaning (M.numbers model.now)).choices k) found.old.table }
     requires marks_room { length found.old.table.ways.items + (M.meaning (M.numbers model.now)).choices k ≤ length found.old.marks.items }
     requires arcs_room { length arcs.old.items + (M.meaning (M.numbers model.now)).choices k ≤ vec_capacity arcs.old }
-    ensures extended { TookIn (M.meaning (M.numbers model.now)) k parent.step s.now parent.value (below ((M.meaning (M.numbers model.now)).choices k)) region.old found.old.table region.new found.new.table }
+    ensures extended { TookIn (M.meaning (M.numbers model.now)) k node.entry.member.step node.entry.state.now node.entry.member.value (below ((M.meaning (M.numbers model.now)).choices k)) region.old found.old.table region.new found.new.table }
     ensures exchanged { HasExchanged region.old (spot.old.place ∷ table_rows found.old.table) region.new (spot.new.place ∷ table_rows found.new.table) }
     ensures tried { (ts : List Trial) → AreTried (M.meaning (M.numbers model.now)) k (way_row region.old found.old.table.ways.items) (length found.old.table.ways.items) ts found.old.marks.items arcs.old.items
-        → AreTried (M.meaning (M.numbers model.now)) k (way_row region.new found.new.table.ways.items) (length found.new.table.ways.items) (ts ++ trials_by (M.meaning (M.numbers model.now)) k s.now exact (below ((M.meaning (M.numbers model.now)).choices k))) found.new.marks.items arcs.new.items }
+        → AreTried (M.meaning (M.numbers model.now)) k (way_row region.new found.new.table.ways.items) (length found.new.table.ways.items) (ts ++ trials_by (M.meaning (M.numbers model.now)) k node.entry.state.now node.entry.exact (below ((M.meaning (M.numbers model.now)).choices k))) found.new.marks.items arcs.new.items }
     ensures live { found.new.table.live ≡ found.old.table.live }
     ensures room { KeepsTableRoom found.old.table found.new.table }
     ensures marks { length found.new.marks.items ≡ length found.old.marks.items }
     ensures arcs_few { length arcs.new.items ≤ length arcs.old.items + (M.meaning (M.numbers model.now)).choices k }
     ensures arcs_capacity { vec_capacity arcs.new ≡ vec_capacity arcs.old }
 {
-    let from = Parent::of(parent, s);
+    let from = Parent::of(node.member, node.state);
     let choices = model.choices(k);
-    let mut decision = model.next_choice(k, s, 0);
+    let mut decision = model.next_choice(k, node.state, 0);
     'decisions: while decision < choices {
-        try_by(model, k, from, exact, decision, region, spot, found, arcs);
-        decision = model.next_choice(k, s, decision + 1);
+        let attempt = Attempt {
+            parent: from,
+            exact: node.exact,
+            decision,
+        };
+        try_by(model, k, attempt, region, spot, found, arcs);
+        decision = model.next_choice(k, node.state, decision + 1);
     }
 }
 
@@ -203,9 +235,12 @@ pub fn extend_layer<M: DpModel>(
         let parent = member_of(node, i);
         copy_row(region, node.row, from);
         let first = arcs.len();
-        try_node(
-            model, k, parent, node.exact, from, region, &mut spot, found, arcs,
-        );
+        let tried = TriedNode {
+            member: parent,
+            state: from,
+            exact: node.exact,
+        };
+        try_node(model, k, tried, region, &mut spot, found, arcs);
         span(&mut nodes[i], first, arcs.len());
     }
     region.give(spot);

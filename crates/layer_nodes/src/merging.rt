@@ -72,53 +72,59 @@ fn merge_into_row<M: DpModel>(
     }
 }
 
-/// The gap from the merged row, whose rank is told, to the node's row. The ranks spare a part of the sums over the cells.
+/// The row into which nodes are merged, while their arcs are led to it.
+#[derive(Clone, Copy)]
+struct MergedRow<'r> {
+    state: &'r [i64],
+    rank: i64,
+    // the place of its node among those of the layer
+    place: u32,
+}
+
+/// The gap from the merged row to the node's row. The ranks spare a part of the sums over the cells.
 fn gap_to<M: DpModel>(
     model: &M,
     k: usize,
     region: &Region,
-    into: &[i64],
-    rank: i64,
+    into: MergedRow,
     node: Node,
 ) -> Option<i64>
-    requires state { IsStateOf (M.meaning (M.numbers model.now)) k into.now }
-    requires rank { rank ≡ (M.meaning (M.numbers model.now)).rank k into.now }
+    requires state { IsStateOf (M.meaning (M.numbers model.now)) k into.state.now }
+    requires rank { into.rank ≡ (M.meaning (M.numbers model.now)).rank k into.state.now }
     requires node { IsNodeIn (M.meaning (M.numbers model.now)) k region.now node }
-    ensures gap { result ≡ (M.meaning (M.numbers model.now)).gap k into.now (held_row region.now node.row) }
+    ensures gap { result ≡ (M.meaning (M.numbers model.now)).gap k into.entry.state.now (held_row region.now node.row) }
     ensures small { IfSome result (λ g. IsSmall g) }
 {
     let s = row_of(region, node.row);
-    model.covers_within(k, into, rank, s, node.rank, GREATEST_GAP)
+    model.covers_within(k, into.state, into.rank, s, node.rank, GREATEST_GAP)
 }
 
-/// Arcs into the nodes go to the target, lengthened by the gaps from the merged row, whose rank is told. Answers the greatest of
+/// Arcs into the nodes go to that of the merged row, lengthened by the gaps from it. Answers the greatest of
 /// the values, each with its gap.
 fn merge_targets<M: DpModel>(
     model: &M,
     k: usize,
     region: &Region,
-    into: &[i64],
-    rank: i64,
+    into: MergedRow,
     nodes: &[Node],
-    target: u32,
     redirects: &mut Vec<Option<Redirect>>,
 ) -> Option<i64>
-    requires state { IsStateOf (M.meaning (M.numbers model.now)) k into.now }
-    requires rank { rank ≡ (M.meaning (M.numbers model.now)).rank k into.now }
+    requires state { IsStateOf (M.meaning (M.numbers model.now)) k into.state.now }
+    requires rank { into.rank ≡ (M.meaning (M.numbers model.now)).rank k into.state.now }
     requires nodes { Each (IsNodeIn (M.meaning (M.numbers model.now)) k region.now) nodes.now }
     requires short { Each IsShort redirects.old.items }
     requires redirects_room { length redirects.old.items + length nodes.now ≤ vec_capacity redirects.old }
-    ensures value { result ≡ greatest (lifted (M.meaning (M.numbers model.now)) k into.now (map (bare (held_row region.now)) nodes.now)) }
-    ensures redirects { redirects.new.items ≡ redirects.old.items ++ map (merge_redirect (M.meaning (M.numbers model.now)) k target into.now) (map (bare (held_row region.now)) nodes.now) }
+    ensures value { result ≡ greatest (lifted (M.meaning (M.numbers model.now)) k into.entry.state.now (map (bare (held_row region.now)) nodes.now)) }
+    ensures redirects { redirects.new.items ≡ redirects.old.items ++ map (merge_redirect (M.meaning (M.numbers model.now)) k into.entry.place into.entry.state.now) (map (bare (held_row region.now)) nodes.now) }
     ensures short { Each IsShort redirects.new.items }
     ensures capacity { vec_capacity redirects.new ≡ vec_capacity redirects.old }
 {
     let mut best = None;
     'nodes: for i in 0..nodes.len() {
         let node = nodes[i];
-        let gap = gap_to(model, k, region, into, rank, node);
+        let gap = gap_to(model, k, region, into, node);
         best = greater(best, lifted(node, gap));
-        redirects.push_reserved(redirect_by(target, gap));
+        redirects.push_reserved(redirect_by(into.place, gap));
     }
     best
 }
@@ -152,7 +158,12 @@ fn merge_nodes<M: DpModel>(
     merge_into_row(model, k, region, last, into);
     let rank = model.rank(k, into);
     redirects.clear();
-    let best = merge_targets(model, k, region, into, rank, last, first as u32, redirects);
+    let merged = MergedRow {
+        state: into,
+        rank,
+        place: first as u32,
+    };
+    let best = merge_targets(model, k, region, merged, last, redirects);
     give_rows(region, last);
     let place = put_row(region, into);
     nodes.truncate(first);

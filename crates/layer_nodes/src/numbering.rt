@@ -1,6 +1,6 @@
 //! The ways to a layer in order become its nodes, and the arcs lead to their places.
 
-ghost use Rattle.std.specs.Prelude.{◌≡◌, ◌≢◌, ℕ, ◌<◌, ◌≤◌, ◌^◌, Bool, List, length, map, None, vec_capacity};
+ghost use Rattle.std.specs.Prelude.{◌≡◌, ◌≢◌, ℕ, ◌<◌, ◌≤◌, ◌^◌, Bool, List, length, map, None, vec_capacity, vec_len};
 ghost use Rattle.dp_model.specs.Lists.{Each};
 ghost use Rattle.layer_nodes.specs.Expanding.{mark_at, key_in, number_at, IsNumbered, LeadsWithin, led, node_of, AreArranged};
 ghost use Rattle.layer_nodes.specs.Sifting.{AreSifted};
@@ -10,11 +10,23 @@ ghost use Rattle.layer_candidates.specs.Ways.{way_at, rows_of, way_row, AreDisti
 ghost use Rattle.layer_nodes.specs.Stored.{rows_in};
 ghost use Rattle.row_region.specs.Region.{IsLive};
 
+use crate::extending::MarkedWays;
 use crate::node::Node;
 use dp_laws::DdArc;
 use dp_model::DpModel;
 use layer_candidates::{Key, Way, list_unstruck, put_in_order, sort};
 use row_region::Region;
+
+/// The ways to the next layer, with the memory in which they are put into the reduction order.
+#[derive(Debug, Drop)]
+pub struct Arrangement {
+    /// The ways, each with its mark.
+    pub found: MarkedWays,
+    // the keys of the ways in the reduction order
+    pub(crate) keys: Vec<Key>,
+    // for each way one more than its number in that order, or zero
+    pub(crate) places: Vec<u32>,
+}
 
 /// Numbers the ways by the places of their keys. Each number is kept as one more, and what stands at other places stays.
 fn number(keys: &[Key], places: &mut [u32])
@@ -102,68 +114,76 @@ fn list_nodes(ways: &[Way], keys: &[Key], marks: &[bool], nodes: &mut Vec<Node>)
     }
 }
 
-/// Puts the ways into the reduction order, in which they become the nodes, each with the mark of its place; the arcs, which lead to
-/// places of ways, lead to those of the nodes. The first `live` cells of all rows are zero, and are not compared.
-pub fn arrange(
-    region: &Region,
-    live: usize,
-    ways: &[Way],
-    marks: &[bool],
-    keys: &mut Vec<Key>,
-    places: &mut [u32],
-    arcs: &mut [DdArc],
-    nodes: &mut Vec<Node>,
-)
-    requires held { Each (IsLive region.now) (rows_of ways.now) }
-    requires zeros { (i : ℕ) → i < length ways.now → HasZeros live (way_row region.now ways.now i) }
-    requires small { length ways.now < 2 ^ 32 }
-    requires targets { Each (LeadsWithin (length ways.now)) arcs.old }
-    requires marks_room { length ways.now ≤ length marks.now }
-    requires keys_room { length ways.now ≤ vec_capacity keys.old }
-    requires places_room { length ways.now ≤ length places.old }
-    requires nodes_room { length ways.now ≤ vec_capacity nodes.old }
-    ensures arranged { AreArranged (held_row region.now) ways.now marks.now arcs.old arcs.new nodes.new.items }
-    ensures keys_capacity { vec_capacity keys.new ≡ vec_capacity keys.old }
-    ensures nodes_capacity { vec_capacity nodes.new ≡ vec_capacity nodes.old }
-{
-    put_in_order(region, live, ways, keys);
-    number(keys.as_slice(), places);
-    lead(arcs, places);
-    list_nodes(ways, keys.as_slice(), marks, nodes);
-}
+impl Arrangement {
+    /// Puts the ways into the reduction order, in which they become the nodes, each with the mark of its place; the arcs, which lead
+    /// to places of ways, lead to those of the nodes. The first `live` cells of all rows are zero, and are not compared.
+    pub fn arrange(
+        &mut self,
+        region: &Region,
+        live: usize,
+        arcs: &mut [DdArc],
+        nodes: &mut Vec<Node>,
+    )
+        requires held { Each (IsLive region.now) (rows_of self.old.found.table.ways.items) }
+        requires zeros { (i : ℕ) → i < length self.old.found.table.ways.items → HasZeros live (way_row region.now self.old.found.table.ways.items i) }
+        requires small { length self.old.found.table.ways.items < 2 ^ 32 }
+        requires targets { Each (LeadsWithin (length self.old.found.table.ways.items)) arcs.old }
+        requires marks_room { length self.old.found.table.ways.items ≤ length self.old.found.marks.items }
+        requires keys_room { length self.old.found.table.ways.items ≤ vec_capacity self.old.keys }
+        requires places_room { length self.old.found.table.ways.items ≤ length self.old.places.items }
+        requires nodes_room { length self.old.found.table.ways.items ≤ vec_capacity nodes.old }
+        ensures arranged { AreArranged (held_row region.now) self.old.found.table.ways.items self.old.found.marks.items arcs.old arcs.new nodes.new.items }
+        ensures found { self.new.found ≡ self.old.found }
+        ensures keys_capacity { vec_capacity self.new.keys ≡ vec_capacity self.old.keys }
+        ensures places { vec_len self.new.places ≡ vec_len self.old.places }
+        ensures nodes_capacity { vec_capacity nodes.new ≡ vec_capacity nodes.old }
+    {
+        let ways = self.found.table.ways.as_slice();
+        put_in_order(region, live, ways, &mut self.keys);
+        let keys = self.keys.as_slice();
+        let places = self.places.as_mut_slice();
+        number(keys, places);
+        lead(arcs, places);
+        let marks = self.found.marks.as_slice();
+        list_nodes(ways, keys, marks, nodes);
+    }
 
-/// Puts the ways that are not struck into the reduction order, in which they become the nodes, each with the mark of its place;
-/// the arcs, which lead to places of ways, lead to those of the nodes, and those into a struck way lead nowhere. The rows of the
-/// struck ways are given back.
-pub fn arrange_unstruck<M: DpModel>(
-    model: &M,
-    k: usize,
-    threshold: Option<i64>,
-    region: &mut Region,
-    ways: &[Way],
-    marks: &[bool],
-    keys: &mut Vec<Key>,
-    places: &mut [u32],
-    arcs: &mut [DdArc],
-    nodes: &mut Vec<Node>,
-)
-    requires layer { k ≤ (M.meaning (M.numbers model.now)).vars }
-    requires distinct { AreDistinct (M.meaning (M.numbers model.now)) k (way_row region.old ways.now) ways.now }
-    requires held { AreLive region.old (rows_of ways.now) }
-    requires small { length ways.now < 2 ^ 32 }
-    requires targets { Each (LeadsWithin (length ways.now)) arcs.old }
-    requires marks_room { length ways.now ≤ length marks.now }
-    requires keys_room { length ways.now ≤ vec_capacity keys.old }
-    requires places_room { length ways.now ≤ length places.old }
-    requires nodes_room { length ways.now ≤ vec_capacity nodes.old }
-    ensures arranged { AreSifted (M.meaning (M.numbers model.now)) k threshold region.old ways.now marks.now arcs.old arcs.new nodes.new.items }
-    ensures left { HasLeft region.old (rows_of ways.now) region.new (rows_in nodes.new.items) }
-    ensures keys_capacity { vec_capacity keys.new ≡ vec_capacity keys.old }
-    ensures nodes_capacity { vec_capacity nodes.new ≡ vec_capacity nodes.old }
-{
-    list_unstruck(model, k, threshold, region, ways, keys);
-    sort(region, model.first_live(k), keys);
-    number_some(keys.as_slice(), ways.len(), places);
-    lead(arcs, places);
-    list_nodes(ways, keys.as_slice(), marks, nodes);
+    /// Puts the ways that are not struck into the reduction order, in which they become the nodes, each with the mark of its place;
+    /// the arcs, which lead to places of ways, lead to those of the nodes, and those into a struck way lead nowhere. The rows of the
+    /// struck ways are given back.
+    pub fn arrange_unstruck<M: DpModel>(
+        &mut self,
+        model: &M,
+        k: usize,
+        threshold: Option<i64>,
+        region: &mut Region,
+        arcs: &mut [DdArc],
+        nodes: &mut Vec<Node>,
+    )
+        requires layer { k ≤ (M.meaning (M.numbers model.now)).vars }
+        requires distinct { AreDistinct (M.meaning (M.numbers model.now)) k (way_row region.old self.old.found.table.ways.items) self.old.found.table.ways.items }
+        requires held { AreLive region.old (rows_of self.old.found.table.ways.items) }
+        requires small { length self.old.found.table.ways.items < 2 ^ 32 }
+        requires targets { Each (LeadsWithin (length self.old.found.table.ways.items)) arcs.old }
+        requires marks_room { length self.old.found.table.ways.items ≤ length self.old.found.marks.items }
+        requires keys_room { length self.old.found.table.ways.items ≤ vec_capacity self.old.keys }
+        requires places_room { length self.old.found.table.ways.items ≤ length self.old.places.items }
+        requires nodes_room { length self.old.found.table.ways.items ≤ vec_capacity nodes.old }
+        ensures arranged { AreSifted (M.meaning (M.numbers model.now)) k threshold region.old self.old.found.table.ways.items self.old.found.marks.items arcs.old arcs.new nodes.new.items }
+        ensures left { HasLeft region.old (rows_of self.old.found.table.ways.items) region.new (rows_in nodes.new.items) }
+        ensures found { self.new.found ≡ self.old.found }
+        ensures keys_capacity { vec_capacity self.new.keys ≡ vec_capacity self.old.keys }
+        ensures places { vec_len self.new.places ≡ vec_len self.old.places }
+        ensures nodes_capacity { vec_capacity nodes.new ≡ vec_capacity nodes.old }
+    {
+        let ways = self.found.table.ways.as_slice();
+        list_unstruck(model, k, threshold, region, ways, &mut self.keys);
+        sort(region, model.first_live(k), &mut self.keys);
+        let keys = self.keys.as_slice();
+        let places = self.places.as_mut_slice();
+        number_some(keys, ways.len(), places);
+        lead(arcs, places);
+        let marks = self.found.marks.as_slice();
+        list_nodes(ways, keys, marks, nodes);
+    }
 }

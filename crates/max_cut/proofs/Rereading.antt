@@ -13,7 +13,7 @@ use Rattle.dp_model.specs.NumberLaws.{int_le-from}
 use Rattle.tokens.specs.Text.{TextState, text_start, number_at, place_of, after_token}
 use Rattle.tokens.specs.declared.comment.Comment.{Comment}
 use Rattle.tokens.specs.declared.place.Place.{Place}
-use Rattle.tokens.specs.Grammar.{times}
+use Rattle.tokens.specs.Chain.{until, never, times}
 use Rattle.tokens.specs.Decimal.{decimal_of}
 use Rattle.tokens.specs.Printed.{IsBefore}
 use Rattle.tokens.proofs.Printing.{before_start, passes_number, passes_natural, finishes}
@@ -94,7 +94,7 @@ record Goes (n m : ℕ) (totals : List ℤ) (s : TextState) (left : ℕ) (more_t
 
 -- one edge more is read
 times_edge : (n m : ℕ) (totals more : List ℤ) (s t : TextState) → edge_at n totals s ≡ Ok (more, t) → times (edge_at n) (suc m) totals s ≡ times (edge_at n) m more t
-unfolding times
+unfolding times until
 times_edge n m totals more s t e = rw e refl
 
 -- a pair without an edge has no line, and an edge is read from its line
@@ -162,7 +162,7 @@ record ReadsAll (g : Graph) (k : ℕ) (s : TextState) (more : List ℕ) : Type 0
   is : times (edge_at g.vertices) (edges_in (weights_from g k)) (take (row_start g.vertices k) g.weights ++ zeros (length (weights_from g k))) s ≡ Ok (g.weights, behind)
 
 reads_none : (g : Graph) (k : ℕ) (s : TextState) → weights_from g k ≡ [] → times (edge_at g.vertices) (edges_in (weights_from g k)) (take (row_start g.vertices k) g.weights ++ zeros (length (weights_from g k))) s ≡ Ok (g.weights, s)
-unfolding times
+unfolding times until
 reads_none g k s none =
     let whole : take (row_start g.vertices k) g.weights ++ [] ≡ g.weights = ap (λ ws. take (row_start g.vertices k) g.weights ++ ws) (sym none) ∙ take-append-drop (row_start g.vertices k) g.weights in
     ap (λ ws. times (edge_at g.vertices) (edges_in ws) (take (row_start g.vertices k) g.weights ++ zeros (length ws)) s) none ∙ ap (λ ws. Ok (ws, s)) whole

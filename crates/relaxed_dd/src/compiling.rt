@@ -1,9 +1,9 @@
-ghost use Rattle.std.specs.Prelude.{◌≡◌};
+ghost use Rattle.std.specs.Prelude.{◌≡◌, length};
 ghost use Rattle.std.specs.Borrow.{sem};
 ghost use Rattle.dp_model.specs.Reached.{reached};
 ghost use Rattle.dp_model.specs.Subproblem.{IsOwn};
 ghost use Rattle.dp_laws.specs.Rules.Compiling.{relaxed};
-ghost use Rattle.layer_build.specs.Layers.{IsPreparedFor};
+ghost use Rattle.layer_build.specs.Layers.{IsPreparedFor, diagram_of};
 ghost use Rattle.relaxed_dd.specs.Building.{IsMade};
 ghost use Rattle.layer_build.specs.Kept.{StaysPrepared};
 ghost use Rattle.relaxed_dd.specs.Shown.{layers_of, width_of, IsDiagramOf};
@@ -14,8 +14,8 @@ use crate::suffixes::set_all;
 use dp_model::{DpModel, Sub};
 use layer_build::Workspace;
 
-/// Makes the layers of a prefix, with their suffixes.
-fn make<M: DpModel>(space: &mut Workspace, model: &M, sub: &Sub, threshold: Option<i64>)
+/// Compiles the relaxed diagram of a prefix with its own state and value into the workspace, which `shown` shows. It takes no memory.
+pub fn compile<M: DpModel>(space: &mut Workspace, model: &M, sub: &Sub, threshold: Option<i64>)
     requires prepared { IsPreparedFor (M.meaning (M.numbers model.now)) space.old }
     requires own { IsOwn (M.meaning (M.numbers model.now)) sub.now.subproblem }
     ensures { IsMade (M.meaning (M.numbers model.now)) sub.now.subproblem.decisions threshold space.old space.new }
@@ -42,6 +42,15 @@ pub fn relaxed<'w, M: DpModel>(
     ensures width { width_of result ≡ space.old.width }
     ensures diagram { IsDiagramOf (M.meaning (M.numbers model.now)) result }
 {
-    make(space, model, sub, threshold);
+    compile(space, model, sub, threshold);
+    Diagram { space }
+}
+
+/// The relaxed diagram that was compiled into the workspace, in which the rows of all layers are held.
+pub fn shown(space: &Workspace) -> Diagram<'_>
+    requires held { space.now.held ≡ length space.now.prefix }
+    ensures shown { layers_of result ≡ diagram_of space.now }
+    ensures width { width_of result ≡ space.now.width }
+{
     Diagram { space }
 }

@@ -15,5 +15,5 @@ mod compiling;
 mod diagram;
 mod suffixes;
 
-pub use compiling::relaxed;
+pub use compiling::{compile, relaxed, shown};
 pub use diagram::Diagram;

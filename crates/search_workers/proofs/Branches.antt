@@ -62,7 +62,7 @@ none-deep : (depth : Option ℕ) → StandDeep depth []
 none-deep None = refl
 none-deep (Some depth) = tt
 
-not-some : {X : Type 0} (o : Option X) → false ≡ is_some o → o ≡ None
+pub not-some : {X : Type 0} (o : Option X) → false ≡ is_some o → o ≡ None
 not-some None h = refl
 not-some (Some x) h = absurd (cc)
 

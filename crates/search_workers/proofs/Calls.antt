@@ -1,5 +1,5 @@
 -- What a call at each seat says of all seats.
-use Rattle.std.proofs.Common.{◌≡◌, ◌<◌, List, [], ◌∷◌, map, length, refl, arith}
+use Rattle.std.proofs.Common.{◌≡◌, List, [], ◌∷◌, map, length, refl, arith}
 use Rattle.std.specs.List.{All, AllByRecursion}
 use Rattle.std.proofs.lemmas.List.Elements.{recursion_from_All, All-from_recursion}
 use denote.Ref.{MutBor}
@@ -95,9 +95,3 @@ module _ {S : Type 0} where
   pairs_map Q a of (s ∷ ss) (t ∷ ts) h = λ i. of s t h.0 i ∷ pairs_map Q a of ss ts h.1 i
   pairs_map Q a of [] (t ∷ ts) h = absurd h
   pairs_map Q a of (s ∷ ss) [] h = absurd h
-
-  -- what each call left, where there is one
-  pub one_pair : (P : Type 0) → (ss ts : List S) → 0 < length ss → Pairwise (λ s t. P) ss ts → P
-  one_pair P [] ts some h = absurd (omega arith)
-  one_pair P (s ∷ ss) (t ∷ ts) some h = h.0
-  one_pair P (s ∷ ss) [] some h = absurd h

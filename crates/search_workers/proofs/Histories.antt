@@ -1,13 +1,13 @@
 -- The history of a board under a turn is a run.
-use Rattle.std.proofs.Common.{◌≡◌, ℕ, ℤ, List, [], ◌∷◌, Option, Some, None, refl, sym, ap, subst, inr, ⊎_elim, ◌∙◌, length, set, length-set}
+use Rattle.std.proofs.Common.{◌≡◌, ℕ, ℤ, List, [], ◌∷◌, Option, Some, None, refl, sym, ap, subst, ⊎_elim, ◌∙◌, length, set, length-set}
 use Rattle.turn.specs.History.{Moved, HasMoved}
 use Rattle.dp_model.specs.Dp.{Dp}
-use Rattle.board_laws.specs.declared.cause.Cause.TheVariants.{Budget, Memory, Journal}
+use Rattle.board_laws.specs.declared.cause.Cause.TheVariants.{Journal}
 use Rattle.board_laws.specs.declared.taken.Taken.{Taken}
 use Rattle.board_laws.specs.declared.taken.Taken.TheVariants.{Sub, WaitForOthers, Finished, Halted}
 use Rattle.board_laws.specs.Board.{BoardState, slot_at}
 use Rattle.board_laws.specs.Runs.Step.{Take, Improve, Finish, GiveBack, Halt}
-use Rattle.board_laws.specs.Runs.{Step, May, after, IsRun}
+use Rattle.board_laws.specs.Runs.{Step, after, IsRun}
 use Rattle.board_laws.specs.Steps.{given_back_from, halted}
 use Rattle.board_laws.specs.Taking.{take_gives, checked_out, after_answer}
 use Rattle.board_laws.proofs.Running.{run-then, run-one, offered-is}
@@ -16,39 +16,14 @@ use Rattle.fringe.specs.Tickets.{Ticketed}
 use Rattle.disk.specs.declared.disk.Disk.{Ghosts}
 use Rattle.kept_board.specs.Moves.{Stays, Steps, Fails, IsMove}
 use Rattle.kept_board.specs.View.{KeptView}
-use Rattle.board.specs.Moves.{NeedsNoJournal, IsStepOf}
-use Rattle.search_workers.specs.Later.{IsCauseAfter, IsLater}
-use Rattle.search_workers.proofs.Causes.{cause-same, cause-then, cause-halted}
+use Rattle.board.specs.Moves.{IsStepOf}
+use Rattle.search_workers.specs.Later.{IsLater}
 
--- a run after which a new cause is want of memory or the journal's, and there are as many slots
+-- a run after which there are as many slots
 pub record HasRun (dp : Dp) (b later : BoardState) : Type 0 where
   pub steps : List Step
   pub run : IsRun dp b steps later
-  pub cause : IsCauseAfter b.cause later.cause
   pub long : length later.slots ≡ length b.slots
-
-out-cause : (b : BoardState) (who : ℕ) (first : Option Ticketed) → (checked_out b who first).cause ≡ b.cause
-out-cause b who None = refl
-out-cause b who (Some o) = refl
-
-answer-cause : (b : BoardState) (who : ℕ) (answer : Taken) → (after_answer b who answer).cause ≡ b.cause
-answer-cause b who Sub = out-cause b who (first_taken b.open_ones)
-answer-cause b who WaitForOthers = refl
-answer-cause b who Finished = refl
-answer-cause b who (Halted cause) = refl
-
-back-cause : (b : BoardState) (who : ℕ) (slot : Option Ticketed) → (given_back_from b who slot).cause ≡ b.cause
-back-cause b who None = refl
-back-cause b who (Some o) = refl
-
-step-cause : (dp : Dp) (b : BoardState) (step : Step) → May dp b step → NeedsNoJournal step → IsCauseAfter b.cause (after dp b step).cause
-step-cause dp b (Take who) may alone = cause-same b.cause _ (answer-cause b who (take_gives b))
-step-cause dp b (Improve x) may alone = cause-same b.cause _ (offered-is (λ later. later.cause ≡ b.cause) dp b x refl (λ up. refl))
-step-cause dp b (Finish who threshold cs) may alone = cause-same b.cause b.cause refl
-step-cause dp b (GiveBack who) may alone = cause-same b.cause _ (back-cause b who (slot_at b who))
-step-cause dp b (Halt Budget) may alone = absurd may
-step-cause dp b (Halt Memory) may alone = cause-halted b.cause
-step-cause dp b (Halt Journal) may alone = absurd alone
 
 set-long : (b : BoardState) (who : ℕ) (slot : Option Ticketed) → length (set b.slots who slot) ≡ length b.slots
 set-long b who slot = length-set b.slots who slot
@@ -75,19 +50,19 @@ step-long dp b (GiveBack who) = back-long b who (slot_at b who)
 step-long dp b (Halt cause) = refl
 
 no-run : (dp : Dp) (b later : BoardState) → later ≡ b → HasRun dp b later
-no-run dp b later same = record { steps = []; run = sym same; cause = cause-same b.cause later.cause (ap (λ x. x.cause) same); long = ap (λ x. length x.slots) same }
+no-run dp b later same = record { steps = []; run = sym same; long = ap (λ x. length x.slots) same }
 
 one-run : (dp : Dp) (who : ℕ) (b later : BoardState) → IsStepOf dp who b later → HasRun dp b later
 one-run dp who b later s =
-    record { steps = s.step ∷ []; run = run-one dp b s.step later s.may s.is; cause = subst (λ (x : BoardState). IsCauseAfter b.cause x.cause) (sym s.is) (step-cause dp b s.step s.may s.alone); long = ap (λ (x : BoardState). length x.slots) s.is ∙ step-long dp b s.step }
+    record { steps = s.step ∷ []; run = run-one dp b s.step later s.may s.is; long = ap (λ (x : BoardState). length x.slots) s.is ∙ step-long dp b s.step }
 
 runs-then : (dp : Dp) (a b c : BoardState) → HasRun dp a b → HasRun dp b c → HasRun dp a c
-runs-then dp a b c h k = record { steps = _; run = run-then dp a b c h.steps k.steps h.run k.run; cause = cause-then a.cause b.cause c.cause h.cause k.cause; long = k.long ∙ h.long }
+runs-then dp a b c h k = record { steps = _; run = run-then dp a b c h.steps k.steps h.run k.run; long = k.long ∙ h.long }
 
 -- a halt for the journal
 halt-run : (dp : Dp) (b later : BoardState) → later ≡ halted b Journal → HasRun dp b later
 halt-run dp b later is =
-    record { steps = Halt Journal ∷ []; run = run-one dp b (Halt Journal) later tt is; cause = inr (ap (λ (x : BoardState). x.cause) is); long = ap (λ (x : BoardState). length x.slots) is }
+    record { steps = Halt Journal ∷ []; run = run-one dp b (Halt Journal) later tt is; long = ap (λ (x : BoardState). length x.slots) is }
 
 module _ {D : Type 0} (on : Ghosts D) (meaning : List ℤ → Dp) where
   move-runs : (before now : KeptView D) (who : ℕ) → IsMove on meaning before now who → HasRun (meaning before.board.numbers) before.board.board now.board.board
@@ -108,4 +83,4 @@ module _ {D : Type 0} (on : Ghosts D) (meaning : List ℤ → Dp) where
 
 -- what is later than a later board is later
 pub later-then : (dp : Dp) (a b c : BoardState) → IsLater dp a b → IsLater dp b c → IsLater dp a c
-later-then dp a b c h k = record { steps = _; run = run-then dp a b c h.steps k.steps h.run k.run; slots = k.slots ∙ h.slots; cause = cause-then a.cause b.cause c.cause h.cause k.cause }
+later-then dp a b c h k = record { steps = _; run = run-then dp a b c h.steps k.steps h.run k.run; slots = k.slots ∙ h.slots }

@@ -57,7 +57,7 @@ same_idle (None ∷ ss) (Some o ∷ ts) e f g = absurd (not_some o (full_slots t
 
 -- a run between boards with nothing out
 pub idle-later : (dp : Dp) (b later : BoardState) → HasRun dp b later → full_slots b.slots ≡ [] → full_slots later.slots ≡ [] → IsLater dp b later
-idle-later dp b later h idle none = record { steps = h.steps; run = h.run; slots = same_idle later.slots b.slots h.long none idle; cause = h.cause }
+idle-later dp b later h idle none = record { steps = h.steps; run = h.run; slots = same_idle later.slots b.slots h.long none idle }
 
 -- seats that nobody took the turn by yet are ready
 pub ready : {D : Type 0} (turn : Turn (KeptView D) (KeptTag D)) (items : List (Seat (KeptView D))) (n : ℕ) → All (IsFresh turn) items → map number_of items ≡ range_with_len 0 n → (first_of turn).board.board.settings.workers ≡ n → All (IsReadySeat turn) items

@@ -1,5 +1,5 @@
 -- Rounds on a board, one after another.
-use Rattle.std.proofs.Common.{◌≡◌, ℕ, ◌+◌, ◌-◌, ◌^◌, ◌<◌, ◌≤◌, [], ◌∷◌, ◌++◌, length, slice_get, slice_set, Bool, true, false, ◌||◌, nat_eq, nat_lt, Some, None, option_map, IsTrue, inl, inr, refl, sym, ◌∙◌, ap, subst, arith}
+use Rattle.std.proofs.Common.{◌≡◌, ℕ, ◌+◌, ◌-◌, ◌^◌, ◌<◌, ◌≤◌, [], ◌∷◌, ◌++◌, length, slice_get, slice_set, Bool, true, false, ◌||◌, nat_eq, nat_lt, Some, None, option_map, IsTrue, refl, sym, ◌∙◌, ap, subst, arith}
 use Rattle.std.specs.Prelude.{IsSome}
 use Rattle.dp_model.specs.Counts.{tree}
 use Rattle.dp_model.specs.Dp.{Dp}
@@ -15,22 +15,20 @@ use Rattle.board_laws.specs.declared.cause.Cause.TheVariants.{Memory, Journal as
 use Rattle.kept_board.specs.declared.error.KeptError.{KeptError}
 use Rattle.kept_board.specs.declared.error.KeptError.TheVariants.{Journal, OutOfMemory}
 use Rattle.board_laws.proofs.Running.{run-then}
-use Rattle.search_workers.specs.Later.{IsCauseAfter, IsLater, NoRoundFollows, IsComplete}
+use Rattle.search_workers.specs.Later.{IsLater, NoRoundFollows, IsComplete}
 use Rattle.search_workers.specs.Offered.{IsOffered}
 use Rattle.search_workers.specs.Stopped.{IsRefused}
 use Rattle.search_workers.specs.UnderWay.{IsRoundUnderWay, HasFinished, handed_back}
-use Rattle.search_workers.proofs.Causes.{cause-same, cause-then}
 use Rattle.search_workers.proofs.Taking.{set_back, slot_set}
 
 pub later_refl : (dp : Dp) (b : BoardState) → IsLater dp b b
-later_refl dp b = record { steps = []; run = refl; slots = refl; cause = cause-same b.cause b.cause refl }
+later_refl dp b = record { steps = []; run = refl; slots = refl }
 
 pub later_trans : (dp : Dp) (a b c : BoardState) → IsLater dp a b → IsLater dp b c → IsLater dp a c
 later_trans dp a b c first then = record {
   steps = first.steps ++ then.steps;
   run = run-then dp a b c first.steps then.steps first.run then.run;
   slots = then.slots ∙ first.slots;
-  cause = cause-then a.cause b.cause c.cause first.cause then.cause;
 }
 
 -- what is under way stays so while solutions are offered
@@ -60,13 +58,12 @@ finished_later dp b now after c way empty f = record {
   steps = way.steps ++ f.steps;
   run = run-then dp b now after way.steps f.steps way.run f.run;
   slots = f.slots ∙ (ap (λ s. slice_set s 0 None) way.slots ∙ set_back b.slots (Some way.out) empty);
-  cause = subst (λ o. IsCauseAfter o after.cause) (sym way.began_without) (cause-same None after.cause (f.cause ∙ way.without_cause));
 }
 
 -- a round that gives up, once the search is halted for this cause
-given_up_later : (dp : Dp) (b now after : BoardState) (c : Subproblem) (cause : Cause) → MayHalt cause → cause_after None cause ≡ Some cause → IsCauseAfter None (Some cause) → IsRoundUnderWay dp b now c → slice_get b.slots 0 ≡ Some None
+given_up_later : (dp : Dp) (b now after : BoardState) (c : Subproblem) (cause : Cause) → MayHalt cause → cause_after None cause ≡ Some cause → IsRoundUnderWay dp b now c → slice_get b.slots 0 ≡ Some None
     → after ≡ given_back (halted now cause) 0 → IsLater dp b after
-given_up_later dp b now after c cause can new as_cause way empty step =
+given_up_later dp b now after c cause can new way empty step =
     let halt = halted now cause in
     let full : slot_at halt 0 ≡ Some way.out = way_out dp b now c way empty in
     let held : halt.cause ≡ Some cause = ap (λ o. cause_after o cause) way.without_cause ∙ new in
@@ -76,15 +73,14 @@ given_up_later dp b now after c cause can new as_cause way empty step =
       steps = way.steps ++ Halt cause ∷ GiveBack 0 ∷ [];
       run = run-then dp b now after way.steps (Halt cause ∷ GiveBack 0 ∷ []) way.run (can, (may, sym step));
       slots = ap (λ l. l.slots) is ∙ (ap (λ s. slice_set s 0 None) way.slots ∙ set_back b.slots (Some way.out) empty);
-      cause = subst (λ o. IsCauseAfter o after.cause) (sym way.began_without) (subst (IsCauseAfter None) (sym (ap (λ l. l.cause) is ∙ held)) as_cause);
     }
 
 -- a round of which a step was refused
 pub refused_later : (dp : Dp) (b now last after : BoardState) (c : Subproblem) (error : KeptError) → IsRoundUnderWay dp b now c → slice_get b.slots 0 ≡ Some None → IsRefused dp now error last → after ≡ handed_back error last → IsLater dp b after
 refused_later dp b now last after c OutOfMemory way empty r step =
-    given_up_later dp b r.last after c Memory tt refl (inl refl) (still_under_way dp b now r.last c way r.offered) empty (step ∙ ap (λ l. given_back (halted l Memory) 0) r.is)
+    given_up_later dp b r.last after c Memory tt refl (still_under_way dp b now r.last c way r.offered) empty (step ∙ ap (λ l. given_back (halted l Memory) 0) r.is)
 refused_later dp b now last after c Journal way empty r step =
-    given_up_later dp b r.last after c of_journal tt refl (inr refl) (still_under_way dp b now r.last c way r.offered) empty (step ∙ ap (λ l. given_back l 0) r.is)
+    given_up_later dp b r.last after c of_journal tt refl (still_under_way dp b now r.last c way r.offered) empty (step ∙ ap (λ l. given_back l 0) r.is)
 
 -- The end.
 

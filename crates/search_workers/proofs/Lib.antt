@@ -1,6 +1,5 @@
 mod Branches
 mod Calls
-mod Causes
 mod Finishing
 mod FinishLater
 pub mod Histories
@@ -16,3 +15,4 @@ mod Slots
 mod Stopping
 mod TakenOut
 mod Taking
+pub mod Collected

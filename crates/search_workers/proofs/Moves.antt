@@ -24,7 +24,7 @@ module _ {V : Type 0} (moves : V → V → ℕ → Type 0) where
   pub moved_then : (a b c : V) → HasMoved moves a b → HasMoved moves b c → HasMoved moves a c
   moved_then a b c h k = record { line = h.line ++ k.line; moved = moved-behind a h.line b k.line c h.moved k.moved }
 
-no-less-then : (a b c : Option ℤ) → NoLess a b → NoLess b c → NoLess a c
+pub no-less-then : (a b c : Option ℤ) → NoLess a b → NoLess b c → NoLess a c
 no-less-then a b c h k = no-less-of a c (option-then a b c (at-most-of a b h) (at-most-of b c k))
 
 module _ {D : Type 0} (on : Ghosts D) (meaning : List ℤ → Dp) where
@@ -43,7 +43,7 @@ module _ {D : Type 0} (on : Ghosts D) (meaning : List ℤ → Dp) where
       (λ (one : IsMove on meaning before now who). no-less-then seen (incumbent_value before.board.board) (incumbent_value now.board.board) less (keeps-kept-move on meaning before now who one).1) m
 
   -- after a move the tag is that of what was found
-  still-tagged : (before now : KeptView D) (who : ℕ) → MayLeave before now who → tag_of now ≡ tag_of before
+  pub still-tagged : (before now : KeptView D) (who : ℕ) → MayLeave before now who → tag_of now ≡ tag_of before
   still-tagged before now who m = ⊎_elim (λ (same : now ≡ before). ap tag_of same) (λ (one : IsMove on meaning before now who). (keeps-kept-move on meaning before now who one).0) m
 
   -- the reach after a move is by the distance that the turn began with

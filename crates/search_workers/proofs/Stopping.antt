@@ -1,27 +1,34 @@
 -- Why workers stop, and where they find the search at its end.
-use Rattle.std.proofs.Common.{◌≡◌, List, [], ◌∷◌, true, false, Option, Some, None, cond, ⊎_elim, refl, sym, ◌∙◌, ap, subst}
+use Rattle.std.proofs.Common.{◌≡◌, inl, ℕ, ℤ, List, [], ◌∷◌, true, false, Option, Some, None, cond, ⊎_elim, refl, sym, ◌∙◌, ap, subst}
 use Rattle.std.specs.Prelude.{Bool, IsSome, Result, Ok, Err, IfErr}
 use Rattle.disk.specs.declared.disk.Disk.{Ghosts}
 use Rattle.disk.specs.Counts.{Rose}
+use Rattle.turn.specs.declared.turn.Seat.{Seat}
+use Rattle.turn.specs.declared.turn.Turn.{Turn}
+use Rattle.turn.specs.Order.{NoLess}
+use Rattle.turn.specs.Seats.{first_of, seen_of, out_of, left_by}
 use Rattle.dp_model.specs.Dp.{Dp}
 use Rattle.fringe.specs.Tickets.{Ticketed}
-use Rattle.board_laws.specs.Board.{BoardState, is_explored}
-use Rattle.board_laws.specs.Steps.{halted}
-use Rattle.board_laws.specs.Taking.{is_budget_up, take_gives, take_open, take_unless}
+use Rattle.board_laws.specs.Board.{BoardState, is_explored, incumbent_value, slot_at}
+use Rattle.board_laws.specs.Steps.{halted, given_back, given_back_from}
+use Rattle.board_laws.specs.Taking.{is_budget_up, take_gives, take_open, take_unless, after_answer, after_take}
 use Rattle.board_laws.specs.declared.cause.Cause.{Cause}
 use Rattle.board_laws.specs.declared.cause.Cause.TheVariants.{Budget, Journal as of_journal}
 use Rattle.board_laws.specs.declared.taken.Taken.{Taken}
 use Rattle.board_laws.specs.declared.taken.Taken.TheVariants.{Sub, WaitForOthers, Finished, Halted}
 use Rattle.journal_bytes.specs.declared.tail.Tail.{Tail}
+use Rattle.board.specs.Moves.{out_at}
 use Rattle.kept_board.specs.Kept.{IsKept, KeepsJournal}
 use Rattle.kept_board.specs.View.{KeptView, tag_of}
 use Rattle.kept_board.specs.declared.error.KeptError.{KeptError}
 use Rattle.kept_board.specs.declared.error.KeptError.TheVariants.{Journal, OutOfMemory}
+use Rattle.kept_board.specs.declared.tag.KeptTag.{KeptTag}
 use Rattle.search_workers.specs.Later.{NoRoundFollows}
 use Rattle.search_workers.specs.Ready.{IfOver}
-use Rattle.search_workers.specs.Stopped.{IsHalted, IsWhy, WasStopped, HasEndedAt}
+use Rattle.search_workers.specs.Stopped.{IsWhy, HasLeft, WasStopped, HasEndedAt}
 use Rattle.search_workers.specs.declared.workers.stopped.Stopped.{Stopped}
 use Rattle.search_workers.specs.declared.workers.stopped.Stopped.TheVariants.{GaveBack, Refused}
+use Rattle.search_workers.proofs.Moves.{MayLeave, no-less-then, still-tagged}
 
 no-cause : (cause : Option Cause) → IsSome cause → cause ≡ None → ⊥
 no-cause None held none = cc
@@ -47,7 +54,7 @@ both true is other = cc
 both false is other = cc
 
 -- where Take answers so no round can follow
-pub over-ends : (b : BoardState) (answer : Taken) → answer ≡ take_gives b → IfOver answer (NoRoundFollows b)
+over-ends : (b : BoardState) (answer : Taken) → answer ≡ take_gives b → IfOver answer (NoRoundFollows b)
 over-ends b answer is = subst (λ a. IfOver a (NoRoundFollows b)) (sym is)
     (elim (is_explored b) as (λ e. is_explored b ≡ e → IfOver (cond e Finished (take_unless b b.cause)) (NoRoundFollows b)) [
       | true ↦ λ explored left none. absurd (both (is_explored b) explored left)
@@ -60,8 +67,27 @@ over-then WaitForOthers f h = tt
 over-then Finished f h = f h
 over-then (Halted cause) f h = f h
 
-pub ended-at : {D : Type 0} (first found : KeptView D) → tag_of found ≡ tag_of first → NoRoundFollows found.board.board → HasEndedAt first
-ended-at first found same ended = record { found = found; same = same; ended = ended }
+left-by : (b now : BoardState) (who : ℕ) (answer : Taken) → now ≡ after_answer b who answer → IfOver answer (NoRoundFollows b) → IfOver answer (NoRoundFollows now)
+left-by b now who Sub is h = tt
+left-by b now who WaitForOthers is h = tt
+left-by b now who Finished is h = subst NoRoundFollows (sym is) h
+left-by b now who (Halted cause) is h = subst NoRoundFollows (sym is) h
+
+-- and none after it
+pub over-left : (b now : BoardState) (who : ℕ) (answer : Taken) → answer ≡ take_gives b → now ≡ after_take b who → IfOver answer (NoRoundFollows now)
+over-left b now who answer gives step = left-by b now who answer (step ∙ ap (after_answer b who) (sym gives)) (over-ends b answer gives)
+
+given-back-from : (b : BoardState) (who : ℕ) (slot : Option Ticketed) → (given_back_from b who slot).cause ≡ b.cause
+given-back-from b who None = refl
+given-back-from b who (Some o) = refl
+
+-- a GiveBack leaves the cause that is held
+pub given-back-cause : (b now : BoardState) (who : ℕ) → now ≡ given_back b who → now.cause ≡ b.cause
+given-back-cause b now who is = ap (λ (n : BoardState). n.cause) is ∙ given-back-from b who (slot_at b who)
+
+-- so no round can follow it
+pub given-back-ends : (b now : BoardState) (who : ℕ) → now ≡ given_back b who → IsSome b.cause → NoRoundFollows now
+given-back-ends b now who is held = halted-ends now (subst (λ c. IsSome c) (sym (given-back-cause b now who is)) held)
 
 module _ {D : Type 0} (on : Ghosts D) where
   by-journal : (dp : Dp) (b : BoardState) (made disk : D) (tail : Option Tail) → KeepsJournal on dp b made disk tail → b.cause ≡ Some of_journal → Rose (on.faults made) (on.faults disk)
@@ -73,20 +99,68 @@ module _ {D : Type 0} (on : Ghosts D) where
   failed-rose dp b made disk tail k is = by-journal dp b made disk tail k.journal is
 
   -- a step that was refused
-  pub why-refused : (error : KeptError) (found left : KeptView D) → (error ≡ Journal → Rose (on.faults found.disk) (on.faults left.disk)) → (error ≡ Journal → left.board.board ≡ halted found.board.board of_journal)
-      → (error ≡ OutOfMemory → (left.board.board ≡ found.board.board) × (left.disk ≡ found.disk)) → IsWhy on (Refused error) found left
-  why-refused Journal found left rose step memory = (rose refl, step refl)
-  why-refused OutOfMemory found left rose step memory = memory refl
+  pub why-refused : (who : ℕ) (error : KeptError) (found left : KeptView D) → (error ≡ Journal → Rose (on.faults found.disk) (on.faults left.disk)) → (error ≡ Journal → left.board.board ≡ halted found.board.board of_journal)
+      → (error ≡ OutOfMemory → (left.board.board ≡ found.board.board) × (left.disk ≡ found.disk)) → IsWhy on who (Refused error) found left
+  why-refused who Journal found left rose step memory = (rose refl, step refl)
+  why-refused who OutOfMemory found left rose step memory = memory refl
 
-  -- in one holding
-  pub stopped-here : {T : Type 0} (first found left : KeptView D) (r : Result T Stopped) → tag_of found ≡ tag_of first → IfErr r (λ s. IsWhy on s found left) → IfErr r (WasStopped on first)
-  stopped-here first found left (Ok x) same why = tt
-  stopped-here first found left (Err s) same why = record { found = found; left = left; same = same; why = why }
+module _ {D : Type 0} (on : Ghosts D) (meaning : List ℤ → Dp) where
+  -- there was no memory between two holdings
+  pub no-memory : (turn : Turn (KeptView D) (KeptTag D)) (before seat : Seat (KeptView D)) → HasLeft turn seat → NoLess (seen_of before) (seen_of seat) → out_of seat ≡ out_of before → WasStopped on meaning turn before seat (Refused OutOfMemory)
+  no-memory turn before seat last less out = record {
+    last = last;
+    found = last.left;
+    same = last.same;
+    no_less = subst (NoLess (seen_of before)) last.seen_is less;
+    out_is = sym last.out_is ∙ out;
+    move = inl refl;
+    why = (refl, refl);
+  }
 
-  -- there was no memory
-  pub no-memory : (first : KeptView D) → WasStopped on first (Refused OutOfMemory)
-  no-memory first = record { found = first; left = first; same = refl; why = (refl, refl) }
+  -- the same of a worker that had seen less before
+  pub stopped-since : (turn : Turn (KeptView D) (KeptTag D)) (first before seat : Seat (KeptView D)) (stopped : Stopped) → NoLess (seen_of first) (seen_of before) → out_of before ≡ out_of first → WasStopped on meaning turn before seat stopped → WasStopped on meaning turn first seat stopped
+  stopped-since turn first before seat stopped less out w = record {
+    last = w.last;
+    found = w.found;
+    same = w.same;
+    no_less = no-less-then (seen_of first) (seen_of before) (incumbent_value w.found.board.board) less w.no_less;
+    out_is = w.out_is ∙ out;
+    move = w.move;
+    why = w.why;
+  }
 
-  -- a worker that gave back found the search at its end
-  pub stopped-ends : (first : KeptView D) → WasStopped on first GaveBack → HasEndedAt first
-  stopped-ends first w = ended-at first w.found w.same (halted-ends w.found.board.board (subst (λ c. IsSome c) (sym w.why.cause) refl))
+  pub all-stopped-since : {T : Type 0} (turn : Turn (KeptView D) (KeptTag D)) (first before seat : Seat (KeptView D)) (r : Result T Stopped) → NoLess (seen_of first) (seen_of before) → out_of before ≡ out_of first → IfErr r (WasStopped on meaning turn before seat) → IfErr r (WasStopped on meaning turn first seat)
+  all-stopped-since turn first before seat (Ok x) less out w = tt
+  all-stopped-since turn first before seat (Err s) less out w = stopped-since turn first before seat s less out w
+
+  -- a worker that gave back left the search at its end
+  pub stopped-ends : (turn : Turn (KeptView D) (KeptTag D)) (before seat : Seat (KeptView D)) → WasStopped on meaning turn before seat GaveBack → HasEndedAt turn seat
+  stopped-ends turn before seat w = record {
+    last = w.last;
+    ended = given-back-ends w.found.board.board w.last.left.board.board seat.number w.why.1 (subst (λ c. IsSome c) (sym w.why.0.cause) refl);
+  }
+
+-- One holding, in which a seat of the number finds a value and leaves one.
+module _ {D : Type 0} (on : Ghosts D) (meaning : List ℤ → Dp) (turn : Turn (KeptView D) (KeptTag D)) (before seat : Seat (KeptView D)) (found left : KeptView D) (who : ℕ) (number : who ≡ seat.number)
+    (same : tag_of found ≡ tag_of (first_of turn)) (move : MayLeave on meaning found left who) (left_is : left_by seat ≡ Some left) (seen_is : seen_of seat ≡ incumbent_value left.board.board)
+    (out_is : out_of seat ≡ out_at left.board.board seat.number) where
+  abbrev pub left-here : HasLeft turn seat
+  left-here = record { left = left; left_is = left_is; same = still-tagged on meaning found left who move ∙ same; seen_is = seen_is; out_is = out_is }
+
+  pub ended-here : NoRoundFollows left.board.board → HasEndedAt turn seat
+  ended-here ended = record { last = left-here; ended = ended }
+
+  stopped-one : (stopped : Stopped) → NoLess (seen_of before) (incumbent_value found.board.board) → out_at found.board.board seat.number ≡ out_of before → IsWhy on who stopped found left → WasStopped on meaning turn before seat stopped
+  stopped-one stopped less out why = record {
+    last = left-here;
+    found = found;
+    same = same;
+    no_less = less;
+    out_is = out;
+    move = subst (MayLeave on meaning found left) number move;
+    why = subst (λ (n : ℕ). IsWhy on n stopped found left) number why;
+  }
+
+  pub stopped-here : {T : Type 0} (r : Result T Stopped) → NoLess (seen_of before) (incumbent_value found.board.board) → out_at found.board.board seat.number ≡ out_of before → IfErr r (λ s. IsWhy on who s found left) → IfErr r (WasStopped on meaning turn before seat)
+  stopped-here (Ok x) less out why = tt
+  stopped-here (Err s) less out why = stopped-one s less out why

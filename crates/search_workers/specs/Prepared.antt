@@ -8,6 +8,7 @@ use Rattle.layer_build.specs.declared.workspace.PrepareError.{PrepareError}
 use Rattle.layer_build.specs.declared.workspace.PrepareError.TheVariants.{Width, OutOfMemory}
 use Rattle.exact_cutset.specs.Prepared as cutsets
 use Rattle.exact_cutset.specs.Seen.{ChildrenView}
+use Rattle.search_workers.specs.Collected.{MayBeBook}
 use Rattle.search_workers.specs.declared.desk.Desk.{Desk}
 
 -- the list has room for the children of the kind of diagrams of the width
@@ -26,10 +27,11 @@ pub record HasDeskRoom (dp : Dp) (w : ℕ) (desk : Desk) : Type 0 where
   pub width : desk.space.width ≡ w
   pub cutset : HoldsChildren dp w desk.kind desk.cutset
 
--- a desk with room for the rounds on an instance, and nothing of an earlier round on it
+-- a desk with room for the rounds on an instance, nothing of an earlier round on it, and in its book diagrams of the instance alone
 pub record IsPreparedDesk (dp : Dp) (w : ℕ) (desk : Desk) : Type 0 where
   pub room : HasDeskRoom dp w desk
   pub no_fates : desk.fates.items ≡ []
+  pub book : MayBeBook dp desk.book
 
 -- a desk for the width; a refused width exactly where it is not positive or does not fit
 abbrev pub AreDesks : Dp → ℕ → Result Desk PrepareError → Type 0

@@ -1,46 +1,63 @@
 ghost use Rattle.std.specs.Prelude.{◌≡◌, IfOk};
+ghost use Rattle.search_workers.specs.Collected.{MayBeBook};
 ghost use Rattle.search_workers.specs.Prepared.{AreDesks};
 
 use board::Fate;
+use cover_pages::CoverBook;
 use dp_model::{CutKind, DpModel, Sub};
 use exact_cutset::Children;
 use layer_build::{PrepareError, Workspace};
 use std::alloc::Global;
 
-/// All that one worker needs for its rounds: the subproblem that it has out, the memory in which diagrams are compiled, their
-/// children and of which kind these are, and a buffer for fates, which grows to the size that rounds need and is used again.
+/// All that one worker needs for its rounds: the subproblem that it has out with its ticket, the memory in which diagrams are compiled, their
+/// children and of which kind these are, a buffer for fates, which grows to the size that rounds need and is used again, and
+/// perhaps a book that collects the relaxed diagrams.
 #[derive(Drop)]
 pub struct Desk {
     pub taken: Sub,
+    pub ticket: u64,
     pub space: Workspace,
     pub cutset: Children,
     pub kind: CutKind,
     pub fates: Vec<Fate>,
+    pub book: Option<CoverBook>,
 }
 
 impl Desk {
     /// A desk for the rounds on the model with diagrams of the width, which is at least 1 and at most the greatest one, and with
-    /// their children of the kind.
+    /// their children of the kind. Where there is a book, it has diagrams of the model's instance alone.
     pub fn prepare<M: DpModel>(
         alloc: Global,
         model: &M,
         width: u32,
         kind: CutKind,
+        book: Option<CoverBook>,
     ) -> Result<Desk, PrepareError>
+        requires book { MayBeBook (M.meaning (M.numbers model.now)) book }
         ensures desk { AreDesks (M.meaning (M.numbers model.now)) width result }
         ensures kind { IfOk result (λ desk. desk.kind ≡ kind) }
+        ensures book { IfOk result (λ desk. desk.book ≡ book) }
     {
         let space = Workspace::prepare(alloc, model, width)?;
         let cutset = Children::prepare(alloc, model, width, kind)?;
         match Sub::blank(alloc, model.vars(), model.words()) {
             Ok(taken) => Ok(Desk {
                 taken,
+                ticket: 0,
                 space,
                 cutset,
                 kind,
                 fates: Vec::new(alloc),
+                book,
             }),
             Err(_) => Err(PrepareError::OutOfMemory),
         }
+    }
+
+    /// The book of the desk, where it has one.
+    pub fn into_book(self) -> Option<CoverBook>
+        ensures { result ≡ self.book }
+    {
+        self.book
     }
 }

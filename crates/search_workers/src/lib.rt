@@ -4,7 +4,8 @@
 //! value and the distance of the settings; the beam is offered as a solution. Where the width took nothing from that diagram, no
 //! completion is better than the threshold and the beam, so the subproblem is finished without children. Otherwise its relaxed
 //! diagram is compiled with the reach as it is then; the solution that it finds is offered, and its children are those of the kind
-//! that the desk was prepared for.
+//! that the desk was prepared for. A worker whose desk has a book puts the relaxed diagram into it once the subproblem is finished, so it
+//! compiles that diagram in either case.
 //!
 //! The crate has two parts, and a `Desk` is what a round needs in either:
 //!
@@ -13,13 +14,14 @@
 //!   side, and `explore_together` a whole search, which ends with `explore` on the closed board.
 //!
 //! ```
-//! let mut desk = Desk::prepare(alloc, &model, 100, CutKind::LastExactLayer)?;
+//! let mut desk = Desk::prepare(alloc, &model, 100, CutKind::LastExactLayer, None)?;
 //! explore(alloc, &mut kept, &mut desk, &model);
 //! let bound = kept.board().bound();
 //! ```
 #![tactic(auto)]
 
 mod branched;
+mod collecting;
 mod desk;
 mod rounds;
 mod workers;

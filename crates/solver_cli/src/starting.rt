@@ -129,13 +129,13 @@ fn desks_for<M: DpModel>(
     requires { 1 ≤ workers }
     ensures { AreAllDesks (M.meaning (M.numbers model.now)) width workers cutset result }
 {
-    let first = Desk::prepare(alloc, model, width, cutset)?;
+    let first = Desk::prepare(alloc, model, width, cutset, None)?;
     let Ok(mut desks) = Vec::with_capacity(alloc, workers as usize) else {
         return Err(PrepareError::OutOfMemory);
     };
     desks.push_reserved(first);
     for _made in 1..workers {
-        desks.push_reserved(Desk::prepare(alloc, model, width, cutset)?);
+        desks.push_reserved(Desk::prepare(alloc, model, width, cutset, None)?);
     }
     Ok(desks)
 }

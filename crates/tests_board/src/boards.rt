@@ -176,6 +176,32 @@ fn at_first<M: DpModel>(alloc: Global, model: M) -> Result<Shown, OutOfMemory> {
     Ok(last_seen(board))
 }
 
+/// The first subproblem that is open or out, with its bound, how many there are, and the next ticket.
+fn frontier_seen<M: DpModel>(
+    board: &Board<M>,
+) -> Result<(Option<(u64, i64)>, usize, u64), OutOfMemory> {
+    let frontier = board.frontier()?;
+    let first = match frontier.as_slice().first() {
+        Some(one) => {
+            let (ticket, sub) = *one;
+            Some((ticket, sub.bound))
+        }
+        None => None,
+    };
+    Ok((first, board.live(), board.next_ticket()))
+}
+
+/// That of the board once the worker has asked for the root.
+fn frontier_after_asking<M: DpModel>(
+    alloc: Global,
+    model: M,
+) -> Result<(Option<(u64, i64)>, usize, u64), OutOfMemory> {
+    let (board, _answer, _bound) = root_taken(alloc, model, 1)?;
+    let found = frontier_seen(&board);
+    let _shown = last_seen(board);
+    found
+}
+
 /// What the board shows once the worker has asked for the root, with the answer and the bound of what the worker got.
 fn after_asking<M: DpModel>(
     alloc: Global,
@@ -324,6 +350,14 @@ fn takes_the_root(rt: HostRuntime) -> Result<(), Fail> {
         ..AT_FIRST
     };
     assert_eq!(rt; found, (Taken::Sub, 121, wanted));
+    Ok(())
+}
+
+#[test]
+fn what_is_out_stays_in_the_frontier(rt: HostRuntime) -> Result<(), Fail> {
+    let model = items(&rt, rt.alloc(), THREE_ITEMS);
+    let found = frontier_after_asking(rt.alloc(), model)?;
+    assert_eq!(rt; found, (Some((0, 121)), 1, 1));
     Ok(())
 }
 

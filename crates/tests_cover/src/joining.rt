@@ -14,7 +14,8 @@ use tokens::{Place, TextError};
 const INSTANCE: &[u8] = b"1 1\n4 1\n";
 
 /// The item is left out in part 0, and taken in part 1.
-const BOTH: &[u8] = b"proved\nvalue 0\nassignment 0\ncover knapsack\npart 0 2\ninstance 8\n1 1\n4 1\nlayer 0 1\n0 ; 1 ; 0 0\nlayer 1 1\n0 ; 1\nend\nproved\nvalue 4\nassignment 1\ncover knapsack\npart 1 2\ninstance 8\n1 1\n4 1\nlayer 0 1\n4 ; 1 ; 1 0\nlayer 1 1\n0 ; 0\nend\n";
+const BOTH: &[u8] =
+    b"proved\nvalue 0\nassignment 0\ncover knapsack\npart 0 2\ninstance 8\n1 1\n4 1\nlayer 0 1\n0 ; 1 ; 0 0\nlayer 1 1\n0 ; 1\nend\nproved\nvalue 4\nassignment 1\ncover knapsack\npart 1 2\ninstance 8\n1 1\n4 1\nlayer 0 1\n4 ; 1 ; 1 0\nlayer 1 1\n0 ; 0\nend\n";
 
 /// The rows of the whole: those of part 1 stand after that of part 0.
 const WHOLE: &[u8] = b"layer 0 1\n4 ; 1 ; 0 0 1 1\nlayer 1 2\n0 ; 1\n0 ; 0\nend\n";

@@ -8,6 +8,8 @@
 
 #[cfg(test)]
 mod boards;
+#[cfg(test)]
+mod books;
 mod counter;
 #[cfg(test)]
 mod tests;

@@ -1,4 +1,5 @@
 use crate::boards::{items, last_value, meet_over_board, open_board};
+use crate::books::{Collection, collected};
 use crate::workers::{close, count_all, meet, open};
 use std::process::Abort;
 use std::test::Fail;
@@ -39,4 +40,24 @@ fn two_seats(rt: HostRuntime) {
     let found = meet_over_board(&rt, rt.alloc(), &turn, seats.as_mut_slice(), &[1, 1, 0]);
     let left = last_value(search_workers::close(turn, seats));
     both_find(&rt, found, left);
+}
+
+/// One worker puts a diagram into its book for each subproblem that it finishes; where the book has no room, none.
+#[test]
+fn one_worker_collects(rt: HostRuntime) {
+    let roomy = collected(&rt, rt.alloc(), 1_000_000);
+    assert!(rt;
+        roomy
+            == Collection {
+                pages: 3,
+                finished: 3
+            }
+    );
+    let full = collected(&rt, rt.alloc(), 0);
+    assert!(rt;
+        full == Collection {
+            pages: 0,
+            finished: 3
+        }
+    );
 }

@@ -2,7 +2,6 @@
 use Rattle.std.specs.Prelude.{◌≡◌, ℕ, List, ◌++◌, true, Result, Ok, ℤ}
 use Rattle.std.specs.List.{list_all}
 use Rattle.tokens.specs.Text.{TextState, is_blank, number_at, word_at, after_token}
-use Rattle.tokens.specs.Grammar.{InstanceError}
 
 -- reading stands before these bytes, perhaps with blanks in between
 pub record IsBefore (bytes : List ℕ) (s : TextState) : Type 0 where
@@ -23,7 +22,7 @@ pub record ReadsWord (word : List ℕ) (behind : List ℕ) (s : TextState) : Typ
   pub comment_is : (after_token s).comment ≡ s.comment
 
 -- a printed part is read, and reading stands before what was printed behind it
-pub record ReadsPart {A : Type 0} (part : A → TextState → Result (A × TextState) InstanceError) (made next : A) (tail : List ℕ) (s : TextState) : Type 0 where
+pub record ReadsPart {A E : Type 0} (part : A → TextState → Result (A × TextState) E) (made next : A) (tail : List ℕ) (s : TextState) : Type 0 where
   pub behind : TextState
   pub read : part made s ≡ Ok (next, behind)
   pub before : IsBefore tail behind

@@ -15,7 +15,8 @@ use Rattle.tokens.specs.Text.{TextState, number_at, place_of, after_token}
 use Rattle.tokens.specs.declared.text_error.TextError.{TextError}
 use Rattle.tokens.specs.declared.place.Place.{Place}
 use Rattle.tokens.specs.declared.instance_error.InstanceError.{InstanceError}
-use Rattle.tokens.specs.Grammar.{read_then, number_then, part_then, times}
+use Rattle.tokens.specs.Chain.{until, never, times}
+use Rattle.tokens.specs.Grammar.{read_then, number_then, part_then}
 use Rattle.tokens.proofs.Ranges.{number_at_range}
 use Rattle.tsp_windows.specs.Instance.{Window, is_window, is_small}
 use Rattle.tsp_windows.specs.Texts.{distance_at, window_at}
@@ -99,7 +100,7 @@ record AreAll (n : ℕ) (made ds : List ℕ) (count : ℕ) : Type 0 where
   longer : length ds ≡ length made + count
 
 distances-read : (n count : ℕ) (made ds : List ℕ) (s t : TextState) → times (distance_at n) count made s ≡ Ok (ds, t) → AreAll n made ds count
-unfolding times
+unfolding times until
 distances-read n zero made ds s t e =
     let pair : (made, s) ≡ (ds, t) = cc in
     let same : made ≡ ds = ap (λ (p : List ℕ × TextState). p.0) pair in
@@ -153,7 +154,7 @@ record AreAllWindows (made ws : List Window) (count : ℕ) : Type 0 where
   longer : length ws ≡ length made + count
 
 windows-read : (count : ℕ) (made ws : List Window) (s t : TextState) → times window_at count made s ≡ Ok (ws, t) → AreAllWindows made ws count
-unfolding times
+unfolding times until
 windows-read zero made ws s t e =
     let pair : (made, s) ≡ (ws, t) = cc in
     let same : made ≡ ws = ap (λ (p : List Window × TextState). p.0) pair in

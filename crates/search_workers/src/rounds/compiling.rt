@@ -5,7 +5,7 @@ ghost use Rattle.board_laws.specs.Board.{reach};
 ghost use Rattle.dp_model.specs.Numbers.{OptionAtMost};
 ghost use Rattle.dp_model.specs.Reached.{reached};
 ghost use Rattle.dp_model.specs.Subproblem.{IsOwn};
-ghost use Rattle.dp_laws.specs.Diagrams.Cutsets.{found_in};
+ghost use Rattle.dp_laws.specs.Diagrams.Cutsets.{children_at, found_in};
 ghost use Rattle.dp_laws.specs.Restricted.Beams.{beam, wide};
 ghost use Rattle.dp_laws.specs.Rules.Compiling.{relaxed};
 ghost use Rattle.turn.specs.History.{HasMoved};
@@ -15,10 +15,11 @@ ghost use Rattle.kept_board.specs.Moves.{IsMove};
 ghost use Rattle.kept_board.specs.View.{tag_of};
 ghost use Rattle.relaxed_dd.specs.Shown.{layers_of, width_of, IsDiagramOf};
 ghost use Rattle.search_workers.specs.Branched.{IsBranched};
+ghost use Rattle.search_workers.specs.Collected.{HoldsDiagram};
 ghost use Rattle.search_workers.specs.Offered.{beam_value, IsOffered};
 ghost use Rattle.search_workers.specs.Prepared.{HoldsChildren};
 ghost use Rattle.search_workers.specs.Stopped.{IsRefused};
-ghost use Rattle.search_workers.specs.Taken.{taken_from};
+ghost use Rattle.search_workers.specs.Taken.{kind_taken, taken_from};
 
 use super::offering::offer;
 use disk::Disk;
@@ -26,8 +27,7 @@ use dp_model::{CutKind, DpModel, Sub};
 use exact_cutset::{Children, children};
 use kept_board::{Kept, KeptError};
 use layer_build::Workspace;
-use relaxed_dd::{Diagram, relaxed};
-use restricted_dd::compile;
+use relaxed_dd::{Diagram, compile, shown};
 use std::alloc::Global;
 
 /// A record's body has fewer bytes: 2^32.
@@ -72,7 +72,7 @@ pub fn restrict<M: DpModel, D: Disk>(
     ensures width { space.new.width ≡ space.old.width }
 {
     let threshold = kept.board().reach();
-    let compiled = compile(space, model, taken, threshold);
+    let compiled = restricted_dd::compile(space, model, taken, threshold);
     let reduced = compiled.reduced;
     offer(alloc, kept, compiled.found)?;
     Ok(Restricted { threshold, reduced })
@@ -100,6 +100,7 @@ pub fn relax<M: DpModel, D: Disk>(
     requires width { space.old.width ≡ kept.old.board.board.settings.width }
     requires cutset { HoldsChildren (M.meaning (M.numbers model.now)) space.old.width kind cutset.old }
     ensures threshold { IfOk result (λ t. t ≡ reach kept.old.board.board) }
+    ensures subs { IfOk result (λ threshold. cutset.new.subs ≡ taken_from (M.meaning (M.numbers model.now)) (relaxed (M.meaning (M.numbers model.now)) (reached (M.meaning (M.numbers model.now)) taken.now.subproblem.decisions) space.old.width threshold) kind) }
     ensures branched { IfOk result (λ threshold. IsBranched (M.meaning (M.numbers model.now)) kept.new.board.board taken.now.subproblem.decisions threshold cutset.new.subs) }
     ensures offered { OnOk result (IsOffered (M.meaning (M.numbers model.now)) kept.old.board.board kept.new.board.board) }
     ensures refused { IfErr result (λ error. IsRefused (M.meaning (M.numbers model.now)) kept.old.board.board error kept.new.board.board) }
@@ -131,18 +132,20 @@ pub fn fill<M: DpModel>(
     requires cutset { HoldsChildren (M.meaning (M.numbers model.now)) space.old.width kind cutset.old }
     ensures subs { cutset.new.subs ≡ taken_from (M.meaning (M.numbers model.now)) (relaxed (M.meaning (M.numbers model.now)) (reached (M.meaning (M.numbers model.now)) taken.now.subproblem.decisions) space.old.width threshold) kind }
     ensures found { cutset.new.found ≡ found_in (M.meaning (M.numbers model.now)) (relaxed (M.meaning (M.numbers model.now)) (reached (M.meaning (M.numbers model.now)) taken.now.subproblem.decisions) space.old.width threshold) }
+    ensures holds { HoldsDiagram (M.meaning (M.numbers model.now)) space.new cutset.new }
     ensures prepared { IsPreparedFor (M.meaning (M.numbers model.now)) space.new }
     ensures width { space.new.width ≡ space.old.width }
     ensures cutset { HoldsChildren (M.meaning (M.numbers model.now)) space.old.width kind cutset.new }
 {
-    let diagram = relaxed(space, model, taken, threshold);
-    take_children(model, &diagram, kind, cutset);
+    compile(space, model, taken, threshold);
+    take_children(model, &shown(space), kind, cutset);
 }
 
 /// Fills `cutset` with the children of a diagram, and with the solution that it finds.
 fn take_children<M: DpModel>(model: &M, diagram: &Diagram, kind: CutKind, cutset: &mut Children)
     requires diagram { IsDiagramOf (M.meaning (M.numbers model.now)) diagram.now }
     requires prepared { IsListPreparedFor (M.meaning (M.numbers model.now)) (width_of diagram.now) kind cutset.old }
+    ensures places { cutset.new.places ≡ children_at (M.meaning (M.numbers model.now)) (layers_of diagram.now) (kind_taken (M.meaning (M.numbers model.now)) (layers_of diagram.now) kind) }
     ensures subs { cutset.new.subs ≡ taken_from (M.meaning (M.numbers model.now)) (layers_of diagram.now) kind }
     ensures found { cutset.new.found ≡ found_in (M.meaning (M.numbers model.now)) (layers_of diagram.now) }
     ensures prepared { IsListPreparedFor (M.meaning (M.numbers model.now)) (width_of diagram.now) kind cutset.new }
@@ -157,6 +160,7 @@ fn take_children<M: DpModel>(model: &M, diagram: &Diagram, kind: CutKind, cutset
 fn take_frontier<M: DpModel>(model: &M, diagram: &Diagram, cutset: &mut Children)
     requires diagram { IsDiagramOf (M.meaning (M.numbers model.now)) diagram.now }
     requires prepared { IsListPreparedFor (M.meaning (M.numbers model.now)) (width_of diagram.now) CutKind.Frontier cutset.old }
+    ensures places { cutset.new.places ≡ children_at (M.meaning (M.numbers model.now)) (layers_of diagram.now) (kind_taken (M.meaning (M.numbers model.now)) (layers_of diagram.now) CutKind.Frontier) }
     ensures subs { cutset.new.subs ≡ taken_from (M.meaning (M.numbers model.now)) (layers_of diagram.now) CutKind.Frontier }
     ensures found { cutset.new.found ≡ found_in (M.meaning (M.numbers model.now)) (layers_of diagram.now) }
     ensures prepared { IsListPreparedFor (M.meaning (M.numbers model.now)) (width_of diagram.now) CutKind.Frontier cutset.new }

@@ -13,6 +13,7 @@ ghost use Rattle.search_workers.specs.Later.{IsLater, NoRoundFollows, IsComplete
 ghost use Rattle.search_workers.specs.Offered.{IsOffered};
 ghost use Rattle.search_workers.specs.Prepared.{IsPreparedDesk};
 ghost use Rattle.search_workers.specs.Stopped.{refused_by, IsRefused};
+ghost use Rattle.search_workers.specs.Taken.{AreOfDiagrams};
 ghost use Rattle.search_workers.specs.UnderWay.{IsRoundUnderWay, HasFinished, handed_back};
 
 use super::compiling::{relax, restrict};
@@ -50,7 +51,7 @@ pub fn explore<M: DpModel, D: Disk>(
     'rounds: while round(alloc, kept, desk, model) {}
     // What every board keeps of its counts and tickets.
     let _ = kept.board().taken();
-    let _ = kept.board().incumbent_value();
+    kept.board().facts();
 }
 
 /// A round of worker 0. Says whether it finished what it took; if not, no round can follow.
@@ -103,7 +104,7 @@ fn take_one<M: DpModel, D: Disk>(kept: &mut Kept<M, D>, desk: &mut Desk, model: 
 {
     let answer = kept.take(0, &mut desk.taken);
     // What every board keeps of what is out.
-    let _ = kept.board().incumbent_value();
+    kept.board().facts();
     match answer {
         Taken::Sub => true,
         Taken::WaitForOthers | Taken::Finished | Taken::Halted(_) => false,
@@ -152,6 +153,7 @@ fn branch_on<M: DpModel, D: Disk>(
     requires own { IsOwn (M.meaning (M.numbers model.now)) desk.old.taken.subproblem }
     requires going { kept.old.board.board.cause ≡ None }
     requires prepared { IsPreparedDesk (M.meaning (M.numbers model.now)) kept.old.board.board.settings.width desk.old }
+    ensures diagrams { IfOk result (λ b. AreOfDiagrams (M.meaning (M.numbers model.now)) desk.old.space.width desk.old.kind desk.old.taken.subproblem.decisions b.threshold (contents b.children.items)) }
     ensures branched { IfOk result (λ b. IsBranched (M.meaning (M.numbers model.now)) kept.new.board.board desk.old.taken.subproblem.decisions b.threshold (contents b.children.items)) }
     ensures offered { OnOk result (IsOffered (M.meaning (M.numbers model.now)) kept.old.board.board kept.new.board.board) }
     ensures refused { IfErr result (λ error. IsRefused (M.meaning (M.numbers model.now)) kept.old.board.board error kept.new.board.board) }
@@ -165,6 +167,7 @@ fn branch_on<M: DpModel, D: Disk>(
         return Ok(Branched {
             threshold: restricted.threshold,
             children: Vec::new(alloc),
+            on_desk: false,
         });
     }
     let threshold = relax(
@@ -180,6 +183,7 @@ fn branch_on<M: DpModel, D: Disk>(
     Ok(Branched {
         threshold,
         children,
+        on_desk: true,
     })
 }
 

@@ -41,6 +41,6 @@ pub fn offer<M: DpModel, D: Disk>(
         let _ = kept.improve(alloc, found.decisions)?;
     }
     // What every board keeps of its distance.
-    let _ = kept.board().incumbent_value();
+    kept.board().facts();
     Ok(())
 }

@@ -41,7 +41,7 @@ pub fn finish_one<M: DpModel, D: Disk + Send, R: Wait>(
     ensures no_less { NoLess (seen_of seat.old) (seen_of seat.new) }
     ensures ok { OnOk result ((out_of seat.new ≡ None) × (subs.new.items ≡ [])) }
     ensures stopped { IfErr result (λ stopped. IsLeftOut stopped (out_of seat.old) (out_of seat.new) × (subs.new ≡ subs.old)) }
-    ensures why { IfErr result (WasStopped D.Disk (first_of turn.now)) }
+    ensures why { IfErr result (WasStopped D.Disk M.meaning turn.now seat.old seat.new) }
 {
     let who = seat.number();
     let mut guard = turn.hold(rt, seat);

@@ -42,7 +42,7 @@ fn give_back_one<M: DpModel, D: Disk + Send, R: Wait>(
     ensures worker { IsWorker turn.now seat.new }
     ensures number { seat.new.number ≡ seat.old.number }
     ensures no_less { NoLess (seen_of seat.old) (seen_of seat.new) }
-    ensures ended { result ≡ true → HasEndedAt (first_of turn.now) }
+    ensures ended { result ≡ true → HasEndedAt turn.now seat.new }
     ensures out { MatchBool result (out_of seat.new ≡ None) (out_of seat.new ≡ out_of seat.old) }
 {
     let who = seat.number();
@@ -64,7 +64,7 @@ fn hand_back<M: DpModel, D: Disk + Send, R: Wait>(
     requires worker { IsWorker turn.now seat.old }
     requires full { IsSome (out_of seat.old) }
     ensures ready { IsReadySeat turn.now seat.new }
-    ensures ended { HasEndedAt (first_of turn.now) }
+    ensures ended { HasEndedAt turn.now seat.new }
     ensures number { seat.new.number ≡ seat.old.number }
     ensures no_less { NoLess (seen_of seat.old) (seen_of seat.new) }
 {
@@ -87,7 +87,7 @@ pub fn give_up<M: DpModel, D: Disk + Send, R: Wait>(
     requires worker { IsWorker turn.now seat.old }
     requires full { IsSome (out_of seat.old) }
     ensures ready { IsReadySeat turn.now seat.new }
-    ensures ended { HasEndedAt (first_of turn.now) }
+    ensures ended { HasEndedAt turn.now seat.new }
     ensures number { seat.new.number ≡ seat.old.number }
     ensures no_less { NoLess (seen_of seat.old) (seen_of seat.new) }
 {

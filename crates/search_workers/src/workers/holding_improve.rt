@@ -7,7 +7,7 @@ ghost use Rattle.dp_model.specs.Numbers.{AtMost, OptionAtMost};
 ghost use Rattle.dp_model.specs.Prefixes.{IsSolution, value_of};
 ghost use Rattle.search_workers.specs.Ready.{IsWorker};
 ghost use Rattle.search_workers.specs.Seen.{reach_seen};
-ghost use Rattle.search_workers.specs.Stopped.{IsLeftOut, WasStopped};
+ghost use Rattle.search_workers.specs.Stopped.{IsLeftOut, HasLeft, WasStopped};
 
 use super::moving::improve;
 use super::stopped::Stopped;
@@ -35,13 +35,14 @@ pub fn improve_one<M: DpModel, D: Disk + Send, R: Wait>(
     requires worker { IsWorker turn.now seat.old }
     ensures worker { IsWorker turn.now seat.new }
     ensures number { seat.new.number ≡ seat.old.number }
+    ensures left { HasLeft turn.now seat.new }
     ensures reach { IfOk result (λ reach. reach ≡ reach_seen turn.now seat.new) }
     ensures above { OnOk result (OptionAtMost (seen_of seat.new) (reach_seen turn.now seat.new)) }
     ensures no_less { NoLess (seen_of seat.old) (seen_of seat.new) }
     ensures better { OnOk result (IsSolution (M.meaning (first_of turn.now).board.numbers) decisions.now → AtMost (value_of (M.meaning (first_of turn.now).board.numbers) decisions.now) (seen_of seat.new)) }
     ensures out { OnOk result (out_of seat.new ≡ out_of seat.old) }
     ensures stopped { IfErr result (λ stopped. IsLeftOut stopped (out_of seat.old) (out_of seat.new)) }
-    ensures why { IfErr result (WasStopped D.Disk (first_of turn.now)) }
+    ensures why { IfErr result (WasStopped D.Disk M.meaning turn.now seat.old seat.new) }
 {
     let who = seat.number();
     let mut guard = turn.hold(rt, seat);

@@ -6,7 +6,7 @@ ghost use Rattle.turn.specs.Seats.{first_of, seen_of, out_of};
 ghost use Rattle.search_workers.specs.Prepared.{CanHold};
 ghost use Rattle.search_workers.specs.Ready.{IfOver, IsWorker, IsReadySeat, TakenOut};
 ghost use Rattle.search_workers.specs.Seen.{reach_seen};
-ghost use Rattle.search_workers.specs.Stopped.{HasEndedAt};
+ghost use Rattle.search_workers.specs.Stopped.{HasLeft, HasEndedAt};
 
 use super::moving::{Asked, take};
 use disk::Disk;
@@ -29,7 +29,8 @@ pub fn take_one<M: DpModel, D: Disk + Send, R: Wait>(
     requires room { CanHold (M.meaning (M.numbers model.now)) into.old }
     ensures worker { IsWorker turn.now seat.new }
     ensures number { seat.new.number ≡ seat.old.number }
-    ensures ended { IfOver result.taken (HasEndedAt (first_of turn.now)) }
+    ensures left { HasLeft turn.now seat.new }
+    ensures ended { IfOver result.taken (HasEndedAt turn.now seat.new) }
     ensures reach { result.reach ≡ reach_seen turn.now seat.new }
     ensures no_less { NoLess (seen_of seat.old) (seen_of seat.new) }
     ensures out { TakenOut (M.meaning (M.numbers model.now)) result.taken (out_of seat.new) into.new.subproblem }

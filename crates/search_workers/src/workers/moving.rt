@@ -2,6 +2,7 @@
 
 ghost use Rattle.std.specs.Prelude.{◌≡◌, ◌≢◌, ◌⊎◌, ◌<◌, true, false, [], None, Some, IsSome, IfOk, OnOk, IfErr, MatchBool};
 ghost use Rattle.board_laws.specs.Board.{incumbent_value, reach};
+ghost use Rattle.board_laws.specs.Steps.{given_back};
 ghost use Rattle.board_laws.specs.declared.cause.Cause.TheVariants.{Journal};
 ghost use Rattle.dp_model.specs.Numbers.{AtMost, OptionAtMost};
 ghost use Rattle.dp_model.specs.Prefixes.{IsSolution, value_of};
@@ -22,10 +23,11 @@ use dp_model::{DpModel, Sub};
 use kept_board::Kept;
 use std::alloc::Global;
 
-/// What a worker got that asked for a subproblem, and the reach as it was then.
+/// What a worker got that asked for a subproblem, with its ticket, which is 0 where it got none, and the reach as it was then.
 #[derive(Clone, Copy, Debug)]
 pub struct Asked {
     pub taken: Taken,
+    pub ticket: u64,
     pub reach: Option<i64>,
 }
 
@@ -40,19 +42,24 @@ pub fn take<M: DpModel, D: Disk>(
     requires within { who < kept.old.board.board.settings.workers }
     requires nothing_out { out_at kept.old.board.board who ≡ None }
     requires room { CanHold (M.meaning (M.numbers model.now)) into.old }
-    ensures ended { IfOver result.taken (NoRoundFollows kept.old.board.board) }
+    ensures ended { IfOver result.taken (NoRoundFollows kept.new.board.board) }
     ensures reach { result.reach ≡ reach kept.new.board.board }
     ensures out { TakenOut (M.meaning (M.numbers model.now)) result.taken (out_at kept.new.board.board who) into.new.subproblem }
     ensures room { CanHold (M.meaning (M.numbers model.now)) into.new }
     ensures moves { (kept.new ≡ kept.old) ⊎ IsMove D.Disk M.meaning kept.old kept.new who }
 {
     // What every board keeps of its slots.
-    let _ = kept.board().incumbent_value();
+    kept.board().facts();
     let taken = kept.take(who, into);
     // What every board keeps of what is out.
-    let _ = kept.board().incumbent_value();
+    kept.board().facts();
+    let ticket = kept.board().slot_ticket(who).unwrap_or(0);
     let reach = kept.board().reach();
-    Asked { taken, reach }
+    Asked {
+        taken,
+        ticket,
+        reach,
+    }
 }
 
 /// Offers a solution. Gives the reach that is left: the solution's value is at most the incumbent's, and this is at most the reach.
@@ -72,7 +79,7 @@ pub fn improve<M: DpModel, D: Disk>(
     ensures better { OnOk result (IsSolution (M.meaning kept.old.board.numbers) decisions.now → AtMost (value_of (M.meaning kept.old.board.numbers) decisions.now) (incumbent_value kept.new.board.board)) }
     ensures out { OnOk result (out_at kept.new.board.board who ≡ out_at kept.old.board.board who) }
     ensures stopped { IfErr result (λ stopped. IsLeftOut stopped (out_at kept.old.board.board who) (out_at kept.new.board.board who)) }
-    ensures why { IfErr result (λ stopped. IsWhy D.Disk stopped kept.old kept.new) }
+    ensures why { IfErr result (λ stopped. IsWhy D.Disk who stopped kept.old kept.new) }
     ensures moves { (kept.new ≡ kept.old) ⊎ IsMove D.Disk M.meaning kept.old kept.new who }
 {
     if has_failed(kept) {
@@ -82,7 +89,7 @@ pub fn improve<M: DpModel, D: Disk>(
     match kept.improve(alloc, decisions) {
         Ok(_) => {
             // What every board keeps of its distance.
-            let _ = kept.board().incumbent_value();
+            kept.board().facts();
             Ok(kept.board().reach())
         }
         Err(error) => Err(Stopped::Refused(error)),
@@ -106,7 +113,7 @@ pub fn finish<M: DpModel, D: Disk>(
     ensures out { OnOk result (out_at kept.new.board.board who ≡ None) }
     ensures emptied { OnOk result (subs.new.items ≡ []) }
     ensures stopped { IfErr result (λ stopped. IsLeftOut stopped (out_at kept.old.board.board who) (out_at kept.new.board.board who) × (subs.new ≡ subs.old)) }
-    ensures why { IfErr result (λ stopped. IsWhy D.Disk stopped kept.old kept.new) }
+    ensures why { IfErr result (λ stopped. IsWhy D.Disk who stopped kept.old kept.new) }
     ensures moves { (kept.new ≡ kept.old) ⊎ IsMove D.Disk M.meaning kept.old kept.new who }
 {
     if has_failed(kept) {
@@ -122,7 +129,7 @@ pub fn finish<M: DpModel, D: Disk>(
 /// Hands back what the worker has out where a cause is held, else halts the search for want of memory. Says whether it handed back.
 pub fn give_back<M: DpModel, D: Disk>(kept: &mut Kept<M, D>, who: u32) -> bool
     requires full { IsSome (out_at kept.old.board.board who) }
-    ensures ended { result ≡ true → NoRoundFollows kept.old.board.board }
+    ensures ended { result ≡ true → NoRoundFollows kept.new.board.board }
     ensures out { MatchBool result (out_at kept.new.board.board who ≡ None) (out_at kept.new.board.board who ≡ out_at kept.old.board.board who) }
     ensures moves { (kept.new ≡ kept.old) ⊎ IsMove D.Disk M.meaning kept.old kept.new who }
 {
@@ -138,11 +145,12 @@ pub fn give_back<M: DpModel, D: Disk>(kept: &mut Kept<M, D>, who: u32) -> bool
 fn hand_back<M: DpModel, D: Disk>(kept: &mut Kept<M, D>, who: u32)
     requires halted { IsSome kept.old.board.board.cause }
     requires within { who < kept.old.board.board.settings.workers }
+    ensures step { kept.new.board.board ≡ given_back kept.old.board.board who }
     ensures out { out_at kept.new.board.board who ≡ None }
     ensures moves { (kept.new ≡ kept.old) ⊎ IsMove D.Disk M.meaning kept.old kept.new who }
 {
     // What every board keeps of its slots.
-    let _ = kept.board().incumbent_value();
+    kept.board().facts();
     if kept.board().slot_ticket(who).is_some() {
         kept.give_back(who);
     }

@@ -4,17 +4,21 @@ ghost use Rattle.std.specs.Prelude.{◌≡◌, false, [], is_some, OnOk, IfOk, I
 ghost use Rattle.turn.specs.Order.{NoLess};
 ghost use Rattle.turn.specs.Seats.{first_of, seen_of, out_of};
 ghost use Rattle.dp_model.specs.Numbers.{OptionAtMost};
+ghost use Rattle.dp_model.specs.Reached.{reached};
 ghost use Rattle.dp_model.specs.Subproblem.{IsOwn};
 ghost use Rattle.dp_laws.specs.Children.{found_value};
 ghost use Rattle.dp_laws.specs.Restricted.Beams.{beam, wide};
+ghost use Rattle.dp_laws.specs.Rules.Compiling.{relaxed};
 ghost use Rattle.board_laws.specs.GoodBoard.{IncumbentHolds};
 ghost use Rattle.layer_build.specs.Layers.{IsPreparedFor};
 ghost use Rattle.search_workers.specs.Branched.{AreBranched};
+ghost use Rattle.search_workers.specs.Collected.{HoldsDiagram};
 ghost use Rattle.search_workers.specs.Offered.{beam_value, found_solution};
 ghost use Rattle.search_workers.specs.Prepared.{HoldsChildren};
 ghost use Rattle.search_workers.specs.Ready.{IsWorker};
 ghost use Rattle.search_workers.specs.Seen.{reach_seen};
-ghost use Rattle.search_workers.specs.Stopped.{IsLeftOut, WasStopped};
+ghost use Rattle.search_workers.specs.Taken.{taken_from};
+ghost use Rattle.search_workers.specs.Stopped.{IsLeftOut, HasLeft, WasStopped};
 
 use super::gate::{Gate, Step};
 use super::holding_improve::improve_one;
@@ -55,16 +59,18 @@ fn offer_one<M: DpModel, D: Disk + Send, G: Gate, R: Wait>(
     reach: Option<i64>,
 ) -> Result<Option<i64>, Stopped>
     requires worker { IsWorker turn.now seat.old }
+    requires left { HasLeft turn.now seat.old }
     requires reach { reach ≡ reach_seen turn.now seat.old }
     requires held { IncumbentHolds (M.meaning (first_of turn.now).board.numbers) (found_solution found) }
     ensures worker { IsWorker turn.now seat.new }
     ensures number { seat.new.number ≡ seat.old.number }
+    ensures left { OnOk result (HasLeft turn.now seat.new) }
     ensures out { OnOk result (out_of seat.new ≡ out_of seat.old) }
     ensures reach { IfOk result (λ reach. reach ≡ reach_seen turn.now seat.new) }
     ensures no_less { NoLess (seen_of seat.old) (seen_of seat.new) }
     ensures found { OnOk result (OptionAtMost (found_value (found_solution found.entry)) (reach_seen turn.now seat.new)) }
     ensures stopped { IfErr result (λ stopped. IsLeftOut stopped (out_of seat.old) (out_of seat.new)) }
-    ensures why { IfErr result (WasStopped D.Disk (first_of turn.now)) }
+    ensures why { IfErr result (WasStopped D.Disk M.meaning turn.now seat.old seat.new) }
 {
     let Some(found) = found else {
         return Ok(reach);
@@ -93,18 +99,21 @@ pub fn restrict_one<M: DpModel, D: Disk + Send, G: Gate, R: Wait>(
 ) -> Result<Restricted, Stopped>
     requires numbers { (first_of turn.now).board.numbers ≡ M.numbers model.now }
     requires worker { IsWorker turn.now seat.old }
+    requires left { HasLeft turn.now seat.old }
     requires reach { reach ≡ reach_seen turn.now seat.old }
     requires own { IsOwn (M.meaning (M.numbers model.now)) taken.now.subproblem }
     requires prepared { IsPreparedFor (M.meaning (M.numbers model.now)) space.old }
     ensures worker { IsWorker turn.now seat.new }
     ensures number { seat.new.number ≡ seat.old.number }
+    ensures left { OnOk result (HasLeft turn.now seat.new) }
     ensures out { OnOk result (out_of seat.new ≡ out_of seat.old) }
     ensures reach { IfOk result (λ r. r.reach ≡ reach_seen turn.now seat.new) }
+    ensures no_less { NoLess (seen_of seat.old) (seen_of seat.new) }
     ensures reduced { IfOk result (λ r. r.reduced ≡ is_some (wide (M.meaning (M.numbers model.now)) taken.now.subproblem.decisions space.old.width reach)) }
     ensures beam { OnOk result (OptionAtMost (beam_value (beam (M.meaning (M.numbers model.now)) taken.now.subproblem.decisions space.old.width reach)) (reach_seen turn.now seat.new)) }
     ensures whole { IfOk result (λ r. r.reduced ≡ false → AreBranched (M.meaning (M.numbers model.now)) (first_of turn.now).board.board.settings.width (reach_seen turn.now seat.new) taken.now.subproblem.decisions reach []) }
     ensures stopped { IfErr result (λ stopped. IsLeftOut stopped (out_of seat.old) (out_of seat.new)) }
-    ensures why { IfErr result (WasStopped D.Disk (first_of turn.now)) }
+    ensures why { IfErr result (WasStopped D.Disk M.meaning turn.now seat.old seat.new) }
     ensures prepared { IsPreparedFor (M.meaning (M.numbers model.now)) space.new }
     ensures width { space.new.width ≡ space.old.width }
 {
@@ -135,6 +144,7 @@ pub fn relax_one<M: DpModel, D: Disk + Send, G: Gate, R: Wait>(
 ) -> Result<(), Stopped>
     requires numbers { (first_of turn.now).board.numbers ≡ M.numbers model.now }
     requires worker { IsWorker turn.now seat.old }
+    requires left { HasLeft turn.now seat.old }
     requires reach { reach ≡ reach_seen turn.now seat.old }
     requires own { IsOwn (M.meaning (M.numbers model.now)) taken.now.subproblem }
     requires prepared { IsPreparedFor (M.meaning (M.numbers model.now)) space.old }
@@ -142,10 +152,14 @@ pub fn relax_one<M: DpModel, D: Disk + Send, G: Gate, R: Wait>(
     requires cutset { HoldsChildren (M.meaning (M.numbers model.now)) space.old.width kind cutset.old }
     ensures worker { IsWorker turn.now seat.new }
     ensures number { seat.new.number ≡ seat.old.number }
+    ensures left { OnOk result (HasLeft turn.now seat.new) }
     ensures out { OnOk result (out_of seat.new ≡ out_of seat.old) }
+    ensures no_less { NoLess (seen_of seat.old) (seen_of seat.new) }
+    ensures subs { OnOk result (cutset.new.subs ≡ taken_from (M.meaning (M.numbers model.now)) (relaxed (M.meaning (M.numbers model.now)) (reached (M.meaning (M.numbers model.now)) taken.now.subproblem.decisions) space.old.width reach) kind) }
     ensures branched { OnOk result (AreBranched (M.meaning (M.numbers model.now)) (first_of turn.now).board.board.settings.width (reach_seen turn.now seat.new) taken.now.subproblem.decisions reach cutset.new.subs) }
+    ensures holds { HoldsDiagram (M.meaning (M.numbers model.now)) space.new cutset.new }
     ensures stopped { IfErr result (λ stopped. IsLeftOut stopped (out_of seat.old) (out_of seat.new)) }
-    ensures why { IfErr result (WasStopped D.Disk (first_of turn.now)) }
+    ensures why { IfErr result (WasStopped D.Disk M.meaning turn.now seat.old seat.new) }
     ensures prepared { IsPreparedFor (M.meaning (M.numbers model.now)) space.new }
     ensures width { space.new.width ≡ space.old.width }
     ensures cutset { HoldsChildren (M.meaning (M.numbers model.now)) space.old.width kind cutset.new }

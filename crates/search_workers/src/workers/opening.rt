@@ -33,7 +33,7 @@ pub fn open<M: DpModel, D: Disk + Send>(
     ensures err { IfErr result (λ n. n.value ≡ kept) }
 {
     // What every board keeps of its workers.
-    let _ = kept.board().incumbent_value();
+    kept.board().facts();
     match Turn::new(alloc, kept, workers) {
         Ok((turn, seats)) => Ok((turn, seats)),
         Err(refused) => Err(refused),

@@ -1,6 +1,6 @@
 //! The workers side by side, and the search that they make.
 
-ghost use Rattle.std.specs.Prelude.{◌≡◌, ◌<◌, [], length, map, IfOk, IfErr, vec_len};
+ghost use Rattle.std.specs.Prelude.{◌≡◌, [], length, map, IfOk, IfErr, vec_len};
 ghost use Rattle.std.specs.List.{All};
 ghost use Rattle.turn.specs.History.{HasMoved};
 ghost use Rattle.turn.specs.Seats.{first_of, number_of};
@@ -46,11 +46,11 @@ pub fn fan_out<M: DpModel, D: Disk + Send, G: Gate + Sync, R: Threads + Wait + S
     ensures seats { map number_of seats.new ≡ map number_of seats.old }
     ensures prepared { All (IsPreparedDesk (M.meaning (M.numbers model.now)) (first_of turn.now).board.board.settings.width) desks.new }
     ensures desks { length desks.new ≡ length desks.old }
-    ensures ended { 0 < length seats.old → HasEndedAt (first_of turn.now) }
+    ensures ended { All (HasEndedAt turn.now) seats.new }
 {
     let one = |seat: &mut Seat<Kept<M, D>>, desk: &mut Desk|
         requires { ((first_of turn.now).board.numbers ≡ M.numbers model.now) × IsReadySeat turn.now seat.now × IsPreparedDesk (M.meaning (M.numbers model.now)) (first_of turn.now).board.board.settings.width desk.now }
-        ensures { IsReadySeat turn.entry.now seat.exit.now × (seat.exit.now.number ≡ seat.entry.now.number) × IsPreparedDesk (M.meaning (M.numbers model.entry.now)) (first_of turn.entry.now).board.board.settings.width desk.exit.now × HasEndedAt (first_of turn.entry.now) }
+        ensures { IsReadySeat turn.entry.now seat.exit.now × (seat.exit.now.number ≡ seat.entry.now.number) × IsPreparedDesk (M.meaning (M.numbers model.entry.now)) (first_of turn.entry.now).board.board.settings.width desk.exit.now × HasEndedAt turn.entry.now seat.exit.now }
     { work(rt, alloc, turn, seat, desk, model, gate) };
     side_by_side(rt, &one, seats, desks);
 }
@@ -116,7 +116,7 @@ pub fn explore_together<M: DpModel, D: Disk + Send, G: Gate + Sync, R: Threads +
     match work_together(rt, alloc, kept, desks, model, gate) {
         Ok(mut kept) => {
             // What every board keeps of its slots.
-            let _ = kept.board().incumbent_value();
+            kept.board().facts();
             explore(alloc, &mut kept, &mut desks[0], model);
             Ok(kept)
         }

@@ -1,13 +1,17 @@
 //! What one worker does.
 
-ghost use Rattle.std.specs.Prelude.{◌≡◌, false, None, OnOk, IfOk, IfErr};
+ghost use Rattle.std.specs.Prelude.{◌≡◌, true, false, None, OnOk, IfOk, IfErr};
+ghost use Rattle.turn.specs.Order.{NoLess};
 ghost use Rattle.turn.specs.Seats.{first_of, seen_of, out_of};
 ghost use Rattle.board.specs.Contents.{contents};
-ghost use Rattle.search_workers.specs.Prepared.{IsPreparedDesk};
+ghost use Rattle.dp_model.specs.Subproblem.{IsOwn};
+ghost use Rattle.search_workers.specs.Collected.{HoldsDiagram};
+ghost use Rattle.search_workers.specs.Prepared.{HasDeskRoom, IsPreparedDesk};
 ghost use Rattle.search_workers.specs.FinishLater.{MayFinishLater};
 ghost use Rattle.search_workers.specs.Ready.{IsWorker, IsReadySeat, IsOut};
 ghost use Rattle.search_workers.specs.Seen.{reach_seen};
-ghost use Rattle.search_workers.specs.Stopped.{IsLeftOut, WasStopped, HasEndedAt};
+ghost use Rattle.search_workers.specs.Taken.{AreOfDiagrams};
+ghost use Rattle.search_workers.specs.Stopped.{IsLeftOut, HasLeft, WasStopped, HasEndedAt};
 
 use super::gate::{Gate, Step};
 use super::holding_finish::finish_one;
@@ -16,7 +20,9 @@ use super::holding_take::take_one;
 use super::offering::{relax_one, restrict_one};
 use super::stopped::Stopped;
 use crate::branched::Branched;
+use crate::collecting::collect_from;
 use crate::desk::Desk;
+use crate::rounds::fill;
 use board::Taken;
 use disk::Disk;
 use dp_model::DpModel;
@@ -43,7 +49,7 @@ pub fn work<M: DpModel, D: Disk + Send, G: Gate + Sync, R: Wait>(
     requires ready { IsReadySeat turn.now seat.old }
     requires prepared { IsPreparedDesk (M.meaning (M.numbers model.now)) (first_of turn.now).board.board.settings.width desk.old }
     ensures ready { IsReadySeat turn.now seat.new }
-    ensures ended { HasEndedAt (first_of turn.now) }
+    ensures ended { HasEndedAt turn.now seat.new }
     ensures number { seat.new.number ≡ seat.old.number }
     ensures prepared { IsPreparedDesk (M.meaning (M.numbers model.now)) (first_of turn.now).board.board.settings.width desk.new }
 {
@@ -69,7 +75,7 @@ fn round<M: DpModel, D: Disk + Send, G: Gate + Sync, R: Wait>(
     requires ready { IsReadySeat turn.now seat.old }
     requires prepared { IsPreparedDesk (M.meaning (M.numbers model.now)) (first_of turn.now).board.board.settings.width desk.old }
     ensures ready { IsReadySeat turn.now seat.new }
-    ensures ended { result ≡ false → HasEndedAt (first_of turn.now) }
+    ensures ended { result ≡ false → HasEndedAt turn.now seat.new }
     ensures number { seat.new.number ≡ seat.old.number }
     ensures prepared { IsPreparedDesk (M.meaning (M.numbers model.now)) (first_of turn.now).board.board.settings.width desk.new }
 {
@@ -77,6 +83,7 @@ fn round<M: DpModel, D: Disk + Send, G: Gate + Sync, R: Wait>(
     let asked = take_one(rt, turn, seat, &mut desk.taken, model);
     match asked.taken {
         Taken::Sub => {
+            desk.ticket = asked.ticket;
             gate.pass(who, Step::Taken);
             go_on(rt, alloc, turn, seat, desk, model, gate, asked.reach)
         }
@@ -102,11 +109,12 @@ fn go_on<M: DpModel, D: Disk + Send, G: Gate + Sync, R: Wait>(
 ) -> bool
     requires numbers { (first_of turn.now).board.numbers ≡ M.numbers model.now }
     requires worker { IsWorker turn.now seat.old }
+    requires left { HasLeft turn.now seat.old }
     requires reach { reach ≡ reach_seen turn.now seat.old }
     requires out { IsOut (M.meaning (M.numbers model.now)) (out_of seat.old) desk.old.taken.subproblem }
     requires prepared { IsPreparedDesk (M.meaning (M.numbers model.now)) (first_of turn.now).board.board.settings.width desk.old }
     ensures ready { IsReadySeat turn.now seat.new }
-    ensures ended { result ≡ false → HasEndedAt (first_of turn.now) }
+    ensures ended { result ≡ false → HasEndedAt turn.now seat.new }
     ensures number { seat.new.number ≡ seat.old.number }
     ensures prepared { IsPreparedDesk (M.meaning (M.numbers model.now)) (first_of turn.now).board.board.settings.width desk.new }
 {
@@ -145,6 +153,7 @@ fn expand<M: DpModel, D: Disk + Send, G: Gate + Sync, R: Wait>(
 ) -> Result<(), Stopped>
     requires numbers { (first_of turn.now).board.numbers ≡ M.numbers model.now }
     requires worker { IsWorker turn.now seat.old }
+    requires left { HasLeft turn.now seat.old }
     requires reach { reach ≡ reach_seen turn.now seat.old }
     requires out { IsOut (M.meaning (M.numbers model.now)) (out_of seat.old) desk.old.taken.subproblem }
     requires prepared { IsPreparedDesk (M.meaning (M.numbers model.now)) (first_of turn.now).board.board.settings.width desk.old }
@@ -152,7 +161,7 @@ fn expand<M: DpModel, D: Disk + Send, G: Gate + Sync, R: Wait>(
     ensures number { seat.new.number ≡ seat.old.number }
     ensures ok { OnOk result (out_of seat.new ≡ None) }
     ensures stopped { IfErr result (λ stopped. IsLeftOut stopped (out_of seat.old) (out_of seat.new)) }
-    ensures why { IfErr result (WasStopped D.Disk (first_of turn.now)) }
+    ensures why { IfErr result (WasStopped D.Disk M.meaning turn.now seat.old seat.new) }
     ensures prepared { IsPreparedDesk (M.meaning (M.numbers model.now)) (first_of turn.now).board.board.settings.width desk.new }
 {
     let mut branched = branch(rt, alloc, turn, seat, desk, model, gate, reach)?;
@@ -165,8 +174,33 @@ fn expand<M: DpModel, D: Disk + Send, G: Gate + Sync, R: Wait>(
         &mut branched.children,
         &mut desk.fates,
     );
+    if finished.is_ok() && branched.on_desk {
+        collect_from(alloc, desk, model);
+    }
     desk.fates.clear();
     finished
+}
+
+/// Compiles the relaxed diagram of a subproblem that has no children, where the desk has a book for it. Says whether it did.
+fn fill_for_book<M: DpModel>(desk: &mut Desk, threshold: Option<i64>, model: &M) -> bool
+    requires own { IsOwn (M.meaning (M.numbers model.now)) desk.old.taken.subproblem }
+    requires room { HasDeskRoom (M.meaning (M.numbers model.now)) desk.old.space.width desk.old }
+    ensures holds { result ≡ true → HoldsDiagram (M.meaning (M.numbers model.now)) desk.new.space desk.new.cutset }
+    ensures room { HasDeskRoom (M.meaning (M.numbers model.now)) desk.old.space.width desk.new }
+    ensures rest { desk.new ≡ record desk.old { space = desk.new.space; cutset = desk.new.cutset } }
+{
+    if desk.book.is_none() {
+        return false;
+    }
+    fill(
+        &mut desk.space,
+        &mut desk.cutset,
+        &desk.taken,
+        threshold,
+        desk.kind,
+        model,
+    );
+    true
 }
 
 /// Branches on what was taken, outside the turn: the solutions that its diagrams find are offered, and its children are made.
@@ -186,15 +220,19 @@ fn branch<M: DpModel, D: Disk + Send, G: Gate + Sync, R: Wait>(
 ) -> Result<Branched, Stopped>
     requires numbers { (first_of turn.now).board.numbers ≡ M.numbers model.now }
     requires worker { IsWorker turn.now seat.old }
+    requires left { HasLeft turn.now seat.old }
     requires reach { reach ≡ reach_seen turn.now seat.old }
     requires out { IsOut (M.meaning (M.numbers model.now)) (out_of seat.old) desk.old.taken.subproblem }
     requires prepared { IsPreparedDesk (M.meaning (M.numbers model.now)) (first_of turn.now).board.board.settings.width desk.old }
     ensures worker { IsWorker turn.now seat.new }
     ensures number { seat.new.number ≡ seat.old.number }
+    ensures no_less { NoLess (seen_of seat.old) (seen_of seat.new) }
     ensures out { OnOk result (out_of seat.new ≡ out_of seat.old) }
+    ensures diagrams { IfOk result (λ b. AreOfDiagrams (M.meaning (M.numbers model.now)) desk.old.space.width desk.old.kind desk.old.taken.subproblem.decisions b.threshold (contents b.children.items)) }
+    ensures holds { IfOk result (λ b. b.on_desk ≡ true → HoldsDiagram (M.meaning (M.numbers model.now)) desk.new.space desk.new.cutset) }
     ensures branched { IfOk result (λ b. MayFinishLater (M.meaning (M.numbers model.now)) (first_of turn.now).board.board.settings (out_of seat.new) (seen_of seat.new) b.threshold (contents b.children.items)) }
     ensures stopped { IfErr result (λ stopped. IsLeftOut stopped (out_of seat.old) (out_of seat.new)) }
-    ensures why { IfErr result (WasStopped D.Disk (first_of turn.now)) }
+    ensures why { IfErr result (WasStopped D.Disk M.meaning turn.now seat.old seat.new) }
     ensures prepared { IsPreparedDesk (M.meaning (M.numbers model.now)) (first_of turn.now).board.board.settings.width desk.new }
 {
     let restricted = restrict_one(
@@ -212,6 +250,7 @@ fn branch<M: DpModel, D: Disk + Send, G: Gate + Sync, R: Wait>(
         return Ok(Branched {
             threshold: reach,
             children: Vec::new(alloc),
+            on_desk: fill_for_book(desk, restricted.reach, model),
         });
     }
     relax_one(
@@ -231,6 +270,7 @@ fn branch<M: DpModel, D: Disk + Send, G: Gate + Sync, R: Wait>(
         Ok(children) => Ok(Branched {
             threshold: restricted.reach,
             children,
+            on_desk: true,
         }),
         Err(_) => Err(Stopped::Refused(KeptError::OutOfMemory)),
     }

@@ -1,7 +1,5 @@
-use Rattle.std.proofs.Common.{◌≡◌, ◌<◌, length, map, take, ◌∙◌, sym, arith}
-use Rattle.std.proofs.lemmas.List.{length-map, length-take}
-use Rattle.relaxed_dd.specs.Shown.{layers_of, layer_in}
-use Rattle.cover_pages.specs.Pages.{row_of}
+use Rattle.std.proofs.Common.{◌∙◌, sym}
+use Rattle.relaxed_dd.specs.Shown.{layers_of}
 use Rattle.cover_pages.proofs.Rows.{cells-at, put-node}
 use Rattle.cover_pages.proofs.writing.put_layer.Goals as goal
 

@@ -14,18 +14,18 @@ returns-clause-tried g c = λ ts h.
     let row2 = way_row e.new.region e.new.table.ways.items in
     let taken = c.in-Some.taken in
     let told = c.in-Some.ensures in
-    let t = trial a.parent.state.now a.exact a.decision in
+    let t = trial a.attempt.parent.state.now a.attempt.exact a.attempt.decision in
     let size : c.len-count.result ≡ length a.found.now.table.ways.items = search rules in
     let low = placed-low dp a.k row2 (length a.found.now.table.ways.items) (length e.new.table.ways.items) t taken.place told.place in
     let arc : c.push_reserved.new.self.items ≡ a.arcs.now.items ++ arc_to dp a.k t taken.place ∷ [] = search rules in
     let room : taken.place < length a.found.now.marks.items = (let wide = c.requires.marks_room in omega arith) in
     let old = a.found.now.marks in
     let all = take old.len (c.mark.new.marks ++ drop (length c.mark.new.marks) old.items) in
-    let is : c.mark.new.marks ≡ marked old.items (length a.found.now.table.ways.items) taken.place a.exact =
-    c.mark.ensures ∙ ap₂ (λ (m : List Bool) (n : ℕ). marked m n taken.place a.exact) c.as_mut_slice.ensures.value size in
+    let is : c.mark.new.marks ≡ marked old.items (length a.found.now.table.ways.items) taken.place a.attempt.exact =
+    c.mark.ensures ∙ ap₂ (λ (m : List Bool) (n : ℕ). marked m n taken.place a.attempt.exact) c.as_mut_slice.ensures.value size in
     let whole : length c.mark.new.marks ≡ old.len = ap length is ∙ (length-set old.items taken.place _ ∙ search rules) in
-    let marks : all ≡ marked old.items (length a.found.now.table.ways.items) taken.place a.exact = with_items_is old c.mark.new.marks whole ∙ is in
-    subst (λ us. AreTried dp a.k row2 (length e.new.table.ways.items) (ts ++ us) all c.push_reserved.new.self.items) (sym (trials-one dp a.k a.parent.state.now a.exact a.decision (sym told.allowed)))
+    let marks : all ≡ marked old.items (length a.found.now.table.ways.items) taken.place a.attempt.exact = with_items_is old c.mark.new.marks whole ∙ is in
+    subst (λ us. AreTried dp a.k row2 (length e.new.table.ways.items) (ts ++ us) all c.push_reserved.new.self.items) (sym (trials-one dp a.k a.attempt.parent.state.now a.attempt.exact a.attempt.decision (sym told.allowed)))
     (subst (λ l. AreTried dp a.k row2 (length e.new.table.ways.items) (ts ++ t ∷ []) all l) (sym arc)
     (subst (λ m. AreTried dp a.k row2 (length e.new.table.ways.items) (ts ++ t ∷ []) m (a.arcs.now.items ++ arc_to dp a.k t taken.place ∷ [])) (sym marks)
     (tried-more dp a.k row row2 (length a.found.now.table.ways.items) (length e.new.table.ways.items) ts t taken.place a.found.now.marks.items a.arcs.now.items
@@ -46,5 +46,5 @@ returns-in_default-clause-tried g c = λ ts h.
     let a = c.args in
     let e = c.extend_by in
     let told = c.in_default.ensures in
-    tried-none dp a.k a.parent.step a.parent.state.now a.parent.value a.exact a.found.now.table.live a.decision (way_row a.region.now a.found.now.table.ways.items) (way_row e.new.region e.new.table.ways.items) a.found.now.table.ways.items e.new.table.ways.items e.new.table.folds.items e.new.table.heads.items e.new.table.next.items
+    tried-none dp a.k a.attempt.parent.step a.attempt.parent.state.now a.attempt.parent.value a.attempt.exact a.found.now.table.live a.attempt.decision (way_row a.region.now a.found.now.table.ways.items) (way_row e.new.region e.new.table.ways.items) a.found.now.table.ways.items e.new.table.ways.items e.new.table.folds.items e.new.table.heads.items e.new.table.next.items
     ts a.found.now.marks.items a.arcs.now.items (sym told.allowed) told.extended told.before h

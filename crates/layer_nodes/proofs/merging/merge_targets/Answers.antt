@@ -17,10 +17,10 @@ nodes-preserved g c =
     let l = c.nodes in
     let h = l.invariant.lifted in
     record {
-      lifted = subst (λ r. AreLifted dp a.k (held_row a.region.now) a.into.now a.nodes.now a.target a.redirects.now.items c.greater-best.result r (l.i + 1)) (sym c.push_reserved.ensures.items)
-          (lifted-more dp a.k (held_row a.region.now) a.into.now a.nodes.now a.target a.redirects.now.items l.best c.greater-best.result l.redirects.items c.redirect_by.result l.i none h c.nodes-test.true
+      lifted = subst (λ r. AreLifted dp a.k (held_row a.region.now) a.into.state.now a.nodes.now a.into.place a.redirects.now.items c.greater-best.result r (l.i + 1)) (sym c.push_reserved.ensures.items)
+          (lifted-more dp a.k (held_row a.region.now) a.into.state.now a.nodes.now a.into.place a.redirects.now.items l.best c.greater-best.result l.redirects.items c.redirect_by.result l.i none h c.nodes-test.true
           (c.greater-best.ensures ∙ ap (greater l.best) (c.lifted.ensures ∙ ap (add_some _) c.gap_to-gap.ensures.gap))
-          (c.redirect_by.ensures.redirect ∙ ap (redirect_by a.target) c.gap_to-gap.ensures.gap)
+          (c.redirect_by.ensures.redirect ∙ ap (redirect_by a.into.place) c.gap_to-gap.ensures.gap)
           c.redirect_by.ensures.short);
       capacity = c.push_reserved.ensures.capacity ∙ l.invariant.capacity;
     }

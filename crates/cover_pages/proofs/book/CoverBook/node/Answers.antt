@@ -1,6 +1,5 @@
-use Rattle.std.proofs.Common.{◌≡◌, ◌+◌, ◌<◌, ℕ, List, length, slice_get, Option, Some, None, get_or, sym, ap, ap₂, subst, ◌∙◌, arith}
+use Rattle.std.proofs.Common.{◌≡◌, ◌+◌, ◌<◌, ℕ, List, length, slice_get, Some, None, get_or, sym, ap, ap₂, ◌∙◌}
 use Rattle.row_region.specs.declared.region.RowId.{RowId}
-use Rattle.cover_pages.specs.Pages.{NodeView}
 use Rattle.cover_pages.specs.Books.{BookView}
 use Rattle.cover_pages.specs.Stored.{NodeBody, LayerBody, PageBody, IsStored, row_in}
 use Rattle.cover_pages.specs.Readers.{nodes_in}

@@ -21,8 +21,8 @@ prune-more-requires-clause-keys g c κs within =
     let n = c.list_next.new in
     let ways = n.self.table.ways.items in
     let keys = n.self.keys.items in
-    let h : HasListed dp a.k a.threshold a.region.now a.members.now.items n.region n.self = subst (λ ms. HasListed dp a.k a.threshold a.region.now ms n.region n.self) c.as_slice.ensures.value c.list_next.ensures.listed in
-    subst (Each (IsKeyIn dp (a.k + 1) n.region)) (sym c.as_slice-2.ensures.value) (layer-in dp a.k a.threshold a.region.now h.0 n.region a.members.now.items ways keys h.1)
+    let h : HasListed dp a.k a.limits.threshold a.region.now a.members.now.items n.region n.self = subst (λ ms. HasListed dp a.k a.limits.threshold a.region.now ms n.region n.self) c.as_slice.ensures.value c.list_next.ensures.listed in
+    subst (Each (IsKeyIn dp (a.k + 1) n.region)) (sym c.as_slice-2.ensures.value) (layer-in dp a.k a.limits.threshold a.region.now h.0 n.region a.members.now.items ways keys h.1)
 
 pub prune-more-requires-clause-held : goal.prune-more-requires-clause-held
 prune-more-requires-clause-held g c κs within =
@@ -31,8 +31,8 @@ prune-more-requires-clause-held g c κs within =
     let n = c.list_next.new in
     let ways = n.self.table.ways.items in
     let keys = n.self.keys.items in
-    let h : HasListed dp a.k a.threshold a.region.now a.members.now.items n.region n.self = subst (λ ms. HasListed dp a.k a.threshold a.region.now ms n.region n.self) c.as_slice.ensures.value c.list_next.ensures.listed in
-    subst (λ l. AreLive n.region (key_rows l)) (sym c.as_slice-2.ensures.value) (layer-live dp a.k a.threshold a.region.now h.0 n.region a.members.now.items ways keys h.1)
+    let h : HasListed dp a.k a.limits.threshold a.region.now a.members.now.items n.region n.self = subst (λ ms. HasListed dp a.k a.limits.threshold a.region.now ms n.region n.self) c.as_slice.ensures.value c.list_next.ensures.listed in
+    subst (λ l. AreLive n.region (key_rows l)) (sym c.as_slice-2.ensures.value) (layer-live dp a.k a.limits.threshold a.region.now h.0 n.region a.members.now.items ways keys h.1)
 
 pub prune-more-requires-clause-kept_room : goal.prune-more-requires-clause-kept_room
 prune-more-requires-clause-kept_room g c κs within =
@@ -41,9 +41,9 @@ prune-more-requires-clause-kept_room g c κs within =
     let n = c.list_next.new in
     let ways = n.self.table.ways.items in
     let keys = n.self.keys.items in
-    let h : HasListed dp a.k a.threshold a.region.now a.members.now.items n.region n.self = subst (λ ms. HasListed dp a.k a.threshold a.region.now ms n.region n.self) c.as_slice.ensures.value c.list_next.ensures.listed in
+    let h : HasListed dp a.k a.limits.threshold a.region.now a.members.now.items n.region n.self = subst (λ ms. HasListed dp a.k a.limits.threshold a.region.now ms n.region n.self) c.as_slice.ensures.value c.list_next.ensures.listed in
     let size = ap length c.as_slice-2.ensures.value in
-    let less = unstruck-length dp (a.k + 1) a.threshold h.0 ways keys h.1.all in
+    let less = unstruck-length dp (a.k + 1) a.limits.threshold h.0 ways keys h.1.all in
     let few = h.1.few in
     let hold = (c.list_next.ensures.memory _ _ c.requires.memory).kept in
     omega arith
@@ -55,13 +55,13 @@ descend-requires-clause-within g c =
     let n = c.list_next.new in
     let ways = n.self.table.ways.items in
     let keys = n.self.keys.items in
-    let h : HasListed dp a.k a.threshold a.region.now a.members.now.items n.region n.self = subst (λ ms. HasListed dp a.k a.threshold a.region.now ms n.region n.self) c.as_slice.ensures.value c.list_next.ensures.listed in
+    let h : HasListed dp a.k a.limits.threshold a.region.now a.members.now.items n.region n.self = subst (λ ms. HasListed dp a.k a.limits.threshold a.region.now ms n.region n.self) c.as_slice.ensures.value c.list_next.ensures.listed in
     let p = c.prune-more in
     let kept = p.new.kept.items in
-    let done : HasPruned dp (a.k + 1) a.most n.region keys kept p.result = subst (λ l. HasPruned dp (a.k + 1) a.most n.region l kept p.result) c.as_slice-2.ensures.value p.ensures.pruned in
+    let done : HasPruned dp (a.k + 1) a.limits.width n.region keys kept p.result = subst (λ l. HasPruned dp (a.k + 1) a.limits.width n.region l kept p.result) c.as_slice-2.ensures.value p.ensures.pruned in
     let left : HasLeft n.region (key_rows keys) p.new.region (key_rows kept) = subst (λ l. HasLeft n.region (key_rows l) p.new.region (key_rows kept)) c.as_slice-2.ensures.value p.ensures.left in
     subst (λ l. Each (λ (key : Key). key.place < length l) c.as_slice-4.result.now) (sym c.as_slice-3.ensures.value)
-    (subst (Each (λ (key : Key). key.place < length ways)) (sym c.as_slice-4.ensures.value) (kept-places dp a.k a.threshold a.region.now h.0 n.region a.members.now.items ways keys h.1 a.most p.new.region kept p.result done left a.steps.now.items))
+    (subst (Each (λ (key : Key). key.place < length ways)) (sym c.as_slice-4.ensures.value) (kept-places dp a.k a.limits.threshold a.region.now h.0 n.region a.members.now.items ways keys h.1 a.limits.width p.new.region kept p.result done left a.steps.now.items))
 
 pub returns-clause-list : goal.returns-clause-list
 returns-clause-list g c = λ prefix.
@@ -70,15 +70,15 @@ returns-clause-list g c = λ prefix.
     let n = c.list_next.new in
     let ways = n.self.table.ways.items in
     let keys = n.self.keys.items in
-    let h : HasListed dp a.k a.threshold a.region.now a.members.now.items n.region n.self = subst (λ ms. HasListed dp a.k a.threshold a.region.now ms n.region n.self) c.as_slice.ensures.value c.list_next.ensures.listed in
+    let h : HasListed dp a.k a.limits.threshold a.region.now a.members.now.items n.region n.self = subst (λ ms. HasListed dp a.k a.limits.threshold a.region.now ms n.region n.self) c.as_slice.ensures.value c.list_next.ensures.listed in
     let p = c.prune-more in
     let kept = p.new.kept.items in
-    let done : HasPruned dp (a.k + 1) a.most n.region keys kept p.result = subst (λ l. HasPruned dp (a.k + 1) a.most n.region l kept p.result) c.as_slice-2.ensures.value p.ensures.pruned in
+    let done : HasPruned dp (a.k + 1) a.limits.width n.region keys kept p.result = subst (λ l. HasPruned dp (a.k + 1) a.limits.width n.region l kept p.result) c.as_slice-2.ensures.value p.ensures.pruned in
     let left : HasLeft n.region (key_rows keys) p.new.region (key_rows kept) = subst (λ l. HasLeft n.region (key_rows l) p.new.region (key_rows kept)) c.as_slice-2.ensures.value p.ensures.left in
     let size = length a.steps.now.items in
     let members : c.descend.new.members.items ≡ entered size kept = c.descend.ensures.members ∙ ap (entered size) c.as_slice-4.ensures.value in
     let steps : c.descend.new.steps.items ≡ a.steps.now.items ++ map (step_of ways) kept = c.descend.ensures.steps ∙ ap₂ (λ (w : List Way) l. a.steps.now.items ++ map (step_of w) l) c.as_slice-3.ensures.value c.as_slice-4.ensures.value in
-    ap₂ (λ ss ms. members_as (path_at prefix ss) p.new.region ms) steps members ∙ next-list dp a.k a.threshold a.region.now h.0 n.region a.members.now.items ways keys h.1 a.most p.new.region kept p.result done left a.steps.now.items c.requires.reached prefix
+    ap₂ (λ ss ms. members_as (path_at prefix ss) p.new.region ms) steps members ∙ next-list dp a.k a.limits.threshold a.region.now h.0 n.region a.members.now.items ways keys h.1 a.limits.width p.new.region kept p.result done left a.steps.now.items c.requires.reached prefix
 
 pub returns-clause-more : goal.returns-clause-more
 returns-clause-more g c = λ prefix.
@@ -87,12 +87,12 @@ returns-clause-more g c = λ prefix.
     let n = c.list_next.new in
     let ways = n.self.table.ways.items in
     let keys = n.self.keys.items in
-    let h : HasListed dp a.k a.threshold a.region.now a.members.now.items n.region n.self = subst (λ ms. HasListed dp a.k a.threshold a.region.now ms n.region n.self) c.as_slice.ensures.value c.list_next.ensures.listed in
+    let h : HasListed dp a.k a.limits.threshold a.region.now a.members.now.items n.region n.self = subst (λ ms. HasListed dp a.k a.limits.threshold a.region.now ms n.region n.self) c.as_slice.ensures.value c.list_next.ensures.listed in
     let p = c.prune-more in
     let kept = p.new.kept.items in
-    let done : HasPruned dp (a.k + 1) a.most n.region keys kept p.result = subst (λ l. HasPruned dp (a.k + 1) a.most n.region l kept p.result) c.as_slice-2.ensures.value p.ensures.pruned in
+    let done : HasPruned dp (a.k + 1) a.limits.width n.region keys kept p.result = subst (λ l. HasPruned dp (a.k + 1) a.limits.width n.region l kept p.result) c.as_slice-2.ensures.value p.ensures.pruned in
     let left : HasLeft n.region (key_rows keys) p.new.region (key_rows kept) = subst (λ l. HasLeft n.region (key_rows l) p.new.region (key_rows kept)) c.as_slice-2.ensures.value p.ensures.left in
-    next-more dp a.k a.threshold a.region.now h.0 n.region a.members.now.items ways keys h.1 a.most p.new.region kept p.result done left a.steps.now.items prefix
+    next-more dp a.k a.limits.threshold a.region.now h.0 n.region a.members.now.items ways keys h.1 a.limits.width p.new.region kept p.result done left a.steps.now.items prefix
 
 pub returns-clause-held : goal.returns-clause-held
 returns-clause-held g c =
@@ -101,14 +101,14 @@ returns-clause-held g c =
     let n = c.list_next.new in
     let ways = n.self.table.ways.items in
     let keys = n.self.keys.items in
-    let h : HasListed dp a.k a.threshold a.region.now a.members.now.items n.region n.self = subst (λ ms. HasListed dp a.k a.threshold a.region.now ms n.region n.self) c.as_slice.ensures.value c.list_next.ensures.listed in
+    let h : HasListed dp a.k a.limits.threshold a.region.now a.members.now.items n.region n.self = subst (λ ms. HasListed dp a.k a.limits.threshold a.region.now ms n.region n.self) c.as_slice.ensures.value c.list_next.ensures.listed in
     let p = c.prune-more in
     let kept = p.new.kept.items in
-    let done : HasPruned dp (a.k + 1) a.most n.region keys kept p.result = subst (λ l. HasPruned dp (a.k + 1) a.most n.region l kept p.result) c.as_slice-2.ensures.value p.ensures.pruned in
+    let done : HasPruned dp (a.k + 1) a.limits.width n.region keys kept p.result = subst (λ l. HasPruned dp (a.k + 1) a.limits.width n.region l kept p.result) c.as_slice-2.ensures.value p.ensures.pruned in
     let left : HasLeft n.region (key_rows keys) p.new.region (key_rows kept) = subst (λ l. HasLeft n.region (key_rows l) p.new.region (key_rows kept)) c.as_slice-2.ensures.value p.ensures.left in
     let size = length a.steps.now.items in
     let members : c.descend.new.members.items ≡ entered size kept = c.descend.ensures.members ∙ ap (entered size) c.as_slice-4.ensures.value in
-    subst (Each (IsHeldAt dp (a.k + 1) p.new.region)) (sym members) (next-held dp a.k a.threshold a.region.now h.0 n.region a.members.now.items ways keys h.1 a.most p.new.region kept p.result done left a.steps.now.items)
+    subst (Each (IsHeldAt dp (a.k + 1) p.new.region)) (sym members) (next-held dp a.k a.limits.threshold a.region.now h.0 n.region a.members.now.items ways keys h.1 a.limits.width p.new.region kept p.result done left a.steps.now.items)
 
 pub returns-clause-exchanged : goal.returns-clause-exchanged
 returns-clause-exchanged g c =
@@ -117,14 +117,14 @@ returns-clause-exchanged g c =
     let n = c.list_next.new in
     let ways = n.self.table.ways.items in
     let keys = n.self.keys.items in
-    let h : HasListed dp a.k a.threshold a.region.now a.members.now.items n.region n.self = subst (λ ms. HasListed dp a.k a.threshold a.region.now ms n.region n.self) c.as_slice.ensures.value c.list_next.ensures.listed in
+    let h : HasListed dp a.k a.limits.threshold a.region.now a.members.now.items n.region n.self = subst (λ ms. HasListed dp a.k a.limits.threshold a.region.now ms n.region n.self) c.as_slice.ensures.value c.list_next.ensures.listed in
     let p = c.prune-more in
     let kept = p.new.kept.items in
-    let done : HasPruned dp (a.k + 1) a.most n.region keys kept p.result = subst (λ l. HasPruned dp (a.k + 1) a.most n.region l kept p.result) c.as_slice-2.ensures.value p.ensures.pruned in
+    let done : HasPruned dp (a.k + 1) a.limits.width n.region keys kept p.result = subst (λ l. HasPruned dp (a.k + 1) a.limits.width n.region l kept p.result) c.as_slice-2.ensures.value p.ensures.pruned in
     let left : HasLeft n.region (key_rows keys) p.new.region (key_rows kept) = subst (λ l. HasLeft n.region (key_rows l) p.new.region (key_rows kept)) c.as_slice-2.ensures.value p.ensures.left in
     let size = length a.steps.now.items in
     let members : c.descend.new.members.items ≡ entered size kept = c.descend.ensures.members ∙ ap (entered size) c.as_slice-4.ensures.value in
-    subst (λ ms. HasExchanged a.region.now (member_rows a.members.now.items) p.new.region (member_rows ms)) (sym members) (next-exchanged dp a.k a.threshold a.region.now h.0 n.region a.members.now.items ways keys h.1 a.most p.new.region kept p.result done left a.steps.now.items)
+    subst (λ ms. HasExchanged a.region.now (member_rows a.members.now.items) p.new.region (member_rows ms)) (sym members) (next-exchanged dp a.k a.limits.threshold a.region.now h.0 n.region a.members.now.items ways keys h.1 a.limits.width p.new.region kept p.result done left a.steps.now.items)
 
 pub returns-clause-reached : goal.returns-clause-reached
 returns-clause-reached g c =
@@ -171,13 +171,13 @@ returns-clause-backward g c = λ back.
     let n = c.list_next.new in
     let ways = n.self.table.ways.items in
     let keys = n.self.keys.items in
-    let h : HasListed dp a.k a.threshold a.region.now a.members.now.items n.region n.self = subst (λ ms. HasListed dp a.k a.threshold a.region.now ms n.region n.self) c.as_slice.ensures.value c.list_next.ensures.listed in
+    let h : HasListed dp a.k a.limits.threshold a.region.now a.members.now.items n.region n.self = subst (λ ms. HasListed dp a.k a.limits.threshold a.region.now ms n.region n.self) c.as_slice.ensures.value c.list_next.ensures.listed in
     let p = c.prune-more in
     let kept = p.new.kept.items in
-    let done : HasPruned dp (a.k + 1) a.most n.region keys kept p.result = subst (λ l. HasPruned dp (a.k + 1) a.most n.region l kept p.result) c.as_slice-2.ensures.value p.ensures.pruned in
+    let done : HasPruned dp (a.k + 1) a.limits.width n.region keys kept p.result = subst (λ l. HasPruned dp (a.k + 1) a.limits.width n.region l kept p.result) c.as_slice-2.ensures.value p.ensures.pruned in
     let left : HasLeft n.region (key_rows keys) p.new.region (key_rows kept) = subst (λ l. HasLeft n.region (key_rows l) p.new.region (key_rows kept)) c.as_slice-2.ensures.value p.ensures.left in
     let steps : c.descend.new.steps.items ≡ a.steps.now.items ++ map (step_of ways) kept = c.descend.ensures.steps ∙ ap₂ (λ (w : List Way) l. a.steps.now.items ++ map (step_of w) l) c.as_slice-3.ensures.value c.as_slice-4.ensures.value in
-    subst AreBackward (sym steps) (next-backward dp a.k a.threshold a.region.now h.0 n.region a.members.now.items ways keys h.1 a.most p.new.region kept p.result done left a.steps.now.items c.requires.reached back)
+    subst AreBackward (sym steps) (next-backward dp a.k a.limits.threshold a.region.now h.0 n.region a.members.now.items ways keys h.1 a.limits.width p.new.region kept p.result done left a.steps.now.items c.requires.reached back)
 
 pub prune-more-requires-clause-leaders_room : goal.prune-more-requires-clause-leaders_room
 prune-more-requires-clause-leaders_room g c κs within = (c.list_next.ensures.memory _ _ c.requires.memory).leaders

@@ -63,7 +63,7 @@ returns-clause-complete g c = λ first.
     let firsts = ap (λ (t : KeptTag g.row.D.Denot). t.board.first) tag in
     let begun : IsGood (meaning last.numbers) last.first =
     subst (λ ns. IsGood (meaning ns) last.first) (sym numbers) (subst (IsGood dp) (sym firsts) first) in
-    let goods = subst (λ (v : BoardView). IsGood (meaning v.numbers) v.first → IsGood (meaning v.numbers) v.board) c.board-2.ensures.board c.incumbent_value.ensures.good in
+    let goods = subst (λ (v : BoardView). IsGood (meaning v.numbers) v.first → IsGood (meaning v.numbers) v.board) c.board-2.ensures.board c.facts.ensures.good in
     let good = subst (λ ns. IsGood (meaning ns) last.board) numbers (goods begun) in
     let ended : NoRoundFollows last.board = c.round.ensures.ended c.rounds-test.false in
     let count = c.taken.result in

@@ -19,7 +19,7 @@ take-answer-requires-clause-empty g c κs within = first_empty c.args.kept.now.b
 under_way : (g : given.Over) (c : goal.In-Sub g) → IsRoundUnderWay (g.M.DpModel.meaning (g.M.DpModel.numbers c.args.model.now)) c.args.kept.now.board.board c.take-answer.new.self.board.board c.take-answer.new.into.subproblem
 under_way g c =
     let now = c.take-answer.new.self in
-    let kept = subst (λ (v : BoardView). IsBoard (g.M.DpModel.meaning v.numbers) v.board) c.board.ensures.board c.incumbent_value.ensures.kept in
+    let kept = subst (λ (v : BoardView). IsBoard (g.M.DpModel.meaning v.numbers) v.board) c.board.ensures.board c.facts.ensures.kept in
     let same = subst (λ ns. IsBoard (g.M.DpModel.meaning ns) now.board.board) (ap (λ (t : KeptTag g.row.D.Denot). t.board.numbers) c.take-answer.ensures.tag ∙ c.requires.numbers) kept in
     taken_under_way (g.M.DpModel.meaning (g.M.DpModel.numbers c.args.model.now)) c.args.kept.now.board.board now.board.board c.take-answer.new.into.subproblem c.args.desk.now.taken.subproblem
     (sym c.in-Sub.ensures.answer) c.in-Sub.ensures.step c.in-Sub.ensures.copied c.requires.idle c.requires.some same
@@ -48,4 +48,5 @@ returns-in-Sub-clause-prepared g c =
         cutset = room.cutset;
       };
       no_fates = c.requires.prepared.no_fates;
+      book = c.requires.prepared.book;
     }

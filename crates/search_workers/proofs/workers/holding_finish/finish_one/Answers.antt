@@ -51,4 +51,7 @@ leave-requires-send-V g c κs within =
     search (sendable, crosses, kept_send) depth 40 fits 4000
 
 pub returns-clause-why : goal.returns-clause-why
-returns-clause-why g c = stopped-here g.D.Disk (first_of c.args.turn.now) c.value.result.now c.finish-finished.new.kept c.finish-finished.result (ap tag_of c.value.ensures.now ∙ c.hold-guard.ensures.tag) c.finish-finished.ensures.why
+returns-clause-why g c =
+    let less = subst (λ (v : KeptView g.row.D.Denot). NoLess (seen_of c.args.seat.now) (incumbent_value v.board.board)) (sym c.value.ensures.now) c.hold-guard.ensures.seen in
+    stopped-here g.D.Disk g.M.DpModel.meaning c.args.turn.now c.args.seat.now _ c.value.result.now c.finish-finished.new.kept c.number-who.result (search rules) (ap tag_of c.value.ensures.now ∙ c.hold-guard.ensures.tag) c.finish-finished.ensures.moves (search rules) (search rules) (search rules)
+    c.finish-finished.result less (search rules) c.finish-finished.ensures.why

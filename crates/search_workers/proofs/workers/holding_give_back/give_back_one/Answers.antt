@@ -3,10 +3,10 @@ use Rattle.std.proofs.Crossing.{crosses}
 use Rattle.kept_board.proofs.Sent.{kept_send}
 use Rattle.std.proofs.Common.{◌∙◌, rules, ap, subst, sym}
 use Rattle.turn.specs.Order.{NoLess}
-use Rattle.turn.specs.Seats.{first_of, seen_of}
+use Rattle.turn.specs.Seats.{seen_of}
 use Rattle.board_laws.specs.Board.{incumbent_value}
 use Rattle.kept_board.specs.View.{KeptView, tag_of}
-use Rattle.search_workers.proofs.Stopping.{ended-at}
+use Rattle.search_workers.proofs.Stopping.{ended-here}
 use Rattle.search_workers.proofs.Moves.{still-no-less}
 use Rattle.search_workers.proofs.workers.holding_give_back.give_back_one.Goals as goal
 
@@ -39,4 +39,6 @@ leave-requires-send-V g c κs within =
     search (sendable, crosses, kept_send) depth 40 fits 4000
 
 pub returns-clause-ended : goal.returns-clause-ended
-returns-clause-ended g c = λ handed. ended-at (first_of c.args.turn.now) c.value.result.now (ap tag_of c.value.ensures.now ∙ c.hold-guard.ensures.tag) (c.give_back-handed_back.ensures.ended handed)
+returns-clause-ended g c = λ handed.
+    ended-here g.D.Disk g.M.DpModel.meaning c.args.turn.now c.args.seat.now _ c.value.result.now c.give_back-handed_back.new.kept c.number-who.result (search rules) (ap tag_of c.value.ensures.now ∙ c.hold-guard.ensures.tag) c.give_back-handed_back.ensures.moves (search rules) (search rules) (search rules)
+    (c.give_back-handed_back.ensures.ended handed)

@@ -7,7 +7,7 @@ use Rattle.turn.specs.Seats.{first_of, seen_of}
 use Rattle.board_laws.specs.Board.{incumbent_value, reach_of}
 use Rattle.dp_model.specs.Numbers.{OptionAtMost}
 use Rattle.kept_board.specs.View.{KeptView, tag_of}
-use Rattle.search_workers.proofs.Stopping.{stopped-here}
+use Rattle.search_workers.proofs.Stopping.{left-here, stopped-here}
 use Rattle.search_workers.proofs.Moves.{still-no-less, reach-left}
 use Rattle.search_workers.proofs.Refusing.{on_ok, ok_then}
 use Rattle.search_workers.proofs.workers.holding_improve.improve_one.Goals as goal
@@ -57,5 +57,11 @@ leave-requires-send-V g c κs within =
     let d = c.type_bounds.send-D in
     search (sendable, crosses, kept_send) depth 40 fits 4000
 
+pub returns-clause-left : goal.returns-clause-left
+returns-clause-left g c = left-here g.D.Disk g.M.DpModel.meaning c.args.turn.now c.args.seat.now _ c.value.result.now c.improve-reach.new.kept c.number-who.result (search rules) (ap tag_of c.value.ensures.now ∙ c.hold-guard.ensures.tag) c.improve-reach.ensures.moves (search rules) (search rules) (search rules)
+
 pub returns-clause-why : goal.returns-clause-why
-returns-clause-why g c = stopped-here g.D.Disk (first_of c.args.turn.now) c.value.result.now c.improve-reach.new.kept c.improve-reach.result (ap tag_of c.value.ensures.now ∙ c.hold-guard.ensures.tag) c.improve-reach.ensures.why
+returns-clause-why g c =
+    let less = subst (λ (v : KeptView g.row.D.Denot). NoLess (seen_of c.args.seat.now) (incumbent_value v.board.board)) (sym c.value.ensures.now) c.hold-guard.ensures.seen in
+    stopped-here g.D.Disk g.M.DpModel.meaning c.args.turn.now c.args.seat.now _ c.value.result.now c.improve-reach.new.kept c.number-who.result (search rules) (ap tag_of c.value.ensures.now ∙ c.hold-guard.ensures.tag) c.improve-reach.ensures.moves (search rules) (search rules) (search rules)
+    c.improve-reach.result less (search rules) c.improve-reach.ensures.why

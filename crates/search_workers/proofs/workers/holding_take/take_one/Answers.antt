@@ -6,7 +6,7 @@ use Rattle.turn.specs.Order.{NoLess}
 use Rattle.turn.specs.Seats.{first_of, seen_of}
 use Rattle.board_laws.specs.Board.{incumbent_value, reach_of}
 use Rattle.kept_board.specs.View.{KeptView, tag_of}
-use Rattle.search_workers.proofs.Stopping.{over-then, ended-at}
+use Rattle.search_workers.proofs.Stopping.{over-then, left-here, ended-here}
 use Rattle.search_workers.proofs.Moves.{still-no-less, reach-left}
 use Rattle.search_workers.proofs.workers.holding_take.take_one.Goals as goal
 
@@ -45,6 +45,10 @@ leave-requires-send-V g c κs within =
     let d = c.type_bounds.send-D in
     search (sendable, crosses, kept_send) depth 40 fits 4000
 
+pub returns-clause-left : goal.returns-clause-left
+returns-clause-left g c = left-here g.D.Disk g.M.DpModel.meaning c.args.turn.now c.args.seat.now _ c.value.result.now c.take-asked.new.kept c.number-who.result (search rules) (ap tag_of c.value.ensures.now ∙ c.hold-guard.ensures.tag) c.take-asked.ensures.moves (search rules) (search rules) (search rules)
+
 pub returns-clause-ended : goal.returns-clause-ended
 returns-clause-ended g c =
-    over-then c.take-asked.result.taken (ended-at (first_of c.args.turn.now) c.value.result.now (ap tag_of c.value.ensures.now ∙ c.hold-guard.ensures.tag)) c.take-asked.ensures.ended
+    over-then c.take-asked.result.taken (ended-here g.D.Disk g.M.DpModel.meaning c.args.turn.now c.args.seat.now _ c.value.result.now c.take-asked.new.kept c.number-who.result (search rules) (ap tag_of c.value.ensures.now ∙ c.hold-guard.ensures.tag) c.take-asked.ensures.moves (search rules) (search rules) (search rules))
+    c.take-asked.ensures.ended

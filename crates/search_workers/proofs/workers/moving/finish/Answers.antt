@@ -24,4 +24,4 @@ returns-in-Err-clause-moves g c = inr c.finish.ensures.moves
 pub returns-in-Err-clause-why : goal.returns-in-Err-clause-why
 returns-in-Err-clause-why g c =
     let e = c.in-Err.ensures in
-    why-refused g.D.Disk c.in-Err.error c.args.kept.now c.finish.new.self (λ is. e.rose (ap Err is)) (λ is. (e.journal (ap Err is)).1) (λ is. e.memory (ap Err is))
+    why-refused g.D.Disk c.args.who c.in-Err.error c.args.kept.now c.finish.new.self (λ is. e.rose (ap Err is)) (λ is. (e.journal (ap Err is)).1) (λ is. e.memory (ap Err is))

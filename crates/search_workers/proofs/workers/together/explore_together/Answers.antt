@@ -17,7 +17,7 @@ explore-requires-clause-prepared g c κs within =
     let width : c.in-Ok.kept.board.board.settings.width ≡ first.width = ap (λ (t : KeptTag g.row.D.Denot). t.board.settings.width) tag in
     let workers : c.in-Ok.kept.board.board.settings.workers ≡ first.workers = ap (λ (t : KeptTag g.row.D.Denot). t.board.settings.workers) tag in
     let desks = c.work_together.new.desks in
-    let kept = subst (λ (v : BoardView). IsBoard (g.M.DpModel.meaning v.numbers) v.board) c.board.ensures.board c.incumbent_value.ensures.kept in
+    let kept = subst (λ (v : BoardView). IsBoard (g.M.DpModel.meaning v.numbers) v.board) c.board.ensures.board c.facts.ensures.kept in
     let lt : 0 < length desks.items = omega (arith, kept.settings.some_workers, workers, c.requires.workers, c.work_together.ensures.desks, desks.ok.0) in
     subst (λ w. IsPreparedDesk dp w desk) (sym width) (subst (IsPreparedDesk dp first.width) (sym c.index_mut.ensures.value) (c.work_together.ensures.prepared 0 desk lt))
 

@@ -1,5 +1,6 @@
 use denote.Param.Send.{sendable}
 use Rattle.std.proofs.Crossing.{crosses}
+use Rattle.cover_pages.proofs.Sent.{book_send}
 use Rattle.kept_board.proofs.Sent.{kept_send}
 use Rattle.search_workers.proofs.Sent.{seat_send, turn_sync}
 use Rattle.std.proofs.Common.{rules, ◌≡◌, subst, sym, ap, ◌∙◌}
@@ -10,7 +11,7 @@ use Rattle.search_workers.specs.Prepared.{IsPreparedDesk}
 use Rattle.search_workers.specs.declared.desk.Desk.{Desk}
 use Rattle.search_workers.specs.Ready.{IsReadySeat}
 use Rattle.search_workers.specs.Stopped.{HasEndedAt}
-use Rattle.search_workers.proofs.Calls.{may_call, have_left, all_right, one_pair, pairs_map, desks_left, left_long}
+use Rattle.search_workers.proofs.Calls.{may_call, have_left, all_right, pairs_map, desks_left, left_long}
 use Rattle.search_workers.proofs.workers.together.fan_out.Goals as goal
 
 pub side_by_side-requires-after_bounds : goal.side_by_side-requires-after_bounds
@@ -59,8 +60,11 @@ side_by_side-requires-sync-F g c κs within =
     search (sendable, crosses, kept_send, seat_send, turn_sync) depth 40 fits 4000
 
 pub returns-clause-ended : goal.returns-clause-ended
-returns-clause-ended g c = λ some.
+returns-clause-ended g c =
     let t = c.args.turn.now in
-    let Q : Seat (KeptView _) → Seat (KeptView _) → Type 0 = λ a b. HasEndedAt (first_of t) in
-    let pairs = have_left _ _ Q (λ a b k l x. x.call.3) c.args.seats.now c.side_by_side.new.seats c.args.desks.now c.side_by_side.new.desks c.side_by_side.ensures in
-    one_pair (HasEndedAt (first_of t)) c.args.seats.now c.side_by_side.new.seats some pairs
+    let Q : Seat (KeptView _) → Seat (KeptView _) → Type 0 = λ a b. HasEndedAt t b in
+    let pairs = have_left _ _ Q (λ a b k l x. subst (HasEndedAt t) x.seat_left x.call.3) c.args.seats.now c.side_by_side.new.seats c.args.desks.now c.side_by_side.new.desks c.side_by_side.ensures in
+    all_right Q (HasEndedAt t) (λ a b h. h) c.args.seats.now c.side_by_side.new.seats pairs
+
+pub side_by_side-requires-send-K : goal.side_by_side-requires-send-K
+side_by_side-requires-send-K g c κs within = search (sendable, crosses, book_send) depth 40 fits 4000

@@ -2,7 +2,6 @@ use denote.Param.Send.{sendable}
 use Rattle.std.proofs.Crossing.{crosses}
 use Rattle.kept_board.proofs.Sent.{kept_send}
 use Rattle.std.proofs.Common.{⊎_elim, subst}
-use Rattle.turn.specs.Seats.{first_of}
 use Rattle.board_laws.specs.declared.taken.Taken.{Taken}
 use Rattle.search_workers.specs.Ready.{IfOver}
 use Rattle.search_workers.specs.Stopped.{HasEndedAt}
@@ -17,5 +16,5 @@ wait_turn-requires-send-V g c κs within =
 
 pub returns-in-Finished-clause-ended : goal.returns-in-Finished-clause-ended
 returns-in-Finished-clause-ended g c = λ _.
-    let over : Taken → Type 0 = λ t. IfOver t (HasEndedAt (first_of c.args.turn.now)) in
+    let over : Taken → Type 0 = λ t. IfOver t (HasEndedAt c.args.turn.now c.take_one-asked.new.seat) in
     ⊎_elim (λ is. subst over is c.take_one-asked.ensures.ended) (λ halted. subst over halted.1 c.take_one-asked.ensures.ended) c.in-Finished.is

@@ -1,7 +1,7 @@
 use Rattle.dp_model.specs.Laws.{IsLawful}
 use Rattle.relaxed_dd.proofs.Made.{may-suffix, is-made}
-use Rattle.relaxed_dd.proofs.compiling.make.Given as given
-use Rattle.relaxed_dd.proofs.compiling.make.Goals as goal
+use Rattle.relaxed_dd.proofs.compiling.compile.Given as given
+use Rattle.relaxed_dd.proofs.compiling.compile.Goals as goal
 
 laws_of : (g : given.Over) (m : g.row.M.Denot) → IsLawful (g.M.DpModel.meaning (g.M.DpModel.numbers m))
 laws_of g m = (g.met.M.DpModel g.world.𝓛 g.world.𝓜 g.world.𝓡 ((λ s x. x), (λ x. x), (λ x. x), λ x. x)).lawful m

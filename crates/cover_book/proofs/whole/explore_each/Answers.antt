@@ -3,7 +3,7 @@ use Rattle.dp_model.specs.Best.{best}
 use Rattle.bound_cover.specs.Clamping.{IsReachable}
 use Rattle.bound_cover.specs.Exploring.{HoldsAll}
 use Rattle.bound_cover.specs.Verdicts.{checked_rows}
-use Rattle.cover_book.proofs.whole.explore_whole.Goals as goal
+use Rattle.cover_book.proofs.whole.explore_each.Goals as goal
 
 pub returns-clause-best : goal.returns-clause-best
 returns-clause-best g c =

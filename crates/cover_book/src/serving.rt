@@ -1,0 +1,168 @@
+//! Rows that serve others of their layer: an arc to a row may lead to any row whose bound, lifted by the gap to it, is at most its own.
+
+ghost use Rattle.std.specs.Prelude.{◌≡◌, ◌<◌, ◌≤◌, length, IfSome};
+ghost use Rattle.dp_model.specs.Gaps.{IsStateOf};
+ghost use Rattle.dp_model.specs.Lists.{Each};
+ghost use Rattle.cover_book.specs.Servers.{IsServer};
+
+use bound_cover::is_state_row;
+use dp_model::{DpModel, OutOfMemory};
+use std::alloc::Global;
+
+/// How many rows of a layer serve others at most: those with the least bounds, and of those with the greatest ranks.
+const MOST_SERVERS: usize = 64;
+
+/// A row that may serve others.
+#[derive(Debug, Drop)]
+pub(crate) struct Server {
+    words: Vec<i64>,
+    rank: i64,
+    bound: Option<i64>,
+    pub(crate) number: u32,
+}
+
+/// The greatest gap at which a row with the one bound serves a row with the other; none where no gap does.
+fn most_gap(bound: Option<i64>, wanted: Option<i64>) -> Option<i64> {
+    let Some(bound) = bound else {
+        return Some(i64::MAX);
+    };
+    wanted?.checked_sub(bound)
+}
+
+/// Whether a row serves another one.
+fn serves<M: DpModel>(
+    model: &M,
+    k: usize,
+    server: &Server,
+    words: &[i64],
+    rank: i64,
+    bound: Option<i64>,
+) -> bool
+    requires server { IsServer (M.meaning (M.numbers model.now)) k server.now }
+    requires state { IsStateOf (M.meaning (M.numbers model.now)) k words.now }
+    requires rank { rank ≡ (M.meaning (M.numbers model.now)).rank k words.now }
+{
+    let Some(most) = most_gap(server.bound, bound) else {
+        return false;
+    };
+    let own = server.words.as_slice();
+    model
+        .covers_within(k, own, server.rank, words, rank, most)
+        .is_some()
+}
+
+/// The number of the first row that serves another one; none where there is none.
+fn number_of_server<M: DpModel>(
+    model: &M,
+    k: usize,
+    servers: &[Server],
+    words: &[i64],
+    rank: i64,
+    bound: Option<i64>,
+) -> Option<u32>
+    requires servers { Each (IsServer (M.meaning (M.numbers model.now)) k) servers.now }
+    requires state { IsStateOf (M.meaning (M.numbers model.now)) k words.now }
+    requires rank { rank ≡ (M.meaning (M.numbers model.now)).rank k words.now }
+{
+    'servers: for i in 0..servers.len() {
+        let server = &servers[i];
+        if serves(model, k, server, words, rank, bound) {
+            return Some(server.number);
+        }
+    }
+    None
+}
+
+/// Whether a row comes before a server in strength: by its lesser bound, or by its greater rank where the bounds are the same.
+fn is_stronger(rank: i64, bound: Option<i64>, server: &Server) -> bool {
+    if bound == server.bound {
+        return rank > server.rank;
+    }
+    match (bound, server.bound) {
+        (None, _) => true,
+        (Some(_), None) => false,
+        (Some(bound), Some(other)) => bound < other,
+    }
+}
+
+/// The place of the weakest server, which is the first one where there is no other.
+fn place_of_weakest(servers: &[Server]) -> usize
+    requires { 0 < length servers.now }
+    ensures { result < length servers.now }
+{
+    let mut weakest = 0;
+    'servers: for i in 1..servers.len() {
+        let server = &servers[i];
+        if !is_stronger(server.rank, server.bound, &servers[weakest]) {
+            weakest = i;
+        }
+    }
+    weakest
+}
+
+/// Puts in a row that serves. Where there are enough of them, it takes the place of the weakest one, or is left out.
+fn put_server<M: DpModel>(
+    _model: &M,
+    _k: usize,
+    server: Server,
+    servers: &mut Vec<Server>,
+) -> Result<(), OutOfMemory>
+    requires servers { Each (IsServer (M.meaning (M.numbers _model.now)) _k) servers.old.items }
+    requires server { IsServer (M.meaning (M.numbers _model.now)) _k server }
+    ensures { Each (IsServer (M.meaning (M.numbers _model.now)) _k) servers.new.items }
+{
+    if servers.len() < MOST_SERVERS {
+        servers.reserve(1)?;
+        servers.push_reserved(server);
+        return Ok(());
+    }
+    let place = place_of_weakest(servers.as_slice());
+    if is_stronger(server.rank, server.bound, &servers[place]) {
+        servers[place] = server;
+    }
+    Ok(())
+}
+
+/// The rank of a row, where it is a state of the layer.
+pub(crate) fn rank_of<M: DpModel>(model: &M, k: usize, words: &[i64]) -> Option<i64>
+    requires { k ≤ (M.meaning (M.numbers model.now)).vars }
+    ensures { IfSome result (λ rank. IsStateOf (M.meaning (M.numbers model.now)) k words.now × (rank ≡ (M.meaning (M.numbers model.now)).rank k words.now)) }
+{
+    if is_state_row(model, k, words) {
+        Some(model.rank(k, words))
+    } else {
+        None
+    }
+}
+
+/// The number of a row that serves another one of its layer. Where there is none, the other one joins those that serve, under its own
+/// number.
+pub(crate) fn serve<M: DpModel>(
+    alloc: Global,
+    model: &M,
+    k: usize,
+    words: &[i64],
+    bound: Option<i64>,
+    number: u32,
+    servers: &mut Vec<Server>,
+) -> Result<Option<u32>, OutOfMemory>
+    requires layer { k ≤ (M.meaning (M.numbers model.now)).vars }
+    requires servers { Each (IsServer (M.meaning (M.numbers model.now)) k) servers.old.items }
+    ensures { Each (IsServer (M.meaning (M.numbers model.now)) k) servers.new.items }
+{
+    let Some(rank) = rank_of(model, k, words) else {
+        return Ok(None);
+    };
+    let found = number_of_server(model, k, servers.as_slice(), words, rank, bound);
+    if found.is_some() {
+        return Ok(found);
+    }
+    let server = Server {
+        words: words.to_vec(alloc)?,
+        rank,
+        bound,
+        number,
+    };
+    put_server(model, k, server, servers)?;
+    Ok(None)
+}

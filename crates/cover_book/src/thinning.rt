@@ -1,0 +1,446 @@
+//! Exploration that thins: of the rows that a layer needs, one that a kept row serves goes, and gets no diagram.
+//!
+//! Nothing here says that the cover passes its tests: whoever takes it tests it.
+
+ghost use Rattle.std.specs.Prelude.{◌≤◌, IfOk, IfSome, OnOk};
+ghost use Rattle.dp_model.specs.Lists.{Each};
+ghost use Rattle.dp_model.specs.Subproblem.{IsOwn};
+ghost use Rattle.layer_build.specs.Layers.{IsPreparedFor};
+ghost use Rattle.bound_cover.specs.Clamping.{AreWritable};
+ghost use Rattle.cover_book.specs.Servers.{IsServer};
+
+use crate::claims::rest_of;
+use crate::gathering::{Gathered, WaitingPrefix, gather, last_count, push_row, renumbered};
+use crate::serving::{Server, rank_of, serve};
+use crate::whole::space_for;
+use crate::writing::{clamped_bound, highest, lowest};
+use bound_cover::{Cover, CoverArc};
+use dp_model::{DpModel, OutOfMemory, Sub, walk};
+use layer_build::Workspace;
+use relaxed_dd::relaxed;
+use std::alloc::Global;
+use std::mem;
+
+/// The layers of an exploration before it begins: one row for the root, which waits.
+fn start_layers<M: DpModel>(
+    alloc: Global,
+    model: &M,
+    claim: Option<i64>,
+) -> Result<Vec<Gathered>, OutOfMemory> {
+    let mut words = vec![in alloc; 0i64; model.words()]?;
+    model.root(&mut words);
+    let bound = rest_of(claim, model.root_value());
+    let bound = clamped_bound(lowest(0), highest(model, 0), bound);
+    let mut top = Gathered::new(alloc);
+    push_row(bound, words.as_slice(), None, &mut top.rows)?;
+    top.wait(0, Vec::new(alloc))?;
+    let mut layers = Vec::new(alloc);
+    layers.push(top)?;
+    'layers: for _ in 0..model.vars() {
+        layers.push(Gathered::new(alloc))?;
+    }
+    Ok(layers)
+}
+
+/// A row that a layer needs. In the order of such rows the least bound comes first, then the greatest rank, which is written as its
+/// complement.
+#[derive(Clone, Copy, Debug, PartialEq, Eq, PartialOrd, Ord)]
+struct Needed {
+    bound: Option<i64>,
+    fall: i64,
+    place: u32,
+}
+
+/// Marks the targets of the last layer's rows among so many rows of the next one.
+fn marks_of(alloc: Global, above: &Cover, count: u32) -> Result<Vec<bool>, OutOfMemory> {
+    let mut marks = vec![in alloc; false; count as usize]?;
+    let rows = last_count(above) as usize;
+    'rows: for i in 0..rows {
+        if let Some(row) = above.row(0, i) {
+            mark(row.arcs, &mut marks);
+        }
+    }
+    Ok(marks)
+}
+
+/// Marks the targets of arcs.
+fn mark(arcs: &[CoverArc], marks: &mut [bool]) {
+    'arcs: for arc in arcs {
+        if let Some(target) = arc.target {
+            if let Some(cell) = marks.get_mut(target as usize) {
+                *cell = true;
+            }
+        }
+    }
+}
+
+/// The rows of a layer that are marked, in their order.
+fn needed_of<M: DpModel>(
+    alloc: Global,
+    model: &M,
+    k: usize,
+    rows: &Cover,
+    marks: &[bool],
+) -> Result<Vec<Needed>, OutOfMemory>
+    requires { k ≤ (M.meaning (M.numbers model.now)).vars }
+{
+    let mut needed = Vec::new(alloc);
+    let count = last_count(rows);
+    'rows: for place in 0..count {
+        let i = place as usize;
+        if !is_marked(marks, i) {
+            continue;
+        }
+        let Some(row) = rows.row(0, i) else {
+            continue;
+        };
+        let rank = rank_of(model, k, row.words).unwrap_or(0);
+        let bound = row.bound;
+        needed.push(Needed {
+            bound,
+            fall: !rank,
+            place,
+        })?;
+    }
+    needed.sort_unstable();
+    Ok(needed)
+}
+
+/// Whether a place is marked.
+fn is_marked(marks: &[bool], i: usize) -> bool {
+    match marks.get(i) {
+        None => false,
+        Some(mark) => *mark,
+    }
+}
+
+/// The rows of a layer that are kept, and for each row that was there the number of the kept one that its arcs go to.
+#[derive(Drop)]
+struct Thinned {
+    rows: Cover,
+    numbers: Vec<u32>,
+}
+
+/// Where the rows of a layer wait, by their places.
+fn prefix_of(waiting: &[WaitingPrefix], place: u32) -> Option<&[u32]> {
+    match waiting.binary_search_by_key(&place, |w| w.place) {
+        Ok(i) => Some(waiting[i].decisions.as_slice()),
+        Err(_) => None,
+    }
+}
+
+/// The subproblem of decisions; none where they are no prefix or leave nothing to decide.
+fn sub_of<M: DpModel>(
+    alloc: Global,
+    model: &M,
+    decisions: &[u32],
+) -> Result<Option<Sub>, OutOfMemory>
+    ensures { IfOk result (λ sub. IfSome sub (λ s. IsOwn (M.meaning (M.numbers model.now)) s.subproblem)) }
+{
+    let mut row = vec![in alloc; 0i64; model.words()]?;
+    let mut spare = vec![in alloc; 0i64; model.words()]?;
+    let Some(value) = walk(model, decisions, &mut row, &mut spare) else {
+        return Ok(None);
+    };
+    if decisions.len() >= model.vars() {
+        return Ok(None);
+    }
+    let decisions = decisions.to_vec(alloc)?;
+    Ok(Some(Sub {
+        decisions,
+        row,
+        value,
+        bound: 0,
+    }))
+}
+
+/// The arcs of a row that waits, from its diagram, whose other rows go into the layers; none where its decisions are no prefix.
+fn arcs_by_diagram<M: DpModel>(
+    alloc: Global,
+    model: &M,
+    claim: Option<i64>,
+    decisions: &[u32],
+    space: &mut Workspace,
+    layers: &mut [Gathered],
+) -> Result<Option<Vec<CoverArc>>, OutOfMemory>
+    requires { IsPreparedFor (M.meaning (M.numbers model.now)) space.old }
+    ensures { IsPreparedFor (M.meaning (M.numbers model.now)) space.new }
+{
+    let Some(sub) = sub_of(alloc, model, decisions)? else {
+        return Ok(None);
+    };
+    let diagram = relaxed(space, model, &sub, claim);
+    let arcs = gather(alloc, model, claim, &diagram, layers)?;
+    Ok(Some(arcs))
+}
+
+/// The number of a needed row of a layer: that of a kept one that serves it, or its own, with which it is kept.
+fn keep_row<M: DpModel>(
+    alloc: Global,
+    model: &M,
+    claim: Option<i64>,
+    k: usize,
+    place: u32,
+    layer: &Gathered,
+    space: &mut Workspace,
+    layers: &mut [Gathered],
+    kept: &mut Cover,
+    servers: &mut Vec<Server>,
+) -> Result<u32, OutOfMemory>
+    requires layer { k ≤ (M.meaning (M.numbers model.now)).vars }
+    requires prepared { IsPreparedFor (M.meaning (M.numbers model.now)) space.old }
+    requires servers { Each (IsServer (M.meaning (M.numbers model.now)) k) servers.old.items }
+    ensures prepared { IsPreparedFor (M.meaning (M.numbers model.now)) space.new }
+    ensures servers { Each (IsServer (M.meaning (M.numbers model.now)) k) servers.new.items }
+{
+    let number = last_count(kept);
+    let Some(row) = layer.rows.row(0, place as usize) else {
+        return Ok(number);
+    };
+    if let Some(server) = serve(alloc, model, k, row.words, row.bound, number, servers)? {
+        return Ok(server);
+    }
+    if row.has_arcs {
+        push_row(row.bound, row.words, Some(row.arcs), kept)?;
+        return Ok(number);
+    }
+    match arcs_at(
+        alloc,
+        model,
+        claim,
+        layer.waiting.as_slice(),
+        place,
+        space,
+        layers,
+    )? {
+        None => push_row(row.bound, row.words, None, kept)?,
+        Some(arcs) => push_row(row.bound, row.words, Some(arcs.as_slice()), kept)?,
+    }
+    Ok(number)
+}
+
+/// The arcs of a row that waits; none where it does not wait.
+fn arcs_at<M: DpModel>(
+    alloc: Global,
+    model: &M,
+    claim: Option<i64>,
+    waiting: &[WaitingPrefix],
+    place: u32,
+    space: &mut Workspace,
+    layers: &mut [Gathered],
+) -> Result<Option<Vec<CoverArc>>, OutOfMemory>
+    requires { IsPreparedFor (M.meaning (M.numbers model.now)) space.old }
+    ensures { IsPreparedFor (M.meaning (M.numbers model.now)) space.new }
+{
+    match prefix_of(waiting, place) {
+        None => Ok(None),
+        Some(decisions) => arcs_by_diagram(alloc, model, claim, decisions, space, layers),
+    }
+}
+
+/// Writes the number of a row.
+fn set_number(numbers: &mut [u32], place: u32, number: u32) {
+    if let Some(cell) = numbers.get_mut(place as usize) {
+        *cell = number;
+    }
+}
+
+/// Takes the rows of a layer out of the layers.
+fn take_layer(alloc: Global, k: usize, layers: &mut [Gathered]) -> Gathered {
+    let layer = Gathered::new(alloc);
+    match layers.get_mut(k) {
+        None => layer,
+        Some(here) => mem::replace(here, layer),
+    }
+}
+
+/// Thins a layer: of the marked rows it keeps each that no kept one serves, and puts in the diagrams of those that wait.
+fn thin_layer<M: DpModel>(
+    alloc: Global,
+    model: &M,
+    claim: Option<i64>,
+    k: usize,
+    marks: &[bool],
+    space: &mut Workspace,
+    layers: &mut [Gathered],
+) -> Result<Thinned, OutOfMemory>
+    requires layer { k ≤ (M.meaning (M.numbers model.now)).vars }
+    requires prepared { IsPreparedFor (M.meaning (M.numbers model.now)) space.old }
+    ensures { IsPreparedFor (M.meaning (M.numbers model.now)) space.new }
+{
+    let layer = take_layer(alloc, k, layers);
+    let needed = needed_of(alloc, model, k, &layer.rows, marks)?;
+    let mut rows = Cover::new(alloc);
+    let mut numbers = vec![in alloc; 0u32; layer.count() as usize]?;
+    let mut servers = Vec::new(alloc);
+    'needed: for i in 0..needed.len() {
+        let place = needed[i].place;
+        let number = keep_row(
+            alloc,
+            model,
+            claim,
+            k,
+            place,
+            &layer,
+            space,
+            layers,
+            &mut rows,
+            &mut servers,
+        )?;
+        set_number(&mut numbers, place, number);
+    }
+    Ok(Thinned { rows, numbers })
+}
+
+/// Adds a row to the cover, its arcs to the numbers of their targets.
+fn write_row(
+    alloc: Global,
+    bound: Option<i64>,
+    words: &[i64],
+    arcs: Option<&[CoverArc]>,
+    numbers: &[u32],
+    cover: &mut Cover,
+) -> Result<(), OutOfMemory>
+    ensures { OnOk result (AreWritable cover.old → AreWritable cover.new) }
+{
+    let Some(arcs) = arcs else {
+        return push_row(bound, words, None, cover);
+    };
+    let arcs = renumbered(alloc, arcs, numbers)?;
+    push_row(bound, words, Some(arcs.as_slice()), cover)
+}
+
+/// Adds an empty layer to the cover.
+fn add_layer(cover: &mut Cover) -> Result<(), OutOfMemory>
+    ensures { OnOk result (AreWritable cover.old → AreWritable cover.new) }
+{
+    cover.add_layer()
+}
+
+/// Adds the kept rows to the last layer of the cover, their arcs to the numbers of their targets.
+fn write_rows(
+    alloc: Global,
+    above: &Cover,
+    numbers: &[u32],
+    cover: &mut Cover,
+) -> Result<(), OutOfMemory>
+    requires { AreWritable cover.old }
+    ensures { OnOk result (AreWritable cover.new) }
+{
+    let count = last_count(above) as usize;
+    'rows: for i in 0..count {
+        if let Some(row) = above.row(0, i) {
+            let arcs = if row.has_arcs { Some(row.arcs) } else { None };
+            write_row(alloc, row.bound, row.words, arcs, numbers, cover)?;
+        }
+    }
+    Ok(())
+}
+
+/// Adds a layer of kept rows to the cover, their arcs to the numbers of their targets.
+fn write_layer(
+    alloc: Global,
+    above: &Cover,
+    numbers: &[u32],
+    cover: &mut Cover,
+) -> Result<(), OutOfMemory>
+    requires { AreWritable cover.old }
+    ensures { OnOk result (AreWritable cover.new) }
+{
+    add_layer(cover)?;
+    write_rows(alloc, above, numbers, cover)
+}
+
+/// Takes the rows that a layer needs out of the layers, thins them, and writes the layer above them.
+fn next_layer<M: DpModel>(
+    alloc: Global,
+    model: &M,
+    claim: Option<i64>,
+    k: usize,
+    above: &Cover,
+    space: &mut Workspace,
+    layers: &mut [Gathered],
+    cover: &mut Cover,
+) -> Result<Cover, OutOfMemory>
+    requires layer { k ≤ (M.meaning (M.numbers model.now)).vars }
+    requires prepared { IsPreparedFor (M.meaning (M.numbers model.now)) space.old }
+    requires writable { AreWritable cover.old }
+    ensures prepared { IsPreparedFor (M.meaning (M.numbers model.now)) space.new }
+    ensures writable { OnOk result (AreWritable cover.new) }
+{
+    let marks = marks_of(alloc, above, count_at(layers, k))?;
+    let next = thin_layer(alloc, model, claim, k, marks.as_slice(), space, layers)?;
+    write_layer(alloc, above, next.numbers.as_slice(), cover)?;
+    Ok(next.rows)
+}
+
+/// How many rows the layer at a depth has, and none where there is no such layer.
+fn count_at(layers: &[Gathered], depth: usize) -> u32 {
+    match layers.get(depth) {
+        None => 0,
+        Some(layer) => layer.count(),
+    }
+}
+
+/// Thins all layers behind the first one, whose kept rows these are, and writes each but the last one, whose kept rows it gives.
+fn next_layers<M: DpModel>(
+    alloc: Global,
+    model: &M,
+    claim: Option<i64>,
+    first: Cover,
+    space: &mut Workspace,
+    layers: &mut [Gathered],
+    cover: &mut Cover,
+) -> Result<Cover, OutOfMemory>
+    requires prepared { IsPreparedFor (M.meaning (M.numbers model.now)) space.old }
+    requires writable { AreWritable cover.old }
+    ensures { OnOk result (AreWritable cover.new) }
+{
+    let mut above = first;
+    'layers: for k in 0..model.vars() {
+        let next = next_layer(alloc, model, claim, k + 1, &above, space, layers, cover)?;
+        above = next;
+    }
+    Ok(above)
+}
+
+/// The kept rows of the first layer, from which the others are thinned.
+fn first_layer<M: DpModel>(
+    alloc: Global,
+    model: &M,
+    claim: Option<i64>,
+    space: &mut Workspace,
+    layers: &mut [Gathered],
+) -> Result<Cover, OutOfMemory>
+    requires { IsPreparedFor (M.meaning (M.numbers model.now)) space.old }
+    ensures { IsPreparedFor (M.meaning (M.numbers model.now)) space.new }
+{
+    let top = vec![in alloc; true; 1]?;
+    let first = thin_layer(alloc, model, claim, 0, top.as_slice(), space, layers)?;
+    Ok(first.rows)
+}
+
+/// The cover of an exploration of the whole problem in which rows go that others serve. Its bounds can be written; it is not tested.
+pub(crate) fn explore_thin<M: DpModel>(
+    alloc: Global,
+    model: &M,
+    claim: Option<i64>,
+) -> Result<Cover, OutOfMemory>
+    ensures { IfOk result (λ cover. AreWritable cover) }
+{
+    let mut space = space_for(alloc, model)?;
+    let mut layers = start_layers(alloc, model, claim)?;
+    let first = first_layer(alloc, model, claim, &mut space, &mut layers)?;
+    let mut cover = Cover::new(alloc);
+    let last = next_layers(
+        alloc,
+        model,
+        claim,
+        first,
+        &mut space,
+        &mut layers,
+        &mut cover,
+    )?;
+    write_layer(alloc, &last, &[], &mut cover)?;
+    Ok(cover)
+}
