@@ -287,6 +287,18 @@ const COVERED: &[Case] = &[
         "proved\nvalue 709\nassignment 1 3 0 3 3 0 1 0 1 0\ncover knapsack\ninstance ",
         0,
     ),
+    (
+        "solve knapsack --cover --part 1/2",
+        THREE_ITEMS,
+        "proved\nvalue 110\nassignment 1 1 0\ncover knapsack\npart 1 2\ninstance 20\n3 10\n",
+        0,
+    ),
+    (
+        "solve tsptw --cover --part=0/3",
+        TOUR,
+        "infeasible\ncover tsptw\npart 0 3\ninstance ",
+        1,
+    ),
     ("solve max2sat --cover", DRAWN_CLAUSES, "proved\nvalue ", 0),
     (
         "solve tsptw --cover",

@@ -3,17 +3,27 @@ use crate::tests::{Case, prints};
 /// One item of profit 4 and weight 1 in a room of 1.
 const ONE_ITEM: &str = "1 1\n4 1\n";
 
-/// The output for the part of two that leaves the item.
+/// An output for the part of two that leaves the item.
 const LEFT: &str =
     "proved\nvalue 0\nassignment 0\ncover knapsack\npart 0 2\ninstance 8\n1 1\n4 1\nlayer 0 1\n0 ; 1 ; 0 0\nlayer 1 1\n0 ; 1\nend\n";
 
-/// The output for the part that takes it.
+/// An output for the part that takes it.
 const TAKEN: &str =
     "proved\nvalue 4\nassignment 1\ncover knapsack\npart 1 2\ninstance 8\n1 1\n4 1\nlayer 0 1\n4 ; 1 ; 1 0\nlayer 1 1\n0 ; 0\nend\n";
 
 const CASES: &[Case] = &[
-    ("solve knapsack --cover --part 0/2", ONE_ITEM, LEFT, 0),
-    ("solve knapsack --cover --part=1/2", ONE_ITEM, TAKEN, 0),
+    (
+        "solve knapsack --part 0/2",
+        ONE_ITEM,
+        "proved\nvalue 0\nassignment 0\n",
+        0,
+    ),
+    (
+        "solve knapsack --part=1/2",
+        ONE_ITEM,
+        "proved\nvalue 4\nassignment 1\n",
+        0,
+    ),
     ("solve knapsack --part 2/3", ONE_ITEM, "infeasible\n", 1),
     (
         "solve knapsack --part 0/2",
