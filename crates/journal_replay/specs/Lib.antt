@@ -1,5 +1,6 @@
 -- what records make of a search, and which may follow
 pub mod Replay
+pub mod Base
 pub mod Accepting
 -- what replay keeps in memory
 pub mod Places
