@@ -1,4 +1,4 @@
-"""The client's own commands: python3 -m hammockdove watch|plot|convert|solve. `--help` tells their words."""
+"""The client's own commands: python3 -m hammockdove show|watch|plot|convert|solve. `--help` tells their words."""
 
 from __future__ import annotations
 
@@ -11,11 +11,23 @@ from .answers import Outcome, Result
 from .errors import HammockdoveError
 from .formats import FORMS, Converted, convert, join_end_depot
 from .plot import plot
+from .show import contents_of, lines_of
 from .solver import Interrupted, Solver
 from .watch import watch
 
 _REFUSED = 3
 _INTERRUPTED = 130
+
+
+def _show(words: argparse.Namespace) -> int:
+    found = contents_of(words.file)
+    if words.instance:
+        sys.stdout.write(found.head.text.decode("ascii", "replace"))
+        return 0
+    print(*lines_of(found), sep="\n")
+    if found.refusal is not None:
+        raise found.refusal
+    return 0
 
 
 def _watch(words: argparse.Namespace) -> int:
@@ -86,6 +98,9 @@ def _parser() -> argparse.ArgumentParser:
         made.set_defaults(act=act)
         return made
 
+    one = command("show", _show, "print what a journal says: its head, its records and solutions, what is open and the bound")
+    one.add_argument("file", type=Path)
+    one.add_argument("--instance", action="store_true", help="print the text of the instance instead")
     one = command("watch", _watch, "follow a journal while a search writes it")
     one.add_argument("file", type=Path)
     one.add_argument("--every", type=float, default=1.0, metavar="SECONDS", help="how often to look, 1 without it")

@@ -54,6 +54,11 @@ class Tracker:
         self._least: list[tuple[int, int]] = []
         self._greatest: list[tuple[int, int]] = []
 
+    @property
+    def finished(self) -> int:
+        """How many subproblems are finished."""
+        return self._finished
+
     def take(self, record: Record) -> None:
         """Takes the next record."""
         if isinstance(record, Head):

@@ -10,7 +10,6 @@ import tempfile
 import time
 from collections.abc import Callable
 from dataclasses import dataclass, replace
-from functools import cache
 from pathlib import Path
 from typing import IO, Literal
 
@@ -68,8 +67,7 @@ class Solver:
         the result are the program's own. A timeout gives a result that is `STOPPED`; Ctrl-C raises `Interrupted`, which has the result.
 
         The journal is `journal`, a file that must not hold one yet. Without a name it lies in the folder for temporary files, and is
-        removed where the search ends by itself. `journal=False` keeps none: that is faster, and a timeout then leaves nothing. A
-        program that keeps no journals of searches within a distance gets none unless one is named.
+        removed where the search ends by itself. `journal=False` keeps none: that is faster, and a timeout then leaves nothing.
 
         `progress` is called about each `every` seconds with what the journal tells, and not at all where none is kept. The other
         options are those of docs/FORMATS.md.
@@ -78,8 +76,7 @@ class Solver:
         model, given = _text_of(instance)
         words = ["solve", model, *_options(workers=workers, width=width, cutset=cutset, budget=budget, within=within)]
         words += ["--stats", *(["--cover"] if cover else [])]
-        keeps = journal is not False and (journal is not None or not within or _keeps_distances(self.program))
-        path = self._journal_path(journal) if keeps else None
+        path = None if journal is False else self._journal_path(journal)
         if path is not None:
             words += ["--journal", str(path)]
         left: Result | None = None
@@ -300,15 +297,6 @@ def _distance_of(path: Path) -> int:
     journal = Journal(path)
     next(journal.advance(), None)
     return journal.head.within if journal.head else 0
-
-
-@cache
-def _keeps_distances(program: str) -> bool:
-    """Whether the program keeps a journal of a search within a distance."""
-    with tempfile.TemporaryDirectory(prefix="hammockdove-") as room:
-        words = [program, "solve", "knapsack", "--within", "1", "--journal", os.path.join(room, "journal")]
-        done = subprocess.run(words, input=b"0 0\n", stdout=subprocess.PIPE, check=False)
-    return done.stdout.startswith(b"proved")
 
 
 def find_program() -> str:

@@ -91,6 +91,16 @@ def small_search(version=1):
     ]
 
 
+def snapshot_each():
+    """The same search with a Snapshot after each finished subproblem."""
+    begun, first, finished, *more = small_search(2)
+    return [
+        *(begun, first, finished, snapshot((110, [1, 1, 0]), 3, (1, 121, [1]), (2, 120, [0]))),
+        *(more[0], snapshot((110, [1, 1, 0]), 3, (2, 120, [0]))),
+        *(more[1], more[2], snapshot((120, [0, 1, 1]), 3)),
+    ]
+
+
 def best_of(instance, choices):
     """The best value over all lists of decisions below `choices`, by the instance's own evaluation; None where none is feasible."""
     values = (instance.value(found) for found in itertools.product(range(choices), repeat=instance.size))

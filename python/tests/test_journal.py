@@ -1,10 +1,11 @@
 import unittest
 
-from support import RoomCase, bytes_of, finish, head, improve, small_search, snapshot
+from support import RoomCase, bytes_of, finish, head, improve, small_search, snapshot, snapshot_each
 
 from hammockdove import JournalDamaged, NotBegun
 from hammockdove.journal import Finish, Head, Improve, Journal, Snapshot, read
 from hammockdove.progress import Tracker
+from hammockdove.show import contents_of, lines_of
 
 
 class JournalCase(RoomCase):
@@ -124,6 +125,61 @@ class ProgressTests(JournalCase):
     def test_replaced(self):
         found = self.after_each([head(), finish(0, (None, 50, [1]), (None, 40, [0])), finish(1, (2, 45, [1, 0]))])
         self.assertEqual([(it.open, it.bound) for it in found], [(1, None), (2, 50), (1, 45)])
+
+
+class ContentsTests(JournalCase):
+    def said(self, data):
+        self.path.write_bytes(data)
+        return list(lines_of(contents_of(self.path)))
+
+    def test_both_versions(self):
+        for version, first, second, end in ((1, 67, 277, 389), (2, 75, 285, 397)):
+            with self.subTest(version):
+                self.assertEqual(
+                    self.said(bytes_of(small_search(version))),
+                    [
+                        f"version {version}",
+                        "problem knapsack",
+                        "within 0",
+                        "instance 20 bytes",
+                        "records 5: 2 Improve, 3 Finish, 0 Snapshot",
+                        f"solution 1: value 110, after 0 finished, at byte {first}",
+                        f"solution 2: value 120, after 2 finished, at byte {second}",
+                        "finished 3",
+                        "open 0",
+                        "best 120",
+                        "bound 120",
+                        "assignment 0 1 1",
+                        f"end {end}",
+                    ],
+                )
+
+    def test_snapshot_after_each_finish(self):
+        data = bytes_of(snapshot_each())
+        self.assertEqual(len(data), 695)
+        said = self.said(data)
+        self.assertEqual(said[4], "records 8: 2 Improve, 3 Finish, 3 Snapshot")
+        self.assertEqual(said[7:9], ["snapshot after 3 finished, at byte 619: 0 listed, next ticket 3", "finished 3, 0 of them since the last snapshot"])
+        self.assertEqual(said[-2:], ["assignment 0 1 1", "end 694"])
+
+    def test_what_is_open(self):
+        said = self.said(bytes_of(small_search(2)[:3]))
+        self.assertEqual(said[-6:], ["finished 1", "open 2", "best 110", "bound 121", "assignment 1 1 0", "end 235"])
+        said = self.said(bytes_of([head(2, within=7)]))
+        self.assertEqual((said[2], said[-4:]), ("within 7", ["open 1", "best unknown", "bound unknown", "end 75"]))
+        # The solution of a snapshot counts where no later record has one.
+        said = self.said(bytes_of([head(2), snapshot((110, [1, 1, 0]), 3, (1, 121, [1])), finish(1)]))
+        self.assertEqual(said[-5:], ["open 0", "best 110", "bound 110", "assignment 1 1 0", "end 224"])
+
+    def test_damage_after_the_head(self):
+        data = bytes_of(small_search(2))
+        self.path.write_bytes(data[:150])
+        found = contents_of(self.path)
+        self.assertEqual((found.refusal.cause, found.refusal.offset, len(found.solutions)), ("damaged", 137, 1))
+        self.path.write_bytes(data[:50])
+        self.assertRaises(JournalDamaged, contents_of, self.path)
+        self.path.write_bytes(b"\0" + data[1:])
+        self.assertRaises(NotBegun, contents_of, self.path)
 
 
 if __name__ == "__main__":

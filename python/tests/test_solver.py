@@ -28,6 +28,7 @@ from hammockdove import (
     UnknownProblem,
     WordsRefused,
 )
+from hammockdove.show import contents_of
 
 THREE = Knapsack(10, [60, 50, 70], [5, 4, 6])
 LONG = ("maxcut", 40, 1)
@@ -104,6 +105,13 @@ class SolveTests(ProgramCase):
     def test_within(self):
         result = self.solver.solve(THREE, within=10, width=1)
         self.assertEqual((result.value, result.bound, result.within, result.is_best), (110, 120, 10, False))
+
+    def test_a_journal_keeps_the_distance(self):
+        path = self.room / "kept"
+        self.solver.solve(THREE, within=10, width=1, budget=0, journal=path)
+        self.assertEqual(contents_of(path).head.within, 10)
+        result = self.solver.resume(path, width=1)
+        self.assertEqual((result.outcome, result.value, result.bound, result.within), (Outcome.PROVED, 110, 120, 10))
 
     def test_cover(self):
         result = self.solver.solve(THREE, cover=True)

@@ -12,7 +12,7 @@ import subprocess
 import sys
 import unittest
 
-from support import PATIENCE, PROGRAM, SAMPLES, TOP, ProgramCase, RoomCase, bytes_of, needs_program, small_search
+from support import PATIENCE, PROGRAM, SAMPLES, TEXT, TOP, ProgramCase, RoomCase, bytes_of, needs_program, small_search
 
 from hammockdove.__main__ import main
 
@@ -48,6 +48,19 @@ class CommandTests(RoomCase):
         self.assertEqual((status, out), (3, ""))
         self.assertEqual(err, f"{path}: line 1, column 7: MAX-2SAT has at most two literals in a clause, found '3'\n")
         self.assertEqual(said(main, "convert", "wcnf", self.room / "none")[0], 3)
+
+    def test_show(self):
+        path = self.room / "kept.journal"
+        path.write_bytes(bytes_of(small_search(2)))
+        status, out, _ = said(main, "show", path)
+        self.assertEqual((status, out.splitlines()[0], out.splitlines()[-1]), (0, "version 2", "end 397"))
+        self.assertEqual(said(main, "show", path, "--instance")[1].encode(), TEXT)
+        done = subprocess.run([TOP / "tools/journal/show", path], capture_output=True, text=True, timeout=PATIENCE, check=False)
+        self.assertEqual((done.returncode, done.stdout), (0, out))
+        path.write_bytes(bytes_of(small_search(2))[:150])
+        status, out, err = said(main, "show", path)
+        self.assertEqual((status, out.splitlines()[-1], err), (3, "end 137", f"{path}: journal damaged at byte 137: the file ends inside a record\n"))
+        self.assertEqual(said(main, "show", self.room / "none")[0], 3)
 
     def test_watch_and_plot(self):
         path = self.room / "kept.journal"

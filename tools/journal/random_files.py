@@ -22,19 +22,30 @@ def decisions(draw):
     return struct.pack(">I", len(some)) + b"".join(struct.pack(">I", d) for d in some)
 
 
+def listed(draw, numbers):
+    """A number of rows, each a ticket or one of these numbers, a bound and decisions."""
+    rows = draw.choice([0, 1, 2])
+    return struct.pack(">I", rows) + b"".join(
+        struct.pack(">Qq", draw.choice(numbers), draw.choice([0, 2**62, 2**62 + 1, -(2**62), -(2**62) - 1])) + decisions(draw)
+        for _ in range(rows)
+    )
+
+
 def body(draw, kind):
     if kind == 1:
         text = draw.choice([b"", b"0 5\n", b"x" * 20])
-        return struct.pack(">IBI", draw.choice([1] * 30 + [0, 2, 3]), draw.choice([1, 2, 3, 4, 5, 6] * 6 + [0, 7, 255]), len(text)) + text
+        version = draw.choice([1] * 15 + [2] * 20 + [0, 3])
+        within = struct.pack(">q", draw.choice([0] * 20 + [1, 2**50, 2**50 + 1, -1])) if version == 2 else b""
+        problem = draw.choice([1, 2, 3, 4, 5, 6] * 6 + [0, 7, 255])
+        return struct.pack(">IB", version, problem) + within + struct.pack(">I", len(text)) + text
     if kind == 2:
         return struct.pack(">q", draw.choice([0, -1, 110, 2**63 - 1])) + decisions(draw)
     if kind == 3:
-        children = draw.choice([0, 1, 2])
-        some = b"".join(
-            struct.pack(">Qq", draw.choice([0, 7, 2**64 - 1, 2**64 - 2]), draw.choice([0, 2**62, 2**62 + 1, -(2**62), -(2**62) - 1])) + decisions(draw)
-            for _ in range(children)
-        )
-        return struct.pack(">QI", draw.choice([0, 5, 2**64 - 1]), children) + some
+        return struct.pack(">Q", draw.choice([0, 5, 2**64 - 1])) + listed(draw, [0, 7, 2**64 - 1, 2**64 - 2])
+    if kind == 4:
+        best = struct.pack(">q", 110) + decisions(draw)
+        mark = draw.choice([b"\0", b"\1" + best] * 5 + [b"\2" + best])
+        return mark + struct.pack(">Q", draw.choice([0, 5, 2**64 - 1])) + listed(draw, [0, 5, 7, 2**64 - 1])
     return bytes(draw.randrange(256) for _ in range(draw.randrange(20)))
 
 
@@ -53,7 +64,7 @@ def spoiled(draw, body):
 def file(draw):
     data, digest = b"", bytes(32)
     for number in range(draw.choice([0, 1, 1, 2, 3, 5])):
-        kind = 1 if number == 0 and draw.random() < 0.95 else draw.choice([2, 3] * 10 + [1, 4, 0])
+        kind = 1 if number == 0 and draw.random() < 0.95 else draw.choice([2, 3, 4] * 7 + [1, 5, 0])
         some, digest = piece(digest, kind, spoiled(draw, body(draw, kind)))
         data += some
     data += draw.choice([b"", b"\x00", b"\x00", b"\x00", b"\x07rest", b"\x01", b"\x01\x02\x00\x00\x00\x01"])

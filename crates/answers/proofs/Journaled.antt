@@ -1,10 +1,10 @@
 -- What a run with a journal leaves on its disk, from what its kept board keeps.
-use Rattle.std.proofs.Common.{◌≡◌, ◌≢◌, ◌⊎◌, inl, inr, ⊎_elim, ℕ, ◌-◌, ◌^◌, ◌≤◌, ◌<◌, pos, Bool, true, false, ◌||◌, nat_eq, nat_lt, List, [], ◌∷◌, ◌++◌, length, get_or, Option, Some, None, is_some, IsSome, IfSome, IfOk, IfErr, OnOk, IsSomeAnd, IsTrue, Result, Ok, Err, refl, sym, ◌∙◌, ap, subst, append-nil, arith}
+use Rattle.std.proofs.Common.{◌≡◌, ◌≢◌, ◌⊎◌, inl, inr, ⊎_elim, ℕ, ℤ, ◌-◌, ◌^◌, ◌≤◌, ◌<◌, Bool, true, false, ◌||◌, nat_eq, nat_lt, List, [], ◌∷◌, ◌++◌, length, get_or, Option, Some, None, is_some, IsSome, IfSome, IfOk, IfErr, OnOk, IsSomeAnd, IsTrue, Result, Ok, Err, refl, sym, ◌∙◌, ap, subst, append-nil, arith}
 use Rattle.std.proofs.lemmas.Bool.{eqb-true, ltb-true}
-use Rattle.std.proofs.lemmas.Int.{ints}
 use Rattle.disk.specs.declared.disk.Disk.{Ghosts}
 use Rattle.disk.specs.Counts.{Rose}
 use Rattle.disk.specs.Disk.{FirstSync, AtFirstSync, LeavesOnly}
+use Rattle.dp_model.specs.Distances.{IsDistance}
 use Rattle.dp_model.specs.Dp.{Dp}
 use Rattle.dp_model.specs.Laws.{IsLawful}
 use Rattle.board_laws.specs.declared.cause.Cause.TheVariants.{Journal}
@@ -24,16 +24,15 @@ use Rattle.journal_file.specs.declared.error.JournalError.{JournalError}
 use Rattle.journal_file.specs.declared.error.JournalError.TheVariants as errors
 use Rattle.journal_replay.specs.Accepting.{AreAccepted}
 use Rattle.journal_replay.specs.Replay.{replay_of, restored_from}
-use Rattle.journal_replay.specs.Sound.{AreSound, finished_after_all}
+use Rattle.journal_replay.specs.Sound.{AreSound}
 use Rattle.journal_replay.proofs.Beside.{first-boards-follow}
+use Rattle.journal_replay.proofs.Joined.{journals-grow}
 use Rattle.kept_board.specs.Kept.{HasFront, MayKeep, IsCurrent, IsBroken, Goes, HasStopped, HasJournal, IsKept}
-use Rattle.kept_board.specs.Records.{AreAdded, KeepUp}
-use Rattle.answers.specs.Over.{IsOver}
-use Rattle.solver_words.specs.declared.job.JobSettings.{JobSettings}
+use Rattle.kept_board.specs.Records.{AreAdded, KeepUp, finish_records}
+use Rattle.kept_board.proofs.Growing.{fronts-added}
 use Rattle.answers.specs.Kept.{LeavesAfterResume, MayBeAdded, MayFollow}
-use Rattle.answers.specs.Journals.{Attaches, HasAllButOne, HasBegun, HasGoneOn, HasKept, HasLeftBegun, HasOpened, IsRefusedToBegin, IsUnwritten, LeavesBegun, LeavesResumed, MightBegin, SinceAttached, SparesOthers}
+use Rattle.answers.specs.Journals.{AreFrontsAdded, AreFrontsSound, Attaches, HasAllButOne, HasBegun, HasGoneOn, HasKept, HasLeftBegun, HasOpened, IsRefusedToBegin, IsUnwritten, LeavesBegun, LeavesResumed, MightBegin, SinceAttached, SparesOthers}
 use Rattle.problems.specs.Theories.{theory_of}
-use Rattle.answers.proofs.Conclusions.{over_distance}
 
 -- ---- a file is one journal
 
@@ -56,10 +55,10 @@ either true b up = inl refl
 either false b up = inr up
 
 -- a good board of which nothing is out has finished all that it took
-spent : (dp : Dp) (old added : List RecordView) (b : BoardState) → KeepUp dp old added b → b.settings.within ≡ pos 0 → full_slots b.slots ≡ [] → AreSound dp (pos 0) old → b.cause ≡ None → IsTrue (is_budget_up b)
-    → (b.settings.budget ≤ finished_after_all 0 added) ⊎ (2 ^ 64 - 2 ^ 29 < (replay_of dp (old ++ added)).next_ticket)
-spent dp old added b k exact idle sound none up =
-    let good : IsGood dp b = k.good (subst (λ w. AreSound dp w old) (sym exact) sound) in
+spent : (dp : Dp) (old added : List RecordView) (b : BoardState) → KeepUp dp old added b → full_slots b.slots ≡ [] → AreSound dp b.settings.within old → b.cause ≡ None → IsTrue (is_budget_up b)
+    → (b.settings.budget ≤ finish_records added) ⊎ (2 ^ 64 - 2 ^ 29 < (replay_of dp (old ++ added)).next_ticket)
+spent dp old added b k idle sound none up =
+    let good : IsGood dp b = k.good sound in
     let all = good.balanced none in
     let empty : length (full_slots b.slots) ≡ 0 = ap length idle in
     ⊎_elim
@@ -67,18 +66,31 @@ spent dp old added b k exact idle sound none up =
     (λ above. inr (subst (λ n. 2 ^ 64 - 2 ^ 29 < n) k.replay.next_ticket (ltb-true (2 ^ 64 - 2 ^ 29) b.next_ticket above)))
     (either (nat_eq b.taken b.settings.budget) (nat_lt (2 ^ 64 - 2 ^ 29) b.next_ticket) up)
 
--- where no distance was asked for there is none
-pub exact-over : (dp : Dp) (search : JobSettings) (first b : BoardState) → IsOver dp search first b → search.within ≡ pos 0 → b.settings.within ≡ pos 0
-exact-over dp search first b over exact = over_distance dp search first b over ∙ exact
-
 -- ---- no records
 
 -- no records are sound
-pub none-sound : (dp : Dp) → IsLawful dp → AreSound dp (pos 0) []
-none-sound dp laws =
-    let settings : Settings = record { workers = 1; budget = 0; table_limit = 0; width = 1; within = pos 0 } in
-    let are : AreSettings settings = record { some_workers = omega arith; few_workers = omega arith; some_width = omega arith; distance = record { least = omega (arith, ints); most = omega (arith, ints) } } in
+none-sound : (dp : Dp) → IsLawful dp → (within : ℤ) → IsDistance within → AreSound dp within []
+none-sound dp laws within near =
+    let settings : Settings = record { workers = 1; budget = 0; table_limit = 0; width = 1; within = within } in
+    let are : AreSettings settings = record { some_workers = omega arith; few_workers = omega arith; some_width = omega arith; distance = near } in
     (first-boards-follow dp laws settings are).sound
+
+-- a front of none
+front-of-none : (front others : List RecordView) → [] ≡ front ++ others → front ≡ []
+front-of-none [] others same = refl
+front-of-none (r ∷ front) others same = absurd (cc)
+
+-- no records are sound, and so is each front of them
+none-fronts : (dp : Dp) → IsLawful dp → (within : ℤ) → IsDistance within → AreFrontsSound dp within []
+none-fronts dp laws within near front others same =
+    subst (λ rs. AreAccepted dp rs × AreSound dp within rs) (sym (front-of-none front others same)) (tt, none-sound dp laws within near)
+
+-- each front of records that are added
+fronts-of : (dp : Dp) (within : ℤ) (old written : List RecordView) → AreAdded dp within old written → AreFrontsAdded dp within old written
+fronts-of dp within old written added front others same = fronts-added dp within old front others (subst (AreAdded dp within old) same added)
+
+fronts-begun : (dp : Dp) (within : ℤ) (written : List RecordView) → AreSound dp within [] → AreAdded dp within [] written → AreFrontsSound dp within written
+fronts-begun dp within written none added front others same = let front-of = fronts-of dp within [] written added front others same in (front-of.accepted, front-of.sound none)
 
 begun-front : (head : HeadView) (written : List RecordView) (file : List ℕ) → IsBegun head file → HasBegun head written file
 begun-front head written file begun = ⊎_elim (λ none. inl none) (λ has. inr (record { front = []; others = written; parts = refl; reads = has })) begun
@@ -148,22 +160,22 @@ module _ {D : Type 0} (on : Ghosts D) where
   IsFound head records disk = SinceAttached on disk (λ s. HasRecords head records s.content)
 
   -- that is so where they were opened
-  pub is-found : (disk : D) (r : Head × RecordsView × Tail) → HasOpened on disk (Ok r) → IsFound (head_view r.0) r.1.records disk
-  is-found disk r opened tells = at-first (on.start disk) (on.found disk) (on.seen disk) (λ s. s.content ≡ opened.file) (λ s. HasRecords (head_view r.0) r.1.records s.content)
-      (λ s same. subst (HasRecords (head_view r.0) r.1.records) (sym same) (r.2, opened.opens)) (opened.is_file tells)
+  pub is-found : (disk : D) (r : Head × RecordsView × Tail) → HasOpened on disk (Ok r) → IsFound (head_view r.2.version r.0) r.1.records disk
+  is-found disk r opened tells = at-first (on.start disk) (on.found disk) (on.seen disk) (λ s. s.content ≡ opened.file) (λ s. HasRecords (head_view r.2.version r.0) r.1.records s.content)
+      (λ s same. subst (HasRecords (head_view r.2.version r.0) r.1.records) (sym same) (r.2, opened.opens)) (opened.is_file tells)
 
   -- a board may be kept in a journal that was begun for it
-  pub made-begun : (dp : Dp) (settings : Settings) (b : BoardState) (disk : D) (tail : Tail) (head : HeadView) → IsReadyWith head [] disk tail → b ≡ first_board dp settings → MayKeep on dp b disk (Some tail)
-  made-begun dp settings b disk tail head ready first =
+  pub made-begun : (dp : Dp) (settings : Settings) (b : BoardState) (disk : D) (tail : Tail) (head : HeadView) → IsReadyWith head [] disk tail → b.settings.within ≡ head.within → b ≡ first_board dp settings → MayKeep on dp b disk (Some tail)
+  made-begun dp settings b disk tail head ready near first =
       let own = first ∙ ap (λ (x : BoardState). first_board dp x.settings) (sym first) in
-      (ready.0, λ tells. let here = ready.1 tells in record { is_open = here.0; head = head; records = []; reads = here.1; made = inl (refl, own) })
+      (ready.0, λ tells. let here = ready.1 tells in record { is_open = here.0; head = head; records = []; reads = here.1; within = near; made = inl (refl, own) })
 
   -- and in one of whose records it was made
-  pub made-resumed : (dp : Dp) (settings : Settings) (b : BoardState) (disk : D) (tail : Tail) (head : HeadView) (records : List RecordView) → IsReadyWith head records disk tail → AreAccepted dp records → b ≡ restored_from settings (replay_of dp records)
+  pub made-resumed : (dp : Dp) (settings : Settings) (b : BoardState) (disk : D) (tail : Tail) (head : HeadView) (records : List RecordView) → IsReadyWith head records disk tail → b.settings.within ≡ head.within → AreAccepted dp records → b ≡ restored_from settings (replay_of dp records)
       → MayKeep on dp b disk (Some tail)
-  made-resumed dp settings b disk tail head records ready accepted restored =
+  made-resumed dp settings b disk tail head records ready near accepted restored =
       let own = restored ∙ ap (λ (x : BoardState). restored_from x.settings (replay_of dp records)) (sym restored) in
-      (ready.0, λ tells. let here = ready.1 tells in record { is_open = here.0; head = head; records = records; reads = here.1; made = inr (accepted, own) })
+      (ready.0, λ tells. let here = ready.1 tells in record { is_open = here.0; head = head; records = records; reads = here.1; within = near; made = inr (accepted, own) })
 
   -- ---- since the first sync
 
@@ -193,6 +205,7 @@ module _ {D : Type 0} (on : Ghosts D) where
 
   -- ---- what stands behind the records from the making: those that keep up with the board, and one more at most
   record HasWritten (dp : Dp) (b : BoardState) (made now : D) (head : HeadView) (old : List RecordView) : Type 0 where
+    pub within : b.settings.within ≡ head.within
     pub added : List RecordView
     pub last : List RecordView
     pub at_most_one : length last ≤ 1
@@ -204,6 +217,7 @@ module _ {D : Type 0} (on : Ghosts D) where
 
   current-written : (dp : Dp) (b : BoardState) (made now : D) (tail : Tail) → (current : IsCurrent on dp b made now tail) → HasWritten dp b made now current.head current.old
   current-written dp b made now tail current = record {
+    within = current.within;
     added = current.new;
     last = [];
     at_most_one = omega arith;
@@ -216,6 +230,7 @@ module _ {D : Type 0} (on : Ghosts D) where
 
   broken-written : (dp : Dp) (b : BoardState) (made now : D) → b.cause ≡ Some Journal → (broken : IsBroken on dp b made now) → HasWritten dp b made now broken.head broken.old
   broken-written dp b made now stopped broken = record {
+    within = broken.within;
     added = broken.new;
     last = broken.last ∷ [];
     at_most_one = omega arith;
@@ -284,7 +299,7 @@ module _ {D : Type 0} (on : Ghosts D) where
 
   -- ---- at the end of a search
 
-  module _ (dp : Dp) (b : BoardState) (made now : D) (tail : Option Tail) (some : IsSome tail) (k : IsKept on dp b made now tail) (began : IsSome (on.start made)) (counted : IfSome (on.start made) (λ s. s.faults ≤ on.faults made)) (exact : b.settings.within ≡ pos 0) (head : HeadView) where
+  module _ (dp : Dp) (b : BoardState) (made now : D) (tail : Option Tail) (some : IsSome tail) (k : IsKept on dp b made now tail) (began : IsSome (on.start made)) (counted : IfSome (on.start made) (λ s. s.faults ≤ on.faults made)) (head : HeadView) where
     journal : (t : Tail) × HasJournal on dp b made now t
     journal = has-journal dp b made now tail some k
 
@@ -307,7 +322,7 @@ module _ {D : Type 0} (on : Ghosts D) where
             whole = w.whole;
             ends = w.ends;
             since = leaves (w.added ++ w.last) w.since;
-            spent = spent dp old w.added b w.keep_up exact idle;
+            spent = spent dp old w.added b w.keep_up idle;
           };
     }
 
@@ -323,41 +338,40 @@ module _ {D : Type 0} (on : Ghosts D) where
 
     -- ---- however a search ends
 
-    pub left-begun : (IsTrue (on.tells made) → HasRecords head [] (on.seen made)) → MightBegin on made → BeginsSince head made → HasLeftBegun on dp head now
-    left-begun reads begins since = by-telling (on.tells now) refl
+    pub left-begun : IsDistance head.within → (IsTrue (on.tells made) → HasRecords head [] (on.seen made)) → MightBegin on made → BeginsSince head made → HasLeftBegun on dp head now
+    left-begun near reads begins since = by-telling (on.tells now) refl
       where
         spared : SparesOthers on now
         spared = spares now (still-begins dp b made now tail some k began begins)
 
         by-telling : (t : Bool) → on.tells now ≡ t → HasLeftBegun on dp head now
-        by-telling false is = record { written = []; spared = spared; accepted = tt; sound = none-sound dp k.lawful; since = λ tells. absurd (let no : true ≡ false = sym tells ∙ is in cc); ends = λ tells. inl refl }
+        by-telling false is = record { written = []; spared = spared; fronts = none-fronts dp k.lawful head.within near; since = λ tells. absurd (let no : true ≡ false = sym tells ∙ is in cc); ends = λ tells. inl refl }
         by-telling true is =
             let w = written dp b made now journal.0 head [] (reads (told-made is)) journal.1 is in
             record {
               written = w.added ++ w.last;
               spared = spared;
-              accepted = w.whole.accepted;
-              sound = subst (λ z. AreSound dp z (w.added ++ w.last)) exact (w.whole.sound (subst (λ z. AreSound dp z []) (sym exact) (none-sound dp k.lawful)));
+              fronts = fronts-begun dp head.within (w.added ++ w.last) (none-sound dp k.lawful head.within near) (subst (λ z. AreAdded dp z [] (w.added ++ w.last)) w.within w.whole);
               since = leaves-begun made now began journal.1.start told-made head (w.added ++ w.last) since w.since;
               ends = λ tells. inr (λ c left. all-but-one head [] w.added w.last w.at_most_one c (w.ends c left));
             }
 
     -- behind the records that the first sync has found
     pub left-behind : (old : List RecordView) → (IsTrue (on.tells made) → HasRecords head old (on.seen made)) → IsFound head old made → IsUnwritten on made
-        → (rs : List RecordView) × SinceAttached on now (λ s. HasGoneOn on (MayBeAdded dp old rs) head old rs now s)
+        → (rs : List RecordView) × SinceAttached on now (λ s. HasGoneOn on (MayBeAdded dp head.within old rs) head old rs now s)
     left-behind old reads found unwritten = by-telling (on.tells now) refl
       where
-        by-telling : (t : Bool) → on.tells now ≡ t → (rs : List RecordView) × SinceAttached on now (λ s. HasGoneOn on (MayBeAdded dp old rs) head old rs now s)
+        by-telling : (t : Bool) → on.tells now ≡ t → (rs : List RecordView) × SinceAttached on now (λ s. HasGoneOn on (MayBeAdded dp head.within old rs) head old rs now s)
         by-telling false is = ([], λ tells. absurd (let no : true ≡ false = sym tells ∙ is in cc))
         by-telling true is =
             let w = written dp b made now journal.0 head old (reads (told-made is)) journal.1 is in
             let rs = w.added ++ w.last in
             let begins = still-first (on.start made) (on.start now) (on.found made) (on.seen made) (on.found now) (on.seen now) (λ s. HasRecords head old s.content) began (same-start dp b made now tail some k began) (found (told-made is)) in (
               rs,
-              λ tells. at-first (on.start now) (on.found now) (on.seen now) (λ s. HasRecords head old s.content × (HasRecords head old s.content → (c : List ℕ) → on.left_since now s.moment c → HasFront head old rs c)) (λ s. HasGoneOn on (MayBeAdded dp old rs) head old rs now s)
+              λ tells. at-first (on.start now) (on.found now) (on.seen now) (λ s. HasRecords head old s.content × (HasRecords head old s.content → (c : List ℕ) → on.left_since now s.moment c → HasFront head old rs c)) (λ s. HasGoneOn on (MayBeAdded dp head.within old rs) head old rs now s)
                   (λ s has. record {
                     since = has.1 has.0;
-                    follow = λ accepted. subst (λ z. AreAdded dp z old rs) exact w.whole;
+                    follow = λ accepted. fronts-of dp head.within old rs (subst (λ z. AreAdded dp z old rs) w.within w.whole);
                     ends = inr (λ c left. all-but-one head old w.added w.last w.at_most_one c (w.ends c left));
                   })
                   (both-first (on.start now) (on.found now) (on.seen now) (λ s. HasRecords head old s.content) (λ s. HasRecords head old s.content → (c : List ℕ) → on.left_since now s.moment c → HasFront head old rs c)
@@ -423,18 +437,17 @@ module _ {D : Type 0} (on : Ghosts D) where
   begun-alone now head since tells = at-first (on.start now) (on.found now) (on.seen now) (λ s. MayBegin s.content → LeavesSince on.moment on.left_since s now (IsBegun head)) (λ s. MayBegin s.content → (c : List ℕ) → on.left_since now s.moment c → HasBegun head [] c)
       (λ s w may c left. begun-front head [] c ((w may).each c left)) (since tells)
 
-  pub left-begun-alone : (dp : Dp) (now : D) (head : HeadView) → IsLawful dp → SparesOthers on now → BeginsSince head now → HasLeftBegun on dp head now
-  left-begun-alone dp now head laws spared since = record {
+  pub left-begun-alone : (dp : Dp) (now : D) (head : HeadView) → IsLawful dp → IsDistance head.within → SparesOthers on now → BeginsSince head now → HasLeftBegun on dp head now
+  left-begun-alone dp now head laws near spared since = record {
     written = [];
     spared = spared;
-    accepted = tt;
-    sound = none-sound dp laws;
+    fronts = none-fronts dp laws head.within near;
     since = begun-alone now head since;
     ends = λ tells. inl refl;
   }
 
-  pub none-follow : (dp : Dp) (old : List RecordView) → MayBeAdded dp old []
-  none-follow dp old accepted = record { accepted = subst (AreAccepted dp) (sym (append-nil old)) accepted; sound = λ sound. subst (AreSound dp (pos 0)) (sym (append-nil old)) sound }
+  pub none-follow : (dp : Dp) (within : ℤ) (old : List RecordView) → MayBeAdded dp within old []
+  none-follow dp within old accepted = fronts-of dp within old [] (record { accepted = accepted; goes_on = tt; sound = λ sound. (journals-grow dp old []).last within sound })
 
   -- nothing is behind the records where nothing was written
   pub none-behind : (Follows : Type 0) (now : D) (head : HeadView) (old : List RecordView) → Follows → IsUnwritten on now → SinceAttached on now (λ s. HasRecords head old s.content → HasGoneOn on Follows head old [] now s)
@@ -443,7 +456,7 @@ module _ {D : Type 0} (on : Ghosts D) where
       (λ s w has. record { since = λ c left. old-front head old [] c (subst (HasRecords head old) (sym (w.leaves.each c left)) has); follow = may; ends = inl refl }) (unwritten tells)
 
   pub none-after : (head : HeadView) (old : List RecordView) → MayFollow head old []
-  none-after head old = let t = theory_of head.model in if-ok (t.spelled head.text) (λ numbers. none-follow (t.program numbers) old)
+  none-after head old = let t = theory_of head.model in if-ok (t.spelled head.text) (λ numbers. none-follow (t.program numbers) head.within old)
 
   pub left-unwritten : (path : List ℕ) (before now : D) → Attaches on path before now → IsUnwritten on now → LeavesAfterResume on MayFollow path before now
   left-unwritten path before now attaches unwritten = record { attaches = attaches; written = []; leaves = λ head old. none-behind (MayFollow head old []) now head old (none-after head old) unwritten }

@@ -7,4 +7,5 @@ pub mod Checked
 pub mod Writable
 pub mod Wholes
 pub mod JoinFaults
+pub mod Heads
 pub mod Journaled

@@ -1,5 +1,5 @@
 -- How a run of the program ends.
-use Rattle.std.specs.Prelude.{◌≡◌, ℕ, ◌+◌, ◌^◌, ◌≤◌, ◌==◌, if◌then◌else◌, List, length, Option, Some, None, IfSome, IsOkAnd, Ok, Err, ◌⊎◌}
+use Rattle.std.specs.Prelude.{◌≡◌, ℕ, ℤ, ◌+◌, ◌^◌, ◌≤◌, ◌==◌, if◌then◌else◌, List, length, Option, Some, None, IfSome, IsOkAnd, Ok, Err, ◌⊎◌}
 use Rattle.disk.specs.declared.disk.Disk.{Ghosts}
 use Rattle.problem_names.specs.declared.ModelName.{ModelName}
 use Rattle.std.specs.Io.KnownBytes.{append_known}
@@ -93,9 +93,9 @@ unread OutOfMemory = answers.OutOfMemory
 module _ {D : Type 0} (on : Ghosts D) where
   -- the disk is as it was; or the named file was attached, the input was read whole and spells an instance, and a crash has left what a journal of it leaves that
   -- has begun
-  abbrev pub LeavesOfSearch : ModelName → List ℕ → Readings → D → D → Type 0
-  LeavesOfSearch name path r before now = (now ≡ before) ⊎ (Attaches on path before now × ((bytes : List ℕ) × WasRead text_limit r bytes
-      × IsOkAnd ((theory_of name).spelled bytes) (λ numbers. HasLeftBegun on ((theory_of name).program numbers) (head_of (theory_of name) name numbers) now)))
+  abbrev pub LeavesOfSearch : ModelName → ℤ → List ℕ → Readings → D → D → Type 0
+  LeavesOfSearch name within path r before now = (now ≡ before) ⊎ (Attaches on path before now × ((bytes : List ℕ) × WasRead text_limit r bytes
+      × IsOkAnd ((theory_of name).spelled bytes) (λ numbers. HasLeftBegun on ((theory_of name).program numbers) (head_of (theory_of name) name within numbers) now)))
 
   -- what a job may answer; nothing is read for an instance that is drawn and for a journal, and the disk is as it was where no journal is kept; no search of
   -- a part keeps one
@@ -105,7 +105,7 @@ module _ {D : Type 0} (on : Ghosts D) where
       IsInputAnswer text_limit (SolvesPart (theory_of name) name part search) r answer × (now ≡ before)
   IsJobAnswer (solve name given (Some path) (Some part)) r before now answer = ⊥
   IsJobAnswer (solve name search (Some path) None) r before now answer =
-      IsInputAnswer text_limit (RepliesKept on name search before now) r answer × LeavesOfSearch name path r before now
+      IsInputAnswer text_limit (RepliesKept on name search before now) r answer × LeavesOfSearch name search.within path r before now
   IsJobAnswer (resume path search) r before now answer = IsUntouched r × Resumes on search before now answer × LeavesAfterResume on MayFollow path before now
   IsJobAnswer check r before now answer = IsInputAnswer cover_limit IsChecked r answer × (now ≡ before)
   IsJobAnswer join r before now answer = IsInputAnswer cover_limit IsJoined r answer × (now ≡ before)

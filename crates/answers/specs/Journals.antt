@@ -1,5 +1,5 @@
 -- What a run leaves on its disk where it keeps a journal.
-use Rattle.std.specs.Prelude.{◌≡◌, ◌≢◌, ◌⊎◌, ℕ, ◌-◌, ◌^◌, ◌≤◌, ◌<◌, pos, List, [], ◌∷◌, ◌++◌, length, Some, None, Result, Err, get_or, IsSome, IsSomeAnd, IfErr, IfOk, IsTrue}
+use Rattle.std.specs.Prelude.{◌≡◌, ◌≢◌, ◌⊎◌, ℕ, ℤ, ◌-◌, ◌^◌, ◌≤◌, ◌<◌, List, [], ◌∷◌, ◌++◌, length, Some, None, Result, Err, get_or, IsSome, IsSomeAnd, IfErr, IfOk, IsTrue}
 use Rattle.disk.specs.declared.disk.Disk.{Ghosts}
 use Rattle.disk.specs.Counts.{Rose}
 use Rattle.disk.specs.Disk.{FirstSync, AtFirstSync}
@@ -19,13 +19,21 @@ use Rattle.journal_file.specs.declared.error.JournalError.{JournalError}
 use Rattle.journal_file.specs.declared.error.JournalError.TheVariants as errors
 use Rattle.journal_replay.specs.Accepting.{AreAccepted}
 use Rattle.journal_replay.specs.Replay.{replay_of}
-use Rattle.journal_replay.specs.Sound.{AreSound, finished_after_all}
+use Rattle.journal_replay.specs.Sound.{AreSound}
 use Rattle.kept_board.specs.Kept.{HasFront}
-use Rattle.kept_board.specs.Records.{AreAdded, KeepUp}
+use Rattle.kept_board.specs.Records.{AreAdded, IsFrontAdded, KeepUp, finish_records}
 
 -- no journal has begun, or it has this head and a front of these records
 abbrev pub HasBegun : HeadView → List RecordView → List ℕ → Type 0
 HasBegun head written file = (journal_of file ≡ Err NotBegun) ⊎ HasFront head [] written file
+
+-- each front of these records may stand behind the old ones: all are accepted, and sound where the old ones are, and the incumbent is no worse
+abbrev pub AreFrontsAdded : Dp → ℤ → List RecordView → List RecordView → Type 0
+AreFrontsAdded dp within old written = (front others : List RecordView) → written ≡ front ++ others → IsFrontAdded dp within old front
+
+-- each front of these records is accepted and sound
+abbrev pub AreFrontsSound : Dp → ℤ → List RecordView → Type 0
+AreFrontsSound dp within written = (front others : List RecordView) → written ≡ front ++ others → AreAccepted dp front × AreSound dp within front
 
 -- a file has the old records and all that were written behind them, or all but the last
 abbrev pub HasAllButOne : HeadView → List RecordView → List RecordView → List ℕ → Type 0
@@ -87,8 +95,8 @@ module _ {D : Type 0} (on : Ghosts D) where
     pub whole : AreAdded dp b.settings.within old (added ++ last)
     pub ends : (c : List ℕ) → on.may_leave disk c → HasRecords head (old ++ added) c ⊎ HasRecords head (old ++ (added ++ last)) c
     pub since : Leaves (added ++ last) disk
-    pub spent : AreSound dp (pos 0) old → b.cause ≡ None → IsTrue (is_budget_up b)
-        → (b.settings.budget ≤ finished_after_all 0 added) ⊎ (2 ^ 64 - 2 ^ 29 < (replay_of dp (old ++ added)).next_ticket)
+    pub spent : AreSound dp b.settings.within old → b.cause ≡ None → IsTrue (is_budget_up b)
+        → (b.settings.budget ≤ finish_records added) ⊎ (2 ^ 64 - 2 ^ 29 < (replay_of dp (old ++ added)).next_ticket)
 
   -- the board is kept: it is halted for the journal only where a call of the disk has failed after the first sync
   pub record HasKept (dp : Dp) (head : HeadView) (old : List RecordView) (Leaves : List RecordView → D → Type 0) (now : D) (b : BoardState) : Type 0 where
@@ -104,12 +112,11 @@ module _ {D : Type 0} (on : Ghosts D) where
   IsRefusedToBegin head before now _ = ⊥
 
   -- what the first sync found is as it was where no journal may begin in it; and else a crash at any moment since then has left no journal or this head
-  -- with a front of some records, which are accepted and sound; and at the end it leaves all of them, or all but the last
+  -- with a front of some records; each front of them is accepted and sound; and at the end it leaves all of them, or all but the last
   pub record HasLeftBegun (dp : Dp) (head : HeadView) (now : D) : Type 0 where
     pub written : List RecordView
     pub spared : SparesOthers now
-    pub accepted : AreAccepted dp written
-    pub sound : AreSound dp (pos 0) written
+    pub fronts : AreFrontsSound dp head.within written
     pub since : LeavesBegun head written now
     pub ends : IsTrue (on.tells now) → (written ≡ []) ⊎ ((c : List ℕ) → on.may_leave now c → HasAllButOne head [] written c)
 

@@ -1,17 +1,17 @@
 -- When the answer to a search that keeps a journal is right.
-use Rattle.std.specs.Prelude.{◌≡◌, ◌⊎◌, ℕ, ℤ, pos, List, [], Option, MatchResult, IfOk, IsSome, IsTrue}
+use Rattle.std.specs.Prelude.{◌≡◌, ◌⊎◌, ℕ, ℤ, List, [], Option, MatchResult, IfOk, IsSome, IsTrue}
 use Rattle.disk.specs.declared.disk.Disk.{Ghosts}
 use Rattle.disk.specs.Counts.{Rose}
 use Rattle.dp_model.specs.Dp.{Dp}
 use Rattle.journal_bytes.specs.Bodies.{RecordView}
 use Rattle.journal_bytes.specs.Frames.{frames_of}
+use Rattle.journal_bytes.specs.declared.head.TheConstants.{VERSION}
 use Rattle.journal_bytes.specs.Journal.{HeadView, JournalView, HasRecords, behind_head, journal_of}
 use Rattle.journal_file.specs.Refusing.{error_of}
 use Rattle.journal_file.specs.declared.error.JournalError.TheVariants as errors
 use Rattle.journal_replay.specs.Accepting.{AreAccepted, AreRefused}
-use Rattle.journal_replay.specs.Replay.{replay_of, replay_start, restored_from}
+use Rattle.journal_replay.specs.Replay.{replay_of, restored_from}
 use Rattle.journal_replay.specs.Sound.{AreSound}
-use Rattle.kept_board.specs.Records.{AreAdded}
 use Rattle.problem_names.specs.declared.ModelName.{ModelName}
 use Rattle.problems.specs.Theories.{theory_of}
 use Rattle.problem_theory.specs.Theory.{Theory}
@@ -21,26 +21,31 @@ use Rattle.answers.specs.Answers.{Ends, HasSearchedFromStart}
 use Rattle.answers.specs.Checks.{RefusesInstance}
 use Rattle.answers.specs.Covers.{IsCovered}
 use Rattle.answers.specs.Outcomes.{HasSearched}
-use Rattle.answers.specs.Journals.{Attaches, HasGoneOn, HasKept, IsRefusedToBegin, IsUnwritten, LeavesBegun, LeavesResumed, MightBegin, SinceAttached}
-use Rattle.answers.specs.Widths.{IsSearchWidth}
+use Rattle.answers.specs.Journals.{AreFrontsAdded, Attaches, HasGoneOn, HasKept, IsRefusedToBegin, IsUnwritten, LeavesBegun, LeavesResumed, MightBegin, SinceAttached}
+use Rattle.answers.specs.Widths.{IsRefusedWidth, IsSearchWidth}
 use Rattle.solver_words.specs.declared.job.JobSettings.{JobSettings}
 
--- the head of the journal of an instance
-abbrev pub head_of : Theory → ModelName → List ℤ → HeadView
-head_of t name numbers = record { model = name; text = t.canonical numbers }
+-- the head of a new journal of an instance, with the distance of its search
+abbrev pub head_of : Theory → ModelName → ℤ → List ℤ → HeadView
+head_of t name within numbers = record { version = VERSION; within = within; model = name; text = t.canonical numbers }
 
--- these records may follow old ones, where those are accepted
-abbrev pub MayBeAdded : Dp → List RecordView → List RecordView → Type 0
-MayBeAdded dp old written = AreAccepted dp old → AreAdded dp (pos 0) old written
+-- each front of these records may stand behind old ones, where those are accepted
+abbrev pub MayBeAdded : Dp → ℤ → List RecordView → List RecordView → Type 0
+MayBeAdded dp within old written = AreAccepted dp old → AreFrontsAdded dp within old written
 
--- the same for the instance that the head of their journal spells
+-- the same for the instance that the head of their journal spells, and its distance
 abbrev pub MayFollow : HeadView → List RecordView → List RecordView → Type 0
-MayFollow head old written = let t = theory_of head.model in IfOk (t.spelled head.text) (λ numbers. MayBeAdded (t.program numbers) old written)
+MayFollow head old written = let t = theory_of head.model in IfOk (t.spelled head.text) (λ numbers. MayBeAdded (t.program numbers) head.within old written)
+
+-- what is asked of a search that goes on: the distance is that of its journal
+abbrev pub going_on : HeadView → JobSettings → JobSettings
+going_on head search = record search { within = head.within }
 
 module _ {D : Type 0} (on : Ghosts D) where
-  -- what a search that begins a journal may answer for an instance; no journal is refused before the width
+  -- what a search that begins a journal may answer for an instance; the width is refused before the disk is touched
   abbrev pub SolvesKept : Dp → (List ℕ → Option ℤ) → HeadView → JobSettings → D → D → Answer → Type 0
   SolvesKept dp own head search before now (answers.Journal e) = IsRefusedToBegin on head before now e × ((w : ℕ) × IsSearchWidth dp search.width w)
+  SolvesKept dp own head search before now answers.Width = IsRefusedWidth dp search.width × (now ≡ before)
   SolvesKept dp own head search before now answer =
       Ends dp search (λ outcome counts. IsSome (on.start now) × MightBegin on now × HasSearchedFromStart dp own search (HasKept on dp head [] (LeavesBegun on head) now) outcome counts) answer
 
@@ -49,17 +54,17 @@ module _ {D : Type 0} (on : Ghosts D) where
   RepliesKept name search before now bytes answer =
       let t = theory_of name in
       MatchResult (t.spelled bytes)
-      (λ numbers. SolvesKept (t.program numbers) (t.own_value numbers) (head_of t name numbers) search before now answer
+      (λ numbers. SolvesKept (t.program numbers) (t.own_value numbers) (head_of t name search.within numbers) search before now answer
       × IsCovered name (t.canonical numbers) answer)
       (λ e. RefusesInstance e answer × (now ≡ before))
 
   -- what may be answered where the search of a journal goes on: a record is refused where it stands, or how the search ends that goes on from what the
-  -- records make; it rests on their soundness
+  -- records make, within the distance of their head; it rests on their soundness
   abbrev pub GoesOn : Dp → (List ℕ → Option ℤ) → HeadView → List RecordView → ℕ → JobSettings → D → Answer → Type 0
-  GoesOn dp own head records first search now (answers.Journal e) = AreRefused dp (replay_start dp) first records e
+  GoesOn dp own head records first search now (answers.Journal e) = AreRefused dp first records e
   GoesOn dp own head records first search now answer =
-      Ends dp search (λ outcome counts. AreAccepted dp records
-      × HasSearched dp own (λ settings. restored_from settings (replay_of dp records)) (AreSound dp (pos 0) records) search
+      Ends dp (going_on head search) (λ outcome counts. AreAccepted dp records
+      × HasSearched dp own (λ settings. restored_from settings (replay_of dp records)) (AreSound dp head.within records) (going_on head search)
       (HasKept on dp head records (LeavesResumed on head records) now) outcome counts) answer
 
   -- for a journal whose first record has this offset: for the instance of its head, whose text is refused as malformed at 0
@@ -79,12 +84,13 @@ module _ {D : Type 0} (on : Ghosts D) where
         (λ j. ResumesJournal j (behind_head (frames_of file)) search now answer)
         (λ refusal. answer ≡ answers.Journal (error_of refusal))
 
-  -- what `resume` may answer: the disk has failed, memory ran out, or the answer is for the file; nothing was written where the disk failed or the file
-  -- is refused
+  -- what `resume` may answer: the disk has failed, memory ran out, or the answer is for the file; nothing was written where the disk failed, or the file
+  -- or the width is refused
   abbrev pub Resumes : JobSettings → D → D → Answer → Type 0
   Resumes search before now (answers.Journal errors.Disk) = Rose (on.faults before) (on.faults now) × IsUnwritten on now
   Resumes search before now (answers.Journal errors.OutOfMemory) = Unit {0}
   Resumes search before now (answers.Journal e) = WasResumed search now (answers.Journal e) × IsUnwritten on now
+  Resumes search before now answers.Width = WasResumed search now answers.Width × IsUnwritten on now
   Resumes search before now answers.OutOfMemory = Unit {0}
   Resumes search before now answer = WasResumed search now answer
 

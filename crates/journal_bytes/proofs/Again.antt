@@ -1,6 +1,6 @@
 -- What is spelled is read again.
 use Rattle.std.proofs.Common.{◌≡◌, ℕ, suc, ◌-◌, ◌^◌, ◌<◌, true, false, ltb, List, [], ◌∷◌, ◌++◌, length, Option, Some, None, Result, Ok, Err, Vec, Global, refl, sym, ap, ◌∙◌, append_assoc, length-append, arith}
-use Rattle.std.specs.Prelude.{All, IfOk, OnOk, ℤ, IfSome, FitsSigned, ◌==◌}
+use Rattle.std.specs.Prelude.{All, IfOk, OnOk, ℤ, IfSome, FitsSigned, ◌==◌, if◌then◌else◌}
 use Rattle.std.specs.List.{flat_map, AllByRecursion}
 use Rattle.std.specs.Int.{w32, w64, to_be_bytes, cast_signed, cast_unsigned}
 use Rattle.std.proofs.lemmas.Bool.{le-ltb}
@@ -10,9 +10,10 @@ use Rattle.std.proofs.lemmas.Nat.{from_be_bytes-to_be_bytes_4, from_be_bytes-to_
 use Rattle.std.proofs.lemmas.Int.{to_z-of_z, ints}
 use Rattle.problem_names.specs.declared.ModelName.{ModelName}
 use Rattle.problem_names.specs.ModelNames.{byte_of, byte_again}
-use Rattle.journal_bytes.specs.Bodies.{number_at, many, decisions_at, child_at, ticket_of, improve_of, finish_of, record_of, ChildView, RecordView, Improve, Finish}
-use Rattle.journal_bytes.specs.Journal.{HeadView, model_at, text_of, head_of}
-use Rattle.journal_bytes.specs.Spelling.{head_bytes, numbers, decision_bytes, number_of_ticket, child_bytes, record_bytes, record_kind, ChildFits, RecordFits}
+use Rattle.journal_bytes.specs.Bodies.{◌>>=◌, number_at, many, decisions_at, child_at, ticket_of, incumbent_at, best_at, listed_at, improve_of, finish_of, snapshot_of, record_of, ChildView, IncumbentView, ListedView, RecordView, Improve, Finish, Snapshot}
+use Rattle.journal_bytes.proofs.Sizes.{snapshot_parts}
+use Rattle.journal_bytes.specs.Journal.{HeadView, model_at, text_of, is_distance, distance_at, within_at, head_of}
+use Rattle.journal_bytes.specs.Spelling.{head_bytes, numbers, decision_bytes, number_of_ticket, bounded_bytes, child_bytes, listed_bytes, best_bytes, record_bytes, record_kind, ChildFits, ListedFits, IncumbentFits, RecordFits, IsOfVersion}
 
 pub word_again : (n : ℕ) (rest : List ℕ) → n < 2 ^ 32 → number_at w32 (to_be_bytes w32 n ++ rest) ≡ Some (n, rest)
 word_again n rest lt =
@@ -61,14 +62,25 @@ text_again text fits =
     let whole : (length text == length text) ≡ true = grind (arith, nat_tests) in
     rw (word_again (length text) text fits, text_of, whole) refl
 
-pub head_again : (h : HeadView) → length h.text < 2 ^ 32 → head_of (record { kind = 1; body = head_bytes h }) ≡ Ok h
-unfolding head_of head_bytes
-head_again h fits =
-    let first = word_again 1 (byte_of h.model ∷ (to_be_bytes w32 (length h.text) ++ h.text)) (omega arith) in
-    rw (first, model_again h.model (to_be_bytes w32 (length h.text) ++ h.text), text_again h.text fits) refl
+distance_again : (z : ℤ) (rest : List ℕ) → FitsSigned w64 z → is_distance z ≡ true → distance_at (to_be_bytes w64 (cast_unsigned w64 z) ++ rest) ≡ Some (z, rest)
+unfolding distance_at
+distance_again z rest fits is = rw (long_again (cast_unsigned w64 z) rest (unsigned_fits z fits), distance_at, to_z-of_z w64 z fits, is) refl
+
+distance_fits : (z : ℤ) → is_distance z ≡ true → FitsSigned w64 z
+distance_fits z is = grind (arith, ints)
+
+-- the head of a journal of the newest version
+pub head_again : (h : HeadView) → h.version ≡ 2 → length h.text < 2 ^ 32 → is_distance h.within ≡ true → head_of (record { kind = 1; body = head_bytes h }) ≡ Ok h
+unfolding head_of head_bytes within_at
+head_again h newest fits near =
+    let text = to_be_bytes w32 (length h.text) ++ h.text in
+    let first = word_again 2 (byte_of h.model ∷ (to_be_bytes w64 (cast_unsigned w64 h.within) ++ text)) (omega arith) in
+    let same : head_of (record { kind = 1; body = head_bytes h }) ≡ Ok (record { version = 2; within = h.within; model = h.model; text = h.text }) =
+    rw (first, model_again h.model (to_be_bytes w64 (cast_unsigned w64 h.within) ++ text), distance_again h.within text (distance_fits h.within near) near, text_again h.text fits) refl in
+    same ∙ (λ i. Ok (record { version = sym newest i; within = h.within; model = h.model; text = h.text }))
 
 pub child_again : (c : ChildView) (rest : List ℕ) → ChildFits c → child_at (child_bytes c ++ rest) ≡ Some (c, rest)
-unfolding child_at child_bytes
+unfolding child_at bounded_bytes
 child_again c rest fits =
     let small : number_of_ticket c.replaced < 2 ^ 64 = ticket_fits c.replaced fits.replaced in
     let after = decision_bytes c.decisions ++ rest in
@@ -93,16 +105,55 @@ finish_again ticket cs fits =
     let third : many child_at (length cs) (flat_map child_bytes cs) ≡ Some (cs, []) = ap (many child_at (length cs)) (sym (append-nil (flat_map child_bytes cs))) ∙ many_again child_at child_bytes ChildFits child_again cs [] (by_recursion ChildFits cs fits.2) in
     rw (first, second, third) refl
 
--- what is spelled for a record is that record
-pub record_again : (e : RecordView) → RecordFits e → record_of (record { kind = record_kind e; body = record_bytes e }) ≡ Some e
+incumbent_again : (b : IncumbentView) (rest : List ℕ) → IncumbentFits b → incumbent_at (to_be_bytes w64 (cast_unsigned w64 b.value) ++ (decision_bytes b.decisions ++ rest)) ≡ Some (b, rest)
+unfolding incumbent_at
+incumbent_again b rest fits =
+    let first = long_again (cast_unsigned w64 b.value) (decision_bytes b.decisions ++ rest) (unsigned_fits b.value fits.value) in
+    rw (first, decisions_again b.decisions rest fits.count fits.each, to_z-of_z w64 b.value fits.value) refl
+
+best_again : (best : Option IncumbentView) (rest : List ℕ) → IfSome best IncumbentFits → best_at (best_bytes best ++ rest) ≡ Some (best, rest)
+unfolding best_at best_bytes
+best_again None rest fits = refl
+best_again (Some b) rest fits =
+    let parts : (to_be_bytes w64 (cast_unsigned w64 b.value) ++ decision_bytes b.decisions) ++ rest ≡ to_be_bytes w64 (cast_unsigned w64 b.value) ++ (decision_bytes b.decisions ++ rest) =
+    append_assoc (to_be_bytes w64 (cast_unsigned w64 b.value)) (decision_bytes b.decisions) rest in
+    ap (λ (l : List ℕ). best_at (1 ∷ l)) parts ∙ rw (incumbent_again b rest fits, best_at) refl
+
+pub listed_again : (o : ListedView) (rest : List ℕ) → ListedFits o → listed_at (listed_bytes o ++ rest) ≡ Some (o, rest)
+unfolding listed_at bounded_bytes
+listed_again o rest fits =
+    let after = decision_bytes o.decisions ++ rest in
+    let first = long_again o.ticket (to_be_bytes w64 (cast_unsigned w64 o.bound) ++ after) fits.ticket in
+    let second = long_again (cast_unsigned w64 o.bound) after (unsigned_fits o.bound fits.bound) in
+    let third = decisions_again o.decisions rest fits.count fits.each in
+    rw (first, second, third, to_z-of_z w64 o.bound fits.bound) refl
+
+pub snapshot_again : (best : Option IncumbentView) (next : ℕ) (os : List ListedView) → RecordFits (Snapshot best next os) → snapshot_of (record_bytes (Snapshot best next os)) ≡ Some (Snapshot best next os)
+unfolding snapshot_of
+snapshot_again best next os fits =
+    let first = best_again best (to_be_bytes w64 next ++ (to_be_bytes w32 (length os) ++ flat_map listed_bytes os)) fits.0 in
+    let second = long_again next (to_be_bytes w32 (length os) ++ flat_map listed_bytes os) fits.1 in
+    let third = word_again (length os) (flat_map listed_bytes os) fits.2 in
+    let last : many listed_at (length os) (flat_map listed_bytes os) ≡ Some (os, []) = ap (many listed_at (length os)) (sym (append-nil (flat_map listed_bytes os))) ∙ many_again listed_at listed_bytes ListedFits listed_again os [] (by_recursion ListedFits os fits.3) in
+    let behind : Option IncumbentView × List ℕ → Option RecordView = λ front. number_at w64 front.1 >>= λ n. number_at w32 n.1 >>= λ count. many listed_at count.0 count.1 >>= λ listed.
+    if length listed.1 == 0 then Some (Snapshot front.0 n.0 listed.0) else None in
+    let rest = to_be_bytes w64 next ++ (to_be_bytes w32 (length os) ++ flat_map listed_bytes os) in
+    let others : behind (best, rest) ≡ Some (Snapshot best next os) = rw (second, third, last) refl in
+    ap snapshot_of (snapshot_parts best next os) ∙ ap (λ (r : Option (Option IncumbentView × List ℕ)). r >>= behind) first ∙ others
+
+-- what is spelled for a record is that record, in each version that may have it
+pub record_again : (version : ℕ) (e : RecordView) → RecordFits e → IsOfVersion version e → record_of version (record { kind = record_kind e; body = record_bytes e }) ≡ Some e
 unfolding record_of
-record_again (Improve value ds) fits = improve_again value ds fits
-record_again (Finish ticket cs) fits = finish_again ticket cs fits
+record_again version (Improve value ds) fits has = improve_again value ds fits
+record_again version (Finish ticket cs) fits has = finish_again ticket cs fits
+record_again version (Snapshot best next os) fits has =
+    ap (λ n. record_of n (record { kind = 4; body = record_bytes (Snapshot best next os) })) has ∙ snapshot_again best next os fits
 
 -- where the body of a record was written
-pub written : {E : Type 0} (result : Result (Vec ℕ Global) E) (r : RecordView) → IfOk result (λ v. v.items ≡ record_bytes r) → OnOk result (RecordFits r) → IfOk result (λ v. record_of (record { kind = record_kind r; body = v.items }) ≡ Some r)
-written (Ok v) r bytes fits = ap (λ (b : List ℕ). record_of (record { kind = record_kind r; body = b })) bytes ∙ record_again r fits
+pub written : {E : Type 0} (result : Result (Vec ℕ Global) E) (r : RecordView) → IfOk result (λ v. v.items ≡ record_bytes r) → OnOk result (RecordFits r)
+    → IfOk result (λ v. (version : ℕ) → IsOfVersion version r → record_of version (record { kind = record_kind r; body = v.items }) ≡ Some r)
+written (Ok v) r bytes fits = λ version has. ap (λ (b : List ℕ). record_of version (record { kind = record_kind r; body = b })) bytes ∙ record_again version r fits has
 written (Err e) r bytes fits = tt
 
-pub head_written : (body : List ℕ) (h : HeadView) → body ≡ head_bytes h → length h.text < 2 ^ 32 → head_of (record { kind = 1; body = body }) ≡ Ok h
-head_written body h bytes fits = ap (λ (b : List ℕ). head_of (record { kind = 1; body = b })) bytes ∙ head_again h fits
+pub head_written : (body : List ℕ) (h : HeadView) → body ≡ head_bytes h → h.version ≡ 2 → length h.text < 2 ^ 32 → is_distance h.within ≡ true → head_of (record { kind = 1; body = body }) ≡ Ok h
+head_written body h bytes newest fits near = ap (λ (b : List ℕ). head_of (record { kind = 1; body = b })) bytes ∙ head_again h newest fits near

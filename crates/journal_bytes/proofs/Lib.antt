@@ -1,4 +1,5 @@
 pub mod Again
+pub mod Bases
 pub mod Ended
 mod Entries
 pub mod Found

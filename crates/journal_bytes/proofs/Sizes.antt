@@ -1,15 +1,17 @@
 -- The sizes of bodies.
-use Rattle.std.proofs.Common.{◌≡◌, ℕ, ◌+◌, ◌*◌, ◌^◌, ◌<◌, ◌≤◌, List, [], ◌∷◌, ◌++◌, length, map, take, get_or, Result, Ok, Err, Vec, Global, refl, ap, subst, ◌∙◌, append_assoc, length-append, arith}
-use Rattle.std.specs.Prelude.{All, sum_by, IfOk}
+use Rattle.std.proofs.Common.{◌≡◌, ℕ, ◌+◌, ◌*◌, ◌^◌, ◌<◌, ◌≤◌, List, [], ◌∷◌, ◌++◌, length, map, take, get_or, Option, Some, None, Result, Ok, Err, Vec, Global, refl, ap, subst, ◌∙◌, append_assoc, length-append, arith}
+use Rattle.std.specs.Prelude.{All, sum_by, IfOk, IfSome, option_map, ℤ}
 use Rattle.std.specs.List.{flat_map}
 use Rattle.std.specs.Int.{w32, w64, to_be_bytes, cast_unsigned}
 use Rattle.std.proofs.lemmas.List.{length-map, get_or-map, map-append, take_more, append-nil}
 use Rattle.std.proofs.lemmas.Grind.{flat_map-append}
 use Rattle.std.proofs.lemmas.List.Sums.{get_or-le-sum_by, sum_by-cons}
 use Rattle.journal_bytes.specs.declared.record.Child.{Child}
-use Rattle.journal_bytes.specs.Bodies.{ChildView, RecordView, Improve, Finish}
-use Rattle.journal_bytes.specs.Spelling.{numbers, decision_bytes, child_bytes, record_bytes, number_of_ticket, child_size, record_size, IsTicket}
-use Rattle.journal_bytes.specs.Views.{child_view}
+use Rattle.journal_bytes.specs.declared.record.Incumbent.{Incumbent}
+use Rattle.journal_bytes.specs.declared.record.Listed.{Listed}
+use Rattle.journal_bytes.specs.Bodies.{ChildView, IncumbentView, ListedView, RecordView, Improve, Finish, Snapshot}
+use Rattle.journal_bytes.specs.Spelling.{numbers, decision_bytes, bounded_bytes, child_bytes, listed_bytes, best_bytes, record_bytes, child_size, listed_size, best_size, record_size, number_of_ticket, IsTicket}
+use Rattle.journal_bytes.specs.Views.{child_view, incumbent_view, listed_view}
 
 length-numbers : (ds : List ℕ) → length (numbers ds) ≡ 4 * length ds
 length-numbers [] = refl
@@ -19,18 +21,36 @@ length-decisions : (ds : List ℕ) → length (decision_bytes ds) ≡ 4 + 4 * le
 unfolding decision_bytes
 length-decisions ds = omega (arith, length-numbers ds)
 
-length-child : (c : ChildView) → length (child_bytes c) ≡ child_size c
-unfolding child_bytes
-length-child c = omega (arith, length-decisions c.decisions)
+length-bounded : (number : ℕ) (bound : ℤ) (ds : List ℕ) → length (bounded_bytes number bound ds) ≡ 20 + 4 * length ds
+unfolding bounded_bytes
+length-bounded number bound ds = omega (arith, length-decisions ds)
 
 length-children : (cs : List ChildView) → length (flat_map child_bytes cs) ≡ sum_by child_size cs
 length-children [] = refl
-length-children (c ∷ cs) = omega (arith, sum_by-cons child_size c cs, length-child c, length-children cs, length-append (child_bytes c) (flat_map child_bytes cs))
+length-children (c ∷ cs) = omega (arith, sum_by-cons child_size c cs, length-bounded (number_of_ticket c.replaced) c.bound c.decisions, length-children cs, length-append (child_bytes c) (flat_map child_bytes cs))
+
+length-listed : (os : List ListedView) → length (flat_map listed_bytes os) ≡ sum_by listed_size os
+length-listed [] = refl
+length-listed (o ∷ os) = omega (arith, sum_by-cons listed_size o os, length-bounded o.ticket o.bound o.decisions, length-listed os, length-append (listed_bytes o) (flat_map listed_bytes os))
+
+length-best : (best : Option IncumbentView) → length (best_bytes best) ≡ best_size best
+unfolding best_bytes
+length-best None = refl
+length-best (Some b) = omega (arith, length-decisions b.decisions, length-append (to_be_bytes w64 (cast_unsigned w64 b.value)) (decision_bytes b.decisions))
+
+-- the bytes of a snapshot, field by field
+pub snapshot_parts : (best : Option IncumbentView) (next : ℕ) (os : List ListedView) → record_bytes (Snapshot best next os) ≡ best_bytes best ++ (to_be_bytes w64 next ++ (to_be_bytes w32 (length os) ++ flat_map listed_bytes os))
+unfolding record_bytes
+snapshot_parts best next os = simp append_assoc
 
 pub length-record : (r : RecordView) → length (record_bytes r) ≡ record_size r
 unfolding record_bytes
 length-record (Improve value ds) = omega (arith, length-decisions ds)
 length-record (Finish ticket cs) = omega (arith, length-children cs)
+length-record (Snapshot best next os) =
+    let whole : length (record_bytes (Snapshot best next os)) ≡ length (best_bytes best) + length (to_be_bytes w64 next ++ (to_be_bytes w32 (length os) ++ flat_map listed_bytes os)) =
+    ap length (snapshot_parts best next os) ∙ length-append (best_bytes best) (to_be_bytes w64 next ++ (to_be_bytes w32 (length os) ++ flat_map listed_bytes os)) in
+    omega (arith, whole, length-best best, length-listed os)
 
 -- where the body of a record was written
 pub sized : {E : Type 0} (result : Result (Vec ℕ Global) E) (r : RecordView) → IfOk result (λ v. v.items ≡ record_bytes r) → IfOk result (λ v. length v.items ≡ record_size r)
@@ -57,15 +77,40 @@ tickets_of cs all k d lt =
     let one : get_or (map child_view cs) k (child_view d) ≡ child_view (get_or cs k d) = get_or-map child_view cs k d (child_view d) lt in
     subst (λ (c : ChildView). IsTicket c.replaced) one (all k (child_view d) (omega (arith, length-map cs child_view)))
 
--- the bytes of one child more
-pub children_more : (cs : List Child) (i : ℕ) (d : Child) → i < length cs → flat_map child_bytes (map child_view (take (i + 1) cs)) ≡ flat_map child_bytes (map child_view (take i cs)) ++ child_bytes (child_view (get_or cs i d))
-children_more cs i d lt =
-    let one : Child = get_or cs i d in
-    ap (λ (l : List Child). flat_map child_bytes (map child_view l)) (take_more cs i d lt) ∙ ap (flat_map child_bytes) (map-append child_view (take i cs) (one ∷ []))
-    ∙ flat_map-append child_bytes (map child_view (take i cs)) (child_view one ∷ []) ∙ ap (λ (l : List ℕ). flat_map child_bytes (map child_view (take i cs)) ++ l) (append-nil (child_bytes (child_view one)))
+-- that of a list of subproblems
+count-listed : (os : List ListedView) → length os ≤ sum_by listed_size os
+count-listed [] = omega arith
+count-listed (o ∷ os) = omega (arith, sum_by-cons listed_size o os, count-listed os)
 
--- the fields of a child, one behind the other
-pub child_is : (old first second new : List ℕ) (number : ℕ) (c : ChildView) → number ≡ number_of_ticket c.replaced → first ≡ old ++ to_be_bytes w64 number → second ≡ first ++ to_be_bytes w64 (cast_unsigned w64 c.bound) → new ≡ second ++ decision_bytes c.decisions → new ≡ old ++ child_bytes c
-unfolding child_bytes
-child_is old first second new number c is a b d =
-    d ∙ ap (λ (l : List ℕ). l ++ decision_bytes c.decisions) (b ∙ ap (λ (l : List ℕ). l ++ to_be_bytes w64 (cast_unsigned w64 c.bound)) (a ∙ ap (λ (n : ℕ). old ++ to_be_bytes w64 n) is)) ∙ simp append_assoc
+pub listed_fit : (os : List Listed) → sum_by listed_size (map listed_view os) < 2 ^ 32 → length os < 2 ^ 32
+listed_fit os small = omega (arith, count-listed (map listed_view os), length-map os listed_view)
+
+pub each_listed_fits : (os : List Listed) → sum_by listed_size (map listed_view os) < 2 ^ 32 → All (λ o. length o.decisions.items < 2 ^ 32) os
+each_listed_fits os small k d lt =
+    let one : get_or (map listed_view os) k (listed_view d) ≡ listed_view (get_or os k d) = get_or-map listed_view os k d (listed_view d) lt in
+    let within : listed_size (get_or (map listed_view os) k (listed_view d)) ≤ sum_by listed_size (map listed_view os) = get_or-le-sum_by listed_size (map listed_view os) k (listed_view d) (omega (arith, length-map os listed_view)) in
+    let size : listed_size (listed_view (get_or os k d)) ≤ sum_by listed_size (map listed_view os) = subst (λ (o : ListedView). listed_size o ≤ sum_by listed_size (map listed_view os)) one within in
+    omega (arith, size)
+
+pub best_fits : (best : Option Incumbent) → best_size (option_map incumbent_view best) < 2 ^ 32 → IfSome best (λ b. length b.decisions.items < 2 ^ 32)
+best_fits None small = tt
+best_fits (Some b) small = omega (arith, small)
+
+-- the bytes of one more of a list
+pub bytes_more : {X Y : Type 0} (view : X → Y) (bytes : Y → List ℕ) (xs : List X) (i : ℕ) (d : X) → i < length xs → flat_map bytes (map view (take (i + 1) xs)) ≡ flat_map bytes (map view (take i xs)) ++ bytes (view (get_or xs i d))
+bytes_more {X} view bytes xs i d lt =
+    let one : X = get_or xs i d in
+    ap (λ (l : List X). flat_map bytes (map view l)) (take_more xs i d lt) ∙ ap (flat_map bytes) (map-append view (take i xs) (one ∷ []))
+    ∙ flat_map-append bytes (map view (take i xs)) (view one ∷ []) ∙ ap (λ (l : List ℕ). flat_map bytes (map view (take i xs)) ++ l) (append-nil (bytes (view one)))
+
+-- a number, a bound and decisions, one behind the other
+pub bounded_is : (old first second new : List ℕ) (number : ℕ) (bound : ℤ) (ds : List ℕ) → first ≡ old ++ to_be_bytes w64 number → second ≡ first ++ to_be_bytes w64 (cast_unsigned w64 bound) → new ≡ second ++ decision_bytes ds → new ≡ old ++ bounded_bytes number bound ds
+unfolding bounded_bytes
+bounded_is old first second new number bound ds a b d =
+    d ∙ ap (λ (l : List ℕ). l ++ decision_bytes ds) (b ∙ ap (λ (l : List ℕ). l ++ to_be_bytes w64 (cast_unsigned w64 bound)) a) ∙ simp append_assoc
+
+-- the best solution, behind the byte that tells of it
+pub best_is : (old first second new : List ℕ) (b : IncumbentView) → first ≡ old ++ 1 ∷ [] → second ≡ first ++ to_be_bytes w64 (cast_unsigned w64 b.value) → new ≡ second ++ decision_bytes b.decisions → new ≡ old ++ best_bytes (Some b)
+unfolding best_bytes
+best_is old first second new b a c d =
+    d ∙ ap (λ (l : List ℕ). l ++ decision_bytes b.decisions) (c ∙ ap (λ (l : List ℕ). l ++ to_be_bytes w64 (cast_unsigned w64 b.value)) a) ∙ simp append_assoc

@@ -1,8 +1,9 @@
 -- The bodies of records: their fields from left to right, each as a value and the bytes behind it. Where a field is not
 -- there, there is none.
-use Rattle.std.specs.Prelude.{ℕ, zero, suc, ◌-◌, ◌^◌, ℤ, nat_lt, ◌==◌, if◌then◌else◌, List, [], ◌∷◌, length, take, drop, Option, Some, None}
+use Rattle.std.specs.Prelude.{ℕ, zero, suc, ◌-◌, ◌^◌, ℤ, nat_lt, ◌==◌, ◌&&◌, if◌then◌else◌, List, [], ◌∷◌, length, take, drop, Option, Some, None}
 use Rattle.std.specs.Int.{Width, w32, w64, byte_len, from_be_bytes, cast_signed}
 use Rattle.journal_bytes.specs.Frames.{Frame}
+use Rattle.journal_bytes.specs.declared.head.TheConstants.{VERSION}
 
 infixl 10 ◌>>=◌
 abbrev pub ◌>>=◌ : {A B : Type 0} → Option A → (A → Option B) → Option B
@@ -15,13 +16,27 @@ pub record ChildView : Type 0 where
   pub bound : ℤ
   pub decisions : List ℕ
 
--- a better solution with its value, or a subproblem that is finished, with its children
+-- the best solution of a snapshot, with its value
+pub record IncumbentView : Type 0 where
+  pub value : ℤ
+  pub decisions : List ℕ
+
+-- an open or checked-out subproblem of a snapshot, with its ticket
+pub record ListedView : Type 0 where
+  pub ticket : ℕ
+  pub bound : ℤ
+  pub decisions : List ℕ
+
+-- a better solution with its value, a subproblem that is finished, with its children, or a snapshot: the best solution, the next
+-- ticket, and all subproblems that are open or out
 pub data RecordView : Type 0 where
   Improve : ℤ → List ℕ → RecordView
   Finish : ℕ → List ChildView → RecordView
+  Snapshot : Option IncumbentView → ℕ → List ListedView → RecordView
 
--- the records of a journal behind its head, the oldest first, and the offset of the first one's gate
+-- the distance of a journal's head, the offset of the gate of the first record behind it, and the records, the oldest first
 pub record RecordsView : Type 0 where
+  pub within : ℤ
   pub first : ℕ
   pub records : List RecordView
 
@@ -70,6 +85,35 @@ finish_of body = do
   children ← many child_at count.0 count.1
   if length children.1 == 0 then Some (Finish ticket.0 children.0) else None
 
--- the record of a frame behind the head
-unfoldable pub record_of : Frame → Option RecordView
-record_of f = if f.kind == 2 then improve_of f.body else (if f.kind == 3 then finish_of f.body else None)
+-- the best solution, and the bytes behind it
+unfoldable pub incumbent_at : List ℕ → Option (IncumbentView × List ℕ)
+incumbent_at bytes = do
+  value ← number_at w64 bytes
+  decisions ← decisions_at value.1
+  Some (record { value = cast_signed w64 value.0; decisions = decisions.0 }, decisions.1)
+
+-- the byte 0 for none, or the byte 1 and the best solution
+unfoldable pub best_at : List ℕ → Option (Option IncumbentView × List ℕ)
+best_at [] = None
+best_at (b ∷ rest) = if b == 0 then Some (None, rest) else (if b == 1 then (incumbent_at rest >>= λ x. Some (Some x.0, x.1)) else None)
+
+-- a subproblem of a snapshot, and the bytes behind it
+unfoldable pub listed_at : List ℕ → Option (ListedView × List ℕ)
+listed_at bytes = do
+  ticket ← number_at w64 bytes
+  bound ← number_at w64 ticket.1
+  decisions ← decisions_at bound.1
+  Some (record { ticket = ticket.0; bound = cast_signed w64 bound.0; decisions = decisions.0 }, decisions.1)
+
+-- a snapshot
+unfoldable pub snapshot_of : List ℕ → Option RecordView
+snapshot_of body = do
+  best ← best_at body
+  next ← number_at w64 best.1
+  count ← number_at w32 next.1
+  listed ← many listed_at count.0 count.1
+  if length listed.1 == 0 then Some (Snapshot best.0 next.0 listed.0) else None
+
+-- the record of a frame behind the head of a journal of this version: the first version has no snapshots
+unfoldable pub record_of : ℕ → Frame → Option RecordView
+record_of version f = if f.kind == 2 then improve_of f.body else (if f.kind == 3 then finish_of f.body else (if f.kind == 4 && version == VERSION then snapshot_of f.body else None))

@@ -1,6 +1,6 @@
 -- What a file reads as, or the first cause for which it is refused.
-use Rattle.std.specs.Prelude.{◌≡◌, ℕ, ◌+◌, nat_le, ◌==◌, if◌then◌else◌, List, [], ◌∷◌, length, Option, Some, None, Result, Ok, Err}
-use Rattle.std.specs.Int.{w32}
+use Rattle.std.specs.Prelude.{◌≡◌, ℕ, ◌+◌, ◌-◌, ◌^◌, min, ℤ, pos, int_le, nat_le, Bool, ◌&&◌, ◌||◌, ◌==◌, if◌then◌else◌, List, [], ◌∷◌, length, Option, Some, None, Result, Ok, Err}
+use Rattle.std.specs.Int.{w32, w64, cast_signed}
 use Rattle.journal_bytes.specs.declared.frames.TheConstants.{FRAME_OVERHEAD}
 use Rattle.journal_bytes.specs.declared.refusal.Refusal.{Refusal}
 use Rattle.journal_bytes.specs.declared.refusal.Refusal.TheVariants.{NotBegun, Damaged, Malformed, Version, OutOfMemory}
@@ -9,17 +9,20 @@ use Rattle.journal_bytes.specs.declared.body.BodyError.TheVariants as bodies
 use Rattle.problem_names.specs.declared.ModelName.{ModelName}
 use Rattle.problem_names.specs.ModelNames.{model_of_byte}
 use Rattle.journal_bytes.specs.declared.head.Head.{Head}
+use Rattle.journal_bytes.specs.declared.head.TheConstants.{VERSION, MOST_WITHIN}
 use Rattle.journal_bytes.specs.declared.tail.Tail.{Tail}
 use Rattle.journal_bytes.specs.Frames.{Frame, Reading, reading_of}
-use Rattle.journal_bytes.specs.Bodies.{RecordView, RecordsView, number_at, record_of}
+use Rattle.journal_bytes.specs.Bodies.{RecordView, RecordsView, Improve, Finish, Snapshot, number_at, record_of}
 
 infixl 10 ◌>>=◌
 abbrev pub ◌>>=◌ : {A B : Type 0} → Result A Refusal → (A → Result B Refusal) → Result B Refusal
 (Ok x) >>= f = f x
 (Err e) >>= f = Err e
 
--- the problem, and the text of the instance
+-- the version of the journal, the distance of its search, the problem, and the text of the instance
 pub record HeadView : Type 0 where
+  pub version : ℕ
+  pub within : ℤ
   pub model : ModelName
   pub text : List ℕ
 
@@ -43,22 +46,59 @@ model_at (b ∷ rest) = elim (model_of_byte b) [ None ↦ None | Some m ↦ Some
 unfoldable pub text_of : List ℕ → Option (List ℕ)
 text_of bytes = elim (number_at w32 bytes) [ None ↦ None | Some n ↦ if length n.1 == n.0 then Some n.1 else None ]
 
+-- whether a head may have the distance
+abbrev pub is_distance : ℤ → Bool
+is_distance within = int_le (pos 0) within && int_le within MOST_WITHIN
+
+-- a distance, and what stands behind it
+unfoldable pub distance_at : List ℕ → Option (ℤ × List ℕ)
+distance_at bytes = elim (number_at w64 bytes) [ None ↦ None | Some n ↦ if is_distance (cast_signed w64 n.0) then Some (cast_signed w64 n.0, n.1) else None ]
+
+-- the distance of a head of this version, and what stands behind it: heads of the first version have none, and theirs is 0
+unfoldable pub within_at : ℕ → List ℕ → Option (ℤ × List ℕ)
+within_at version bytes = if version == 1 then Some (pos 0, bytes) else distance_at bytes
+
+-- whether journals of the version are read
+abbrev pub is_version : ℕ → Bool
+is_version version = version == 1 || version == VERSION
+
 -- the head that a frame spells
 unfoldable pub head_of : Frame → Result HeadView Refusal
 head_of f = if f.kind == 1 then (or_malformed 0 (number_at w32 f.body) >>= λ version.
-    if version.0 == 1 then (or_malformed 0 (model_at version.1) >>= λ model. or_malformed 0 (text_of model.1) >>= λ text. Ok (record { model = model.0; text = text })) else Err (Version version.0)) else Err (Malformed 0)
+    if is_version version.0 then (or_malformed 0 (model_at version.1) >>= λ model. or_malformed 0 (within_at version.0 model.1) >>= λ within. or_malformed 0 (text_of within.1) >>= λ text.
+    Ok (record { version = version.0; within = within.0; model = model.0; text = text })) else Err (Version version.0)) else Err (Malformed 0)
 
--- the records of the frames from this offset on
-unfoldable pub records_from : ℕ → List Frame → Result (List RecordView) Refusal
-records_from at [] = Ok []
-records_from at (f ∷ fs) = or_malformed at (record_of f) >>= λ e. records_from (at + (FRAME_OVERHEAD + length f.body)) fs >>= λ es. Ok (e ∷ es)
+-- the records of the frames from this offset on, in a journal of this version
+unfoldable pub records_from : ℕ → ℕ → List Frame → Result (List RecordView) Refusal
+records_from version at [] = Ok []
+records_from version at (f ∷ fs) = or_malformed at (record_of version f) >>= λ e. records_from version (at + (FRAME_OVERHEAD + length f.body)) fs >>= λ es. Ok (e ∷ es)
+
+-- how many subproblems were finished since the last snapshot, with one record more; the count stops at the greatest number of 64 bits
+abbrev pub since_after : ℕ → RecordView → ℕ
+since_after n (Improve value ds) = n
+since_after n (Finish ticket cs) = min (n + 1) (2 ^ 64 - 1)
+since_after n (Snapshot best next os) = 0
+
+-- with those of a list
+abbrev pub since_all : ℕ → List RecordView → ℕ
+since_all n [] = n
+since_all n (r ∷ rs) = since_all (since_after n r) rs
+
+-- where a reading with these records in a journal of this version ends
+abbrev pub tail_of : Reading → ℕ → List RecordView → Tail
+tail_of r version records = record { end = r.end; digest = r.digest; version = version; since = since_all 0 records }
+
+-- a tail has the version of the head, and counts the subproblems that were finished since the last snapshot
+pub record IsCounted (tail : Tail) (head : HeadView) (records : List RecordView) : Type 0 where
+  pub version : tail.version ≡ head.version
+  pub since : tail.since ≡ since_all 0 records
 
 -- the journal of a reading
 unfoldable pub journal_in : Reading → Result JournalView Refusal
 journal_in r = elim r.frames [
   | [] ↦ if r.is_whole then Err NotBegun else Err (Damaged r.end)
-  | f ∷ fs ↦ head_of f >>= λ head. records_from (FRAME_OVERHEAD + length f.body) fs >>= λ records.
-      if r.is_whole then Ok (record { head = head; records = records; tail = record { end = r.end; digest = r.digest } }) else Err (Damaged r.end)
+  | f ∷ fs ↦ head_of f >>= λ head. records_from head.version (FRAME_OVERHEAD + length f.body) fs >>= λ records.
+      if r.is_whole then Ok (record { head = head; records = records; tail = tail_of r head.version records }) else Err (Damaged r.end)
 ]
 
 -- what a file reads as
@@ -69,13 +109,17 @@ journal_of file = if nat_le (length file) 1 then Err NotBegun else journal_in (r
 abbrev pub HasRecords : HeadView → List RecordView → List ℕ → Type 0
 HasRecords head records file = (tail : Tail) × (journal_of file ≡ Ok (record { head = head; records = records; tail = tail }))
 
--- a head as its readers see it
-abbrev pub head_view : Head → HeadView
-head_view h = record { model = h.model; text = h.text.items }
+-- a head in a journal of this version as its readers see it
+abbrev pub head_view : ℕ → Head → HeadView
+head_view version h = record { version = version; within = h.within; model = h.model; text = h.text.items }
+
+-- the head of a journal of the newest version
+abbrev pub new_head : Head → HeadView
+new_head h = head_view VERSION h
 
 -- a journal as its readers see it
 abbrev pub journal_view : Head × RecordsView × Tail → JournalView
-journal_view j = record { head = head_view j.0; records = j.1.records; tail = j.2 }
+journal_view j = record { head = head_view j.2.version j.0; records = j.1.records; tail = j.2 }
 
 -- the offset of the gate behind the first frame, that of the head
 abbrev pub behind_head : List Frame → ℕ

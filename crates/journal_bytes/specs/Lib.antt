@@ -1,3 +1,4 @@
+pub mod Base
 pub mod Bodies
 pub mod Ends
 pub mod Found

@@ -1,10 +1,11 @@
-ghost use Rattle.std.specs.Prelude.{◌≡◌, List, map};
+ghost use Rattle.std.specs.Prelude.{◌≡◌, List, map, option_map};
 ghost use Rattle.std.specs.Int.{w32, w64, cast_signed};
-ghost use Rattle.journal_bytes.specs.Bodies.{number_at, many, decisions_at, child_at, improve_of, finish_of, record_of};
-ghost use Rattle.journal_bytes.specs.Views.{child_view, record_view, Gives};
+ghost use Rattle.journal_bytes.specs.Bodies.{number_at, many, decisions_at, child_at, incumbent_at, best_at, listed_at, improve_of, finish_of, snapshot_of, record_of};
+ghost use Rattle.journal_bytes.specs.Views.{child_view, incumbent_view, listed_view, record_view, Gives};
 ghost use Rattle.journal_bytes.specs.declared.body.BodyError.TheVariants.{OutOfMemory};
 
-use crate::record::{Child, Record};
+use crate::head::VERSION;
+use crate::record::{Child, Incumbent, Listed, Record};
 use std::alloc::{AllocError, AllocFailed, Global};
 
 /// Why a body could not be read.
@@ -140,14 +141,97 @@ fn finish_in(alloc: Global, body: &[u8]) -> Result<Record, BodyError>
     Ok(Record::Finish { ticket, children })
 }
 
-/// The record of a kind and a body.
+#[tactic(auto, unfolding(crate::specs::Bodies::incumbent_at))]
+fn incumbent_of(alloc: Global, bytes: &[u8]) -> Result<(Incumbent, &[u8]), BodyError>
+    ensures { Gives (λ x. (incumbent_view x.0, x.1.now)) result (incumbent_at bytes.now) }
+{
+    let (value, rest) = u64_at(bytes)?;
+    let (decisions, rest) = decisions_of(alloc, rest)?;
+    let value = value.cast_signed();
+    Ok((Incumbent { value, decisions }, rest))
+}
+
+/// The best solution of a snapshot, or none.
+#[tactic(auto, unfolding(crate::specs::Bodies::best_at))]
+fn best_of(alloc: Global, bytes: &[u8]) -> Result<(Option<Incumbent>, &[u8]), BodyError>
+    ensures { Gives (λ x. (option_map incumbent_view x.0, x.1.now)) result (best_at bytes.now) }
+{
+    let [has_one, rest @ ..] = bytes else {
+        return Err(BodyError::Malformed);
+    };
+    match *has_one {
+        0 => Ok((None, rest)),
+        1 => {
+            let (incumbent, rest) = incumbent_of(alloc, rest)?;
+            Ok((Some(incumbent), rest))
+        }
+        _ => Err(BodyError::Malformed),
+    }
+}
+
+#[tactic(auto, unfolding(crate::specs::Bodies::listed_at))]
+fn listed_of(alloc: Global, bytes: &[u8]) -> Result<(Listed, &[u8]), BodyError>
+    ensures { Gives (λ x. (listed_view x.0, x.1.now)) result (listed_at bytes.now) }
+{
+    let (ticket, rest) = u64_at(bytes)?;
+    let (bound, rest) = u64_at(rest)?;
+    let (decisions, rest) = decisions_of(alloc, rest)?;
+    Ok((
+        Listed {
+            ticket,
+            bound: bound.cast_signed(),
+            decisions,
+        },
+        rest,
+    ))
+}
+
+/// So many subproblems of a snapshot.
+fn listed_in(alloc: Global, count: u32, bytes: &[u8]) -> Result<(Vec<Listed>, &[u8]), BodyError>
+    ensures { Gives (λ x. (map listed_view x.0.items, x.1.now)) result (many listed_at count bytes.now) }
+{
+    let mut listed = Vec::new(alloc);
+    let mut rest = bytes;
+    for _ in 0..count {
+        let (one, after) = listed_of(alloc, rest)?;
+        listed.push(one)?;
+        rest = after;
+    }
+    Ok((listed, rest))
+}
+
+#[tactic(auto, unfolding(crate::specs::Bodies::snapshot_of))]
+fn snapshot_in(alloc: Global, body: &[u8]) -> Result<Record, BodyError>
+    ensures { Gives record_view result (snapshot_of body.now) }
+{
+    let (incumbent, rest) = best_of(alloc, body)?;
+    let (next_ticket, rest) = u64_at(rest)?;
+    let (count, rest) = u32_at(rest)?;
+    let (listed, rest) = listed_in(alloc, count, rest)?;
+    if !rest.is_empty() {
+        return Err(BodyError::Malformed);
+    }
+    Ok(Record::Snapshot {
+        incumbent,
+        next_ticket,
+        listed,
+    })
+}
+
+/// The record of a kind and a body, in a journal of a version. The first version has no snapshots.
 #[tactic(auto, unfolding(crate::specs::Bodies::record_of))]
-pub(crate) fn record_of(alloc: Global, kind: u8, body: &[u8]) -> Result<Record, BodyError>
-    ensures { Gives record_view result (record_of (record { kind = kind; body = body.now })) }
+pub(crate) fn record_of(
+    alloc: Global,
+    version: u32,
+    kind: u8,
+    body: &[u8],
+) -> Result<Record, BodyError>
+    ensures { Gives record_view result (record_of version (record { kind = kind; body = body.now })) }
 {
     match kind {
         2 => improve_in(alloc, body),
         3 => finish_in(alloc, body),
+        4 if version == VERSION => snapshot_in(alloc, body),
         _ => Err(BodyError::Malformed),
     }
 }

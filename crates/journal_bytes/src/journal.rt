@@ -3,10 +3,11 @@ ghost use Rattle.journal_bytes.specs.Frames.{frames_of};
 ghost use Rattle.journal_bytes.specs.Found.{found, frame};
 ghost use Rattle.journal_bytes.specs.Ends.{EndsAt};
 ghost use Rattle.journal_bytes.specs.Views.{record_view};
-ghost use Rattle.journal_bytes.specs.Journal.{behind_head, placed_at, head_of, head_view, model_at, text_of, or_malformed, records_from, journal_in, journal_of, journal_view, Gives};
+ghost use Rattle.journal_bytes.specs.Journal.{behind_head, placed_at, head_of, head_view, model_at, is_distance, is_version, distance_at, within_at, text_of, or_malformed, records_from, since_all, journal_in, journal_of, journal_view, Gives};
 
-use crate::body::{BodyError, record_of, u32_at};
+use crate::body::{BodyError, record_of, u32_at, u64_at};
 use crate::frames::{FRAME_OVERHEAD, Found, Frame, read_frames};
+use crate::head::{MOST_WITHIN, VERSION};
 use crate::{Head, Record, Records, Refusal, Tail};
 use problem_names::ModelName;
 use std::alloc::Global;
@@ -36,6 +37,47 @@ fn model_in(bytes: &[u8]) -> Result<(ModelName, &[u8]), Refusal>
     }
 }
 
+/// Whether a head may have the distance.
+fn is_distance(within: i64) -> bool
+    ensures { result ≡ is_distance within }
+{
+    0 <= within && within <= MOST_WITHIN
+}
+
+/// A distance, and what stands behind it.
+#[tactic(auto, unfolding(crate::specs::Journal::distance_at))]
+fn distance_in(bytes: &[u8]) -> Result<(i64, &[u8]), Refusal>
+    ensures { Gives (λ x. (x.0, x.1.now)) result (or_malformed 0 (distance_at bytes.now)) }
+{
+    let (number, rest) = match u64_at(bytes) {
+        Ok(x) => x,
+        Err(e) => return Err(placed(e, 0)),
+    };
+    let within = number.cast_signed();
+    if !is_distance(within) {
+        return Err(Refusal::Malformed { offset: 0 });
+    }
+    Ok((within, rest))
+}
+
+/// The distance of a head of a version, and what stands behind it.
+#[tactic(auto, unfolding(crate::specs::Journal::within_at))]
+fn within_in(version: u32, bytes: &[u8]) -> Result<(i64, &[u8]), Refusal>
+    ensures { Gives (λ x. (x.0, x.1.now)) result (or_malformed 0 (within_at version bytes.now)) }
+{
+    if version == 1 {
+        return Ok((0, bytes));
+    }
+    distance_in(bytes)
+}
+
+/// Whether journals of the version are read.
+fn is_version(version: u32) -> bool
+    ensures { result ≡ is_version version }
+{
+    version == 1 || version == VERSION
+}
+
 /// The text of a head, which ends its body.
 #[tactic(auto, unfolding(crate::specs::Journal::text_of))]
 fn text_in(alloc: Global, bytes: &[u8]) -> Result<Vec<u8>, Refusal>
@@ -51,10 +93,10 @@ fn text_in(alloc: Global, bytes: &[u8]) -> Result<Vec<u8>, Refusal>
     Ok(Vec::from_slice(alloc, rest)?)
 }
 
-/// The head of a first record.
+/// The head of a first record, and the version of the journal.
 #[tactic(auto, unfolding(crate::specs::Journal::head_of))]
-fn head_in(alloc: Global, first: &Frame) -> Result<Head, Refusal>
-    ensures { Gives head_view result (head_of (frame first.now)) }
+fn head_in(alloc: Global, first: &Frame) -> Result<(Head, u32), Refusal>
+    ensures { Gives (λ r. head_view r.1 r.0) result (head_of (frame first.now)) }
 {
     if first.kind != 1 {
         return Err(Refusal::Malformed { offset: 0 });
@@ -63,24 +105,35 @@ fn head_in(alloc: Global, first: &Frame) -> Result<Head, Refusal>
         Ok(x) => x,
         Err(e) => return Err(placed(e, 0)),
     };
-    if version != 1 {
+    if !is_version(version) {
         return Err(Refusal::Version { found: version });
     }
     let (model, rest) = model_in(rest)?;
-    Ok(Head {
-        model,
-        text: text_in(alloc, rest)?,
-    })
+    let (within, rest) = within_in(version, rest)?;
+    let text = text_in(alloc, rest)?;
+    Ok((
+        Head {
+            model,
+            within,
+            text,
+        },
+        version,
+    ))
 }
 
-/// The records of the frames from an offset on.
-fn records_in(alloc: Global, start: u64, frames: &[Frame]) -> Result<Vec<Record>, Refusal>
-    ensures { Gives (λ v. map record_view v.items) result (records_from start (map frame frames.now)) }
+/// The records of the frames from an offset on, in a journal of a version.
+fn records_in(
+    alloc: Global,
+    version: u32,
+    start: u64,
+    frames: &[Frame],
+) -> Result<Vec<Record>, Refusal>
+    ensures { Gives (λ v. map record_view v.items) result (records_from version start (map frame frames.now)) }
 {
     let mut records = Vec::new(alloc);
     let mut at = start;
     for one in frames {
-        match record_of(alloc, one.kind, &one.body) {
+        match record_of(alloc, version, one.kind, &one.body) {
             Ok(record) => records.push(record)?,
             Err(e) => return Err(placed(e, at)),
         }
@@ -92,12 +145,24 @@ fn records_in(alloc: Global, start: u64, frames: &[Frame]) -> Result<Vec<Record>
     Ok(records)
 }
 
+/// How many subproblems were finished since the last snapshot of these records, or in all of them where there is none.
+fn since_all(records: &[Record]) -> u64
+    ensures { result ≡ since_all 0 (map record_view records.now) }
+{
+    let mut since: u64 = 0;
+    for entry in records {
+        since = entry.since_after(since);
+    }
+    since
+}
+
 /// The journal of what was found in a file of at least two bytes.
 #[tactic(auto, unfolding(crate::specs::Journal::journal_in))]
 fn journal_from(alloc: Global, read: Found) -> Result<(Head, Records, Tail), Refusal>
     ensures exact { Gives journal_view result (journal_in (found read)) }
     ensures tail { IfOk result (λ r. (r.2.end ≡ read.end) × (r.2.digest ≡ read.digest) × IsTrue read.is_whole) }
     ensures first { IfOk result (λ r. r.1.first ≡ behind_head (found read).frames) }
+    ensures within { IfOk result (λ r. r.1.within ≡ r.0.within) }
 {
     let Found {
         frames,
@@ -111,17 +176,20 @@ fn journal_from(alloc: Global, read: Found) -> Result<(Head, Records, Tail), Ref
         }
         return Err(Refusal::Damaged { offset: end as u64 });
     };
-    let head = head_in(alloc, first)?;
+    let (head, version) = head_in(alloc, first)?;
     let start = (FRAME_OVERHEAD + first.body.len()) as u64;
-    let records = records_in(alloc, start, rest)?;
+    let records = records_in(alloc, version, start, rest)?;
     if !is_whole {
         return Err(Refusal::Damaged { offset: end as u64 });
     }
     let tail = Tail {
         end: end as u64,
         digest,
+        version,
+        since: since_all(records.as_slice()),
     };
-    Ok((head, Records::new(start, records), tail))
+    let within = head.within;
+    Ok((head, Records::new(within, start, records), tail))
 }
 
 /// The journal that a file's bytes spell, up to the first closed gate, or the first cause for which they are refused.
@@ -135,8 +203,9 @@ pub fn read_journal(alloc: Global, file: &[u8]) -> Result<(Head, Records, Tail),
     // What was read is spelled so, and the tail is at its closed gate.
     ensures ends { IfOk result (λ r. EndsAt file.now r.2 (frames_of file.now)) }
 
-    // The first record stands behind the head.
+    // The first record stands behind the head, and the records are kept with the distance of the head.
     ensures first { IfOk result (λ r. r.1.first ≡ behind_head (frames_of file.now)) }
+    ensures within { IfOk result (λ r. r.1.within ≡ r.0.within) }
 {
     if file.len() <= 1 {
         return Err(Refusal::NotBegun);

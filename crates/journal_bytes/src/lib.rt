@@ -25,9 +25,9 @@ mod tests;
 mod writing;
 
 pub use frames::FRAME_OVERHEAD;
-pub use head::Head;
+pub use head::{Head, MOST_WITHIN, VERSION};
 pub use journal::read_journal;
-pub use record::{Child, Record};
+pub use record::{Child, Incumbent, Listed, Record};
 pub use records::Records;
 pub use refusal::Refusal;
 pub use sealing::seal;

@@ -1,12 +1,14 @@
 ghost use Rattle.std.specs.Prelude.{◌≡◌, length, map};
+ghost use Rattle.journal_bytes.specs.Base.{after_base};
 ghost use Rattle.journal_bytes.specs.Views.{record_view};
 
 use crate::Record;
 use std::marker::Model;
 
-/// The records of a journal behind its head, the oldest first.
+/// The records of a journal behind its head, the oldest first, and the distance of the head.
 #[derive(Debug, Drop)]
 pub struct Records {
+    within: i64,
     first: u64,
     records: Vec<Record>,
 }
@@ -18,14 +20,36 @@ impl Model for Records {
 
     ghost Value = { RecordsView };
 
-    ghost view = { λ r. record { first = r.first; records = map record_view r.records.items } };
+    ghost view = { λ r. record { within = r.within; first = r.first; records = map record_view r.records.items } };
+}
+
+/// How many of the records stand behind the last snapshot; all of them where there is none.
+fn count_behind(records: &[Record]) -> usize
+    ensures { result ≡ length (after_base (map record_view records.now)) }
+{
+    let mut count = 0;
+    for entry in records {
+        count = if entry.is_snapshot() { 0 } else { count + 1 };
+    }
+    count
 }
 
 impl Records {
-    pub(crate) fn new(first: u64, records: Vec<Record>) -> Records
-        ensures { result ≡ record { first = first; records = map record_view records.items } }
+    pub(crate) fn new(within: i64, first: u64, records: Vec<Record>) -> Records
+        ensures { result ≡ record { within = within; first = first; records = map record_view records.items } }
     {
-        Records { first, records }
+        Records {
+            within,
+            first,
+            records,
+        }
+    }
+
+    /// The distance of the head.
+    pub fn within(&self) -> i64
+        ensures { result ≡ self.now.within }
+    {
+        self.within
     }
 
     /// The offset of the gate of the first record; where there is none, that of the closed gate.
@@ -35,11 +59,11 @@ impl Records {
         self.first
     }
 
-    /// How many records there are.
+    /// How many records stand behind the base, which is the last snapshot, or the head where there is none.
     pub fn len(&self) -> usize
-        ensures { result ≡ length self.now.records }
+        ensures { result ≡ length (after_base self.now.records) }
     {
-        self.records.len()
+        count_behind(self.records.as_slice())
     }
 
     /// All of them.

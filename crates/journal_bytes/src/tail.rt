@@ -5,4 +5,8 @@ pub struct Tail {
     pub end: u64,
     /// The digest of the record before it; 32 zero bytes before the first.
     pub digest: [u8; 32],
+    /// The version of the journal, 1 or 2.
+    pub version: u32,
+    /// How many Finish records stand behind the last Snapshot, or behind the head where there is none. It stops at `u64::MAX`.
+    pub since: u64,
 }

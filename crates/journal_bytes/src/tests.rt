@@ -5,6 +5,30 @@ use std::test::Fail;
 /// Version 1, knapsack, four bytes of text.
 const HEAD: &[u8] = b"\x00\x00\x00\x01\x01\x00\x00\x00\x040 5\n";
 
+/// Version 2, knapsack, distance 0, four bytes of text.
+const NEW_HEAD: &[u8] =
+    b"\x00\x00\x00\x02\x01\x00\x00\x00\x00\x00\x00\x00\x00\x00\x00\x00\x040 5\n";
+
+/// Version 2, knapsack, distance 2^50, no text.
+const FAR_HEAD: &[u8] = b"\x00\x00\x00\x02\x01\x00\x04\x00\x00\x00\x00\x00\x00\x00\x00\x00\x00";
+
+/// Version 2, knapsack, distance 2^50 + 1, no text.
+const TOO_FAR_HEAD: &[u8] = b"\x00\x00\x00\x02\x01\x00\x04\x00\x00\x00\x00\x00\x01\x00\x00\x00\x00";
+
+/// Version 2, knapsack, distance -1, no text.
+const NEGATIVE_HEAD: &[u8] =
+    b"\x00\x00\x00\x02\x01\xff\xff\xff\xff\xff\xff\xff\xff\x00\x00\x00\x00";
+
+/// No best solution, the next ticket 0, no subproblems.
+const EMPTY_SNAPSHOT: &[u8] = b"\x00\x00\x00\x00\x00\x00\x00\x00\x00\x00\x00\x00\x00";
+
+/// The value 9 by the decision 7, the next ticket 3, and ticket 2 of bound -1 with the decision 5.
+const SNAPSHOT: &[u8] =
+    b"\x01\x00\x00\x00\x00\x00\x00\x00\x09\x00\x00\x00\x01\x00\x00\x00\x07\x00\x00\x00\x00\x00\x00\x00\x03\x00\x00\x00\x01\x00\x00\x00\x00\x00\x00\x00\x02\xff\xff\xff\xff\xff\xff\xff\xff\x00\x00\x00\x01\x00\x00\x00\x05";
+
+/// The byte 2 tells of no best solution.
+const WRONG_SNAPSHOT: &[u8] = b"\x02\x00\x00\x00\x00\x00\x00\x00\x00\x00\x00\x00\x00";
+
 /// The value 9 by the decision 7.
 const IMPROVE: &[u8] = b"\x00\x00\x00\x00\x00\x00\x00\x09\x00\x00\x00\x01\x00\x00\x00\x07";
 
@@ -29,7 +53,7 @@ fn file_of(alloc: Global, frames: &[(u8, &[u8])]) -> Result<Vec<u8>, AllocError>
     Ok(file)
 }
 
-/// How many records the bytes spell behind the head, or why they are refused.
+/// How many records the bytes spell after the head or the last Snapshot, or why they are refused.
 fn count(alloc: Global, bytes: &[u8]) -> Result<usize, Refusal> {
     let (_, records, _) = read_journal(alloc, bytes)?;
     Ok(records.len())
@@ -53,7 +77,32 @@ fn the_first_wrong_record_is_told(rt: HostRuntime) -> Result<(), Fail> {
         ),
         (
             &[(1, b"\x00\x00\x00\x02")],
-            Err(Refusal::Version { found: 2 }),
+            Err(Refusal::Malformed { offset: 0 }),
+        ),
+        (
+            &[(1, b"\x00\x00\x00\x03")],
+            Err(Refusal::Version { found: 3 }),
+        ),
+        (&[(1, NEW_HEAD)], Ok(0)),
+        (&[(1, FAR_HEAD)], Ok(0)),
+        (&[(1, TOO_FAR_HEAD)], Err(Refusal::Malformed { offset: 0 })),
+        (&[(1, NEGATIVE_HEAD)], Err(Refusal::Malformed { offset: 0 })),
+        (&[(1, NEW_HEAD), (4, EMPTY_SNAPSHOT), improve], Ok(1)),
+        (
+            &[(1, NEW_HEAD), (4, EMPTY_SNAPSHOT), improve, (4, SNAPSHOT)],
+            Ok(0),
+        ),
+        (
+            &[(1, NEW_HEAD), (4, WRONG_SNAPSHOT)],
+            Err(Refusal::Malformed { offset: 59 }),
+        ),
+        (
+            &[(1, NEW_HEAD), (4, IMPROVE)],
+            Err(Refusal::Malformed { offset: 59 }),
+        ),
+        (
+            &[head, (4, EMPTY_SNAPSHOT)],
+            Err(Refusal::Malformed { offset: 51 }),
         ),
         (
             &[(1, b"\x00\x00\x00\x01")],

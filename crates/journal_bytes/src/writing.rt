@@ -1,31 +1,34 @@
-ghost use Rattle.std.specs.Prelude.{◌≡◌, ◌≤◌, ◌<◌, ◌+◌, ◌^◌, ◌++◌, length, map, All, IfOk, OnOk, List, Some, Ok};
+ghost use Rattle.std.specs.Prelude.{◌≡◌, ◌≤◌, ◌<◌, ◌+◌, ◌^◌, ◌++◌, ℕ, length, map, option_map, All, FitsSigned, IfOk, IfSome, IsTrue, OnOk, List, Some, Ok};
 ghost use Rattle.std.specs.List.{flat_map, AllByRecursion};
 ghost use Rattle.std.specs.Int.{w32, w64, to_be_bytes, cast_unsigned};
-ghost use Rattle.journal_bytes.specs.Bodies.{Improve, Finish, record_of};
-ghost use Rattle.journal_bytes.specs.Journal.{head_of, head_view};
-ghost use Rattle.journal_bytes.specs.Spelling.{head_bytes, numbers, decision_bytes, child_bytes, record_bytes, number_of_ticket, record_kind, record_size, HasSpelling, IsTicket, ChildFits, RecordFits};
-ghost use Rattle.journal_bytes.specs.Views.{child_view, record_view};
+ghost use Rattle.journal_bytes.specs.Bodies.{Improve, Finish, Snapshot, record_of};
+ghost use Rattle.journal_bytes.specs.Journal.{head_of, is_distance, new_head};
+ghost use Rattle.journal_bytes.specs.Spelling.{head_bytes, numbers, decision_bytes, bounded_bytes, child_bytes, listed_bytes, best_bytes, record_bytes, number_of_ticket, record_kind, record_size, HasSpelling, IsOfVersion, IsTicket, ChildFits, ListedFits, IncumbentFits, RecordFits};
+ghost use Rattle.journal_bytes.specs.Views.{child_view, incumbent_view, listed_view, record_view};
 
-use crate::{Child, Head, Record};
+use crate::head::VERSION;
+use crate::{Child, Head, Incumbent, Listed, Record};
 use std::alloc::{AllocError, Global};
 
-/// The body of a head.
+/// The body of a head, in the newest version. The text has fewer than `2^32` bytes, and the distance is from 0 to `MOST_WITHIN`.
 ///
 /// # Errors
 ///
 /// `AllocError`.
 #[tactic(auto, unfolding(crate::specs::Spelling::head_bytes))]
 pub fn head_body(alloc: Global, head: &Head) -> Result<Vec<u8>, AllocError>
-    requires { length head.now.text.items < 2 ^ 32 }
-    ensures bytes { IfOk result (λ v. v.items ≡ head_bytes (head_view head.now)) }
+    requires text { length head.now.text.items < 2 ^ 32 }
+    requires within { IsTrue (is_distance head.now.within) }
+    ensures bytes { IfOk result (λ v. v.items ≡ head_bytes (new_head head.now)) }
 
     // It reads back as the head.
-    ensures reads { IfOk result (λ v. head_of (record { kind = 1; body = v.items }) ≡ Ok (head_view head.now)) }
-    ensures size { IfOk result (λ v. length v.items ≡ 9 + length head.now.text.items) }
+    ensures reads { IfOk result (λ v. head_of (record { kind = 1; body = v.items }) ≡ Ok (new_head head.now)) }
+    ensures size { IfOk result (λ v. length v.items ≡ 17 + length head.now.text.items) }
 {
     let mut body = Vec::new(alloc);
-    body.extend_from_slice(&1u32.to_be_bytes())?;
+    body.extend_from_slice(&VERSION.to_be_bytes())?;
     body.push(head.model.byte())?;
+    body.extend_from_slice(&head.within.to_be_bytes())?;
     body.extend_from_slice(&(head.text.len() as u32).to_be_bytes())?;
     body.extend_from_slice(&head.text)?;
     Ok(body)
@@ -60,6 +63,23 @@ fn ticket_number(replaced: Option<u64>) -> u64
     }
 }
 
+/// A number, a bound and decisions.
+fn push_bounded(
+    body: &mut Vec<u8>,
+    number: u64,
+    bound: i64,
+    decisions: &[u32],
+) -> Result<(), AllocError>
+    requires { length decisions.now < 2 ^ 32 }
+    ensures bytes { OnOk result (body.new.items ≡ body.old.items ++ bounded_bytes number bound decisions.now) }
+    ensures fits { OnOk result ((number < 2 ^ 64) × FitsSigned w64 bound × AllByRecursion (λ d. d < 2 ^ 32) decisions.now) }
+{
+    body.extend_from_slice(&number.to_be_bytes())?;
+    body.extend_from_slice(&bound.to_be_bytes())?;
+    push_decisions(body, decisions)?;
+    Ok(())
+}
+
 fn push_child(body: &mut Vec<u8>, child: &Child) -> Result<(), AllocError>
     requires count { length child.now.decisions.items < 2 ^ 32 }
     requires ticket { IsTicket child.now.replaced }
@@ -67,10 +87,55 @@ fn push_child(body: &mut Vec<u8>, child: &Child) -> Result<(), AllocError>
     ensures fits { OnOk result (ChildFits (child_view child.now)) }
 {
     let number = ticket_number(child.replaced);
-    body.extend_from_slice(&number.to_be_bytes())?;
-    body.extend_from_slice(&child.bound.to_be_bytes())?;
-    push_decisions(body, &child.decisions)?;
+    push_bounded(body, number, child.bound, &child.decisions)?;
     Ok(())
+}
+
+fn push_listed(body: &mut Vec<u8>, listed: &Listed) -> Result<(), AllocError>
+    requires { length listed.now.decisions.items < 2 ^ 32 }
+    ensures bytes { OnOk result (body.new.items ≡ body.old.items ++ listed_bytes (listed_view listed.now)) }
+    ensures fits { OnOk result (ListedFits (listed_view listed.now)) }
+{
+    push_bounded(body, listed.ticket, listed.bound, &listed.decisions)?;
+    Ok(())
+}
+
+fn push_all_listed(body: &mut Vec<u8>, listed: &[Listed]) -> Result<(), AllocError>
+    requires { All (λ o. length o.decisions.items < 2 ^ 32) listed.now }
+    ensures bytes { OnOk result (body.new.items ≡
+        body.old.items ++ flat_map listed_bytes (map listed_view listed.now)) }
+    ensures fits { OnOk result (All (λ o. ListedFits (listed_view o)) listed.now) }
+{
+    for one in listed {
+        push_listed(body, one)?;
+    }
+    Ok(())
+}
+
+fn push_incumbent(body: &mut Vec<u8>, incumbent: &Incumbent) -> Result<(), AllocError>
+    requires { length incumbent.now.decisions.items < 2 ^ 32 }
+    ensures bytes { OnOk result (body.new.items ≡ body.old.items ++ best_bytes (Some (incumbent_view incumbent.now))) }
+    ensures fits { OnOk result (IncumbentFits (incumbent_view incumbent.now)) }
+{
+    body.push(1)?;
+    body.extend_from_slice(&incumbent.value.to_be_bytes())?;
+    push_decisions(body, &incumbent.decisions)?;
+    Ok(())
+}
+
+#[tactic(auto, unfolding(crate::specs::Spelling::best_bytes))]
+fn push_best(body: &mut Vec<u8>, best: &Option<Incumbent>) -> Result<(), AllocError>
+    requires { IfSome best.now (λ b. length b.decisions.items < 2 ^ 32) }
+    ensures bytes { OnOk result (body.new.items ≡ body.old.items ++ best_bytes (option_map incumbent_view best.now)) }
+    ensures fits { OnOk result (IfSome (option_map incumbent_view best.now) IncumbentFits) }
+{
+    match best {
+        Some(incumbent) => push_incumbent(body, incumbent),
+        None => {
+            body.push(0)?;
+            Ok(())
+        }
+    }
 }
 
 fn push_children(body: &mut Vec<u8>, children: &[Child]) -> Result<(), AllocError>
@@ -111,6 +176,25 @@ fn finish_body(alloc: Global, ticket: u64, children: &[Child]) -> Result<Vec<u8>
     Ok(body)
 }
 
+#[tactic(auto, unfolding(crate::specs::Spelling::record_bytes))]
+fn snapshot_body(
+    alloc: Global,
+    best: &Option<Incumbent>,
+    next: u64,
+    listed: &[Listed],
+) -> Result<Vec<u8>, AllocError>
+    requires { HasSpelling (Snapshot (option_map incumbent_view best.now) next (map listed_view listed.now)) }
+    ensures bytes { IfOk result (λ v. v.items ≡ record_bytes (Snapshot (option_map incumbent_view best.now) next (map listed_view listed.now))) }
+    ensures fits { OnOk result (RecordFits (Snapshot (option_map incumbent_view best.now) next (map listed_view listed.now))) }
+{
+    let mut body = Vec::new(alloc);
+    push_best(&mut body, best)?;
+    body.extend_from_slice(&next.to_be_bytes())?;
+    body.extend_from_slice(&(listed.len() as u32).to_be_bytes())?;
+    push_all_listed(&mut body, listed)?;
+    Ok(body)
+}
+
 /// The body of a record. A body has fewer than `2^32` bytes, and `u64::MAX` is no ticket.
 ///
 /// # Errors
@@ -120,13 +204,18 @@ pub fn record_body(alloc: Global, entry: &Record) -> Result<Vec<u8>, AllocError>
     requires { HasSpelling (record_view entry.now) }
     ensures bytes { IfOk result (λ v. v.items ≡ record_bytes (record_view entry.now)) }
 
-    // It reads back as the record.
-    ensures reads { IfOk result (λ v. record_of (record { kind = record_kind (record_view entry.now); body = v.items })
-        ≡ Some (record_view entry.now)) }
+    // It reads back as the record, in each version that may have it.
+    ensures reads { IfOk result (λ v. (version : ℕ) → IsOfVersion version (record_view entry.now) →
+        record_of version (record { kind = record_kind (record_view entry.now); body = v.items }) ≡ Some (record_view entry.now)) }
     ensures size { IfOk result (λ v. length v.items ≡ record_size (record_view entry.now)) }
 {
     match entry {
         Record::Improve { value, decisions } => improve_body(alloc, *value, decisions),
         Record::Finish { ticket, children } => finish_body(alloc, *ticket, children),
+        Record::Snapshot {
+            incumbent,
+            next_ticket,
+            listed,
+        } => snapshot_body(alloc, incumbent, *next_ticket, listed),
     }
 }

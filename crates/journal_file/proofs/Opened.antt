@@ -7,6 +7,7 @@ use Rattle.journal_bytes.specs.Bodies.{RecordsView}
 use Rattle.journal_bytes.specs.Ends.{EndsAt}
 use Rattle.journal_bytes.specs.Frames.{frames_of}
 use Rattle.journal_bytes.specs.Journal.{journal_of, head_view, journal_view}
+use Rattle.journal_bytes.proofs.Journals.{counted}
 use Rattle.journal_file.specs.declared.error.JournalError.{JournalError}
 use Rattle.journal_file.specs.declared.error.JournalError.TheVariants.{Disk, OutOfMemory}
 use Rattle.journal_file.specs.Refusing.{WasOpened}
@@ -16,9 +17,10 @@ use Rattle.journal_file.specs.Settled.{IsOpen}
 pub opened : (file bytes : List ℕ) (may_leave : List ℕ → Type 0) (j : Head × RecordsView × Tail) → bytes ≡ file → journal_of bytes ≡ Ok (journal_view j) → EndsAt bytes j.2 (frames_of bytes) → Only file may_leave → IsOpen file may_leave j.2
 opened file bytes may_leave j same reads ends only = record {
   settled = record { ends = subst (λ (l : List ℕ). EndsAt l j.2 (frames_of l)) same ends; durable = only };
-  head = head_view j.0;
+  head = head_view j.2.version j.0;
   records = j.1.records;
   reads = (j.2, sym (ap journal_of same) ∙ reads);
+  counted = counted bytes (journal_view j) reads;
 }
 
 -- nothing was read

@@ -1,7 +1,7 @@
 -- The text of a journal's head.
 use Rattle.std.proofs.Common.{◌≡◌, inl, inr, ℕ, ◌+◌, ◌-◌, ◌^◌, ◌<◌, ◌≤◌, Bool, true, false, List, [], ◌∷◌, length, Option, Some, None, Result, Ok, Err, sym, ◌∙◌, subst, arith, length-drop}
 use Rattle.std.specs.Prelude.{IfOk, IfSome, if◌then◌else◌, ◌==◌}
-use Rattle.std.specs.Int.{w32}
+use Rattle.std.specs.Int.{w32, w64}
 use Rattle.std.specs.List.{AllByRecursion}
 use Rattle.std.proofs.lemmas.Bool.{cases_lt}
 use Rattle.std.proofs.lemmas.Bool.Decides.{nat_tests}
@@ -10,7 +10,7 @@ use Rattle.journal_bytes.specs.declared.tail.Tail.{Tail}
 use Rattle.journal_bytes.specs.Bodies.{number_at}
 use Rattle.journal_bytes.specs.Ends.{EndsAt}
 use Rattle.journal_bytes.specs.Frames.{Frame, Fits, reading_of, frames_of}
-use Rattle.journal_bytes.specs.Journal.{◌>>=◌, HeadView, JournalView, or_malformed, model_at, text_of, head_of, records_from, journal_in, journal_of}
+use Rattle.journal_bytes.specs.Journal.{◌>>=◌, HeadView, JournalView, or_malformed, model_at, is_version, distance_at, within_at, text_of, head_of, records_from, journal_in, journal_of}
 use Rattle.journal_bytes.proofs.Ended.{short_file, long_file}
 
 -- what is read of a field leaves fewer bytes
@@ -28,6 +28,20 @@ after_model (b ∷ rest) = grind (arith)
 text_within : (bytes : List ℕ) → IfSome (text_of bytes) (λ text. 4 + length text ≤ length bytes)
 unfolding text_of
 text_within bytes = let n = after_word bytes in grind (arith)
+
+after_long : (bytes : List ℕ) → IfSome (number_at w64 bytes) (λ n. 8 + length n.1 ≤ length bytes)
+after_long bytes = elim (cases_lt (length bytes) 8) [
+  | inl short ↦ grind (arith, nat_tests)
+  | inr long ↦ grind (arith, nat_tests, length-drop)
+]
+
+after_distance : (bytes : List ℕ) → IfSome (distance_at bytes) (λ z. length z.1 ≤ length bytes)
+unfolding distance_at
+after_distance bytes = let n = after_long bytes in grind (arith)
+
+after_within : (version : ℕ) (bytes : List ℕ) → IfSome (within_at version bytes) (λ z. length z.1 ≤ length bytes)
+unfolding within_at
+after_within version bytes = let far = after_distance bytes in grind (arith)
 
 module _ {A B : Type 0} (f : A → Result B Refusal) (P : A → Type 0) (Q : B → Type 0) (next : (x : A) → P x → IfOk (f x) Q) where
   if_ok : (r : Result A Refusal) → IfOk r P → IfOk (r >>= f) Q
@@ -51,9 +65,10 @@ unfolding head_of
 head_within f =
     on_either (f.kind == 1) _ _ (IsWithin (length f.body))
     (if_some _ (λ version. 4 + length version.1 ≤ length f.body) (IsWithin (length f.body)) (λ version fits.
-    on_either (version.0 == 1) _ _ (IsWithin (length f.body))
+    on_either (is_version version.0) _ _ (IsWithin (length f.body))
     (if_some _ (λ model. 1 + length model.1 ≤ length version.1) (IsWithin (length f.body)) (λ model fits_model.
-    if_some _ (λ text. 4 + length text ≤ length model.1) (IsWithin (length f.body)) (λ text fits_text. omega (arith, fits, fits_model, fits_text)) 0 (text_of model.1) (text_within model.1)) 0 (model_at version.1) (after_model version.1))
+    if_some _ (λ within. length within.1 ≤ length model.1) (IsWithin (length f.body)) (λ within fits_within.
+    if_some _ (λ text. 4 + length text ≤ length within.1) (IsWithin (length f.body)) (λ text fits_text. omega (arith, fits, fits_model, fits_within, fits_text)) 0 (text_of within.1) (text_within within.1)) 0 (within_at version.0 model.1) (after_within version.0 model.1)) 0 (model_at version.1) (after_model version.1))
     tt) 0 (number_at w32 f.body) (after_word f.body))
     tt
 
@@ -66,7 +81,7 @@ unfolding journal_in
 in_frames [] digest end is_whole fit = on_either is_whole _ _ IsShort tt tt
 in_frames (f ∷ fs) digest end is_whole fit =
     if_ok _ (IsWithin (length f.body)) IsShort (λ head within.
-    if_ok _ (λ _. Unit {0}) IsShort (λ records _. on_either is_whole _ _ IsShort (omega (arith, within, fit.0.length_fits)) tt) (records_from (38 + length f.body) fs) (any (records_from (38 + length f.body) fs))) (head_of f) (head_within f)
+    if_ok _ (λ _. Unit {0}) IsShort (λ records _. on_either is_whole _ _ IsShort (omega (arith, within, fit.0.length_fits)) tt) (records_from head.version (38 + length f.body) fs) (any (records_from head.version (38 + length f.body) fs))) (head_of f) (head_within f)
   where
     any : {A : Type 0} (r : Result A Refusal) → IfOk r (λ _. Unit {0})
     any (Ok x) = tt

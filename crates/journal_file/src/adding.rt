@@ -3,8 +3,8 @@ ghost use Rattle.disk.specs.Counts.{Rose};
 ghost use Rattle.disk.specs.Disk.{FirstSync, Keeps, LeavesOnly};
 ghost use Rattle.journal_bytes.specs.Bodies.{RecordView};
 ghost use Rattle.journal_bytes.specs.Frames.{frames_of, IsBeforeOrAfter};
-ghost use Rattle.journal_bytes.specs.Journal.{HeadView, HasRecords};
-ghost use Rattle.journal_bytes.specs.Spelling.{HasSpelling};
+ghost use Rattle.journal_bytes.specs.Journal.{HeadView, HasRecords, since_after};
+ghost use Rattle.journal_bytes.specs.Spelling.{HasSpelling, IsOfVersion};
 ghost use Rattle.journal_bytes.specs.Views.{record_view};
 ghost use Rattle.journal_file.specs.Settled.{IsSettled, IsOpen};
 
@@ -14,13 +14,14 @@ use disk::Disk;
 use journal_bytes::{FRAME_OVERHEAD, Record, Tail, record_body, seal};
 use std::alloc::Global;
 
-/// Adds a record of a kind and a body.
+/// Adds a record of a kind and a body, behind which so many finished subproblems are counted.
 pub(crate) fn append_frame<D: Disk>(
     alloc: Global,
     disk: &mut D,
     tail: &mut Tail,
     kind: u8,
     body: &[u8],
+    since: u64,
 ) -> Result<(), AppendError>
     requires attached { IsTrue (D.attached disk.old) }
     requires settled { IsTrue (D.tells disk.old) →
@@ -30,6 +31,7 @@ pub(crate) fn append_frame<D: Disk>(
         IsSettled (D.seen disk.new) (D.may_leave disk.new) tail.new (frames_of (D.seen disk.new))
         × (frames_of (D.seen disk.new) ≡
         frames_of (D.seen disk.old) ++ record { kind = kind; body = body.now } ∷ [])) }
+    ensures counts { OnOk result ((tail.new.version ≡ tail.old.version) × (tail.new.since ≡ since)) }
     ensures any_moment { IsTrue (D.tells disk.old) → LeavesOnly D.moment D.left_since disk.old disk.new
         (IsBeforeOrAfter (frames_of (D.seen disk.old)) (record { kind = kind; body = body.now })) }
     ensures disk { IsErrOf result AppendError.Disk → Rose (D.faults disk.old) (D.faults disk.new) }
@@ -49,6 +51,8 @@ pub(crate) fn append_frame<D: Disk>(
     *tail = Tail {
         end: tail.end + size,
         digest,
+        version: tail.version,
+        since,
     };
     Ok(())
 }
@@ -56,7 +60,8 @@ pub(crate) fn append_frame<D: Disk>(
 /// Adds a record behind those that are there: its bytes behind the closed gate at `tail` and another closed gate behind them,
 /// a sync, the open gate, a sync. At Ok it is acknowledged, and `tail` is behind it.
 ///
-/// The tail is that of `begin`, `reopen` or the `append` before, all of them Ok, for this disk; nothing was written since.
+/// The tail is that of `begin`, `reopen` or the `append` before, all of them Ok, for this disk; nothing was written since. A
+/// journal of version 1 takes no snapshots.
 ///
 /// # Errors
 ///
@@ -71,9 +76,11 @@ pub fn append<D: Disk>(
     requires attached { IsTrue (D.attached disk.old) }
     requires ready { IsTrue (D.tells disk.old) → IsOpen (D.seen disk.old) (D.may_leave disk.old) tail.old }
     requires spelling { HasSpelling (record_view entry.now) }
+    requires version { IsOfVersion tail.old.version (record_view entry.now) }
 
     // Acknowledged: from then on each crash leaves a file that has the record.
     ensures ready { OnOk result (IsTrue (D.tells disk.old) → IsOpen (D.seen disk.new) (D.may_leave disk.new) tail.new) }
+    ensures counts { OnOk result ((tail.new.version ≡ tail.old.version) × (tail.new.since ≡ since_after tail.old.since (record_view entry.now))) }
     ensures acknowledged { OnOk result (IsTrue (D.tells disk.old) → (head : HeadView) (records : List RecordView) →
         HasRecords head records (D.seen disk.old) →
         HasRecords head (records ++ record_view entry.now ∷ []) (D.seen disk.new)) }
@@ -91,5 +98,6 @@ pub fn append<D: Disk>(
     ensures keeps { Keeps D.attached D.tells D.names D.found disk.old disk.new }
 {
     let body = record_body(alloc, entry)?;
-    append_frame(alloc, disk, tail, entry.kind(), &body)
+    let since = entry.since_after(tail.since);
+    append_frame(alloc, disk, tail, entry.kind(), &body, since)
 }

@@ -1,7 +1,7 @@
 ghost use Rattle.std.specs.Prelude.{◌≡◌, ◌⊎◌, ◌≤◌, ◌<◌, ◌^◌, [], ℕ, List, length, Some, None, Err, get_or, is_err, IsTrue, IsSome, IfSome, IfOk, OnOk, IfErr, IsErrOf};
 ghost use Rattle.disk.specs.Counts.{Rose, Counts};
 ghost use Rattle.disk.specs.Disk.{FirstSync, AtFirstSync, Only, Keeps, LeavesOnly};
-ghost use Rattle.journal_bytes.specs.Journal.{journal_of, head_view, HasRecords};
+ghost use Rattle.journal_bytes.specs.Journal.{journal_of, is_distance, new_head, HasRecords};
 ghost use Rattle.journal_bytes.specs.declared.refusal.Refusal.TheVariants.{NotBegun};
 ghost use Rattle.journal_file.specs.Settled.{IsOpen};
 ghost use Rattle.journal_file.specs.Beginning.{IsProbed, BeganAt, LeavesSince, MayBegin, IsBegun};
@@ -11,7 +11,7 @@ use crate::adding::append_frame;
 use crate::steps::{probe, write_synced};
 use crate::{AppendError, JournalError};
 use disk::{Disk, DiskFailed};
-use journal_bytes::{Head, Tail, head_body};
+use journal_bytes::{Head, Tail, VERSION, head_body};
 use std::alloc::Global;
 
 /// Sees to it that the file begins with a closed gate; `has_gate` tells that it does.
@@ -45,10 +45,11 @@ fn add_head<D: Disk>(
     requires probed { IsTrue (D.tells disk.old) → IsProbed has_gate (D.seen disk.old) }
     requires durable { IsTrue (D.tells disk.old) → Only (D.seen disk.old) (D.may_leave disk.old) }
     requires text { length head.now.text.items ≤ 2 ^ 30 }
+    requires within { IsTrue (is_distance head.now.within) }
     ensures ready { IfOk result (λ tail. IsTrue (D.tells disk.old) →
-        IsOpen (D.seen disk.new) (D.may_leave disk.new) tail × HasRecords (head_view head.now) [] (D.seen disk.new)) }
+        IsOpen (D.seen disk.new) (D.may_leave disk.new) tail × HasRecords (new_head head.now) [] (D.seen disk.new)) }
     ensures any_moment { IsTrue (D.tells disk.old) → LeavesOnly D.moment D.left_since disk.old disk.new
-        (IsBegun (head_view head.now)) }
+        (IsBegun (new_head head.now)) }
     ensures start { (s : FirstSync) → D.start disk.old ≡ Some s → D.start disk.new ≡ Some s }
     ensures disk { IsErrOf result AppendError.Disk → Rose (D.faults disk.old) (D.faults disk.new) }
     ensures faults { D.faults disk.old ≤ D.faults disk.new }
@@ -57,13 +58,19 @@ fn add_head<D: Disk>(
     let body = head_body(alloc, head)?;
     close_first(disk, has_gate)?;
     let digest = [0u8; 32];
-    let mut tail = Tail { end: 0, digest };
-    append_frame(alloc, disk, &mut tail, 1, &body)?;
+    let mut tail = Tail {
+        end: 0,
+        digest,
+        version: VERSION,
+        since: 0,
+    };
+    append_frame(alloc, disk, &mut tail, 1, &body, 0)?;
     Ok(tail)
 }
 
 /// Begins a journal with this head in a file that has none: syncs, writes a closed gate where the file has 0 or 1 bytes, and
-/// adds the head as `append` adds a record. The text of the head has at most `2^30` bytes.
+/// adds the head as `append` adds a record. The journal is of version 2. The text of the head has at most `2^30` bytes, and the
+/// distance is from 0 to 2^50.
 ///
 /// # Errors
 ///
@@ -72,15 +79,16 @@ fn add_head<D: Disk>(
 pub fn begin<D: Disk>(alloc: Global, disk: &mut D, head: &Head) -> Result<Tail, JournalError>
     requires attached { IsTrue (D.attached disk.old) }
     requires text { length head.now.text.items ≤ 2 ^ 30 }
+    requires within { IsTrue (is_distance head.now.within) }
 
     // A record may be added behind the head.
     ensures ready { IfOk result (λ tail. IsTrue (D.tells disk.old) →
-        IsOpen (D.seen disk.new) (D.may_leave disk.new) tail × HasRecords (head_view head.now) [] (D.seen disk.new)) }
+        IsOpen (D.seen disk.new) (D.may_leave disk.new) tail × HasRecords (new_head head.now) [] (D.seen disk.new)) }
 
     // Its sync finds the file as it was, and from then on a crash at any moment leaves no journal, or this head alone.
     ensures since { IsTrue (D.tells disk.old) → D.start disk.old ≡ None →
         AtFirstSync (D.start disk.new) (D.seen disk.old) (D.seen disk.new) (λ s. (s.content ≡ D.seen disk.old) × (MayBegin s.content →
-        LeavesSince D.moment D.left_since s disk.new (IsBegun (head_view head.now)))) }
+        LeavesSince D.moment D.left_since s disk.new (IsBegun (new_head head.now)))) }
     ensures began { OnOk result (D.start disk.old ≡ None → IsSome (D.start disk.new)) }
     ensures counted { D.start disk.old ≡ None → IfSome (D.start disk.new) (λ s. s.faults ≤ D.faults disk.new) }
 

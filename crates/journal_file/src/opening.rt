@@ -23,6 +23,7 @@ pub fn reopen<D: Disk>(alloc: Global, disk: &mut D) -> Result<(Head, Records, Ta
     // What is read, or the first cause for which it is refused. A text is as short as a reader of instances wants it.
     ensures exact { WasOpened (D.tells disk.old) (D.seen disk.old) result }
     ensures text { IfOk result (λ r. length r.0.text.items < 2 ^ 32 - 1) }
+    ensures within { IfOk result (λ r. r.1.within ≡ r.0.within) }
 
     // A record may be added.
     ensures ready { IfOk result (λ r. IsTrue (D.tells disk.old) →

@@ -1,5 +1,5 @@
 -- The record of a finished subproblem may follow, and the board after it stands beside it.
-use Rattle.std.proofs.Common.{◌≡◌, ◌≢◌, ℕ, ◌+◌, ◌<◌, ℤ, Bool, true, false, not, List, ◌++◌, length, set, Option, Some, None, refl, sym, ◌∙◌, ap, subst, arith}
+use Rattle.std.proofs.Common.{◌≡◌, ◌≢◌, ℕ, ◌+◌, ◌-◌, ◌^◌, ◌<◌, ◌≤◌, ℤ, Bool, true, false, not, List, [], ◌∷◌, ◌++◌, length, set, Option, Some, None, refl, sym, ◌∙◌, ap, subst, arith}
 use Rattle.std.specs.List.{slice_get}
 use Rattle.dp_model.specs.Dp.{Dp}
 use Rattle.dp_model.specs.Lists.{Each}
@@ -9,18 +9,19 @@ use Rattle.dp_model.proofs.Members.{Each-then, Each-append, each-has, each-of-al
 use Rattle.dp_laws.specs.Children.{DifferInPlace}
 use Rattle.dp_laws.specs.Pairs.{EachTwo}
 use Rattle.fringe.specs.Tickets.{Ticketed}
-use Rattle.board_laws.specs.Board.{BoardState, full_slots, frontier, reach}
+use Rattle.board_laws.specs.Board.{BoardState, full_slots, frontier, reach, slot_at}
 use Rattle.board_laws.specs.Entering.{entering, replaced, is_among, without_all}
 use Rattle.board_laws.specs.Fates.{fate_of, fates_on, tickets_after}
 use Rattle.board_laws.specs.Finishing.{MayFinish}
 use Rattle.board_laws.specs.GoodBoard.{IsBoard}
 use Rattle.board_laws.specs.Steps.{finished_by}
 use Rattle.board_laws.specs.declared.fate.Fate.{Fate}
+use Rattle.board_laws.specs.declared.fate.Fate.TheVariants.{Below, Kept, Dominated, Replaced, Entered}
 use Rattle.board_laws.proofs.Fates.{fates-hold, fates-many, kids-each, kids-two, kids-hold}
 use Rattle.board_laws.proofs.Frontier.{tickets-flip}
 use Rattle.board_laws.proofs.Lists.{each-both, each-front, each-back, two-across}
 use Rattle.board_laws.proofs.Slots.{emptied, slot-full}
-use Rattle.board_laws.proofs.With.{IsWith, with-right, each-out, two-out}
+use Rattle.board_laws.proofs.With.{IsWith, with-right, each-out, two-out, length-with}
 use Rattle.journal_bytes.specs.Bodies.{ChildView, Finish}
 use Rattle.journal_replay.specs.Replay.{Replayed, listed_at, taken_off, with_children}
 use Rattle.journal_replay.specs.Accepting.{MayBranch, MayFollow}
@@ -67,6 +68,32 @@ finish-parts dp s b who threshold cs fs g beside m =
           (each-both (λ y. listed_at y.ticket s.listed ≡ Some y) (λ y. o.ticket ≢ y.ticket) (rest ++ os) found.1 differ.0);
     }
 
+one-out-there : (b : BoardState) (who : ℕ) (o : Ticketed) → slot_at b who ≡ Some o → 1 ≤ length (full_slots b.slots)
+one-out-there b who o full =
+    let out = emptied b.slots who o (slot-full (slice_get b.slots who) o full) in
+    let long = length-with o (full_slots (set b.slots who None)) (full_slots b.slots) out in
+    omega arith
+
+recorded-few : (cs : List Subproblem) (fs : List Fate) → length (recorded_children cs fs) ≤ length cs
+recorded-few [] fs = omega arith
+recorded-few (c ∷ cs) [] = omega arith
+recorded-few (c ∷ cs) (Below ∷ fs) = (let less = recorded-few cs fs in omega arith)
+recorded-few (c ∷ cs) (Kept by ∷ fs) = (let less = recorded-few cs fs in omega arith)
+recorded-few (c ∷ cs) (Dominated by ∷ fs) = (let less = recorded-few cs fs in omega arith)
+recorded-few (c ∷ cs) (Replaced ticket old ∷ fs) = (let less = recorded-few cs fs in omega arith)
+recorded-few (c ∷ cs) (Entered ticket ∷ fs) = (let less = recorded-few cs fs in omega arith)
+
+-- where one is out, tickets are left for its children
+finish-room : (dp : Dp) (s : Replayed) (b : BoardState) (who : ℕ) (threshold : Option ℤ) (cs : List Subproblem) (fs : List Fate) → IsBoard dp b → IsReplayOf dp s b
+    → MayFinish dp b who threshold cs fs → s.next_ticket + length (recorded_children cs (fates_on dp b cs)) ≤ 2 ^ 64 - 1
+finish-room dp s b who threshold cs fs g beside m =
+    let some = one-out-there b who m.parent m.full in
+    let room = g.room some in
+    let few = recorded-few cs (fates_on dp b cs) in
+    let most = m.children.few in
+    let next = beside.next_ticket in
+    omega arith
+
 -- the record may follow
 pub finish-may : (dp : Dp) (s : Replayed) (b : BoardState) (who : ℕ) (threshold : Option ℤ) (cs : List Subproblem) (fs : List Fate) → IsBoard dp b → IsReplayOf dp s b
     → (m : MayFinish dp b who threshold cs fs) → MayFollow dp s (Finish m.parent.ticket (recorded_children cs (fates_on dp b cs)))
@@ -81,8 +108,10 @@ finish-may dp s b who threshold cs fs g beside m =
     let P : Ticketed → Type 0 = λ y. listed_at y.ticket off.listed ≡ Some y in
     let open_found = each-back P rest os parts.others in
     let differ = subst (λ l. EachTwo (λ (a k : Ticketed). DifferInPlace a.subproblem k.subproblem) l) parts.same (kids-two DifferInPlace cs given m.children.differ) in
-    let stand : Stand os (kids_listed dp s.next_ticket rs) off = λ y in_list one. each-has P os y open_found in_list in
-    subst (λ parent. MayBranch dp parent off rs) (sym parts.found) (may-add-all dp o.subproblem.decisions os off rs g.ordered parts.opens parts.kids differ stand)
+    let stand : Stand os (kids_listed dp s.next_ticket rs) off = λ y in_list one. each-has P os y open_found in_list in (
+      finish-room dp s b who threshold cs fs g beside m,
+      subst (λ parent. MayBranch dp parent off rs) (sym parts.found) (may-add-all dp o.subproblem.decisions os off rs g.ordered parts.opens parts.kids differ stand),
+    )
 
 -- the tickets that are given out
 next-many : (dp : Dp) (next : ℕ) (b : BoardState) (cs : List Subproblem) (ks : List Ticketed) → entering cs (fates_on dp b cs) ≡ ks → b.next_ticket ≡ next

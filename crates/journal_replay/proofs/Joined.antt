@@ -1,16 +1,19 @@
 -- Records behind records.
-use Rattle.std.proofs.Common.{◌≡◌, ℕ, ℤ, true, List, [], ◌∷◌, ◌++◌, Option, Some, None, refl, arith}
+use Rattle.std.proofs.Common.{◌≡◌, ℕ, ℤ, true, cond, List, [], ◌∷◌, ◌++◌, Option, Some, None, refl, sym, subst, arith}
 use Rattle.std.proofs.lemmas.Int.{ints}
 use Rattle.dp_model.specs.Dp.{Dp}
 use Rattle.dp_model.specs.Laws.{IsLawful}
 use Rattle.dp_model.specs.Numbers.{OptionAtMost, is_above}
 use Rattle.board_laws.specs.Board.{value_held}
-use Rattle.journal_bytes.specs.Bodies.{RecordView, Improve, Finish}
-use Rattle.journal_replay.specs.Replay.{Replayed, taken_off, after_record, after_records, replay_start}
-use Rattle.journal_replay.specs.Accepting.{MayFollow, MayFollowAll}
-use Rattle.journal_replay.specs.Sound.{IsSoundState, AreSoundFrom, finished_after, finished_after_all}
-use Rattle.journal_replay.specs.Laws.{RecordsJoin, RecordsDoNotWorsen, SoundRestoreGood}
+use Rattle.journal_bytes.specs.Bodies.{RecordView, Improve, Finish, Snapshot}
+use Rattle.journal_bytes.specs.Base.{have_snapshot, from_base}
+use Rattle.journal_replay.specs.Replay.{Replayed, taken_off, after_record, after_records, replay_of, replay_start}
+use Rattle.journal_replay.specs.Accepting.{MayFollow, MayFollowAll, AreAccepted}
+use Rattle.journal_replay.specs.Following.{TellsState}
+use Rattle.journal_replay.specs.Sound.{IsSoundState, AreSoundFrom, AreSound, finished_after, finished_after_all}
+use Rattle.journal_replay.specs.Laws.{JournalsGrow, RecordsJoin, RecordsDoNotWorsen, SoundRestoreGood}
 use Rattle.journal_replay.proofs.Added.{added}
+use Rattle.journal_replay.proofs.Based.{by-cases, from-joined, follow-from, since-from, sound-from, state-from}
 use Rattle.journal_replay.proofs.Restored.{accepted-restore}
 use Rattle.board_laws.proofs.Carrying.{option-self}
 use Rattle.board_laws.proofs.Restoring.{restored-boards-keep}
@@ -76,20 +79,55 @@ above-most : (a : Option ℤ) (z : ℤ) → is_above a z ≡ true → OptionAtMo
 above-most None z h = tt
 above-most (Some x) z h = grind (arith, ints)
 
-record-better : (dp : Dp) (s : Replayed) (r : RecordView) → MayFollow dp s r → OptionAtMost (value_held s.incumbent) (value_held (after_record dp s r).incumbent)
-record-better dp s (Improve worth ds) may = above-most (value_held s.incumbent) worth may.better
-record-better dp s (Finish ticket cs) may = rw (added dp (taken_off ticket s) cs).incumbent (option-self (value_held s.incumbent))
+record-better : (dp : Dp) (s : Replayed) (r : RecordView) → MayFollow dp s r → TellsState dp s r → OptionAtMost (value_held s.incumbent) (value_held (after_record dp s r).incumbent)
+record-better dp s (Improve worth ds) may tells = above-most (value_held s.incumbent) worth may.better
+record-better dp s (Finish ticket cs) may tells = rw (added dp (taken_off ticket s) cs).incumbent (option-self (value_held s.incumbent))
+record-better dp s (Snapshot best next os) may tells = rw tells.incumbent (option-self (value_held s.incumbent))
 
 pub not-worse : (dp : Dp) → RecordsDoNotWorsen dp
 not-worse dp s [] may = option-self (value_held s.incumbent)
 not-worse dp s (r ∷ rs) may =
     let next = after_record dp s r in
-    most-then (value_held s.incumbent) (value_held next.incumbent) (value_held (after_records dp next rs).incumbent) (record-better dp s r may.0) (not-worse dp next rs may.1)
+    most-then (value_held s.incumbent) (value_held next.incumbent) (value_held (after_records dp next rs).incumbent) (record-better dp s r may.0.0 may.0.1) (not-worse dp next rs may.1)
+
+-- Records behind those of a journal.
+
+journal-last : (dp : Dp) (within : ℤ) (old : List RecordView) → AreSound dp within old → IsSoundState dp within (finished_after_all 0 old) (replay_of dp old)
+journal-last dp within old h =
+    let start = replay_start dp in
+    subst (λ n. IsSoundState dp within n (replay_of dp old)) (sym (since-from 0 old))
+    (subst (IsSoundState dp within (finished_after_all 0 (from_base old))) (sym (state-from dp start old)) (sound-last dp within 0 start (from_base old) h))
+
+journal-accepted : (dp : Dp) (old new : List RecordView) → AreAccepted dp old → MayFollowAll dp (replay_of dp old) new → AreAccepted dp (old ++ new)
+journal-accepted dp old new h k =
+    let start = replay_start dp in
+    subst (MayFollowAll dp start) (sym (from-joined old new))
+    (by-cases (have_snapshot new) (λ b. MayFollowAll dp start (cond b (from_base new) (from_base old ++ new)))
+    (λ more. follow-from dp (replay_of dp old) start new more k)
+    (λ none. accepted-joined dp start (from_base old) new h (subst (λ s. MayFollowAll dp s new) (state-from dp start old) k)))
+
+journal-sound : (dp : Dp) (within : ℤ) (old new : List RecordView) → AreSound dp within old → AreSoundFrom dp within (finished_after_all 0 old) (replay_of dp old) new → AreSound dp within (old ++ new)
+journal-sound dp within old new h k =
+    let start = replay_start dp in
+    subst (AreSoundFrom dp within 0 start) (sym (from-joined old new))
+    (by-cases (have_snapshot new) (λ b. AreSoundFrom dp within 0 start (cond b (from_base new) (from_base old ++ new)))
+    (λ more. sound-from dp within (finished_after_all 0 old) 0 (replay_of dp old) start new more (sound-first dp within 0 start (from_base old) h) k)
+    (λ none. sound-joined dp within 0 start (from_base old) new h
+    (subst (λ n. AreSoundFrom dp within n (after_records dp start (from_base old)) new) (since-from 0 old) (subst (λ s. AreSoundFrom dp within (finished_after_all 0 old) s new) (state-from dp start old) k))))
+
+pub journals-grow : (dp : Dp) → JournalsGrow dp
+journals-grow dp old new = record {
+  after = after-joined dp (replay_start dp) old new;
+  since = finished-joined 0 old new;
+  accepted = journal-accepted dp old new;
+  last = λ within. journal-last dp within old;
+  sound = λ within. journal-sound dp within old new;
+}
 
 -- A good board.
 
 pub sound-restore-good : (dp : Dp) → IsLawful dp → SoundRestoreGood dp
 sound-restore-good dp laws settings rs are may sound =
-    let s = after_records dp (replay_start dp) rs in
-    let last = sound-last dp settings.within 0 (replay_start dp) rs sound in
+    let s = replay_of dp rs in
+    let last = journal-last dp settings.within rs sound in
     (restored-boards-keep dp laws settings s.incumbent s.listed s.next_ticket are (accepted-restore dp laws rs may)).good (finished_after_all 0 rs) last.list

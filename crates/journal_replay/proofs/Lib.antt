@@ -4,7 +4,10 @@ mod Added
 mod Places
 mod Adding
 mod Begins
+mod Listing
 -- what accepted records are restored to
+pub mod Based
+mod Basing
 pub mod Restored
 pub mod Beside
 -- the record of a finished subproblem
@@ -14,4 +17,5 @@ mod Finishing
 -- the steps
 mod Sounding
 pub mod Steps
+pub mod Snapshots
 pub mod Joined

@@ -15,11 +15,13 @@ use Rattle.board_laws.specs.Steps.{empty_slots, first_open}
 use Rattle.board_laws.specs.declared.settings.Settings.{Settings}
 use Rattle.board_laws.proofs.First.{first-is-good}
 use Rattle.board_laws.proofs.Lists.{each-back}
-use Rattle.journal_bytes.specs.Bodies.{ChildView, RecordView, Improve, Finish}
+use Rattle.journal_bytes.specs.Bodies.{ChildView, RecordView, Improve, Finish, Snapshot}
+use Rattle.journal_bytes.specs.Base.{from_base}
 use Rattle.journal_replay.specs.Replay.{Replayed, MayRestoreFrom, listed_at, taken_off, with_child, with_children, after_record, after_records, replay_start}
 use Rattle.journal_replay.specs.Accepting.{MayAddAll, MayBranch, MayFollow, MayFollowAll}
 use Rattle.journal_replay.specs.Laws.{AcceptedRestore}
 use Rattle.journal_replay.proofs.Added.{kids_listed, added, tickets-rise}
+use Rattle.journal_replay.proofs.Based.{state-from}
 
 -- the children of a record are children of its subproblem, with bounds of a bounded size
 pub kids-children : (dp : Dp) (p : List ℕ) (s : Replayed) (rs : List ChildView) → MayAddAll dp p s rs
@@ -62,7 +64,8 @@ branch-restores dp (Some parent) s rs may h = restores-children dp parent.subpro
 
 pub record-restores : (dp : Dp) (s : Replayed) (r : RecordView) → MayFollow dp s r → MayRestoreFrom dp s → MayRestoreFrom dp (after_record dp s r)
 record-restores dp s (Improve value ds) may h = record { incumbent = may.solution; own = h.own; far = h.far; ordered = h.ordered; given = h.given }
-record-restores dp s (Finish ticket rs) may h = branch-restores dp (listed_at ticket s.listed) (taken_off ticket s) rs may (restores-off dp ticket s h)
+record-restores dp s (Finish ticket rs) may h = branch-restores dp (listed_at ticket s.listed) (taken_off ticket s) rs may.1 (restores-off dp ticket s h)
+record-restores dp s (Snapshot best next os) may h = may
 
 pub records-restore : (dp : Dp) (s : Replayed) (rs : List RecordView) → MayFollowAll dp s rs → MayRestoreFrom dp s → MayRestoreFrom dp (after_records dp s rs)
 records-restore dp s [] may h = h
@@ -89,4 +92,6 @@ start-restores dp laws =
     }
 
 pub accepted-restore : (dp : Dp) → IsLawful dp → AcceptedRestore dp
-accepted-restore dp laws rs may = records-restore dp (replay_start dp) rs may (start-restores dp laws)
+accepted-restore dp laws rs may =
+    let start = replay_start dp in
+    subst (MayRestoreFrom dp) (sym (state-from dp start rs)) (records-restore dp start (from_base rs) may (start-restores dp laws))

@@ -29,6 +29,7 @@ use Rattle.board_laws.proofs.Lists.{each-less, each-front, each-back}
 use Rattle.board_laws.proofs.Slots.{filled, emptied, slot-full}
 use Rattle.board_laws.proofs.Taking.{first-out}
 use Rattle.board_laws.proofs.With.{with-left, with-right, each-out}
+use Rattle.journal_bytes.specs.Base.{is_snapshot}
 use Rattle.journal_bytes.specs.Bodies.{RecordView, Improve, Finish}
 use Rattle.journal_replay.specs.Replay.{Replayed, listed_at, after_record}
 use Rattle.journal_replay.specs.Accepting.{MayFollow}
@@ -99,11 +100,12 @@ improved-beside dp s b x h may =
 -- for an offer and a Finish: the record, what is made of it, and the board after it
 pub record IsRecorded (dp : Dp) (s : Replayed) (b later : BoardState) (one : Option RecordView) : Type 0 where
   pub may : IfSome one (MayFollow dp s)
+  pub plain : IfSome one (λ r. is_snapshot r ≡ false)
   pub beside : IsReplayOf dp (after_recorded dp s one) later
   pub sound : (n : ℕ) → IsGood dp b → IsSoundState dp b.settings.within n s → IfSome one (λ r. IsSoundState dp b.settings.within (finished_after n r) (after_record dp s r))
 
 none-recorded : (dp : Dp) (s : Replayed) (b later : BoardState) → IsReplayOf dp s later → IsRecorded dp s b later None
-none-recorded dp s b later h = record { may = tt; beside = h; sound = λ n good sound. tt }
+none-recorded dp s b later h = record { may = tt; plain = tt; beside = h; sound = λ n good sound. tt }
 
 better-recorded : (dp : Dp) (s : Replayed) (b : BoardState) (x : List ℕ) → IsBoard dp b → IsReplayOf dp s b → IsSolution dp x → is_above (incumbent_value b) (value_of dp x) ≡ true
     → IsRecorded dp s b (improved b (record { decisions = x; value = value_of dp x })) (Some (Improve (value_of dp x) x))
@@ -113,6 +115,7 @@ better-recorded dp s b x g h may up =
     let beside = improved-beside dp s b x h may in
     record {
       may = record { solution = record { solution = may; value = refl }; better = up_here };
+      plain = refl;
       beside = beside;
       sound = λ n good sound. improve-sound dp n s b best (record { solution = may; value = refl }) up_here
           ((improve-keeps dp b best (record { solution = may; value = refl }) up).good g good) beside sound;
@@ -132,14 +135,15 @@ finish-recorded dp laws s b who threshold cs g h m =
     let fs = fates_on dp b cs in
     let one : IsRecorded dp s b (finished_by dp b who cs) (Some (Finish m.parent.ticket (recorded_children cs fs))) = record {
       may = finish-may dp s b who threshold cs fs g h m;
+      plain = refl;
       beside = finish-beside dp s b who threshold cs fs g h m;
       sound = λ n good sound. finish-sound dp laws n s b who threshold cs fs g good h m sound;
     } in
     subst (λ slot. IsRecorded dp s b (finished_by dp b who cs) (option_map (λ (o : Ticketed). Finish o.ticket (recorded_children cs fs)) slot)) (sym m.full) one
 
 pub steps-recorded : (dp : Dp) → IsLawful dp → StepsAreRecorded dp
-steps-recorded dp laws s b (Take who) g h may = record { may = tt; beside = take-beside dp s b who h g.ordered may (take_gives b); sound = λ n good sound. tt }
-steps-recorded dp laws s b (StepImprove x) g h may = (let r = offer-recorded dp s b x g h may in record { may = r.may; beside = r.beside; sound = r.sound })
-steps-recorded dp laws s b (StepFinish who threshold cs) g h may = (let r = finish-recorded dp laws s b who threshold cs g h may in record { may = r.may; beside = r.beside; sound = r.sound })
-steps-recorded dp laws s b (GiveBack who) g h may = record { may = tt; beside = back-beside dp s b who h (slot_at b who) refl; sound = λ n good sound. tt }
-steps-recorded dp laws s b (Halt cause) g h may = record { may = tt; beside = beside-less dp s b _ h refl refl (λ P x. x); sound = λ n good sound. tt }
+steps-recorded dp laws s b (Take who) g h may = record { may = tt; plain = tt; beside = take-beside dp s b who h g.ordered may (take_gives b); sound = λ n good sound. tt }
+steps-recorded dp laws s b (StepImprove x) g h may = (let r = offer-recorded dp s b x g h may in record { may = r.may; plain = r.plain; beside = r.beside; sound = r.sound })
+steps-recorded dp laws s b (StepFinish who threshold cs) g h may = (let r = finish-recorded dp laws s b who threshold cs g h may in record { may = r.may; plain = r.plain; beside = r.beside; sound = r.sound })
+steps-recorded dp laws s b (GiveBack who) g h may = record { may = tt; plain = tt; beside = back-beside dp s b who h (slot_at b who) refl; sound = λ n good sound. tt }
+steps-recorded dp laws s b (Halt cause) g h may = record { may = tt; plain = tt; beside = beside-less dp s b _ h refl refl (λ P x. x); sound = λ n good sound. tt }

@@ -1,5 +1,5 @@
 -- What replay keeps, and how a board keeps up with its records.
-use Rattle.std.specs.Prelude.{◌≡◌, ℕ, ℤ, List, ◌++◌, IfSome}
+use Rattle.std.specs.Prelude.{◌≡◌, ℕ, ℤ, false, List, ◌++◌, IfSome}
 use Rattle.dp_model.specs.Dp.{Dp}
 use Rattle.dp_model.specs.Numbers.{OptionAtMost}
 use Rattle.board_laws.specs.declared.settings.Settings.{Settings}
@@ -7,11 +7,12 @@ use Rattle.board_laws.specs.Board.{AreSettings, BoardState, value_held}
 use Rattle.board_laws.specs.GoodBoard.{IsBoard, IsGood}
 use Rattle.board_laws.specs.Runs.{Step, May, after}
 use Rattle.board_laws.specs.Steps.{first_board}
+use Rattle.journal_bytes.specs.Base.{is_snapshot}
 use Rattle.journal_bytes.specs.Bodies.{RecordView}
 use Rattle.journal_replay.specs.Replay.{Replayed, replay_start, after_record, after_records, replay_of, MayRestoreFrom, restored_from}
 use Rattle.journal_replay.specs.Accepting.{MayFollow, MayFollowAll, AreAccepted}
 use Rattle.journal_replay.specs.Sound.{IsSoundState, AreSoundFrom, AreSound, finished_after, finished_after_all}
-use Rattle.journal_replay.specs.Following.{IsReplayOf, record_of_step, after_recorded}
+use Rattle.journal_replay.specs.Following.{IsReplayOf, TellsState, MayGoOnAll, record_of_step, after_recorded, snapshot_record}
 
 -- a search may be restored from accepted records
 abbrev pub AcceptedRestore : Dp → Type 0
@@ -34,10 +35,11 @@ FirstBoardsFollow dp = (settings : Settings) → AreSettings settings → FirstB
 abbrev pub RestoredBoardsFollow : Dp → Type 0
 RestoredBoardsFollow dp = (settings : Settings) (s : Replayed) → MayRestoreFrom dp s → IsReplayOf dp s (restored_from settings s)
 
--- the record of a step, where it has one, may follow, and the board after the step stands beside it; on a good board what is sound
--- stays so
+-- the record of a step, where it has one, may follow and is no snapshot, and the board after the step stands beside it; on a good
+-- board what is sound stays so
 pub record StepIsRecorded (dp : Dp) (s : Replayed) (b : BoardState) (step : Step) : Type 0 where
   pub may : IfSome (record_of_step dp b step) (MayFollow dp s)
+  pub plain : IfSome (record_of_step dp b step) (λ r. is_snapshot r ≡ false)
   pub beside : IsReplayOf dp (after_recorded dp s (record_of_step dp b step)) (after dp b step)
   pub sound : (n : ℕ) → IsGood dp b → IsSoundState dp b.settings.within n s →
       IfSome (record_of_step dp b step) (λ r. IsSoundState dp b.settings.within (finished_after n r) (after_record dp s r))
@@ -46,9 +48,21 @@ pub record StepIsRecorded (dp : Dp) (s : Replayed) (b : BoardState) (step : Step
 abbrev pub StepsAreRecorded : Dp → Type 0
 StepsAreRecorded dp = (s : Replayed) (b : BoardState) (step : Step) → IsBoard dp b → IsReplayOf dp s b → May dp b step → StepIsRecorded dp s b step
 
--- the incumbent after more records is no worse
+-- the snapshot of a board may follow, tells what is there, and the board stands beside it; on a good board it is sound, whatever was
+-- before it
+pub record SnapshotIsRecorded (dp : Dp) (s : Replayed) (b : BoardState) : Type 0 where
+  pub may : MayFollow dp s (snapshot_record b)
+  pub tells : TellsState dp s (snapshot_record b)
+  pub beside : IsReplayOf dp (after_record dp s (snapshot_record b)) b
+  pub sound : IsGood dp b → IsSoundState dp b.settings.within 0 (after_record dp s (snapshot_record b))
+
+-- after its snapshot a board stands beside its records as before
+abbrev pub SnapshotsAreRecorded : Dp → Type 0
+SnapshotsAreRecorded dp = (s : Replayed) (b : BoardState) → IsBoard dp b → IsReplayOf dp s b → SnapshotIsRecorded dp s b
+
+-- the incumbent after records that a search adds itself is no worse
 abbrev pub RecordsDoNotWorsen : Dp → Type 0
-RecordsDoNotWorsen dp = (s : Replayed) (rs : List RecordView) → MayFollowAll dp s rs → OptionAtMost (value_held s.incumbent) (value_held (after_records dp s rs).incumbent)
+RecordsDoNotWorsen dp = (s : Replayed) (rs : List RecordView) → MayGoOnAll dp s rs → OptionAtMost (value_held s.incumbent) (value_held (after_records dp s rs).incumbent)
 
 -- records behind records: what is made of them, and that both are accepted and sound exactly where each part is
 pub record AreJoined (dp : Dp) (s : Replayed) (rs more : List RecordView) : Type 0 where
@@ -65,3 +79,16 @@ pub record AreJoined (dp : Dp) (s : Replayed) (rs more : List RecordView) : Type
 -- records behind records are replayed one after the other
 abbrev pub RecordsJoin : Dp → Type 0
 RecordsJoin dp = (s : Replayed) (rs more : List RecordView) → AreJoined dp s rs more
+
+-- records behind those of a journal: what is made of all, and that all are accepted and sound where each of the new ones may follow and
+-- is sound, whether or not there are snapshots among the old ones and the new ones
+pub record AreBehind (dp : Dp) (old new : List RecordView) : Type 0 where
+  pub after : replay_of dp (old ++ new) ≡ after_records dp (replay_of dp old) new
+  pub since : finished_after_all 0 (old ++ new) ≡ finished_after_all (finished_after_all 0 old) new
+  pub accepted : AreAccepted dp old → MayFollowAll dp (replay_of dp old) new → AreAccepted dp (old ++ new)
+  pub last : (within : ℤ) → AreSound dp within old → IsSoundState dp within (finished_after_all 0 old) (replay_of dp old)
+  pub sound : (within : ℤ) → AreSound dp within old → AreSoundFrom dp within (finished_after_all 0 old) (replay_of dp old) new → AreSound dp within (old ++ new)
+
+-- a journal to which records are added is replayed on
+abbrev pub JournalsGrow : Dp → Type 0
+JournalsGrow dp = (old new : List RecordView) → AreBehind dp old new

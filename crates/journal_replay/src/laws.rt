@@ -2,7 +2,7 @@
 
 ghost use Rattle.dp_model.specs.Dp.{Dp};
 ghost use Rattle.dp_model.specs.Laws.{IsLawful};
-ghost use Rattle.journal_replay.specs.Laws.{AcceptedRestore, FirstBoardsFollow, RecordsDoNotWorsen, RecordsJoin, RestoredBoardsFollow, SoundRestoreGood, StepsAreRecorded};
+ghost use Rattle.journal_replay.specs.Laws.{AcceptedRestore, FirstBoardsFollow, JournalsGrow, RecordsDoNotWorsen, RecordsJoin, RestoredBoardsFollow, SnapshotsAreRecorded, SoundRestoreGood, StepsAreRecorded};
 
 /// A board may be restored from what accepted records make of a search.
 pub fn accepted_records_restore()
@@ -30,7 +30,13 @@ pub fn steps_are_recorded()
     ensures { (dp : Dp) → IsLawful dp → StepsAreRecorded dp }
 {}
 
-/// No accepted record worsens the incumbent.
+/// The snapshot of a board may follow and tells what is there, and the board stands beside it. On a good board it is sound, whatever
+/// the records before it were.
+pub fn snapshots_are_recorded()
+    ensures { (dp : Dp) → SnapshotsAreRecorded dp }
+{}
+
+/// No record that a search adds itself worsens the incumbent.
 pub fn records_do_not_worsen()
     ensures { (dp : Dp) → RecordsDoNotWorsen dp }
 {}
@@ -38,4 +44,10 @@ pub fn records_do_not_worsen()
 /// Records behind records are accepted and sound where both parts are, and then the first part is.
 pub fn records_join()
     ensures { (dp : Dp) → RecordsJoin dp }
+{}
+
+/// A journal whose records are accepted, with more that may follow, is accepted, and so with soundness. Each front of what is added
+/// may follow too, so this holds at every moment of a search.
+pub fn journals_grow()
+    ensures { (dp : Dp) → JournalsGrow dp }
 {}

@@ -9,8 +9,10 @@ ghost use Rattle.board.specs.Opened.{solution_in};
 ghost use Rattle.journal_replay.specs.Accepting.{AreAccepted, AreRefused};
 ghost use Rattle.journal_replay.specs.Replay.{MayRestoreFrom, replay_of, replay_start, restored_from};
 
-use crate::following::{Rows, follow_all};
+use crate::following::follow_all;
+use crate::offsets::from_base;
 use crate::state::{Best, State};
+use crate::walking::Rows;
 use board::{Board, Settings, root_sub};
 use dp_model::{DpModel, OutOfMemory};
 use journal_bytes::Records;
@@ -42,19 +44,14 @@ fn first_state<M: DpModel>(alloc: Global, model: &M) -> Result<State, OutOfMemor
 fn replayed<M: DpModel>(alloc: Global, records: &Records, model: &M) -> Result<State, JournalError>
     ensures accepted { OnOk result (AreAccepted (M.meaning (M.numbers model.now)) records.now.records) }
     ensures state { IfOk result (λ state. state ≡ replay_of (M.meaning (M.numbers model.now)) records.now.records) }
-    ensures refused { IfErr result (AreRefused (M.meaning (M.numbers model.now)) (replay_start (M.meaning (M.numbers model.now))) records.now.first records.now.records) }
+    ensures refused { IfErr result (AreRefused (M.meaning (M.numbers model.now)) records.now.first records.now.records) }
 {
     let mut state = first_state(alloc, model)?;
     let mut rows = Rows::new(alloc, model.words())?;
-    let first = records.first();
-    follow_all(
-        alloc,
-        model,
-        first,
-        records.as_slice(),
-        &mut state,
-        &mut rows,
-    )?;
+    let Some((first, records)) = from_base(records.first(), records.as_slice()) else {
+        return Err(JournalError::OutOfMemory);
+    };
+    follow_all(alloc, model, first, records, &mut state, &mut rows)?;
     Ok(state)
 }
 
@@ -87,31 +84,35 @@ fn restore<M: DpModel>(
     Board::restore(alloc, model, settings, decisions, opened, next)
 }
 
-/// The board that the records of a journal lead to: the records are followed from the start of a search, and what they list is
-/// open again under its own ticket where its bound is above the reach, of those of one depth and state that with the greatest
-/// value and of equal ones the earliest. Nothing is out or counted, and the table is empty.
+/// The board that the records of a journal lead to. The base is the last snapshot among them, or the start of a search where there
+/// is none. The records behind the base are followed from there, and what they list is open again under its own ticket where its
+/// bound is above the reach, of those of one depth and state that with the greatest value and of equal ones the earliest. Nothing
+/// is out or counted, and the table is empty.
 ///
-/// There are from 1 to 16 workers, the width is at least 1, and the distance is from 0 to 2^50.
+/// There are from 1 to 16 workers, the width is at least 1, and the distance is that of the journal's head, from 0 to 2^50.
 ///
 /// # Errors
 ///
-/// For the first record that may not follow where it stands, with its offset: `NoSolution` exactly where it is an improvement by
-/// what is no feasible solution, else `Malformed`: the value of an improvement is not that of its decisions or not greater than
-/// the incumbent's, a finished ticket is not listed, a child is no prefix that properly extends the finished one and is shorter
-/// than a solution, its bound exceeds 2^62 in size, or what it replaces is not listed with its depth and state. No other but
-/// `OutOfMemory`.
+/// For the first record from the base on that may not follow where it stands, with its offset: `NoSolution` exactly where it is an
+/// improvement by what is no feasible solution, or a snapshot with such an incumbent, else `Malformed`: the value of an improvement
+/// is not that of its decisions or not greater than the incumbent's, a finished ticket is not listed, a child is no prefix that
+/// properly extends the finished one and is shorter than a solution, its bound exceeds 2^62 in size, what it replaces is not listed
+/// with its depth and state, or fewer tickets are left than there are children; and at the base, the value of the incumbent is not
+/// that of its decisions, the tickets do not rise or one is not below the next ticket, or a subproblem is no prefix shorter than a
+/// solution or its bound exceeds 2^62 in size. What stands before the base is not looked at. No other but `OutOfMemory`.
 pub fn replay<M: DpModel>(
     alloc: Global,
     records: &Records,
     model: Arc<M>,
     settings: Settings,
 ) -> Result<Board<M>, JournalError>
-    requires { AreSettings settings }
+    requires settings { AreSettings settings }
+    requires within { settings.within ≡ records.now.within }
     ensures accepted { OnOk result (AreAccepted (M.meaning (M.numbers (arc_value model))) records.now.records) }
     ensures numbers { IfOk result (λ b. b.numbers ≡ M.numbers (arc_value model)) }
     ensures board { IfOk result (λ b. b.board ≡ restored_from settings (replay_of (M.meaning (M.numbers (arc_value model))) records.now.records)) }
     ensures first { IfOk result (λ b. b.first ≡ b.board) }
-    ensures refused { IfErr result (AreRefused (M.meaning (M.numbers (arc_value model))) (replay_start (M.meaning (M.numbers (arc_value model)))) records.now.first records.now.records) }
+    ensures refused { IfErr result (AreRefused (M.meaning (M.numbers (arc_value model))) records.now.first records.now.records) }
 {
     let state = replayed(alloc, records, &*model)?;
     let board = restore(alloc, model, settings, state)?;

@@ -3,7 +3,7 @@
 pub enum Verdict {
     /// It may follow.
     Accepted,
-    /// The decisions of an improvement are no feasible solution.
+    /// The decisions of an improvement, or of the best solution of a snapshot, are no feasible solution.
     NoSolution,
     /// It may not follow for another reason.
     Malformed,

@@ -17,6 +17,7 @@ use Rattle.board_laws.specs.Board.{BoardState, slot_at}
 use Rattle.board_laws.specs.GoodBoard.{IsBoard}
 use Rattle.board_laws.specs.Runs.Step.{Take, Improve, Finish, GiveBack, Halt}
 use Rattle.board_laws.specs.Runs.{Step, May, after}
+use Rattle.board_laws.specs.declared.settings.Settings.{Settings}
 use Rattle.board_laws.specs.Steps.{cause_after, given_back_from, halted}
 use Rattle.board_laws.specs.Taking.{take_gives, checked_out, after_answer}
 use Rattle.board_laws.proofs.Running.{offered-is, step-follows}
@@ -24,13 +25,13 @@ use Rattle.journal_bytes.specs.declared.tail.Tail.{Tail}
 use Rattle.journal_bytes.specs.Bodies.{RecordView}
 use Rattle.journal_bytes.specs.Journal.{HeadView, HasRecords}
 use Rattle.journal_file.specs.Settled.{IsReady}
-use Rattle.journal_replay.specs.Following.{record_of_step}
+use Rattle.journal_replay.specs.Following.{record_of_step, snapshot_record}
 use Rattle.board.specs.Moves.{NeedsNoJournal}
 use Rattle.board.specs.View.{BoardView, tag_of}
-use Rattle.kept_board.proofs.Growing.{added-record, with-record, without-record, no-new-records}
+use Rattle.kept_board.proofs.Growing.{added-record, with-record, without-record, added-snapshot, with-snapshot, no-new-records}
 use Rattle.kept_board.specs.Adding.{HasAtMost, MayAddTo, LeavesAtMost, Acknowledges}
 use Rattle.kept_board.specs.Kept.{HasFront, MayKeep, LeftFronts, IsCurrent, IsBroken, Goes, HasJournal, KeepsJournal, IsKept}
-use Rattle.kept_board.specs.Records.{AreAdded}
+use Rattle.kept_board.specs.Records.{AreAdded, KeepUp}
 
 -- ---- the cause
 
@@ -108,12 +109,41 @@ module _ {D : Type 0} (on : Ghosts D) where
       then on.moment on.left_since made disk next (HasFront head old new) (HasAtMost head (old ++ new) r) (HasFront head old (new ++ r ∷ [])) since (leaves tells head (old ++ new) reads)
       (λ c has. front-longer head old new r c has) (λ c has. whole-front head old new r c has)
 
+-- ---- a record more
+
+-- with the record the journal of the first board keeps up with the second
+pub record GrowsBy (dp : Dp) (b later : BoardState) (r : RecordView) : Type 0 where
+  pub keep_up : (old new : List RecordView) → KeepUp dp old new b → KeepUp dp old (new ++ r ∷ []) later
+  pub added : (old new : List RecordView) → KeepUp dp old new b → AreAdded dp b.settings.within old (new ++ r ∷ [])
+  pub settings : later.settings ≡ b.settings
+  pub going : b.cause ≢ Some Journal → later.cause ≢ Some Journal
+
+pub step-grows : (dp : Dp) → IsLawful dp → (b : BoardState) (step : Step) (r : RecordView) → May dp b step → NeedsNoJournal step → record_of_step dp b step ≡ Some r → GrowsBy dp b (after dp b step) r
+step-grows dp laws b step r may alone is = record {
+  keep_up = λ old new k. with-record dp laws old new b step k may r is;
+  added = λ old new k. added-record dp laws old new b step k may r is;
+  settings = (step-follows dp b step).settings;
+  going = goes-on dp b step alone;
+}
+
+pub snapshot-grows : (dp : Dp) (b : BoardState) → GrowsBy dp b b (snapshot_record b)
+snapshot-grows dp b = record {
+  keep_up = λ old new k. with-snapshot dp old new b k;
+  added = λ old new k. added-snapshot dp old new b k;
+  settings = refl;
+  going = λ going. going;
+}
+
+same-within : (b later : BoardState) (head : HeadView) → later.settings ≡ b.settings → b.settings.within ≡ head.within → later.settings.within ≡ head.within
+same-within b later head same is = ap (λ (s : Settings). s.within) same ∙ is
+
 module _ {D : Type 0} (on : Ghosts D) (dp : Dp) (laws : IsLawful dp) where
   -- ---- a step without a record
 
   stays-current : (b : BoardState) (step : Step) (made disk : D) (tail : Tail) → May dp b step → record_of_step dp b step ≡ None → IsCurrent on dp b made disk tail → IsCurrent on dp (after dp b step) made disk tail
   stays-current b step made disk tail may is cur = record {
     head = cur.head;
+    within = same-within b (after dp b step) cur.head (step-follows dp b step).settings cur.within;
     old = cur.old;
     new = cur.new;
     from = cur.from;
@@ -128,6 +158,7 @@ module _ {D : Type 0} (on : Ghosts D) (dp : Dp) (laws : IsLawful dp) where
       let keep_up = without-record dp laws broken.old broken.new b step broken.keep_up may is in
       record {
         head = broken.head;
+        within = same-within b (after dp b step) broken.head (step-follows dp b step).settings broken.within;
         old = broken.old;
         new = broken.new;
         last = broken.last;
@@ -162,19 +193,20 @@ module _ {D : Type 0} (on : Ghosts D) (dp : Dp) (laws : IsLawful dp) where
       let goes = going b made disk tail (differ refl) k in
       record { is_attached = goes.is_attached; is_open = λ tells. (goes.current tells).is_open }
 
-  -- ---- a step with its record
+  -- ---- a record more
 
-  module _ (b : BoardState) (step : Step) (r : RecordView) (made disk next : D) (may : May dp b step) (is : record_of_step dp b step ≡ Some r) (keeps : Keeps on.attached on.tells on.names on.found disk next) (faults : on.faults disk ≤ on.faults next) (start : (s : FirstSync) → on.start disk ≡ Some s → on.start next ≡ Some s) where
+  module _ (b later : BoardState) (r : RecordView) (grows : GrowsBy dp b later r) (made disk next : D) (keeps : Keeps on.attached on.tells on.names on.found disk next) (faults : on.faults disk ≤ on.faults next) (start : (s : FirstSync) → on.start disk ≡ Some s → on.start next ≡ Some s) where
     now-current : (tail next_tail : Tail) → IsCurrent on dp b made disk tail → IsTrue (on.tells disk) → IsTrue (on.tells next) → IsReady on.attached on.tells on.seen on.may_leave next next_tail → Acknowledges on disk next r → LeavesAtMost on disk next r
-        → IsCurrent on dp (after dp b step) made next next_tail
+        → IsCurrent on dp later made next next_tail
     now-current tail next_tail cur tells tells_next ready acknowledged leaves = record {
       head = cur.head;
+      within = same-within b later cur.head grows.settings cur.within;
       old = cur.old;
       new = cur.new ++ r ∷ [];
       from = cur.from;
       is_open = ready.is_open tells_next;
       reads = regrouped cur.head cur.old cur.new r (on.seen next) (acknowledged tells cur.head (cur.old ++ cur.new) cur.reads);
-      keep_up = with-record dp laws cur.old cur.new b step cur.keep_up may r is;
+      keep_up = grows.keep_up cur.old cur.new cur.keep_up;
       since = fronts-longer on made disk next r cur.head cur.old cur.new tells cur.reads cur.since leaves;
     }
 
@@ -183,22 +215,23 @@ module _ {D : Type 0} (on : Ghosts D) (dp : Dp) (laws : IsLawful dp) where
         let run = leaves tells cur.head (cur.old ++ cur.new) cur.reads in
         record {
           head = cur.head;
+          within = cur.within;
           old = cur.old;
           new = cur.new;
           last = r;
           from = cur.from;
           keep_up = without-record dp laws cur.old cur.new b (Halt Journal) cur.keep_up tt refl;
-          added = added-record dp laws cur.old cur.new b step cur.keep_up may r is;
+          added = grows.added cur.old cur.new cur.keep_up;
           since = fronts-longer on made disk next r cur.head cur.old cur.new tells cur.reads cur.since leaves;
           left = λ c left. ⊎_elim (λ before. inl before) (λ after. inr (regrouped cur.head cur.old cur.new r c after)) (run.each c (counts_now (on.moment disk) c run.later left));
         }
 
-    pub steps-kept : (tail next_tail : Option Tail) → NeedsNoJournal step → (IsSome tail → b.cause ≢ Some Journal) → KeepsJournal on dp b made disk tail → is_some next_tail ≡ is_some tail → MayAddTo on next next_tail
-        → (tail ≡ None → next ≡ disk) → (IsSome tail → Acknowledges on disk next r) → (IsSome tail → LeavesAtMost on disk next r) → KeepsJournal on dp (after dp b step) made next next_tail
-    steps-kept None None alone differ k same ready none acknowledged leaves = (goes-on dp b step alone k.0, none refl ∙ k.1)
-    steps-kept None (Some next_tail) alone differ k same ready none acknowledged leaves = absurd (cc)
-    steps-kept (Some tail) None alone differ k same ready none acknowledged leaves = absurd (cc)
-    steps-kept (Some tail) (Some next_tail) alone differ k same ready none acknowledged leaves =
+    pub grown-kept : (tail next_tail : Option Tail) → (IsSome tail → b.cause ≢ Some Journal) → KeepsJournal on dp b made disk tail → is_some next_tail ≡ is_some tail → MayAddTo on next next_tail
+        → (tail ≡ None → next ≡ disk) → (IsSome tail → Acknowledges on disk next r) → (IsSome tail → LeavesAtMost on disk next r) → KeepsJournal on dp later made next next_tail
+    grown-kept None None differ k same ready none acknowledged leaves = (grows.going k.0, none refl ∙ k.1)
+    grown-kept None (Some next_tail) differ k same ready none acknowledged leaves = absurd (cc)
+    grown-kept (Some tail) None differ k same ready none acknowledged leaves = absurd (cc)
+    grown-kept (Some tail) (Some next_tail) differ k same ready none acknowledged leaves =
         let goes = going b made disk tail (differ refl) k in
         record {
           faults = omega (arith, k.faults, faults);
@@ -206,7 +239,7 @@ module _ {D : Type 0} (on : Ghosts D) (dp : Dp) (laws : IsLawful dp) where
           same_names = keeps.same_names ∙ k.same_names;
           start = λ s is. start s (k.start s is);
           state = inl (record {
-            cause = goes-on dp b step alone goes.cause;
+            cause = grows.going goes.cause;
             is_attached = ready.is_attached;
             current = λ tells_next. let tells = subst IsTrue keeps.still_tells tells_next in now-current tail next_tail (goes.current tells) tells tells_next ready (acknowledged refl) (leaves refl);
           });
@@ -243,6 +276,7 @@ module _ {D : Type 0} (on : Ghosts D) (dp : Dp) (laws : IsLawful dp) where
       is_attached = may.0;
       current = λ tells. let j = may.1 tells in record {
         head = j.head;
+        within = j.within;
         old = j.records;
         new = [];
         from = j.reads;
@@ -279,12 +313,21 @@ module _ {D : Type 0} (on : Ghosts D) (meaning : List ℤ → Dp) (old new : Boa
       → (tail ≡ None → next ≡ disk) → (IsSome tail → Acknowledges on disk next r) → (IsSome tail → LeavesAtMost on disk next r) → IsKept on (meaning new.numbers) new.board made next next_tail
   step-kept step r made disk next tail next_tail may alone recorded is k differ same keeps faults start ready none acknowledged leaves =
       seen-kept (after (meaning old.numbers) old.board step) made next next_tail is k.lawful
-      (steps-kept on (meaning old.numbers) k.lawful old.board step r made disk next may recorded keeps faults start tail next_tail alone differ k.journal same ready none acknowledged leaves)
+      (grown-kept on (meaning old.numbers) k.lawful old.board (after (meaning old.numbers) old.board step) r (step-grows (meaning old.numbers) k.lawful old.board step r may alone recorded) made disk next keeps faults start
+      tail next_tail differ k.journal same ready none acknowledged leaves)
 
-  pub fail-kept : ((t : ℕ) (c : List ℕ) → (disk : D) → t ≤ on.moment disk → on.may_leave disk c → on.left_since disk t c) → (step : Step) (r : RecordView) (made disk next : D) (tail next_tail : Option Tail) → May (meaning old.numbers) old.board step
-      → record_of_step (meaning old.numbers) old.board step ≡ Some r → new.board ≡ halted old.board Journal
+  pub snap-kept : (made disk next : D) (tail next_tail : Option Tail) → new.board ≡ old.board
+      → IsKept on (meaning old.numbers) old.board made disk tail → (IsSome tail → old.board.cause ≢ Some Journal) → is_some next_tail ≡ is_some tail → Keeps on.attached on.tells on.names on.found disk next → on.faults disk ≤ on.faults next → ((s : FirstSync) → on.start disk ≡ Some s → on.start next ≡ Some s) → MayAddTo on next next_tail
+      → (tail ≡ None → next ≡ disk) → (IsSome tail → Acknowledges on disk next (snapshot_record old.board)) → (IsSome tail → LeavesAtMost on disk next (snapshot_record old.board)) → IsKept on (meaning new.numbers) new.board made next next_tail
+  snap-kept made disk next tail next_tail is k differ same keeps faults start ready none acknowledged leaves =
+      seen-kept old.board made next next_tail is k.lawful
+      (grown-kept on (meaning old.numbers) k.lawful old.board old.board (snapshot_record old.board) (snapshot-grows (meaning old.numbers) old.board) made disk next keeps faults start
+      tail next_tail differ k.journal same ready none acknowledged leaves)
+
+  pub fail-kept : ((t : ℕ) (c : List ℕ) → (disk : D) → t ≤ on.moment disk → on.may_leave disk c → on.left_since disk t c) → (later : BoardState) (r : RecordView) → (IsLawful (meaning old.numbers) → GrowsBy (meaning old.numbers) old.board later r) → (made disk next : D) (tail next_tail : Option Tail)
+      → new.board ≡ halted old.board Journal
       → IsKept on (meaning old.numbers) old.board made disk tail → (IsSome tail → old.board.cause ≢ Some Journal) → next_tail ≡ tail → IsSome tail → Rose (on.faults disk) (on.faults next) → Keeps on.attached on.tells on.names on.found disk next → on.faults disk ≤ on.faults next → ((s : FirstSync) → on.start disk ≡ Some s → on.start next ≡ Some s)
       → (IsSome tail → LeavesAtMost on disk next r) → IsKept on (meaning new.numbers) new.board made next next_tail
-  fail-kept counts_now step r made disk next tail next_tail may recorded is k differ same some rose keeps faults start leaves =
+  fail-kept counts_now later r grows made disk next tail next_tail is k differ same some rose keeps faults start leaves =
       seen-kept (halted old.board Journal) made next next_tail is k.lawful
-      (fails-kept on (meaning old.numbers) k.lawful old.board step r made disk next may recorded keeps faults start tail next_tail (λ t c. counts_now t c next) differ k.journal same some rose leaves)
+      (fails-kept on (meaning old.numbers) k.lawful old.board later r (grows k.lawful) made disk next keeps faults start tail next_tail (λ t c. counts_now t c next) differ k.journal same some rose leaves)

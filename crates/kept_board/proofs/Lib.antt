@@ -1,6 +1,6 @@
 mod Spelled
 mod Stepped
-mod Growing
+pub mod Growing
 mod Keeping
 mod Moving
 mod Recorded

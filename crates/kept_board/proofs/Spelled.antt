@@ -1,24 +1,36 @@
 -- The record of a Finish can be written.
-use Rattle.std.proofs.Common.{◌≡◌, ℕ, ◌+◌, ◌-◌, ◌*◌, ◌^◌, ◌<◌, ◌≤◌, List, [], ◌∷◌, length, sum_by, Option, Some, None, option_map, sym, ◌∙◌, ap, subst, arith}
+use Rattle.std.proofs.Common.{◌≡◌, ℕ, ◌+◌, ◌-◌, ◌*◌, ◌^◌, ◌<◌, ◌≤◌, true, List, [], ◌∷◌, length, map, sum_by, Option, Some, None, IsSome, IsTrue, option_map, refl, sym, ◌∙◌, ap, subst, arith}
+use Rattle.std.proofs.lemmas.Bool.{leb-true, eqb-true, and_parts}
 use Rattle.std.proofs.lemmas.List.Elements.{All-nil, All-cons}
 use Rattle.std.proofs.lemmas.List.Sums.{sum_by-cons}
-use Rattle.std.specs.Prelude.{All, OnOk, Result, Ok, Err}
+use Rattle.std.proofs.lemmas.List.Sorted.{length_permutation}
+use Rattle.std.specs.Prelude.{All, IfSome, OnOk, Result, Ok, Err, nat_eq, nat_le}
 use Rattle.dp_laws.specs.Children.{children_size}
 use Rattle.dp_model.specs.Dp.{Dp}
-use Rattle.dp_model.specs.Subproblem.{Subproblem}
-use Rattle.dp_model.proofs.Members.{Has, each-has, Has-append-right}
+use Rattle.dp_model.specs.Laws.{IsLawful}
+use Rattle.dp_model.specs.Lists.{Each}
+use Rattle.dp_model.specs.Solution.{Solution}
+use Rattle.dp_model.specs.Subproblem.{Subproblem, IsOwn}
+use Rattle.dp_model.proofs.Members.{Has, each-has, Each-then, Has-append-right}
 use Rattle.fringe.specs.Tickets.{Ticketed}
 use Rattle.board_laws.specs.declared.fate.Fate.{Fate}
 use Rattle.board_laws.specs.declared.fate.Fate.TheVariants.{Below, Kept, Dominated, Replaced, Entered}
 use Rattle.board_laws.specs.Board.{BoardState, reach, full_slots, slot_at, frontier}
 use Rattle.board_laws.specs.Fates.{fates_on}
-use Rattle.board_laws.specs.GoodBoard.{IsBoard}
+use Rattle.board_laws.specs.GoodBoard.{IncumbentHolds, IsBoard}
 use Rattle.board_laws.proofs.Fates.{FatesHold, fates-hold, found-one}
 use Rattle.board_laws.proofs.Slots.{slot-full, emptied}
 use Rattle.board_laws.proofs.With.{length-with}
+use Rattle.board.specs.Frontier.{frontier_of}
+use Rattle.journal_replay.proofs.Snapshots.{moved-in_order, each-in_order}
 use Rattle.journal_bytes.specs.Bodies.{ChildView, RecordView, Finish}
-use Rattle.journal_bytes.specs.Spelling.{child_size, IsTicket, HasSpelling}
-use Rattle.journal_replay.specs.Following.{child_recorded, recorded_beside, recorded_children, finish_record}
+use Rattle.journal_bytes.specs.Spelling.{child_size, listed_size, best_size, IsTicket, HasSpelling}
+use Rattle.journal_bytes.specs.declared.head.TheConstants.{VERSION}
+use Rattle.journal_bytes.specs.declared.tail.Tail.{Tail}
+use Rattle.journal_replay.specs.Following.{child_recorded, recorded_beside, recorded_children, incumbent_recorded, listed_recorded, snapshot_record, finish_record}
+use Rattle.kept_board.specs.Due.{has_grown, is_due}
+use Rattle.kept_board.specs.View.{KeptView}
+use Rattle.kept_board.specs.declared.limits.TheConstants.{MOST_LISTED}
 
 -- a slot is full
 pub full-one : (b : BoardState) (who : ℕ) (o : Ticketed) → slot_at b who ≡ Some o → 1 ≤ length (full_slots b.slots)
@@ -89,3 +101,49 @@ record-is dp b who o cs fs ticket r full is fates recorded =
 pub on_ok : {T E : Type 0} (result : Result T E) (P Q : Type 0) → OnOk result P → (P → Q) → OnOk result Q
 on_ok (Ok x) P Q p then = then p
 on_ok (Err e) P Q p then = tt
+
+-- ---- the record of a snapshot
+
+-- what is listed takes no more than for so many of the most decisions that a prefix can have
+listed-small : (os : List Ticketed) → Each (λ o. length o.subproblem.decisions ≤ 1023) os → sum_by listed_size (map listed_recorded os) ≤ 4112 * length os
+listed-small [] few = omega arith
+listed-small (o ∷ os) few =
+    let one = sum_by-cons listed_size (listed_recorded o) (map listed_recorded os) in
+    let rest = listed-small os few.1 in
+    let first : length o.subproblem.decisions ≤ 1023 = few.0 in
+    omega (arith, one, rest, first)
+
+best-small : (dp : Dp) → IsLawful dp → (best : Option Solution) → IncumbentHolds dp best → best_size (option_map incumbent_recorded best) ≤ 4109
+best-small dp laws None holds = omega arith
+best-small dp laws (Some best) holds =
+    let whole : length best.decisions ≡ dp.vars = holds.solution.whole in
+    let few = laws.sizes.vars in
+    omega (arith, whole, few)
+
+pub snapshot-spelled : (dp : Dp) → IsLawful dp → (b : BoardState) → IsBoard dp b → length (frontier b) ≤ MOST_LISTED → HasSpelling (snapshot_record b)
+snapshot-spelled dp laws b board few =
+    let long : length (frontier_of b) ≡ length (frontier b) = length_permutation (frontier b) (frontier_of b) (moved-in_order (frontier b)) in
+    let vars = laws.sizes.vars in
+    let short : Each (λ o. length o.subproblem.decisions ≤ 1023) (frontier b) =
+    Each-then (λ (o : Ticketed). IsOwn dp o.subproblem) (λ o. length o.subproblem.decisions ≤ 1023) (frontier b) (λ o own. let s : length o.subproblem.decisions < dp.vars = own.shorter in omega (arith, s, vars)) board.own in
+    let listed = listed-small (frontier_of b) (each-in_order (λ (o : Ticketed). length o.subproblem.decisions ≤ 1023) (frontier b) short) in
+    let best = best-small dp laws b.incumbent board.incumbent in
+    record { size = omega (arith, listed, best, long, few); tickets = tt }
+
+-- ---- when it is due
+
+-- there is a journal of the newest version, and not too much is open or out
+pub record HasDue {D : Type 0} (k : KeptView D) : Type 0 where
+  pub has : IsSome k.tail
+  pub version : IfSome k.tail (λ t. t.version ≡ VERSION)
+  pub few : length (frontier k.board.board) ≤ MOST_LISTED
+
+grown-has : (every : ℕ) (tail : Option Tail) → has_grown every tail ≡ true → IsSome tail × IfSome tail (λ t. t.version ≡ VERSION)
+grown-has every None grown = absurd (cc)
+grown-has every (Some tail) grown = (refl, eqb-true tail.version VERSION (and_parts (nat_eq tail.version VERSION) (nat_le every tail.since) grown).0)
+
+pub due-has : {D : Type 0} (k : KeptView D) → IsTrue (is_due k) → HasDue k
+due-has k due =
+    let parts = and_parts (has_grown k.every k.tail) (nat_le (length (frontier k.board.board)) MOST_LISTED) due in
+    let grown = grown-has k.every k.tail parts.0 in
+    record { has = grown.0; version = grown.1; few = leb-true (length (frontier k.board.board)) MOST_LISTED parts.1 }

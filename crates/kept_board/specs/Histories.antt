@@ -9,7 +9,7 @@ use Rattle.board_laws.specs.Board.{BoardState}
 use Rattle.board_laws.specs.Runs.{Step, after, IsRun}
 use Rattle.journal_bytes.specs.Bodies.{RecordView}
 use Rattle.journal_bytes.specs.Journal.{HeadView, HasRecords}
-use Rattle.journal_replay.specs.Following.{record_of_step}
+use Rattle.journal_replay.specs.Following.{record_of_step, snapshot_record}
 use Rattle.kept_board.specs.Kept.{LeftFronts}
 use Rattle.kept_board.specs.Moves.{IsMove}
 use Rattle.kept_board.specs.View.{KeptView}
@@ -19,10 +19,22 @@ abbrev pub record_beside : Option RecordView → List RecordView → List Record
 record_beside None others = others
 record_beside (Some r) others = r ∷ others
 
--- the records of the steps of a run, in order
-abbrev pub records_of : Dp → BoardState → List Step → List RecordView
+-- what a journal is told of a run: a step, or a snapshot between two of them
+pub data Event : Type 0 where
+  Made : (step : Step) → Event
+  Snapped : Event
+
+-- the steps among them
+abbrev pub steps_of : List Event → List Step
+steps_of [] = []
+steps_of (Made step ∷ events) = step ∷ steps_of events
+steps_of (Snapped ∷ events) = steps_of events
+
+-- their records, in order: those of the steps, and snapshots of the board as it is then
+abbrev pub records_of : Dp → BoardState → List Event → List RecordView
 records_of dp b [] = []
-records_of dp b (step ∷ steps) = record_beside (record_of_step dp b step) (records_of dp (after dp b step) steps)
+records_of dp b (Made step ∷ events) = record_beside (record_of_step dp b step) (records_of dp (after dp b step) events)
+records_of dp b (Snapped ∷ events) = snapshot_record b ∷ records_of dp b events
 
 module _ {D : Type 0} (on : Ghosts D) where
   -- the file has these records, all on the disk, and the search is not halted for the journal
@@ -33,18 +45,18 @@ module _ {D : Type 0} (on : Ghosts D) where
     pub reads : HasRecords head old (on.seen k.disk)
     pub durable : Only (on.seen k.disk) (on.may_leave k.disk)
 
-  -- The moves are a run. At each moment of it a crash has left the old records and a front of those of the run, with one more at
-  -- most, at which the disk has failed; since an earlier moment it has left that, or what it might have left before; and at the end
-  -- it leaves all of those of the run.
+  -- The moves are a run, with snapshots between its steps. At each moment of it a crash has left the old records and a front of those
+  -- of the run, with one more at most, at which the disk has failed; since an earlier moment it has left that, or what it might have
+  -- left before; and at the end it leaves all of those of the run.
   pub record HasLeft (dp : Dp) (head : HeadView) (old : List RecordView) (first last : KeptView D) : Type 0 where
-    pub steps : List Step
-    pub run : IsRun dp first.board.board steps last.board.board
+    pub events : List Event
+    pub run : IsRun dp first.board.board (steps_of events) last.board.board
     pub more : List RecordView
     pub at_most_one : length more ≤ 1
     pub none_more : last.board.board.cause ≢ Some Journal → more ≡ []
-    pub since : LeftFronts on first.disk last.disk head old (records_of dp first.board.board steps ++ more)
+    pub since : LeftFronts on first.disk last.disk head old (records_of dp first.board.board events ++ more)
     pub left : (c : List ℕ) → on.may_leave last.disk c →
-        HasRecords head (old ++ records_of dp first.board.board steps) c ⊎ HasRecords head (old ++ (records_of dp first.board.board steps ++ more)) c
+        HasRecords head (old ++ records_of dp first.board.board events) c ⊎ HasRecords head (old ++ (records_of dp first.board.board events ++ more)) c
 
   -- what the disk may leave now is what it may have left since now, and at each moment since before
   pub record IsTimed : Type 0 where

@@ -20,12 +20,13 @@ pub record HasFront (head : HeadView) (old new : List RecordView) (file : List �
   pub parts : new ≡ front ++ others
   pub reads : HasRecords head (old ++ front) file
 
--- the journal is that of the board, and a record may be added
+-- the journal is that of the board and of its distance, and a record may be added
 pub record IsJournalOf (dp : Dp) (b : BoardState) (file : List ℕ) (may_leave : List ℕ → Type 0) (tail : Tail) : Type 0 where
   pub is_open : IsOpen file may_leave tail
   pub head : HeadView
   pub records : List RecordView
   pub reads : HasRecords head records file
+  pub within : b.settings.within ≡ head.within
   pub made : IsMadeOf dp records b
 
 module _ {D : Type 0} (on : Ghosts D) where
@@ -42,6 +43,7 @@ module _ {D : Type 0} (on : Ghosts D) where
   -- The journal keeps up with the board: it has the records from the making and new ones, all on the disk.
   pub record IsCurrent (dp : Dp) (b : BoardState) (made disk : D) (tail : Tail) : Type 0 where
     pub head : HeadView
+    pub within : b.settings.within ≡ head.within
     pub old : List RecordView
     pub new : List RecordView
     pub from : HasRecords head old (on.seen made)
@@ -54,6 +56,7 @@ module _ {D : Type 0} (on : Ghosts D) where
   -- last one, or them alone.
   pub record IsBroken (dp : Dp) (b : BoardState) (made disk : D) : Type 0 where
     pub head : HeadView
+    pub within : b.settings.within ≡ head.within
     pub old : List RecordView
     pub new : List RecordView
     pub last : RecordView

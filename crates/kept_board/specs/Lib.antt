@@ -1,5 +1,6 @@
 -- what a board kept in a journal shows, and what its records are to it
 pub mod View
+pub mod Due
 pub mod Records
 -- what is on its disk
 pub mod Kept

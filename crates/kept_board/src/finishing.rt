@@ -1,6 +1,6 @@
 //! What comes before a Finish changes the board: memory, the fates of the children, and the record.
 
-ghost use Rattle.std.specs.Prelude.{◌≡◌, ℕ, ◌≤◌, ◌<◌, ◌^◌, ℤ, Option, None, Some, IsSome, is_some, OnOk, OnErr, IsErrOf, length};
+ghost use Rattle.std.specs.Prelude.{◌≡◌, ℕ, ◌≤◌, ◌<◌, ◌^◌, ℤ, Option, None, Some, IsSome, is_some, option_map, OnOk, OnErr, IsErrOf, length};
 ghost use Rattle.board_laws.specs.Fates.{fates_on};
 ghost use Rattle.board_laws.specs.Finishing.{MayFinish};
 ghost use Rattle.disk.specs.Counts.{Rose};
@@ -11,6 +11,7 @@ ghost use Rattle.journal_replay.specs.Following.{finish_record};
 ghost use Rattle.board.specs.Contents.{contents};
 ghost use Rattle.board.specs.View.{tag_of};
 ghost use Rattle.kept_board.specs.Adding.{MayAddTo, LeavesAtMost, Acknowledges};
+ghost use Rattle.kept_board.specs.View.{since_of, one_more};
 
 use crate::error::KeptError;
 use crate::recording::record_finish;
@@ -62,6 +63,7 @@ pub fn write_finish<M: DpModel, D: Disk>(
     ensures any_moment { IsSome tail.old → (r : RecordView) → finish_record (M.meaning board.old.numbers) board.old.board who (contents subs.now) ≡ Some r → LeavesAtMost D.Disk disk.old disk.new r }
     ensures none { tail.old ≡ None → disk.new ≡ disk.old }
     ensures tail { is_some tail.new ≡ is_some tail.old }
+    ensures since { OnOk result (since_of tail.new ≡ option_map one_more (since_of tail.old)) }
     ensures tail_err { OnErr result (tail.new ≡ tail.old) }
     ensures journal { IsErrOf result KeptError.Journal → IsSome tail.old × Rose (D.faults disk.old) (D.faults disk.new) }
     ensures memory { IsErrOf result KeptError.OutOfMemory → disk.new ≡ disk.old }

@@ -1,4 +1,4 @@
-ghost use Rattle.std.specs.Prelude.{◌≡◌, ◌≢◌, ℕ, ◌^◌, ◌<◌, ◌≤◌, [], length, slice_get, Some, None, option_map, IsSome, IfOk, OnOk, OnErr, IsErrOf, Ok};
+ghost use Rattle.std.specs.Prelude.{◌≡◌, ◌≢◌, ℕ, ◌^◌, ◌<◌, ◌≤◌, [], length, slice_get, Some, None, option_map, IsSome, IsTrue, IfOk, OnOk, OnErr, IsErrOf, Ok};
 ghost use Rattle.disk.specs.Counts.{Rose};
 ghost use Rattle.board_laws.specs.Board.{full_slots, slot_at};
 ghost use Rattle.board_laws.specs.Fates.{fates_on};
@@ -10,20 +10,22 @@ ghost use Rattle.board_laws.specs.declared.cause.Cause.TheVariants.{Journal, Mem
 ghost use Rattle.dp_laws.specs.Children.{children_size};
 ghost use Rattle.dp_model.specs.Prefixes.{value_of};
 ghost use Rattle.journal_bytes.specs.Bodies.{RecordView, Improve};
-ghost use Rattle.journal_replay.specs.Following.{finish_record};
+ghost use Rattle.journal_replay.specs.Following.{finish_record, snapshot_record};
 ghost use Rattle.board.specs.Contents.{contents};
 ghost use Rattle.kept_board.specs.Adding.{LeavesAtMost, Acknowledges};
+ghost use Rattle.kept_board.specs.Due.{is_due};
 ghost use Rattle.kept_board.specs.Kept.{MayKeep, IsKept};
 ghost use Rattle.kept_board.specs.Moves.{IsMove};
-ghost use Rattle.kept_board.specs.View.{tag_of};
+ghost use Rattle.kept_board.specs.View.{tag_of, since_of, one_more};
 
 use crate::error::KeptError;
 use crate::finishing::write_finish;
-use crate::recording::record_improve;
+use crate::limits::MOST_LISTED;
+use crate::recording::{record_improve, record_snapshot};
 use board::{Board, Cause, Fate, Improved, Taken};
 use disk::Disk;
 use dp_model::{DpModel, Sub};
-use journal_file::Tail;
+use journal_bytes::{Tail, VERSION};
 use std::alloc::Global;
 use std::marker::Model;
 use std::snapshot::Snapshot;
@@ -34,6 +36,7 @@ pub struct Kept<M: DpModel, D: Disk> {
     disk: D,
     tail: Option<Tail>,
     made: Snapshot<D>,
+    every: u32,
 }
 
 impl<M: DpModel, D: Disk> Model for Kept<M, D> {
@@ -42,7 +45,7 @@ impl<M: DpModel, D: Disk> Model for Kept<M, D> {
 
     ghost Value = { KeptView D };
 
-    ghost view = { λ k. record { board = k.board; disk = k.disk; tail = k.tail; made = k.made.value } };
+    ghost view = { λ k. record { board = k.board; disk = k.disk; tail = k.tail; made = k.made.value; every = k.every } };
 
     ghost invariant = { λ k. IsKept D.Disk (M.meaning k.board.numbers) k.board.board k.made.value k.disk k.tail };
 }
@@ -51,15 +54,19 @@ impl<M: DpModel, D: Disk> Kept<M, D> {
     /// A board that is kept in the journal at the tail, or in none. It takes no memory.
     ///
     /// The board holds no cause, and no slot is full. Where there is a tail, `begin` or `reopen` gave it for this disk, to which
-    /// nothing was written since; and the board is the one at the start of a search for the head that `begin` wrote, or the one
-    /// that `replay` made of the records that `reopen` read.
-    pub fn new(board: Board<M>, disk: D, tail: Option<Tail>) -> Kept<M, D>
+    /// nothing was written since; the board has the distance of its head; and it is the one at the start of a search for the head
+    /// that `begin` wrote, or the one that `replay` made of the records that `reopen` read.
+    ///
+    /// A snapshot is due after `every` finished subproblems, which is at least 1.
+    pub fn new(board: Board<M>, disk: D, tail: Option<Tail>, every: u32) -> Kept<M, D>
         requires idle { (board.board.cause ≡ None) × (full_slots board.board.slots ≡ []) }
         requires made { MayKeep D.Disk (M.meaning board.numbers) board.board disk tail }
+        requires every { 1 ≤ every }
         ensures board { result.board ≡ board }
         ensures disk { result.disk ≡ disk }
         ensures tail { result.tail ≡ tail }
         ensures made { result.made ≡ disk }
+        ensures every { result.every ≡ every }
     {
         board.facts();
         let made = Snapshot::of(&disk);
@@ -68,6 +75,7 @@ impl<M: DpModel, D: Disk> Kept<M, D> {
             disk,
             tail,
             made,
+            every,
         }
     }
 
@@ -90,6 +98,7 @@ impl<M: DpModel, D: Disk> Kept<M, D> {
             disk,
             tail: _,
             made: _,
+            every: _,
         } = self;
         (board, disk)
     }
@@ -145,6 +154,7 @@ impl<M: DpModel, D: Disk> Kept<M, D> {
     /// `OutOfMemory` nothing has changed.
     pub fn improve(&mut self, alloc: Global, decisions: &[u32]) -> Result<Improved, KeptError>
         requires going { IsSome self.old.tail → self.old.board.board.cause ≢ Some Journal }
+        ensures since { OnOk result (since_of self.new.tail ≡ since_of self.old.tail) }
         ensures answer { IfOk result (ImproveGives (M.meaning self.old.board.numbers) self.old.board.board decisions.now) }
         ensures step { IfOk result (λ improved. self.new.board.board ≡ after_offer (M.meaning self.old.board.numbers) improved self.old.board.board decisions.now) }
         ensures journal { IsErrOf result KeptError.Journal → IsSome self.old.tail × (self.new.board.board ≡ halted self.old.board.board Journal) }
@@ -195,6 +205,7 @@ impl<M: DpModel, D: Disk> Kept<M, D> {
         ensures step { OnOk result (self.new.board.board ≡ finished_by (M.meaning self.old.board.numbers) self.old.board.board who (contents subs.old.items)) }
         ensures emptied { OnOk result (subs.new.items ≡ []) }
         ensures fates { OnOk result (fates.new.items ≡ fates_on (M.meaning self.old.board.numbers) self.old.board.board (contents subs.old.items)) }
+        ensures since { OnOk result (since_of self.new.tail ≡ option_map one_more (since_of self.old.tail)) }
         ensures subs_err { OnErr result (subs.new ≡ subs.old) }
         ensures journal { IsErrOf result KeptError.Journal → IsSome self.old.tail × (self.new.board.board ≡ halted self.old.board.board Journal) }
         ensures rose { IsErrOf result KeptError.Journal → Rose (D.faults self.old.disk) (D.faults self.new.disk) }
@@ -220,6 +231,56 @@ impl<M: DpModel, D: Disk> Kept<M, D> {
                 self.board.finish(who, threshold, subs, fates.as_slice());
                 Ok(())
             }
+            Err(KeptError::Journal) => {
+                self.board.halt(Cause::Journal);
+                Err(KeptError::Journal)
+            }
+            Err(KeptError::OutOfMemory) => Err(KeptError::OutOfMemory),
+        }
+    }
+
+    /// Whether a snapshot is due: there is a journal of version 2, as many subproblems as `new` says were finished since its last
+    /// snapshot, or since its head where there is none, and at most 1,000,000 subproblems are open or out.
+    pub fn snapshot_due(&self) -> bool
+        ensures { result ≡ is_due self.now }
+    {
+        match &self.tail {
+            Some(tail) => {
+                tail.version == VERSION
+                    && tail.since >= u64::from(self.every)
+                    && self.board.live() <= MOST_LISTED
+            }
+            None => false,
+        }
+    }
+
+    /// Adds a snapshot to the journal: the incumbent, the next ticket, and all subproblems that are open or out, in order of ticket.
+    /// Whoever reads the journal from then on begins there. One is due, and the cause is not `Journal`. The board stays as it is.
+    ///
+    /// # Errors
+    ///
+    /// `Journal` only where a call of the disk failed in this call; the board is as it was but for the cause `Journal`. After
+    /// `OutOfMemory` nothing has changed.
+    pub fn snapshot(&mut self, alloc: Global) -> Result<(), KeptError>
+        requires due { IsTrue (is_due self.old) }
+        requires going { self.old.board.board.cause ≢ Some Journal }
+        ensures board { OnOk result (self.new.board ≡ self.old.board) }
+        ensures since { OnOk result (since_of self.new.tail ≡ Some 0) }
+        ensures journal { IsErrOf result KeptError.Journal → self.new.board.board ≡ halted self.old.board.board Journal }
+        ensures rose { IsErrOf result KeptError.Journal → Rose (D.faults self.old.disk) (D.faults self.new.disk) }
+        ensures memory { IsErrOf result KeptError.OutOfMemory → self.new ≡ self.old }
+        ensures tag { tag_of self.new ≡ tag_of self.old }
+        ensures moves { (who : ℕ) → IsMove D.Disk M.meaning self.old self.new who }
+
+        // At Ok the snapshot is on the disk, and a crash at any moment of the call leaves the records from before it, or these and
+        // the snapshot.
+        ensures acknowledged { OnOk result (Acknowledges D.Disk self.old.disk self.new.disk (snapshot_record self.old.board.board)) }
+        ensures any_moment { LeavesAtMost D.Disk self.old.disk self.new.disk (snapshot_record self.old.board.board) }
+    {
+        // What every board keeps of what is open or out.
+        self.board.facts();
+        match record_snapshot(alloc, &self.board, &mut self.disk, &mut self.tail) {
+            Ok(()) => Ok(()),
             Err(KeptError::Journal) => {
                 self.board.halt(Cause::Journal);
                 Err(KeptError::Journal)

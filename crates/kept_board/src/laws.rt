@@ -1,6 +1,8 @@
-//! What a history of moves leaves on the disk.
+//! What a history of moves leaves on the disk, and what a reader makes of that.
 
+ghost use Rattle.dp_model.specs.Dp.{Dp};
 ghost use Rattle.kept_board.specs.Histories.{HistoriesLeave};
+ghost use Rattle.kept_board.specs.Records.{FrontsAreAdded};
 
 use disk::Disk;
 use dp_model::DpModel;
@@ -10,4 +12,10 @@ use dp_model::DpModel;
 /// crash leaves all of those of the run.
 pub fn histories_leave<M: DpModel, D: Disk>()
     ensures { HistoriesLeave D.Disk M.meaning }
+{}
+
+/// Old records with a front of those that a search has added behind them are accepted, and sound where the old ones are; and what they
+/// make of a search has an incumbent that is no worse than that of the old ones.
+pub fn fronts_are_added()
+    ensures { (dp : Dp) → FrontsAreAdded dp }
 {}

@@ -3,12 +3,16 @@
 //!
 //! `Kept` holds a board of `board` beside a disk, and offers the steps of the board. Its record is added by `journal_file`,
 //! whose crash clauses it hands on: a crash at any moment leaves a file with the records from before, or these and the new one.
-//! What `journal_replay` makes of the records is the board all along, so whoever reads such a file has what was acknowledged.
+//! What `journal_replay` makes of the records is the board all along, so whoever reads such a file has what was acknowledged. After so many
+//! finished subproblems a snapshot of the board is due: with it a reader begins there, and not at the start of the search.
 //! Behind a turn of `turn` a move is one step with its record; without a journal it is a board like any other.
 //!
 //! ```
-//! let mut kept = Kept::new(board, disk, Some(tail));
+//! let mut kept = Kept::new(board, disk, Some(tail), 1024);
 //! kept.improve(alloc, &decisions)?;
+//! if kept.snapshot_due() {
+//!     kept.snapshot(alloc)?;
+//! }
 //! let (board, disk) = kept.into_parts();
 //! ```
 #![tactic(auto)]
@@ -18,11 +22,14 @@ mod error;
 mod finishing;
 mod kept;
 mod laws;
+mod limits;
 mod recording;
+mod snapshots;
 mod tag;
 mod turned;
 
 pub use error::KeptError;
 pub use kept::Kept;
-pub use laws::histories_leave;
+pub use laws::{fronts_are_added, histories_leave};
+pub use limits::MOST_LISTED;
 pub use tag::KeptTag;

@@ -1,9 +1,7 @@
 pub mod Passes
 pub mod Crossings
-pub mod LimitsAt
 pub mod Places
 pub mod Rereading
 pub mod TextLengths
-pub mod Settling
-pub mod StateFacts
 pub mod DrawnWeights
+pub mod Handing

@@ -54,10 +54,3 @@ weight_at g j l = slice_index_or g.weights (row_start g.vertices j + (l - (j + 1
 abbrev pub negatives_of : List ℤ → ℤ
 negatives_of [] = pos 0
 negatives_of (w ∷ ws) = int_min w (pos 0) +ℤ negatives_of ws
-
--- what is made once of a graph: for each k the sum of the sizes of the weights from k on, and the sum of the negative weights
-pub record IsPreparedGraph (g : Graph) (sizes : List ℤ) (negatives : ℤ) : Type 0 where
-  pub graph : IsGraph g
-  pub long : length sizes ≡ g.vertices + 1
-  pub sizes_are : (k : ℕ) → k ≤ g.vertices → slice_index_or sizes k (pos 0) ≡ rank_of (weights_from g k)
-  pub negatives_are : negatives ≡ negatives_of g.weights

@@ -1,6 +1,4 @@
 -- What an `impl` cites and no clause.
 pub mod Graph
-pub mod Pulls
-pub mod States
-pub mod Program
+pub mod Listing
 pub mod Cuts

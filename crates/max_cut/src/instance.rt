@@ -1,28 +1,29 @@
-//! An instance, with what is made once of its graph.
+//! An instance, with the rows that its program uses.
 
 ghost use Rattle.std.specs.Prelude.{◌≡◌};
-ghost use Rattle.max_cut.specs.Graph.{IsPreparedGraph};
+ghost use Rattle.pair_rows.specs.Shown as shown;
+ghost use Rattle.max_cut.specs.Graph.{IsGraph};
+ghost use Rattle.max_cut.specs.Program.{rows_in};
 
-use crate::layers::sum_of_negatives;
-use crate::rests::sizes_of_rests;
+use crate::listing::listed;
+use pair_rows::PairRows;
 use std::alloc::{AllocError, Global};
 
 /// An instance of maximum cut: up to 1,024 vertices, and a weight of up to 500,000,000 in size for each
 /// pair of them, 0 where no edge stands.
-#[derive(Debug, Drop)]
+#[derive(Drop)]
 pub struct MaxCut {
     pub(crate) vertices: usize,
     // The weights of the pairs, by the first vertex, then by the second.
     pub(crate) weights: Vec<i64>,
-    // For each vertex the sum of the sizes of the weights of pairs from it on, and a last 0.
-    pub(crate) sizes: Vec<i64>,
-    pub(crate) negatives: i64,
-    ghost prepared: { IsPreparedGraph (record { vertices = vertices; weights = weights.items }) sizes.items negatives },
+    // What the calls of the program use.
+    pub(crate) rows: PairRows,
+    ghost graph: { IsGraph (record { vertices = vertices; weights = weights.items }) },
+    ghost listed: { shown.instance_in rows ≡ rows_in (record { vertices = vertices; weights = weights.items }) },
 }
 
 impl MaxCut {
-    ghost use Rattle.std.specs.Prelude.{◌≡◌, IfOk};
-    ghost use Rattle.max_cut.specs.Graph.{IsGraph};
+    ghost use Rattle.std.specs.Prelude.{IfOk};
     ghost use Rattle.max_cut.specs.Shown.{instance_in};
 
     /// The instance with these weights of pairs, by the first vertex, then by the second.
@@ -34,13 +35,12 @@ impl MaxCut {
         requires { IsGraph (record { vertices = vertices; weights = weights.items }) }
         ensures { IfOk result (λ m. instance_in m ≡ record { vertices = vertices; weights = weights.items }) }
     {
-        let sizes = sizes_of_rests(alloc, vertices, weights.as_slice())?;
-        let negatives = sum_of_negatives(weights.as_slice());
+        let source = listed(alloc, vertices, weights.as_slice())?;
+        let rows = PairRows::prepared(alloc, &source)?;
         Ok(MaxCut {
             vertices,
             weights,
-            sizes,
-            negatives,
+            rows,
         })
     }
 }

@@ -2,8 +2,8 @@
 //! much as can be. Vertex 0 is on S.
 //!
 //! `MaxCut` is such an instance, as a dynamic program of `dp_model` that meets its laws: layer `k` puts
-//! vertex `k` on a side, and a state has the net benefit of T for each later vertex, a row of
-//! `benefit_rows`. `read` and `print` are its text, by `tokens`, and `value_of` weighs a cut in the
+//! vertex `k` on a side, and a state has the net benefit of T for each later vertex, as `pair_rows` keeps
+//! it. `read` and `print` are its text, by `tokens`, and `value_of` weighs a cut in the
 //! problem's own words.
 //!
 //! Promised, each in the contract of its call: the instance that a text spells, or its first fault with
@@ -21,13 +21,12 @@ mod edges;
 mod generating;
 mod instance;
 mod layers;
-mod limits;
 mod lines;
+mod listing;
 mod model;
 mod printing;
 mod problem;
 mod reading;
-mod rests;
 mod sides;
 mod value;
 

@@ -12,7 +12,7 @@ impl Problem for MaxCut {
 
     ghost same_program = { λ _. refl };
 
-    ghost agrees = { λ m. cut_agrees (record { vertices = m.vertices; weights = m.weights.items }) m.prepared.graph };
+    ghost agrees = { λ m. cut_agrees (record { vertices = m.vertices; weights = m.weights.items }) m.graph };
 
     fn read(alloc: Global, bytes: &[u8]) -> Result<MaxCut, ReadInstanceError> {
         of_text(crate::read(alloc, bytes))

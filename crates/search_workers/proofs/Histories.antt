@@ -14,7 +14,7 @@ use Rattle.board_laws.proofs.Running.{run-then, run-one, offered-is}
 use Rattle.fringe.specs.Firsts.{first_taken}
 use Rattle.fringe.specs.Tickets.{Ticketed}
 use Rattle.disk.specs.declared.disk.Disk.{Ghosts}
-use Rattle.kept_board.specs.Moves.{Stays, Steps, Fails, IsMove}
+use Rattle.kept_board.specs.Moves.{Stays, Snaps, Steps, Fails, IsMove}
 use Rattle.kept_board.specs.View.{KeptView}
 use Rattle.board.specs.Moves.{IsStepOf}
 use Rattle.search_workers.specs.Later.{IsLater}
@@ -70,7 +70,8 @@ module _ {D : Type 0} (on : Ghosts D) (meaning : List ℤ → Dp) where
       let dp = meaning before.board.numbers in
       let b = before.board.board in
       ⊎_elim (λ (s : Stays on before now). no-run dp b now.board.board s.board)
-      (λ rest. ⊎_elim (λ (s : Steps on dp who before now). one-run dp who b now.board.board s.made) (λ (f : Fails on dp who before now). halt-run dp b now.board.board f.halts) rest) m.step
+      (λ others. ⊎_elim (λ (s : Snaps on before now). no-run dp b now.board.board s.board)
+      (λ rest. ⊎_elim (λ (s : Steps on dp who before now). one-run dp who b now.board.board s.made) (λ (f : Fails on dp who before now). halt-run dp b now.board.board f.halts) rest) others) m.step
 
   moved-runs : (first : KeptView D) (line : List (ℕ × KeptView D)) (last : KeptView D) → Moved (IsMove on meaning) first line last → HasRun (meaning first.board.numbers) first.board.board last.board.board
   moved-runs first [] last h = no-run (meaning first.board.numbers) first.board.board last.board.board (ap (λ (v : KeptView D). v.board.board) (sym h))

@@ -1,6 +1,6 @@
 -- Why workers stop, and where they find the search at its end.
-use Rattle.std.proofs.Common.{◌≡◌, inl, ℕ, ℤ, List, [], ◌∷◌, true, false, Option, Some, None, cond, ⊎_elim, refl, sym, ◌∙◌, ap, subst}
-use Rattle.std.specs.Prelude.{Bool, IsSome, Result, Ok, Err, IfErr}
+use Rattle.std.proofs.Common.{◌≡◌, inl, inr, ℕ, ℤ, List, [], ◌∷◌, true, false, Option, Some, None, cond, ⊎_elim, refl, sym, ◌∙◌, ap, subst}
+use Rattle.std.specs.Prelude.{Bool, IsSome, Result, Ok, Err, IfErr, OnOk}
 use Rattle.disk.specs.declared.disk.Disk.{Ghosts}
 use Rattle.disk.specs.Counts.{Rose}
 use Rattle.turn.specs.declared.turn.Seat.{Seat}
@@ -18,6 +18,7 @@ use Rattle.board_laws.specs.declared.taken.Taken.{Taken}
 use Rattle.board_laws.specs.declared.taken.Taken.TheVariants.{Sub, WaitForOthers, Finished, Halted}
 use Rattle.journal_bytes.specs.declared.tail.Tail.{Tail}
 use Rattle.board.specs.Moves.{out_at}
+use Rattle.board.specs.View.{BoardView}
 use Rattle.kept_board.specs.Kept.{IsKept, KeepsJournal}
 use Rattle.kept_board.specs.View.{KeptView, tag_of}
 use Rattle.kept_board.specs.declared.error.KeptError.{KeptError}
@@ -25,7 +26,7 @@ use Rattle.kept_board.specs.declared.error.KeptError.TheVariants.{Journal, OutOf
 use Rattle.kept_board.specs.declared.tag.KeptTag.{KeptTag}
 use Rattle.search_workers.specs.Later.{NoRoundFollows}
 use Rattle.search_workers.specs.Ready.{IfOver}
-use Rattle.search_workers.specs.Stopped.{IsWhy, HasLeft, WasStopped, HasEndedAt}
+use Rattle.search_workers.specs.Stopped.{IsWhy, IsSameOrHalted, HasLeft, HasNothingOpen, HasFoundSame, WasStopped, HasEndedAt}
 use Rattle.search_workers.specs.declared.workers.stopped.Stopped.{Stopped}
 use Rattle.search_workers.specs.declared.workers.stopped.Stopped.TheVariants.{GaveBack, Refused}
 use Rattle.search_workers.proofs.Moves.{MayLeave, no-less-then, still-tagged}
@@ -77,6 +78,27 @@ left-by b now who (Halted cause) is h = subst NoRoundFollows (sym is) h
 pub over-left : (b now : BoardState) (who : ℕ) (answer : Taken) → answer ≡ take_gives b → now ≡ after_take b who → IfOver answer (NoRoundFollows now)
 over-left b now who answer gives step = left-by b now who answer (step ∙ ap (after_answer b who) (sym gives)) (over-ends b answer gives)
 
+-- where Take answers that others are to be waited for, nothing is open and no cause is held
+waits-open : (b : BoardState) (os : List Ticketed) → take_open b os ≡ WaitForOthers → os ≡ []
+waits-open b [] is = refl
+waits-open b (o ∷ os) is = absurd (elim (is_budget_up b) as (λ up. cond up (Halted Budget) Sub ≡ WaitForOthers → ⊥) [ true ↦ λ e. cc | false ↦ λ e. cc ] is)
+
+waits-unless : (b : BoardState) (cause : Option Cause) → take_unless b cause ≡ WaitForOthers → (b.open_ones ≡ []) × (cause ≡ None)
+waits-unless b (Some cause) is = absurd (cc)
+waits-unless b None is = (waits-open b b.open_ones is, refl)
+
+waits-gives : (b : BoardState) → take_gives b ≡ WaitForOthers → (b.open_ones ≡ []) × (b.cause ≡ None)
+waits-gives b is = elim (is_explored b) as (λ e. cond e Finished (take_unless b b.cause) ≡ WaitForOthers → (b.open_ones ≡ []) × (b.cause ≡ None)) [
+  | true ↦ λ none. absurd (cc)
+  | false ↦ λ waits. waits-unless b b.cause waits
+] is
+
+pub waits-left : (b now : BoardState) (who : ℕ) (answer : Taken) → answer ≡ take_gives b → now ≡ after_take b who → answer ≡ WaitForOthers → (now.open_ones ≡ []) × (now.cause ≡ None)
+waits-left b now who answer gives step waits =
+    let here : take_gives b ≡ WaitForOthers = sym gives ∙ waits in
+    let same : now ≡ b = step ∙ ap (after_answer b who) here in
+    subst (λ (x : BoardState). (x.open_ones ≡ []) × (x.cause ≡ None)) (sym same) (waits-gives b here)
+
 given-back-from : (b : BoardState) (who : ℕ) (slot : Option Ticketed) → (given_back_from b who slot).cause ≡ b.cause
 given-back-from b who None = refl
 given-back-from b who (Some o) = refl
@@ -103,6 +125,17 @@ module _ {D : Type 0} (on : Ghosts D) where
       → (error ≡ OutOfMemory → (left.board.board ≡ found.board.board) × (left.disk ≡ found.disk)) → IsWhy on who (Refused error) found left
   why-refused who Journal found left rose step memory = (rose refl, step refl)
   why-refused who OutOfMemory found left rose step memory = memory refl
+
+  -- a snapshot, whatever is answered
+  pub snapped-same : {T : Type 0} (r : Result T KeptError) (found left : KeptView D) → OnOk r (left.board ≡ found.board) → (r ≡ Err Journal → left.board.board ≡ halted found.board.board of_journal)
+      → (r ≡ Err Journal → Rose (on.faults found.disk) (on.faults left.disk)) → (r ≡ Err OutOfMemory → left ≡ found) → IsSameOrHalted on found left
+  snapped-same (Ok x) found left same halts rose memory = inl (ap (λ (b : BoardView). b.board) same)
+  snapped-same (Err Journal) found left same halts rose memory = inr (rose refl, halts refl)
+  snapped-same (Err OutOfMemory) found left same halts rose memory = inl (ap (λ (k : KeptView D). k.board.board) (memory refl))
+
+  -- what is out stays out
+  pub same-out : (found left : KeptView D) → IsSameOrHalted on found left → (who : ℕ) → out_at left.board.board who ≡ out_at found.board.board who
+  same-out found left as_found who = ⊎_elim (λ same. ap (λ (b : BoardState). out_at b who) same) (λ halts. ap (λ (b : BoardState). out_at b who) halts.1) as_found
 
 module _ {D : Type 0} (on : Ghosts D) (meaning : List ℤ → Dp) where
   -- there was no memory between two holdings
@@ -149,6 +182,12 @@ module _ {D : Type 0} (on : Ghosts D) (meaning : List ℤ → Dp) (turn : Turn (
 
   pub ended-here : NoRoundFollows left.board.board → HasEndedAt turn seat
   ended-here ended = record { last = left-here; ended = ended }
+
+  pub nothing-open : (left.board.board.open_ones ≡ []) × (left.board.board.cause ≡ None) → HasNothingOpen turn seat
+  nothing-open none = record { last = left-here; none = none.0; going = none.1 }
+
+  pub found-same : IsSameOrHalted on found left → HasFoundSame on turn seat
+  found-same as_found = record { last = left-here; found = found; same = same; left_same = as_found }
 
   stopped-one : (stopped : Stopped) → NoLess (seen_of before) (incumbent_value found.board.board) → out_at found.board.board seat.number ≡ out_of before → IsWhy on who stopped found left → WasStopped on meaning turn before seat stopped
   stopped-one stopped less out why = record {

@@ -1,5 +1,5 @@
 -- Rounds and workers that cannot go on.
-use Rattle.std.specs.Prelude.{◌≡◌, ◌⊎◌, ℕ, ℤ, List, Option, Some, None}
+use Rattle.std.specs.Prelude.{◌≡◌, ◌⊎◌, ℕ, ℤ, List, [], Option, Some, None}
 use Rattle.disk.specs.Counts.{Rose}
 use Rattle.disk.specs.declared.disk.Disk.{Ghosts}
 use Rattle.turn.specs.declared.turn.Seat.{Seat}
@@ -50,6 +50,12 @@ module _ {D : Type 0} (on : Ghosts D) where
   IsWhy who (Refused Journal) found left = Rose (on.faults found.disk) (on.faults left.disk) × (left.board.board ≡ halted found.board.board of_journal)
   IsWhy who (Refused OutOfMemory) found left = (left.board.board ≡ found.board.board) × (left.disk ≡ found.disk)
 
+module _ {D : Type 0} (on : Ghosts D) where
+  -- the board is as it was found, or a call of the disk failed and halted the search
+  abbrev pub IsSameOrHalted : KeptView D → KeptView D → Type 0
+  IsSameOrHalted found left = (left.board.board ≡ found.board.board)
+      ⊎ (Rose (on.faults found.disk) (on.faults left.disk) × (left.board.board ≡ halted found.board.board of_journal))
+
 -- the value that the seat left last is of its turn's search, and the seat knows the incumbent's value and what it has out itself as they
 -- are there
 pub record HasLeft {D : Type 0} (turn : Turn (KeptView D) (KeptTag D)) (seat : Seat (KeptView D)) : Type 0 where
@@ -63,6 +69,19 @@ pub record HasLeft {D : Type 0} (turn : Turn (KeptView D) (KeptTag D)) (seat : S
 pub record HasEndedAt {D : Type 0} (turn : Turn (KeptView D) (KeptTag D)) (seat : Seat (KeptView D)) : Type 0 where
   pub last : HasLeft turn seat
   pub ended : NoRoundFollows last.left.board.board
+
+-- nothing is open on the board that the seat left last, and no cause is held
+pub record HasNothingOpen {D : Type 0} (turn : Turn (KeptView D) (KeptTag D)) (seat : Seat (KeptView D)) : Type 0 where
+  pub last : HasLeft turn seat
+  pub none : last.left.board.board.open_ones ≡ []
+  pub going : last.left.board.board.cause ≡ None
+
+-- a seat found a value of its turn's search and left its board as it was, or a call of the disk failed and halted the search
+pub record HasFoundSame {D : Type 0} (on : Ghosts D) (turn : Turn (KeptView D) (KeptTag D)) (seat : Seat (KeptView D)) : Type 0 where
+  pub last : HasLeft turn seat
+  pub found : KeptView D
+  pub same : tag_of found ≡ tag_of (first_of turn)
+  pub left_same : IsSameOrHalted on found last.left
 
 module _ {D : Type 0} (on : Ghosts D) (meaning : List ℤ → Dp) where
   -- A worker stopped for this reason. It found a value of its turn's search, with an incumbent no less than what its seat had seen before

@@ -31,5 +31,5 @@ pub use desk::Desk;
 pub use rounds::explore;
 pub use workers::{
     Asked, Gate, NoGate, Step, Stopped, close, explore_together, fan_out, finish_one, give_up,
-    improve_one, open, side_by_side, take_one, work,
+    improve_one, open, side_by_side, snapshot_one, take_one, work,
 };

@@ -5,11 +5,13 @@ use Rattle.std.specs.declared.alloc.AllocError.{AllocError}
 use Rattle.disk.specs.declared.disk.Disk.{Ghosts}
 use Rattle.disk.specs.Counts.{Rose}
 use Rattle.disk.specs.Disk.{FirstSync, AtFirstSync}
+use Rattle.dp_model.specs.Distances.{IsDistance}
 use Rattle.dp_model.specs.Dp.{Dp}
 use Rattle.dp_model.specs.Laws.{IsLawful}
 use Rattle.board_laws.specs.Board.{BoardState}
 use Rattle.board_laws.specs.GoodBoard.{IsGood}
 use Rattle.board_laws.specs.declared.settings.Settings.{Settings}
+use Rattle.journal_bytes.specs.Base.{base_offset, behind_record, from_base}
 use Rattle.journal_bytes.specs.Bodies.{RecordView, RecordsView}
 use Rattle.journal_bytes.specs.Frames.{frames_of}
 use Rattle.journal_bytes.specs.Journal.{HeadView, HasRecords, JournalView, behind_head, head_view, journal_of, journal_view}
@@ -23,7 +25,6 @@ use Rattle.journal_file.specs.declared.error.JournalError.TheVariants as errors
 use Rattle.journal_replay.specs.Accepting.{AreAccepted, AreRefused, IsFirstWrong}
 use Rattle.journal_replay.specs.Replay.{Replayed, after_record, replay_of, replay_start, restored_from}
 use Rattle.journal_replay.specs.Sound.{AreSound}
-use Rattle.journal_bytes.specs.Spelling.{record_size}
 use Rattle.journal_replay.proofs.Joined.{sound-restore-good}
 use Rattle.board.specs.View.{BoardView}
 use Rattle.search_workers.specs.declared.desk.Desk.{Desk}
@@ -36,14 +37,14 @@ use Rattle.solver_report.specs.declared.answer.Outcome.{Outcome}
 use Rattle.solver_report.specs.Report.{is_final}
 use Rattle.solver_words.specs.Possible.{MaySearch}
 use Rattle.answers.specs.Journals.{HasGoneOn, HasKept, HasOpened, IsUnwritten, LeavesResumed}
-use Rattle.answers.specs.Kept.{GoesOn, MayBeAdded, MayFollow, Resumes, ResumesJournal, WasResumed}
+use Rattle.answers.specs.Kept.{GoesOn, going_on, MayBeAdded, MayFollow, Resumes, ResumesJournal, WasResumed}
 use Rattle.answers.specs.Outcomes.{HasSearched}
 use Rattle.answers.specs.Over.{IsOver}
 use Rattle.solver_words.specs.declared.job.JobSettings.{JobSettings}
-use Rattle.answers.proofs.Journaled.{IsFound, at-first, exact-over, ends-resumed, is-found, left-behind, none-behind, same-names, same-start, still-first, still-tells}
+use Rattle.answers.proofs.Journaled.{IsFound, at-first, ends-resumed, is-found, left-behind, none-behind, same-names, same-start, still-first, still-tells}
 use Rattle.solver_cli.specs.Journals.{IsOpened, LeavesOpened, TouchesNothing}
 use Rattle.solver_cli.specs.Searches.{IsKeptOn, KeepsSome, report_of}
-use Rattle.solver_cli.specs.Starts.{AreAsked, GoesOnFrom}
+use Rattle.solver_cli.specs.Starts.{AreAsked, DoesNotGoOn, GoesOnFrom}
 use Rattle.solver_cli.proofs.Starts.{are-settings}
 use Rattle.solver_cli.proofs.Told.{Told}
 use Rattle.solver_cli.proofs.Searched.{in-words}
@@ -54,11 +55,11 @@ use Rattle.solver_cli.proofs.Searched.{in-words}
 not-disk : (dp : Dp) (s : Replayed) (at : ℕ) (records : List RecordView) → IsFirstWrong dp s at records errors.Disk → ⊥
 not-disk dp s at [] h = h
 not-disk dp s at (r ∷ rs) (inl h) = h
-not-disk dp s at (r ∷ rs) (inr h) = not-disk dp (after_record dp s r) (at + (38 + record_size r)) rs h.1
+not-disk dp s at (r ∷ rs) (inr h) = not-disk dp (after_record dp s r) (behind_record at r) rs h.1
 
-refused-not-disk : (dp : Dp) (s : Replayed) (at : ℕ) (records : List RecordView) → AreRefused dp s at records errors.Disk → ⊥
-refused-not-disk dp s at records (inl memory) = cc
-refused-not-disk dp s at records (inr h) = not-disk dp s at records h
+refused-not-disk : (dp : Dp) (at : ℕ) (records : List RecordView) → AreRefused dp at records errors.Disk → ⊥
+refused-not-disk dp at records (inl memory) = cc
+refused-not-disk dp at records (inr h) = not-disk dp (replay_start dp) (base_offset at records) (from_base records) h
 
 -- two facts of the first sync
 both-first : (o : Option FirstSync) (before now : List ℕ) (P Q : FirstSync → Type 0) → AtFirstSync o before now P → AtFirstSync o before now Q → AtFirstSync o before now (λ s. P s × Q s)
@@ -66,23 +67,27 @@ both-first None before now P Q p q = p
 both-first (Some s) before now P Q p q = (p, q)
 
 -- records that were added may follow the old ones of the journal of this instance
-pub may-follow : (t : Theory) (dp : Dp) (head : HeadView) (old more : List RecordView) (numbers : List ℤ) → theory_of head.model ≡ t → t.spelled head.text ≡ Ok numbers → dp ≡ t.program numbers → MayBeAdded dp old more → MayFollow head old more
+pub may-follow : (t : Theory) (dp : Dp) (head : HeadView) (old more : List RecordView) (numbers : List ℤ) → theory_of head.model ≡ t → t.spelled head.text ≡ Ok numbers → dp ≡ t.program numbers → MayBeAdded dp head.within old more → MayFollow head old more
 may-follow t dp head old more numbers named spelled same added =
-    subst (λ (x : Theory). IfOk (x.spelled head.text) (λ ns. MayBeAdded (x.program ns) old more)) (sym named)
-    (subst (λ r. IfOk r (λ ns. MayBeAdded (t.program ns) old more)) (sym spelled) (subst (λ d. MayBeAdded d old more) same added))
+    subst (λ (x : Theory). IfOk (x.spelled head.text) (λ ns. MayBeAdded (x.program ns) head.within old more)) (sym named)
+    (subst (λ r. IfOk r (λ ns. MayBeAdded (t.program ns) head.within old more)) (sym spelled) (subst (λ d. MayBeAdded d head.within old more) same added))
 
 -- sound records make a good board
-pub restored-good : (dp : Dp) → IsLawful dp → (search : JobSettings) (settings : Settings) (records : List RecordView) → MaySearch search → search.within ≡ pos 0 → AreAsked dp search settings → AreAccepted dp records → AreSound dp (pos 0) records → IsGood dp (restored_from settings (replay_of dp records))
-restored-good dp laws search settings records may exact asked accepted sound =
-    sound-restore-good dp laws settings records (are-settings dp search settings may asked) accepted (subst (λ z. AreSound dp z records) (sym (asked.distance ∙ exact)) sound)
+pub restored-good : (dp : Dp) → IsLawful dp → (search : JobSettings) (settings : Settings) (records : List RecordView) → MaySearch search → AreAsked dp search settings → AreAccepted dp records → AreSound dp search.within records → IsGood dp (restored_from settings (replay_of dp records))
+restored-good dp laws search settings records may asked accepted sound =
+    sound-restore-good dp laws settings records (are-settings dp search settings may asked) accepted (subst (λ z. AreSound dp z records) (sym asked.distance) sound)
 
 -- the board that goes on is restored from its own settings
 pub first-restored : (dp : Dp) (search : JobSettings) (records : RecordsView) (board : BoardView) (desks : Vec Desk Global) → GoesOnFrom dp search records board desks → board.first ≡ restored_from board.first.settings (replay_of dp records.records)
 first-restored dp search records board desks on = on.ready.first ∙ (on.board ∙ ap (λ (x : BoardState). restored_from x.settings (replay_of dp records.records)) (sym on.ready.first))
 
-pub first-good : (dp : Dp) → IsLawful dp → (search : JobSettings) (records : RecordsView) (board : BoardView) (desks : Vec Desk Global) → MaySearch search → search.within ≡ pos 0 → GoesOnFrom dp search records board desks → AreSound dp (pos 0) records.records → IsGood dp board.first
-first-good dp laws search records board desks may exact on sound =
-    subst (IsGood dp) (sym (on.ready.first ∙ on.board)) (restored-good dp laws search board.board.settings records.records may exact on.ready.prepared.asked on.accepted sound)
+pub first-good : (dp : Dp) → IsLawful dp → (search : JobSettings) (records : RecordsView) (board : BoardView) (desks : Vec Desk Global) → MaySearch search → GoesOnFrom dp search records board desks → AreSound dp search.within records.records → IsGood dp board.first
+first-good dp laws search records board desks may on sound =
+    subst (IsGood dp) (sym (on.ready.first ∙ on.board)) (restored-good dp laws search board.board.settings records.records may on.ready.prepared.asked on.accepted sound)
+
+-- a search that goes on may be made within the distance of its journal
+pub may-go-on : (head : HeadView) (search asked : JobSettings) → search ≡ going_on head asked → IsDistance head.within → MaySearch asked → MaySearch search
+may-go-on head search asked same near may = subst MaySearch (sym same) (record { some_workers = may.some_workers; few_workers = may.few_workers; distance = near })
 
 -- without a cover
 coverless : (cover : Option ℕ) (final : Bool) → cover ≡ None → (is_some cover && final) ≡ false
@@ -91,27 +96,29 @@ coverless cover final is = subst (λ c. (is_some c && final) ≡ false) (sym is)
 module _ {D : Type 0} (on : Ghosts D) where
   -- ---- a search that goes on
 
-  module _ (dp : Dp) (own : List ℕ → Option ℤ) (head : HeadView) (records : List RecordView) (search : JobSettings) where
+  module _ (dp : Dp) (own : List ℕ → Option ℤ) (head : HeadView) (records : List RecordView) where
     -- what is told of a search that goes on
-    abbrev ToldOn : D → Outcome → Option Counts → Type 0
-    ToldOn now outcome counts = AreAccepted dp records
-        × HasSearched dp own (λ settings. restored_from settings (replay_of dp records)) (AreSound dp (pos 0) records) search
+    abbrev ToldOn : JobSettings → D → Outcome → Option Counts → Type 0
+    ToldOn search now outcome counts = AreAccepted dp records
+        × HasSearched dp own (λ settings. restored_from settings (replay_of dp records)) (AreSound dp head.within records) search
         (HasKept on dp head records (LeavesResumed on head records) now) outcome counts
 
-    pub reported : (first : ℕ) (now : D) → search.cover_words ≡ None → (ended : Result Told AllocError) → IfOk ended (λ told. ToldOn now told.0 told.1) → GoesOn on dp own head records first search now (report_of ended)
-    reported first now plain (Ok told) h = (h, coverless search.cover_words (is_final told.0) plain)
-    reported first now plain (Err e) h = tt
+    -- so may be answered, by what was asked for
+    pub reported : (search asked : JobSettings) → search ≡ going_on head asked → (first : ℕ) (now : D) → asked.cover_words ≡ None → (ended : Result Told AllocError) → IfOk ended (λ told. ToldOn search now told.0 told.1)
+        → GoesOn on dp own head records first asked now (report_of ended)
+    reported search asked same first now plain (Ok told) h = (subst (λ (s : JobSettings). ToldOn s now told.0 told.1) same h, coverless asked.cover_words (is_final told.0) plain)
+    reported search asked same first now plain (Err e) h = tt
 
-    module _ (exact : search.within ≡ pos 0) (made : D) (tail : Tail) (opened : IsOpened on head records made tail) where
+    module _ (search : JobSettings) (made : D) (tail : Tail) (opened : IsOpened on head records made tail) where
       kept-resumed : (now : D) (f b : BoardState) → IsOver dp search f b → IsKeptOn on dp true made now b → HasKept on dp head records (LeavesResumed on head records) now b
       kept-resumed now f b over k =
-          ends-resumed on dp b made now k.tail k.same k.kept opened.synced opened.counted (exact-over dp search f b over exact) head records over.idle (λ tells. (opened.is_open tells).1) opened.found opened.unwritten
+          ends-resumed on dp b made now k.tail k.same k.kept opened.synced opened.counted head records over.idle (λ tells. (opened.is_open tells).1) opened.found opened.unwritten
 
-      pub leaves : (now : D) (settings : Settings) → settings.within ≡ search.within → KeepsSome on dp true made now settings → LeavesOpened on (MayBeAdded dp records) head records made now
-      leaves now settings distance k =
+      pub leaves : (now : D) (settings : Settings) → KeepsSome on dp true made now settings → LeavesOpened on (MayBeAdded dp head.within records) head records made now
+      leaves now settings k =
           let b = k.board in
           let tail = k.keeps.tail in
-          let behind = left-behind on dp b made now tail k.keeps.same k.keeps.kept opened.synced opened.counted (ap (λ (s : Settings). s.within) k.same ∙ (distance ∙ exact)) head records (λ tells. (opened.is_open tells).1) opened.found opened.unwritten in
+          let behind = left-behind on dp b made now tail k.keeps.same k.keeps.kept opened.synced opened.counted head records (λ tells. (opened.is_open tells).1) opened.found opened.unwritten in
           record {
             written = behind.0;
             gone = behind.1;
@@ -120,14 +127,35 @@ module _ {D : Type 0} (on : Ghosts D) where
             same_names = same-names on dp b made now tail k.keeps.same k.keeps.kept;
           }
 
-      pub gone-on : (now : D) (f : BoardState) → AreAccepted dp records → f ≡ restored_from f.settings (replay_of dp records) → (AreSound dp (pos 0) records → IsGood dp f) → (ended : Result Told AllocError)
-          → IfOk ended (λ told. HasSearched dp own (λ settings. f) (IsGood dp f) search (IsKeptOn on dp true made now) told.0 told.1) → IfOk ended (λ told. ToldOn now told.0 told.1)
+      pub gone-on : (now : D) (f : BoardState) → AreAccepted dp records → f ≡ restored_from f.settings (replay_of dp records) → (AreSound dp head.within records → IsGood dp f) → (ended : Result Told AllocError)
+          → IfOk ended (λ told. HasSearched dp own (λ settings. f) (IsGood dp f) search (IsKeptOn on dp true made now) told.0 told.1) → IfOk ended (λ told. ToldOn search now told.0 told.1)
       gone-on now f accepted is good (Ok told) h = (
         accepted,
-        in-words dp own search f (λ settings. restored_from settings (replay_of dp records)) (AreSound dp (pos 0) records) (IsKeptOn on dp true made now) (HasKept on dp head records (LeavesResumed on head records) now) is good
+        in-words dp own search f (λ settings. restored_from settings (replay_of dp records)) (AreSound dp head.within records) (IsKeptOn on dp true made now) (HasKept on dp head records (LeavesResumed on head records) now) is good
             (λ b over k. kept-resumed now f b over k) told.0 told.1 h,
       )
       gone-on now f accepted is good (Err e) h = tt
+
+  -- a search that does not go on, by what was asked for
+  module _ (dp : Dp) (own : List ℕ → Option ℤ) (head : HeadView) (records : RecordsView) (asked : JobSettings) (now : D) where
+    told-why : (answer : Answer) → DoesNotGoOn dp (going_on head asked) records answer → GoesOn on dp own head records.records records.first asked now answer
+    told-why (answers.Searched outcome counts) h = absurd h
+    told-why (answers.Covered outcome counts text) h = absurd h
+    told-why (answers.Digest digest) h = absurd h
+    told-why (answers.Drawn text) h = absurd h
+    told-why (answers.Checked given) h = absurd h
+    told-why (answers.Refused e) h = absurd h
+    told-why (answers.CoverRefused e) h = absurd h
+    told-why (answers.PartsRefused e) h = absurd h
+    told-why answers.TooLong h = absurd h
+    told-why answers.Width h = h
+    told-why (answers.Words e) h = absurd h
+    told-why (answers.Journal e) h = h
+    told-why answers.ReadFault h = absurd h
+    told-why answers.OutOfMemory h = tt
+
+    pub not-gone-on : (search : JobSettings) → search ≡ going_on head asked → (answer : Answer) → DoesNotGoOn dp search records answer → GoesOn on dp own head records.records records.first asked now answer
+    not-gone-on search same answer h = told-why answer (subst (λ (s : JobSettings). DoesNotGoOn dp s records answer) same h)
 
   -- ---- a journal that was opened
 
@@ -160,12 +188,12 @@ module _ {D : Type 0} (on : Ghosts D) where
       let t = theory_of j.head.model in
       never (t.spelled j.head.text) h
     where
-      never : {E : Type 0} (r : Result (List ℤ) E) → MatchResult r (λ numbers. AreRefused ((theory_of j.head.model).program numbers) (replay_start ((theory_of j.head.model).program numbers)) first j.records errors.Disk)
+      never : {E : Type 0} (r : Result (List ℤ) E) → MatchResult r (λ numbers. AreRefused ((theory_of j.head.model).program numbers) first j.records errors.Disk)
           (λ e. answers.Journal errors.Disk ≡ answers.Journal (errors.Malformed 0)) → ⊥
-      never (Ok numbers) refused = refused-not-disk ((theory_of j.head.model).program numbers) (replay_start ((theory_of j.head.model).program numbers)) first j.records refused
+      never (Ok numbers) refused = refused-not-disk ((theory_of j.head.model).program numbers) first j.records refused
       never (Err e) same = cc
 
-  module _ (search : JobSettings) (before made now : D) (Follow : List RecordView → Type 0) (r : Head × RecordsView × Tail) (opened : HasOpened on made (Ok r)) (began : IsSome (on.start made)) (left : LeavesOpened on Follow (head_view r.0) r.1.records made now) where
+  module _ (search : JobSettings) (before made now : D) (Follow : List RecordView → Type 0) (r : Head × RecordsView × Tail) (opened : HasOpened on made (Ok r)) (began : IsSome (on.start made)) (left : LeavesOpened on Follow (head_view r.2.version r.0) r.1.records made now) where
     was-resumed : (answer : Answer) → ResumesJournal on (journal_view r) r.1.first search now answer → WasResumed on search now answer
     was-resumed answer h = record {
       file = opened.file;
@@ -179,6 +207,7 @@ module _ {D : Type 0} (on : Ghosts D) where
     resumed unwritten (answers.Journal errors.Disk) h stays = absurd (not-for-disk (journal_view r) r.1.first search now h)
     resumed unwritten (answers.Journal errors.OutOfMemory) h stays = tt
     resumed unwritten (answers.Journal e) h stays = (was-resumed (answers.Journal e) h, subst (IsUnwritten on) (sym stays) unwritten)
+    resumed unwritten answers.Width h stays = (was-resumed answers.Width h, subst (IsUnwritten on) (sym stays) unwritten)
     resumed unwritten answers.OutOfMemory h stays = tt
     resumed unwritten answer h stays = was-resumed answer h
 
@@ -188,8 +217,8 @@ module _ {D : Type 0} (on : Ghosts D) where
     answered unwritten answer (inr h) stays = resumed unwritten answer h stays
 
     -- and what is left of it
-    pub is-found-still : IsFound on (head_view r.0) r.1.records now
-    is-found-still tells = still-first (on.start made) (on.start now) (on.found made) (on.seen made) (on.found now) (on.seen now) (λ s. HasRecords (head_view r.0) r.1.records s.content) began left.start (is-found on made r opened (subst IsTrue left.still_tells tells))
+    pub is-found-still : IsFound on (head_view r.2.version r.0) r.1.records now
+    is-found-still tells = still-first (on.start made) (on.start now) (on.found made) (on.seen made) (on.found now) (on.seen now) (λ s. HasRecords (head_view r.2.version r.0) r.1.records s.content) began left.start (is-found on made r opened (subst IsTrue left.still_tells tells))
 
   module _ (search : JobSettings) (before now : D) where
     was-refused : (e : JournalError) (refusal : Refusal) (opened : HasOpened on now (Err e)) → IsRefusal e → journal_of opened.file ≡ Err refusal → error_of refusal ≡ e → WasResumed on search now (answers.Journal e)

@@ -1,5 +1,5 @@
 -- What a search of a text leaves, as what a search of the input leaves.
-use Rattle.std.proofs.Common.{◌≡◌, ◌⊎◌, inl, inr, ℕ, List, Result, Ok, Err}
+use Rattle.std.proofs.Common.{◌≡◌, ◌⊎◌, inl, inr, ℕ, ℤ, List, Result, Ok, Err}
 use Rattle.std.specs.Prelude.{IsOkAnd}
 use Rattle.disk.specs.declared.disk.Disk.{Ghosts}
 use Rattle.problem_names.specs.declared.ModelName.{ModelName}
@@ -13,9 +13,9 @@ split-ok : {X E : Type 0} (r : Result X E) (A : Type 0) (B : X → Type 0) → I
 split-ok (Ok x) A B h = h
 split-ok (Err e) A B h = absurd h
 
-pub left_search : {D : Type 0} (on : Ghosts D) (name : ModelName) (path text : List ℕ) (r : Readings) (before now : D) → WasRead text_limit r text → LeavesOfText on name path text before now → LeavesOfSearch on name path r before now
-left_search on name path text r before now read (inl same) = inl same
-left_search on name path text r before now read (inr h) =
+pub left_search : {D : Type 0} (on : Ghosts D) (name : ModelName) (within : ℤ) (path text : List ℕ) (r : Readings) (before now : D) → WasRead text_limit r text → LeavesOfText on name within path text before now → LeavesOfSearch on name within path r before now
+left_search on name within path text r before now read (inl same) = inl same
+left_search on name within path text r before now read (inr h) =
     let t = theory_of name in
-    let parts = split-ok (t.spelled text) (Attaches on path before now) (λ numbers. HasLeftBegun on (t.program numbers) (head_of t name numbers) now) h in
+    let parts = split-ok (t.spelled text) (Attaches on path before now) (λ numbers. HasLeftBegun on (t.program numbers) (head_of t name within numbers) now) h in
     inr (parts.0, (text, read, parts.1))

@@ -35,8 +35,9 @@ module _ {D : Type 0} (on : Ghosts D) where
     pub counted : IfSome (on.start disk) (λ s. s.faults ≤ on.faults disk)
     pub found : SinceAttached on disk (λ s. HasRecords head records s.content)
 
-  -- how a search ends that has begun a journal
+  -- how a search ends that has begun a journal: its width is not refused any more
   abbrev pub EndsKept : Dp → (List ℕ → Option ℤ) → HeadView → JobSettings → D → Answer → Type 0
+  EndsKept dp own head search now answers.Width = ⊥
   EndsKept dp own head search now answer =
       Ends dp search (λ outcome counts. IsSome (on.start now) × MightBegin on now × HasSearchedFromStart dp own search (HasKept on dp head [] (LeavesBegun on head) now) outcome counts) answer
 
@@ -45,9 +46,9 @@ module _ {D : Type 0} (on : Ghosts D) where
   LeavesNamed path dp head before now = Attaches on path before now × HasLeftBegun on dp head now
 
   -- the disk is as it was, or the text spells an instance, of which that is so
-  abbrev pub LeavesOfText : ModelName → List ℕ → List ℕ → D → D → Type 0
-  LeavesOfText name path text before now = (now ≡ before)
-      ⊎ IsOkAnd ((theory_of name).spelled text) (λ numbers. LeavesNamed path ((theory_of name).program numbers) (head_of (theory_of name) name numbers) before now)
+  abbrev pub LeavesOfText : ModelName → ℤ → List ℕ → List ℕ → D → D → Type 0
+  LeavesOfText name within path text before now = (now ≡ before)
+      ⊎ IsOkAnd ((theory_of name).spelled text) (λ numbers. LeavesNamed path ((theory_of name).program numbers) (head_of (theory_of name) name within numbers) before now)
 
   -- what a search that goes on from a journal leaves behind its records; what was attached, the first sync and whether its content is told stay
   pub record LeavesOpened (Follow : List RecordView → Type 0) (head : HeadView) (old : List RecordView) (before now : D) : Type 0 where
@@ -57,7 +58,8 @@ module _ {D : Type 0} (on : Ghosts D) where
     pub still_tells : on.tells now ≡ on.tells before
     pub same_names : on.names now ≡ on.names before
 
--- a refused journal is left as it was
+-- a journal is left as it was where it or the width is refused
 abbrev pub TouchesNothing : {D : Type 0} → D → D → Answer → Type 0
 TouchesNothing before now (answers.Journal e) = now ≡ before
+TouchesNothing before now answers.Width = now ≡ before
 TouchesNothing before now _ = Unit {0}

@@ -9,7 +9,7 @@ use Rattle.board_laws.specs.Steps.{first_board}
 use Rattle.board_laws.specs.declared.settings.Settings.{Settings}
 use Rattle.journal_bytes.specs.Bodies.{RecordsView}
 use Rattle.journal_replay.specs.Accepting.{AreAccepted, AreRefused}
-use Rattle.journal_replay.specs.Replay.{replay_of, replay_start, restored_from}
+use Rattle.journal_replay.specs.Replay.{replay_of, restored_from}
 use Rattle.layer_build.specs.declared.workspace.PrepareError.{PrepareError}
 use Rattle.layer_build.specs.declared.workspace.PrepareError.TheVariants as preparing
 use Rattle.board.specs.View.{BoardView}
@@ -70,5 +70,5 @@ IsUnready dp search _ = ⊥
 
 -- the answer to a search that does not go on from records: so too, or one of these is refused
 abbrev pub DoesNotGoOn : Dp → JobSettings → RecordsView → Answer → Type 0
-DoesNotGoOn dp search records (answers.Journal e) = AreRefused dp (replay_start dp) records.first records.records e
+DoesNotGoOn dp search records (answers.Journal e) = AreRefused dp records.first records.records e
 DoesNotGoOn dp search records answer = IsUnready dp search answer

@@ -1,7 +1,7 @@
 ghost use Rattle.std.specs.Prelude.{◌≡◌, map, string_bytes};
 ghost use Rattle.problem_names.specs.Parts.{IsPart};
 ghost use Rattle.problems.specs.Theories.{theory_of};
-ghost use Rattle.solver_words.specs.Possible.{IsPossible, MayDraw, MaySearch, MaySearchKept};
+ghost use Rattle.solver_words.specs.Possible.{IsPossible, MayDraw, MaySearch};
 ghost use Rattle.solver_words.specs.Words.{job_view};
 ghost use Rattle.answers.specs.Answers.{DigestsText, Draws, SolvesPart, SolvesText};
 ghost use Rattle.answers.specs.Ended.{IsInputAnswer, IsJobAnswer, IsRight, LeavesOfSearch, readings, text_limit};
@@ -149,9 +149,9 @@ fn keep_input<S: Source, D: Disk + Send, G: Gate + Sync, R: Threads + Wait + Syn
     input: &mut S,
     disk: D,
 ) -> (Answer, D)
-    requires { MaySearchKept search }
+    requires { MaySearch search }
     ensures answer { IsInputAnswer text_limit (RepliesKept D.Disk name search disk result.1) (readings S.left S.faults input.old input.new) result.0 }
-    ensures left { LeavesOfSearch D.Disk name path.now (readings S.left S.faults input.old input.new) disk result.1 }
+    ensures left { LeavesOfSearch D.Disk name search.within path.now (readings S.left S.faults input.old input.new) disk result.1 }
 {
     match read_all(run.alloc, input, TEXT_LIMIT) {
         Ok(text) => {

@@ -3,13 +3,14 @@
 ghost use Rattle.std.specs.Prelude.{◌≡◌, ◌⊎◌, ℕ, ◌^◌, ◌-◌, ◌<◌, length};
 ghost use Rattle.std.specs.Arc.{arc_value};
 ghost use Rattle.problems.specs.Theories.{theory_of};
-ghost use Rattle.solver_words.specs.Possible.{MaySearchKept};
+ghost use Rattle.solver_words.specs.Possible.{MaySearch};
 ghost use Rattle.answers.specs.Covers.{IsCovered};
 ghost use Rattle.answers.specs.Journals.{HasLeftBegun};
 ghost use Rattle.answers.specs.Kept.{RepliesKept, SolvesKept, head_of};
 ghost use Rattle.solver_cli.specs.Journals.{EndsKept, HasBegunOn, LeavesNamed, LeavesOfText};
 ghost use Rattle.solver_cli.specs.Starts.{HasBegun};
 
+use crate::limits::SNAPSHOT_EVERY;
 use crate::runner::Runner;
 use crate::searching::search_from;
 use crate::solving::answer_of;
@@ -37,10 +38,10 @@ pub fn read_kept<P: Problem, D: Disk + Send, G: Gate + Sync, R: Threads + Wait +
     disk: D,
 ) -> (Answer, D)
     requires short { length text.now < 2 ^ 32 - 1 }
-    requires may { MaySearchKept search }
+    requires may { MaySearch search }
     requires named { theory_of name ≡ P.theory }
     ensures reply { RepliesKept D.Disk name search disk result.1 text.now result.0 }
-    ensures left { LeavesOfText D.Disk name path.now text.now disk result.1 }
+    ensures left { LeavesOfText D.Disk name search.within path.now text.now disk result.1 }
 {
     match P::read(run.alloc, text) {
         Ok(model) => solve_kept(run, name, model, search, path, disk),
@@ -59,11 +60,11 @@ fn solve_kept<P: Problem, D: Disk + Send, G: Gate + Sync, R: Threads + Wait + Sy
     path: &str,
     disk: D,
 ) -> (Answer, D)
-    requires may { MaySearchKept search }
+    requires may { MaySearch search }
     requires named { theory_of name ≡ P.theory }
-    ensures solves { SolvesKept D.Disk (P.meaning (P.numbers model)) (P.theory.own_value (P.numbers model)) (head_of P.theory name (P.numbers model)) search disk result.1 result.0 }
+    ensures solves { SolvesKept D.Disk (P.meaning (P.numbers model)) (P.theory.own_value (P.numbers model)) (head_of P.theory name search.within (P.numbers model)) search disk result.1 result.0 }
     ensures covered { IsCovered name (P.theory.canonical (P.numbers model)) result.0 }
-    ensures left { (result.1 ≡ disk) ⊎ LeavesNamed D.Disk path.now (P.meaning (P.numbers model)) (head_of P.theory name (P.numbers model)) disk result.1 }
+    ensures left { (result.1 ≡ disk) ⊎ LeavesNamed D.Disk path.now (P.meaning (P.numbers model)) (head_of P.theory name search.within (P.numbers model)) disk result.1 }
 {
     match begin_search(run.alloc, model, search) {
         Ok(start) => search_kept(run, name, start, search, path, disk),
@@ -82,13 +83,13 @@ fn search_kept<P: Problem, D: Disk + Send, G: Gate + Sync, R: Threads + Wait + S
 ) -> (Answer, D)
     requires named { theory_of name ≡ P.theory }
     requires numbers { start.board.numbers ≡ P.numbers (arc_value start.model) }
-    requires may { MaySearchKept search }
+    requires may { MaySearch search }
     requires begun { HasBegun (P.meaning (P.numbers (arc_value start.model))) search start.board start.desks }
-    ensures solves { SolvesKept D.Disk (P.meaning (P.numbers (arc_value start.model))) (P.theory.own_value (P.numbers (arc_value start.model))) (head_of P.theory name (P.numbers (arc_value start.model))) search disk result.1 result.0 }
+    ensures solves { SolvesKept D.Disk (P.meaning (P.numbers (arc_value start.model))) (P.theory.own_value (P.numbers (arc_value start.model))) (head_of P.theory name search.within (P.numbers (arc_value start.model))) search disk result.1 result.0 }
     ensures covered { IsCovered name (P.theory.canonical (P.numbers (arc_value start.model))) result.0 }
-    ensures left { LeavesNamed D.Disk path.now (P.meaning (P.numbers (arc_value start.model))) (head_of P.theory name (P.numbers (arc_value start.model))) disk result.1 }
+    ensures left { LeavesNamed D.Disk path.now (P.meaning (P.numbers (arc_value start.model))) (head_of P.theory name search.within (P.numbers (arc_value start.model))) disk result.1 }
 {
-    match begin_journal(run.alloc, &mut disk, path, name, &*start.model) {
+    match begin_journal(run.alloc, &mut disk, path, name, &*start.model, search) {
         Ok(tail) => search_begun(run, name, start, tail, search, disk),
         Err(error) => (Answer::Journal(error), disk),
     }
@@ -105,12 +106,12 @@ fn search_begun<P: Problem, D: Disk + Send, G: Gate + Sync, R: Threads + Wait + 
 ) -> (Answer, D)
     requires named { theory_of name ≡ P.theory }
     requires numbers { start.board.numbers ≡ P.numbers (arc_value start.model) }
-    requires may { MaySearchKept search }
+    requires may { MaySearch search }
     requires begun { HasBegun (P.meaning (P.numbers (arc_value start.model))) search start.board start.desks }
-    requires ready { HasBegunOn D.Disk (head_of P.theory name (P.numbers (arc_value start.model))) disk tail }
-    ensures ends { EndsKept D.Disk (P.meaning (P.numbers (arc_value start.model))) (P.theory.own_value (P.numbers (arc_value start.model))) (head_of P.theory name (P.numbers (arc_value start.model))) search result.1 result.0 }
+    requires ready { HasBegunOn D.Disk (head_of P.theory name search.within (P.numbers (arc_value start.model))) disk tail }
+    ensures ends { EndsKept D.Disk (P.meaning (P.numbers (arc_value start.model))) (P.theory.own_value (P.numbers (arc_value start.model))) (head_of P.theory name search.within (P.numbers (arc_value start.model))) search result.1 result.0 }
     ensures covered { IsCovered name (P.theory.canonical (P.numbers (arc_value start.model))) result.0 }
-    ensures left { HasLeftBegun D.Disk (P.meaning (P.numbers (arc_value start.model))) (head_of P.theory name (P.numbers (arc_value start.model))) result.1 }
+    ensures left { HasLeftBegun D.Disk (P.meaning (P.numbers (arc_value start.model))) (head_of P.theory name search.within (P.numbers (arc_value start.model))) result.1 }
     ensures names { D.names result.1 ≡ D.names disk }
     ensures start { D.start result.1 ≡ D.start disk }
 {
@@ -119,7 +120,7 @@ fn search_begun<P: Problem, D: Disk + Send, G: Gate + Sync, R: Threads + Wait + 
         board,
         desks,
     } = start;
-    let kept = Kept::new(board, disk, Some(tail));
+    let kept = Kept::new(board, disk, Some(tail), SNAPSHOT_EVERY);
     let (ended, disk) = search_from(run, kept, desks, &*model, search);
     (answer_of(run.alloc, name, &*model, ended, search), disk)
 }

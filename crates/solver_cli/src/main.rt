@@ -18,6 +18,7 @@
 mod answering;
 mod drawing;
 mod keeping;
+mod limits;
 mod parting;
 mod replying;
 mod resuming;

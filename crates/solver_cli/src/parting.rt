@@ -11,6 +11,7 @@ ghost use Rattle.answers.specs.Covers.{IsCoveredIn};
 ghost use Rattle.answers.specs.Parts.{own_in, part_own, program_in};
 ghost use Rattle.solver_cli.specs.Starts.{HasBegun};
 
+use crate::limits::SNAPSHOT_EVERY;
 use crate::runner::Runner;
 use crate::searching::search_from;
 use crate::solving::answer_in;
@@ -104,7 +105,7 @@ fn search_program<P: Problem, M: DpModel, D: Disk + Send, G: Gate + Sync, R: Thr
         board,
         desks,
     } = start;
-    let kept = Kept::new(board, disk, None);
+    let kept = Kept::new(board, disk, None, SNAPSHOT_EVERY);
     let (ended, disk) = search_from(run, kept, desks, &*model, search);
     let answer = answer_in(run.alloc, subject, whole, &*model, ended, search);
     (answer, disk)

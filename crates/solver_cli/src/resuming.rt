@@ -1,13 +1,15 @@
 //! Searches that go on from a journal.
 
 ghost use Rattle.std.specs.Prelude.{◌≡◌, ◌⊎◌, ℕ, ◌^◌, ◌-◌, ◌<◌, None, length};
+ghost use Rattle.dp_model.specs.Distances.{IsDistance};
 ghost use Rattle.journal_bytes.specs.Journal.{head_view, journal_view};
 ghost use Rattle.problems.specs.Theories.{theory_of};
-ghost use Rattle.solver_words.specs.Possible.{MaySearchKept};
-ghost use Rattle.answers.specs.Kept.{GoesOn, LeavesAfterResume, MayBeAdded, MayFollow, Resumes, ResumesJournal};
+ghost use Rattle.solver_words.specs.Possible.{MaySearch};
+ghost use Rattle.answers.specs.Kept.{GoesOn, going_on, LeavesAfterResume, MayBeAdded, MayFollow, Resumes, ResumesJournal};
 ghost use Rattle.solver_cli.specs.Journals.{IsOpened, LeavesOpened, TouchesNothing};
 ghost use Rattle.solver_cli.specs.Searches.{report_of};
 
+use crate::limits::SNAPSHOT_EVERY;
 use crate::runner::Runner;
 use crate::searching::search_from;
 use crate::starting::{Start, go_on};
@@ -25,7 +27,7 @@ use solver_words::JobSettings;
 use std::sync::Wait;
 use std::thread::Threads;
 
-/// Goes on with the search whose journal is in the named file. Otherwise answers why it does not go on: the file is no journal, its head
+/// Goes on with the search whose journal is in the named file, within the distance of the journal. Otherwise answers why it does not go on: the file is no journal, its head
 /// spells no instance, the width is refused, or a record may not follow. No cover is asked for.
 pub fn resume<D: Disk + Send, G: Gate + Sync, R: Threads + Wait + Sync>(
     run: &Runner<'_, G, R>,
@@ -33,7 +35,7 @@ pub fn resume<D: Disk + Send, G: Gate + Sync, R: Threads + Wait + Sync>(
     search: JobSettings,
     mut disk: D,
 ) -> (Answer, D)
-    requires may { MaySearchKept search }
+    requires may { MaySearch search }
     requires coverless { search.cover_words ≡ None }
     ensures resumes { Resumes D.Disk search disk result.1 result.0 }
     ensures left { LeavesAfterResume D.Disk MayFollow path.now disk result.1 }
@@ -53,13 +55,15 @@ fn resume_journal<D: Disk + Send, G: Gate + Sync, R: Threads + Wait + Sync>(
     search: JobSettings,
     disk: D,
 ) -> (Answer, D)
-    requires may { MaySearchKept search }
+    requires may { MaySearch search }
     requires coverless { search.cover_words ≡ None }
     requires text { length head.now.text.items < 2 ^ 32 - 1 }
-    requires opened { IsOpened D.Disk (head_view head.now) records.now.records disk tail }
+    requires distance { IsDistance head.now.within }
+    requires within { records.now.within ≡ head.now.within }
+    requires opened { IsOpened D.Disk (head_view tail.version head.now) records.now.records disk tail }
     ensures resumes { (result.0 ≡ Answer.OutOfMemory) ⊎ ResumesJournal D.Disk (journal_view (head.now, records.now, tail)) records.now.first search result.1 result.0 }
     ensures refused { TouchesNothing disk result.1 result.0 }
-    ensures left { LeavesOpened D.Disk (MayFollow (head_view head.now) records.now.records) (head_view head.now) records.now.records disk result.1 }
+    ensures left { LeavesOpened D.Disk (MayFollow (head_view tail.version head.now) records.now.records) (head_view tail.version head.now) records.now.records disk result.1 }
 {
     by_name!(
         head.model,
@@ -76,14 +80,16 @@ fn resume_on<P: Problem, D: Disk + Send, G: Gate + Sync, R: Threads + Wait + Syn
     search: JobSettings,
     disk: D,
 ) -> (Answer, D)
-    requires may { MaySearchKept search }
+    requires may { MaySearch search }
     requires coverless { search.cover_words ≡ None }
     requires named { theory_of head.now.model ≡ P.theory }
     requires text { length head.now.text.items < 2 ^ 32 - 1 }
-    requires opened { IsOpened D.Disk (head_view head.now) records.now.records disk tail }
+    requires distance { IsDistance head.now.within }
+    requires within { records.now.within ≡ head.now.within }
+    requires opened { IsOpened D.Disk (head_view tail.version head.now) records.now.records disk tail }
     ensures resumes { (result.0 ≡ Answer.OutOfMemory) ⊎ ResumesJournal D.Disk (journal_view (head.now, records.now, tail)) records.now.first search result.1 result.0 }
     ensures refused { TouchesNothing disk result.1 result.0 }
-    ensures left { LeavesOpened D.Disk (MayFollow (head_view head.now) records.now.records) (head_view head.now) records.now.records disk result.1 }
+    ensures left { LeavesOpened D.Disk (MayFollow (head_view tail.version head.now) records.now.records) (head_view tail.version head.now) records.now.records disk result.1 }
 {
     match P::read(run.alloc, head.text.as_slice()) {
         Ok(model) => resume_search(run, head, model, records, tail, search, disk),
@@ -105,13 +111,16 @@ fn resume_search<P: Problem, D: Disk + Send, G: Gate + Sync, R: Threads + Wait +
     search: JobSettings,
     disk: D,
 ) -> (Answer, D)
-    requires may { MaySearchKept search }
+    requires may { MaySearch search }
     requires coverless { search.cover_words ≡ None }
-    requires opened { IsOpened D.Disk (head_view head.now) records.now.records disk tail }
-    ensures goes_on { GoesOn D.Disk (P.meaning (P.numbers model)) (P.theory.own_value (P.numbers model)) (head_view head.now) records.now.records records.now.first search result.1 result.0 }
+    requires distance { IsDistance head.now.within }
+    requires within { records.now.within ≡ head.now.within }
+    requires opened { IsOpened D.Disk (head_view tail.version head.now) records.now.records disk tail }
+    ensures goes_on { GoesOn D.Disk (P.meaning (P.numbers model)) (P.theory.own_value (P.numbers model)) (head_view tail.version head.now) records.now.records records.now.first search result.1 result.0 }
     ensures refused { TouchesNothing disk result.1 result.0 }
-    ensures left { LeavesOpened D.Disk (MayBeAdded (P.meaning (P.numbers model)) records.now.records) (head_view head.now) records.now.records disk result.1 }
+    ensures left { LeavesOpened D.Disk (MayBeAdded (P.meaning (P.numbers model)) head.now.within records.now.records) (head_view tail.version head.now) records.now.records disk result.1 }
 {
+    let search = going_on(head, search);
     match go_on(run.alloc, model, records, search) {
         Ok(
             Start {
@@ -120,11 +129,21 @@ fn resume_search<P: Problem, D: Disk + Send, G: Gate + Sync, R: Threads + Wait +
                 desks,
             },
         ) => {
-            let kept = Kept::new(board, disk, Some(tail));
+            let kept = Kept::new(board, disk, Some(tail), SNAPSHOT_EVERY);
             let (ended, disk) = search_from(run, kept, desks, &*model, search);
             (report_of(ended), disk)
         }
         Err(answer) => (answer, disk),
+    }
+}
+
+/// What is asked of a search that goes on: the distance is that of its journal.
+fn going_on(head: &Head, search: JobSettings) -> JobSettings
+    ensures { (version : ℕ) → result ≡ going_on (head_view version head.now) search }
+{
+    JobSettings {
+        within: head.within,
+        ..search
     }
 }
 

@@ -8,6 +8,7 @@ ghost use Rattle.answers.specs.Outcomes.{IsTrueOf};
 ghost use Rattle.answers.specs.Parts.{own_in, program_in};
 ghost use Rattle.solver_cli.specs.Searches.{IsAnswerTo};
 
+use crate::limits::SNAPSHOT_EVERY;
 use crate::runner::Runner;
 use crate::searching::search_from;
 use crate::starting::{Start, begin_search};
@@ -47,7 +48,7 @@ pub fn solve<P: Problem, D: Disk + Send, G: Gate + Sync, R: Threads + Wait + Syn
                 desks,
             },
         ) => {
-            let kept = Kept::new(board, disk, None);
+            let kept = Kept::new(board, disk, None, SNAPSHOT_EVERY);
             let (ended, disk) = search_from(run, kept, desks, &*model, search);
             (answer_of(run.alloc, name, &*model, ended, search), disk)
         }

@@ -6,7 +6,7 @@ ghost use Rattle.board_laws.specs.Board.{AreSettings};
 ghost use Rattle.board_laws.specs.GoodBoard.{IsGood};
 ghost use Rattle.board_laws.specs.Steps.{first_board};
 ghost use Rattle.journal_replay.specs.Accepting.{AreAccepted, AreRefused};
-ghost use Rattle.journal_replay.specs.Replay.{replay_of, replay_start, restored_from};
+ghost use Rattle.journal_replay.specs.Replay.{replay_of, restored_from};
 ghost use Rattle.solver_words.specs.Possible.{MaySearch};
 ghost use Rattle.answers.specs.Widths.{IsAskedWidth};
 ghost use Rattle.solver_cli.specs.Desks.{AreAllDesks};
@@ -65,7 +65,7 @@ pub fn begin_search<M: DpModel>(
     }
 }
 
-/// The start of a search of the instance that goes on from the records. Otherwise the answer: the width is refused as in
+/// The start of a search of the instance that goes on from the records, within their distance. Otherwise the answer: the width is refused as in
 /// `begin_search`, then the first record that may not follow is refused, or there is no memory.
 pub fn go_on<M: DpModel>(
     alloc: Global,
@@ -74,6 +74,7 @@ pub fn go_on<M: DpModel>(
     search: JobSettings,
 ) -> Result<Start<M>, Answer>
     requires may { MaySearch search }
+    requires within { search.within ≡ records.now.within }
     ensures model { IfOk result (λ s. M.numbers (arc_value s.model) ≡ M.numbers model) }
     ensures numbers { IfOk result (λ s. s.board.numbers ≡ M.numbers model) }
     ensures goes_on { IfOk result (λ s. GoesOnFrom (M.meaning (M.numbers model)) search records.now s.board s.desks) }
@@ -181,20 +182,21 @@ fn begun<M: DpModel>(
     Ok((model, board))
 }
 
-/// The instance, and the board that goes on from the records. It is refused as `replay` says.
+/// The instance, and the board that goes on from the records, within their distance. It is refused as `replay` says.
 fn restored<M: DpModel>(
     alloc: Global,
     model: M,
     records: &Records,
     settings: Settings,
 ) -> Result<(Arc<M>, Board<M>), JournalError>
-    requires { AreSettings settings }
+    requires settings { AreSettings settings }
+    requires within { settings.within ≡ records.now.within }
     ensures accepted { OnOk result (AreAccepted (M.meaning (M.numbers model)) records.now.records) }
     ensures model { IfOk result (λ r. M.numbers (arc_value r.0) ≡ M.numbers model) }
     ensures numbers { IfOk result (λ r. r.1.numbers ≡ M.numbers model) }
     ensures board { IfOk result (λ r. r.1.board ≡ restored_from settings (replay_of (M.meaning (M.numbers model)) records.now.records)) }
     ensures first { IfOk result (λ r. r.1.first ≡ r.1.board) }
-    ensures refused { IfErr result (AreRefused (M.meaning (M.numbers model)) (replay_start (M.meaning (M.numbers model))) records.now.first records.now.records) }
+    ensures refused { IfErr result (AreRefused (M.meaning (M.numbers model)) records.now.first records.now.records) }
 {
     let Ok(model) = Arc::new(alloc, model) else {
         return Err(JournalError::OutOfMemory);

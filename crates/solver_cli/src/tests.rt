@@ -375,12 +375,6 @@ const REFUSED: &[Case] = &[
         "words number within\n",
         4,
     ),
-    (
-        "solve knapsack --journal j --within 1",
-        THREE_ITEMS,
-        "words usage\n",
-        4,
-    ),
 ];
 
 #[test]

@@ -20,7 +20,7 @@ use Rattle.solver_words.specs.declared.job.Job.{Job}
 use Rattle.solver_words.specs.declared.job.JobSettings.{JobSettings}
 use Rattle.solver_words.specs.declared.limits.TheConstants.{MOST_COVER_WORDS}
 use Rattle.solver_words.specs.declared.words_error.WordsError.{WordsError}
-use Rattle.solver_words.specs.Possible.{IsPossible, MaySearch, MaySearchKept}
+use Rattle.solver_words.specs.Possible.{IsPossible, MaySearch, MaySearchExactly}
 
 -- ---- an answer, and then what is made of it
 
@@ -117,28 +117,27 @@ may-search settings within cover exact few =
     let most = distance-small within few in
     record { some_workers = exact.0.0; few_workers = exact.0.1; distance = record { least = omega (arith, ints); most = omega (arith, ints) } }
 
--- without one it may be made with a journal
-may-keep : (settings : JobSettings) → AreExact settings → MaySearchKept settings
-may-keep settings exact =
+-- without one it is made exactly
+may-exactly : (settings : JobSettings) → AreExact settings → MaySearchExactly settings
+may-exactly settings exact =
     let none = exact.1 in
     record { may = record { some_workers = exact.0.0; few_workers = exact.0.1; distance = record { least = omega (arith, ints); most = omega (arith, ints) } }; exact = none }
 
 -- ---- jobs
 
--- a search with a journal, or of a part, is asked for only without a distance
-near-kept : (settings : JobSettings) → int_lt (pos 0) settings.within ≡ false → MaySearch settings → MaySearchKept settings
-near-kept settings near may =
+-- a search of a part is asked for only without a distance
+near-exactly : (settings : JobSettings) → int_lt (pos 0) settings.within ≡ false → MaySearch settings → MaySearchExactly settings
+near-exactly settings near may =
     let least = may.distance.least in let most = int_lt-is_not (pos 0) settings.within near in
     record { may = may; exact = omega (arith, ints) }
 
 asked-searched : (model : ModelName) (settings : JobSettings) (journal : Option Text) (part : Option PartNumber) (far : Bool) → int_lt (pos 0) settings.within ≡ far → MaySearch settings → MayBePart part
-    → IfOk (cond (is_some journal && far) (Err usage) (cond (is_some part && (is_some journal || far)) (Err usage) (Ok (solve model settings journal part)))) IsPossible
+    → IfOk (cond (is_some part && (is_some journal || far)) (Err usage) (Ok (solve model settings journal part))) IsPossible
 asked-searched model settings None None far e may whole = may
+asked-searched model settings (Some path) None far e may whole = may
 asked-searched model settings None (Some part) true e may is = tt
-asked-searched model settings None (Some part) false e may is = (near-kept settings e may, is)
-asked-searched model settings (Some path) part true e may is = tt
-asked-searched model settings (Some path) None false e may is = near-kept settings e may
-asked-searched model settings (Some path) (Some part) false e may is = tt
+asked-searched model settings None (Some part) false e may is = (near-exactly settings e may, is)
+asked-searched model settings (Some path) (Some part) far e may is = tt
 
 searched-asked : (model : ModelName) (settings : JobSettings) (journal : Option Text) (part : Option PartNumber) → MaySearch settings → MayBePart part
     → IfOk (searched model settings journal part) IsPossible
@@ -159,7 +158,7 @@ solve-asked name value flag =
 
 resume-asked : (path : Option Text) (value : Text → Option Text) (flag : Text → Bool) → IfOk (resume_of path value flag) IsPossible
 resume-asked None value flag = tt
-resume-asked (Some path) value flag = next AreExact IsPossible _ (λ settings exact. (may-keep settings exact, exact.2)) (settings_of value (flag (codes "stats"))) (settings-exact value (flag (codes "stats")))
+resume-asked (Some path) value flag = next AreExact IsPossible _ (λ settings exact. (may-exactly settings exact, exact.2)) (settings_of value (flag (codes "stats"))) (settings-exact value (flag (codes "stats")))
 
 digest-asked : (name : Option Text) → IfOk (digest_of name) IsPossible
 digest-asked name = behind IsPossible _ (λ model. tt) (model_of name)

@@ -15,8 +15,8 @@ pub record MaySearch (settings : JobSettings) : Type 0 where
   pub few_workers : settings.workers ≤ MOST_WORKERS
   pub distance : IsDistance settings.within
 
--- a search that keeps a journal, or of a part, has the distance 0
-pub record MaySearchKept (settings : JobSettings) : Type 0 where
+-- a search of a part has the distance 0, and so have the words of one that goes on
+pub record MaySearchExactly (settings : JobSettings) : Type 0 where
   pub may : MaySearch settings
   pub exact : settings.within ≡ pos 0
 
@@ -32,10 +32,10 @@ pub record MayDraw (name : ModelName) (n seed : ℕ) : Type 0 where
 -- be drawn
 abbrev pub IsPossible : JobView → Type 0
 IsPossible (solve model settings None None) = MaySearch settings
-IsPossible (solve model settings None (Some part)) = MaySearchKept settings × IsPart part
-IsPossible (solve model settings (Some path) None) = MaySearchKept settings
+IsPossible (solve model settings None (Some part)) = MaySearchExactly settings × IsPart part
+IsPossible (solve model settings (Some path) None) = MaySearch settings
 IsPossible (solve model settings (Some path) (Some part)) = ⊥
-IsPossible (resume path settings) = MaySearchKept settings × (settings.cover_words ≡ None)
+IsPossible (resume path settings) = MaySearchExactly settings × (settings.cover_words ≡ None)
 IsPossible check = Unit {0}
 IsPossible join = Unit {0}
 IsPossible (digest model) = Unit {0}

@@ -177,11 +177,10 @@ cover_of true words = Some (or_default DEFAULT_COVER_WORDS words)
 abbrev pub extended : JobSettings → Option ℕ → Option ℕ → JobSettings
 extended settings within words = record settings { within = pos (or_default 0 within); cover_words = words }
 
--- a search; its journal would tell neither a distance nor a part, so with a part or a distance above 0 none is kept, and a part has the distance 0
+-- a search; a journal would not tell a part, so of a part none is kept, and a part has the distance 0
 abbrev pub searched : ModelName → JobSettings → Option Text → Option PartNumber → Result JobView Refusal
 searched name settings journal part =
-    let far = int_lt (pos 0) settings.within in
-    cond (is_some journal && far) (Err usage) (cond (is_some part && (is_some journal || far)) (Err usage) (Ok (solve name settings journal part)))
+    cond (is_some part && (is_some journal || int_lt (pos 0) settings.within)) (Err usage) (Ok (solve name settings journal part))
 
 abbrev pub solve_of : Option Text → (Text → Option Text) → (Text → Bool) → Result JobView Refusal
 solve_of name value flag =

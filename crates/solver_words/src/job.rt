@@ -24,16 +24,16 @@ pub struct JobSettings {
 /// What the words ask for.
 #[derive(Debug, Drop)]
 pub enum Job {
-    /// Search for a best solution, or one within the distance of the settings. `journal` is the file of its journal, if it keeps one;
-    /// then the distance is 0. `part` is the part of the problem that is searched, if it is not the whole; then the distance is 0 and
-    /// there is no journal.
+    /// Search for a best solution, or one within the distance of the settings. `journal` is the file of its journal, if it keeps one.
+    /// `part` is the part of the problem that is searched, if it is not the whole; then the distance is 0 and there is no journal.
     Solve {
         model: ModelName,
         settings: JobSettings,
         journal: Option<String>,
         part: Option<PartNumber>,
     },
-    /// Go on with the search whose journal is in the file `path`. The distance is 0, and no cover is asked for.
+    /// Go on with the search whose journal is in the file `path`, within the distance of the journal: that of the settings is 0. No
+    /// cover is asked for.
     Resume {
         path: String,
         settings: JobSettings,

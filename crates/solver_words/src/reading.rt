@@ -24,8 +24,8 @@ use std::alloc::{AllocError, Global};
 ///
 /// # Errors
 ///
-/// - `Usage` exactly if the words are outside the grammar, or if all values are good and a search within a distance above 0 is to keep a
-///   journal, or a search of a part is to keep a journal or has a distance above 0.
+/// - `Usage` exactly if the words are outside the grammar, or if all values are good and a search of a part is to keep a journal or has a
+///   distance above 0.
 /// - Otherwise `Model` exactly if the problem is not known, or has no drawn instances and one is asked for.
 /// - Otherwise `Number` with its name, or `Cutset`, for the first bad value, in the order of the values.
 /// - `OutOfMemory` at any words.
@@ -111,7 +111,7 @@ fn extended(settings: JobSettings, within: Option<u64>, cover_words: Option<u64>
     }
 }
 
-/// The search, unless its journal would have to tell a distance or a part, or its part a distance.
+/// The search, unless it is of a part, and its journal would have to tell the part, or its answer a distance.
 fn searched(
     model: ModelName,
     settings: JobSettings,
@@ -120,9 +120,6 @@ fn searched(
 ) -> Result<Job, WordsError>
     ensures { IsAnswer job_view (searched model settings (option_map string_bytes journal) part) result }
 {
-    if journal.is_some() && settings.within > 0 {
-        return Err(WordsError::Usage);
-    }
     if part.is_some() && (journal.is_some() || settings.within > 0) {
         return Err(WordsError::Usage);
     }

@@ -1,7 +1,7 @@
 //! Journals in files: what is written, what is read back, and what each stop of a run leaves.
 
-ghost use Rattle.std.specs.Prelude.{◌≡◌, ◌<◌, ◌^◌, length, false, None, IfSome, IsTrue};
-ghost use Rattle.journal_bytes.specs.Spelling.{HasSpelling};
+ghost use Rattle.std.specs.Prelude.{◌≡◌, ℕ, ◌<◌, ◌^◌, pos, length, false, None, IfSome, IsTrue};
+ghost use Rattle.journal_bytes.specs.Spelling.{HasSpelling, IsOfVersion};
 ghost use Rattle.journal_bytes.specs.Views.{record_view};
 ghost use Rattle.journal_file.specs.Settled.{IsReady};
 
@@ -17,18 +17,18 @@ use std::process::Abort;
 /// The journal of a search of the knapsack `3 10`, `60 5`, `50 4`, `70 6` by one worker with one decision a layer: its head,
 /// the solution 110, the root finished with two children, the first finished, the solution 120, the second finished.
 const SEARCH: &str = "\
-    01010000001d000000010100000014332031300a363020350a353020340a373020360a52964171cd488ba3853cb62d07\
-    8166c91ac554cd60dba8b8c17dab01863e7a83010200000018000000000000006e000000030000000100000001000000\
-    007615177a84edd55f388ddf2b03ae7d53a15cb29a662da4db4b62bf1b10ea03a701030000003c000000000000000000\
-    000002ffffffffffffffff00000000000000790000000100000001ffffffffffffffff00000000000000780000000100\
-    000000495fdfa123fdf44dc92f6d2f105de1312d380c57003bce9188447b8307e16f5101030000000c00000000000000\
-    010000000053bf76a5851ae797d3ac9a566c922a1f9b28902f4154873aa8acb2ec369cceb90102000000180000000000\
-    00007800000003000000000000000100000001757b293edf07f480dace0ab20b3b47d7e0a684b6592e2c8a5148801556\
-    36af8801030000000c000000000000000200000000a78a559f89b958e9d2e84f5c03093fd5baab4b0164483fc90b22f8\
-    e5fe3c688200";
+    0101000000250000000201000000000000000000000014332031300a363020350a353020340a373020360aabb9b151f\
+    9a6767344f3a4544cc434d3c64a064948c132d445382beb323546b8010200000018000000000000006e000000030000\
+    000100000001000000005556f1b6caeec0a5d2fb4a8ee3e86e21c6c36a13edff5a340cdd2708bc77c5a901030000003\
+    c000000000000000000000002ffffffffffffffff00000000000000790000000100000001ffffffffffffffff000000\
+    00000000780000000100000000c0a464c295213b76a483de3c9e1cbaa128d9bd73832a4c59d1c64349302f915901030\
+    000000c0000000000000001000000000fdd83aee09ad5d58a3096a9c3e8898f0b2ffc1c3d5f8df7e258241f1c3c4f41\
+    0102000000180000000000000078000000030000000000000001000000014390ae96b1ca022a89e4695f19c67d7b78b\
+    9d30276e3e0460682ac8fa61e3b5101030000000c000000000000000200000000fc5722428d3520afa8a144fea6daac\
+    86f8cf6021db34e706d401b5fb845b190e00";
 
 /// Its records behind the head.
-const RECORDS: &str = "Records { first: 67, records: [\
+const RECORDS: &str = "Records { within: 0, first: 75, records: [\
     Improve { value: 110, decisions: [1, 1, 0] }, \
     Finish { ticket: 0, children: [\
     Child { replaced: None, bound: 121, decisions: [1] }, Child { replaced: None, bound: 120, decisions: [0] }] }, \
@@ -37,27 +37,30 @@ const RECORDS: &str = "Records { first: 67, records: [\
     Finish { ticket: 2, children: [] }] }";
 
 /// Where its head and its records begin.
-const GATES: [u64; 6] = [0, 67, 129, 227, 277, 339];
+const GATES: [u64; 6] = [0, 75, 137, 235, 285, 347];
 
 /// Its closed gate.
-const END: u64 = 389;
+const END: u64 = 397;
 
 /// How many records a file has, or why it is refused.
 type Count = Result<usize, JournalError>;
 
-/// The head of a journal of the knapsack with this text.
+/// The head of a journal of the knapsack with this text, of a search for the best value.
 pub(crate) fn head_of_text(rt: &impl Abort, alloc: Global, text: &[u8]) -> Head
-    ensures { result.text.items ≡ text.now }
+    ensures text { result.text.items ≡ text.now }
+    ensures within { result.within ≡ pos 0 }
 {
     Head {
         model: ModelName::Knapsack,
+        within: 0,
         text: Vec::from_slice(alloc, text).expect(rt, "memory"),
     }
 }
 
 fn improve(rt: &impl Abort, alloc: Global, value: i64, decisions: &[u32]) -> Record
     requires { length decisions.now < 2 ^ 20 }
-    ensures { HasSpelling (record_view result) }
+    ensures spelling { HasSpelling (record_view result) }
+    ensures version { (v : ℕ) → IsOfVersion v (record_view result) }
 {
     Record::Improve {
         value,
@@ -79,7 +82,8 @@ fn child(rt: &impl Abort, alloc: Global, bound: i64, decision: u32) -> Child
 fn finish_with(rt: &impl Abort, alloc: Global, ticket: u64, first: Child, second: Child) -> Record
     requires none { (first.replaced ≡ None) × (second.replaced ≡ None) }
     requires one { (length first.decisions.items ≡ 1) × (length second.decisions.items ≡ 1) }
-    ensures { HasSpelling (record_view result) }
+    ensures spelling { HasSpelling (record_view result) }
+    ensures version { (v : ℕ) → IsOfVersion v (record_view result) }
 {
     let mut children = Vec::with_capacity(alloc, 2).expect(rt, "memory");
     children.push_reserved(first);
@@ -88,7 +92,8 @@ fn finish_with(rt: &impl Abort, alloc: Global, ticket: u64, first: Child, second
 }
 
 fn finish(alloc: Global, ticket: u64) -> Record
-    ensures { HasSpelling (record_view result) }
+    ensures spelling { HasSpelling (record_view result) }
+    ensures version { (v : ℕ) → IsOfVersion v (record_view result) }
 {
     let children = Vec::new(alloc);
     Record::Finish { ticket, children }
@@ -96,7 +101,8 @@ fn finish(alloc: Global, ticket: u64) -> Record
 
 /// A record of that search, by its number.
 fn record(rt: &impl Abort, alloc: Global, number: usize) -> Record
-    ensures { HasSpelling (record_view result) }
+    ensures spelling { HasSpelling (record_view result) }
+    ensures version { (v : ℕ) → IsOfVersion v (record_view result) }
 {
     match number {
         0 => improve(rt, alloc, 110, &[1, 1, 0]),
@@ -279,7 +285,7 @@ fn tells(rt: &impl Abort, alloc: Global, at: u64) {
 
 #[test]
 fn a_changed_byte_or_an_early_end_is_told(rt: HostRuntime) {
-    for at in 0..390u64 {
+    for at in 0..398u64 {
         tells(&rt, rt.alloc(), at);
     }
 }
@@ -349,9 +355,9 @@ fn begun_in(rt: &impl Abort, alloc: Global, bytes: &[u8]) -> Beginning {
 
 /// What a file has, and what a journal does that begins there.
 const BEGINNINGS: &[(&[u8], Beginning)] = &[
-    (b"", (Ok(51), false)),
-    (b"7", (Ok(51), false)),
-    (b"\x007", (Ok(51), false)),
+    (b"", (Ok(59), false)),
+    (b"7", (Ok(59), false)),
+    (b"\x007", (Ok(59), false)),
     (b"77", (Err(JournalError::Exists), true)),
     (b"\x01\x01", (Err(JournalError::Exists), true)),
 ];
@@ -378,6 +384,8 @@ fn add_at_the_end<D: Disk>(alloc: Global, disk: &mut D) -> Result<(), AppendErro
     let mut tail = Tail {
         end: u64::MAX - 50,
         digest,
+        version: 2,
+        since: 0,
     };
     append(alloc, disk, &mut tail, &finish(alloc, 0))
 }

@@ -1,6 +1,6 @@
 //! A board that is kept in a journal, on a disk that passes so many calls and then fails every one.
 
-ghost use Rattle.std.specs.Prelude.{◌≡◌, [], Some, None, IfOk};
+ghost use Rattle.std.specs.Prelude.{◌≡◌, [], pos, Some, None, IfOk};
 ghost use Rattle.dp_model.specs.Dp.{Dp};
 ghost use Rattle.board_laws.specs.Board.{BoardState, full_slots};
 ghost use Rattle.board_laws.specs.Steps.{first_board};
@@ -22,6 +22,7 @@ type Offered = (Result<Improved, KeptError>, Option<Cause>, usize);
 /// The board at the start of a search.
 fn first<M: DpModel>(rt: &impl Abort, alloc: Global, model: M) -> Board<M>
     ensures made { result.board ≡ first_board (M.meaning result.numbers) result.board.settings }
+    ensures within { result.board.settings.within ≡ pos 0 }
     ensures going { result.board.cause ≡ None }
     ensures empty { full_slots result.board.slots ≡ [] }
 {
@@ -30,8 +31,12 @@ fn first<M: DpModel>(rt: &impl Abort, alloc: Global, model: M) -> Board<M>
 }
 
 /// Begins the journal of the items on the disk. The board at the start of a search may be kept in it.
-fn begun<D: Disk>(rt: &impl Abort, alloc: Global, disk: &mut D) -> Result<Tail, JournalError>
-    ensures { IfOk result (λ tail. (dp : Dp) (b : BoardState) → b ≡ first_board dp b.settings →
+pub(crate) fn begun<D: Disk>(
+    rt: &impl Abort,
+    alloc: Global,
+    disk: &mut D,
+) -> Result<Tail, JournalError>
+    ensures { IfOk result (λ tail. (dp : Dp) (b : BoardState) → b ≡ first_board dp b.settings → b.settings.within ≡ pos 0 →
         MayKeep D.Disk dp b disk.new (Some tail)) }
 {
     disk.attach("j")?;
@@ -48,7 +53,7 @@ fn offer<M: DpModel, D: Disk>(
     requires idle { (board.board.cause ≡ None) × (full_slots board.board.slots ≡ []) }
     requires made { MayKeep D.Disk (M.meaning board.numbers) board.board disk (Some tail) }
 {
-    let mut kept = Kept::new(board, disk, Some(tail));
+    let mut kept = Kept::new(board, disk, Some(tail), 1);
     let answer = kept.improve(alloc, &[1, 1, 0]);
     let (board, disk) = kept.into_parts();
     (answer, board, disk)
@@ -67,7 +72,7 @@ fn offered_first<M: DpModel, D: Disk>(
     disk: D,
     tail: Tail,
 ) -> (Result<Improved, KeptError>, Option<Cause>, D)
-    requires { (dp : Dp) (b : BoardState) → b ≡ first_board dp b.settings →
+    requires { (dp : Dp) (b : BoardState) → b ≡ first_board dp b.settings → b.settings.within ≡ pos 0 →
         MayKeep D.Disk dp b disk (Some tail) }
 {
     let board = first(rt, alloc, model);
@@ -86,10 +91,10 @@ fn offered(rt: &impl Abort, alloc: Global, calls: u64) -> Result<Offered, Journa
 /// After how many calls the disk stops, and what the offer does then.
 const STOPS: &[(u64, Result<Offered, JournalError>)] = &[
     (8, Err(JournalError::Disk)),
-    (9, Ok((Err(KeptError::Journal), Some(Cause::Journal), 68))),
-    (10, Ok((Err(KeptError::Journal), Some(Cause::Journal), 130))),
-    (12, Ok((Err(KeptError::Journal), Some(Cause::Journal), 130))),
-    (13, Ok((Ok(Improved::Yes), None, 130))),
+    (9, Ok((Err(KeptError::Journal), Some(Cause::Journal), 76))),
+    (10, Ok((Err(KeptError::Journal), Some(Cause::Journal), 138))),
+    (12, Ok((Err(KeptError::Journal), Some(Cause::Journal), 138))),
+    (13, Ok((Ok(Improved::Yes), None, 138))),
 ];
 
 /// The offer does what is wanted.

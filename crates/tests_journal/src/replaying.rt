@@ -29,8 +29,11 @@ const IMPROVE: u8 = 2;
 
 const FINISH: u8 = 3;
 
-/// The head's body: version 1, the knapsack, and the text of 20 bytes.
-const HEAD_BODY: &[u8] = b"\x00\x00\x00\x01\x01\x00\x00\x00\x143 10\n60 5\n50 4\n70 6\n";
+const SNAPSHOT: u8 = 4;
+
+/// The head's body: version 2, the knapsack, the distance 0, and the text of 20 bytes.
+const HEAD_BODY: &[u8] =
+    b"\x00\x00\x00\x02\x01\x00\x00\x00\x00\x00\x00\x00\x00\x00\x00\x00\x143 10\n60 5\n50 4\n70 6\n";
 
 /// The solution 1 1 0, which is worth 110.
 const IMPROVE_110: (u8, &[u8]) = (
@@ -143,6 +146,78 @@ const FIRST_REPLACES_OTHER: (u8, &[u8]) = (
     b"\x00\x00\x00\x00\x00\x00\x00\x01\x00\x00\x00\x01\x00\x00\x00\x00\x00\x00\x00\x02\x00\x00\x00\x00\x00\x00\x00\x79\x00\x00\x00\x02\x00\x00\x00\x01\x00\x00\x00\x00",
 );
 
+/// The solution 1 1 0, the next ticket 3, and both children of the root.
+const BOTH: (u8, &[u8]) = (
+    SNAPSHOT,
+    b"\x01\x00\x00\x00\x00\x00\x00\x00\x6e\x00\x00\x00\x03\x00\x00\x00\x01\x00\x00\x00\x01\x00\x00\x00\x00\x00\x00\x00\x00\x00\x00\x00\x03\x00\x00\x00\x02\x00\x00\x00\x00\x00\x00\x00\x01\x00\x00\x00\x00\x00\x00\x00\x79\x00\x00\x00\x01\x00\x00\x00\x01\x00\x00\x00\x00\x00\x00\x00\x02\x00\x00\x00\x00\x00\x00\x00\x78\x00\x00\x00\x01\x00\x00\x00\x00",
+);
+
+/// The solution 0 1 1, and nothing is open.
+const NOTHING: (u8, &[u8]) = (
+    SNAPSHOT,
+    b"\x01\x00\x00\x00\x00\x00\x00\x00\x78\x00\x00\x00\x03\x00\x00\x00\x00\x00\x00\x00\x01\x00\x00\x00\x01\x00\x00\x00\x00\x00\x00\x00\x03\x00\x00\x00\x00",
+);
+
+/// No solution, and the first child of the root.
+const WITHOUT_SOLUTION: (u8, &[u8]) = (
+    SNAPSHOT,
+    b"\x00\x00\x00\x00\x00\x00\x00\x00\x02\x00\x00\x00\x01\x00\x00\x00\x00\x00\x00\x00\x01\x00\x00\x00\x00\x00\x00\x00\x79\x00\x00\x00\x01\x00\x00\x00\x01",
+);
+
+/// The solution 1 1 0 with the value 111.
+const WRONG_VALUE: (u8, &[u8]) = (
+    SNAPSHOT,
+    b"\x01\x00\x00\x00\x00\x00\x00\x00\x6f\x00\x00\x00\x03\x00\x00\x00\x01\x00\x00\x00\x01\x00\x00\x00\x00\x00\x00\x00\x00\x00\x00\x00\x03\x00\x00\x00\x01\x00\x00\x00\x00\x00\x00\x00\x02\x00\x00\x00\x00\x00\x00\x00\x78\x00\x00\x00\x01\x00\x00\x00\x00",
+);
+
+/// The decisions 1 1 1, which weigh more than the room.
+const NO_SOLUTION: (u8, &[u8]) = (
+    SNAPSHOT,
+    b"\x01\x00\x00\x00\x00\x00\x00\x00\xb4\x00\x00\x00\x03\x00\x00\x00\x01\x00\x00\x00\x01\x00\x00\x00\x01\x00\x00\x00\x00\x00\x00\x00\x03\x00\x00\x00\x01\x00\x00\x00\x00\x00\x00\x00\x02\x00\x00\x00\x00\x00\x00\x00\x78\x00\x00\x00\x01\x00\x00\x00\x00",
+);
+
+/// The children of the root, the second one first.
+const FALLING: (u8, &[u8]) = (
+    SNAPSHOT,
+    b"\x01\x00\x00\x00\x00\x00\x00\x00\x6e\x00\x00\x00\x03\x00\x00\x00\x01\x00\x00\x00\x01\x00\x00\x00\x00\x00\x00\x00\x00\x00\x00\x00\x03\x00\x00\x00\x02\x00\x00\x00\x00\x00\x00\x00\x02\x00\x00\x00\x00\x00\x00\x00\x78\x00\x00\x00\x01\x00\x00\x00\x00\x00\x00\x00\x00\x00\x00\x00\x01\x00\x00\x00\x00\x00\x00\x00\x79\x00\x00\x00\x01\x00\x00\x00\x01",
+);
+
+/// A ticket that was not given out yet.
+const NOT_GIVEN: (u8, &[u8]) = (
+    SNAPSHOT,
+    b"\x01\x00\x00\x00\x00\x00\x00\x00\x6e\x00\x00\x00\x03\x00\x00\x00\x01\x00\x00\x00\x01\x00\x00\x00\x00\x00\x00\x00\x00\x00\x00\x00\x02\x00\x00\x00\x01\x00\x00\x00\x00\x00\x00\x00\x02\x00\x00\x00\x00\x00\x00\x00\x78\x00\x00\x00\x01\x00\x00\x00\x00",
+);
+
+/// A subproblem that decides all items.
+const WHOLE: (u8, &[u8]) = (
+    SNAPSHOT,
+    b"\x01\x00\x00\x00\x00\x00\x00\x00\x6e\x00\x00\x00\x03\x00\x00\x00\x01\x00\x00\x00\x01\x00\x00\x00\x00\x00\x00\x00\x00\x00\x00\x00\x03\x00\x00\x00\x01\x00\x00\x00\x00\x00\x00\x00\x01\x00\x00\x00\x00\x00\x00\x00\x79\x00\x00\x00\x03\x00\x00\x00\x01\x00\x00\x00\x01\x00\x00\x00\x00",
+);
+
+/// A subproblem that takes two copies of an item.
+const NO_PREFIX: (u8, &[u8]) = (
+    SNAPSHOT,
+    b"\x01\x00\x00\x00\x00\x00\x00\x00\x6e\x00\x00\x00\x03\x00\x00\x00\x01\x00\x00\x00\x01\x00\x00\x00\x00\x00\x00\x00\x00\x00\x00\x00\x03\x00\x00\x00\x01\x00\x00\x00\x00\x00\x00\x00\x01\x00\x00\x00\x00\x00\x00\x00\x79\x00\x00\x00\x01\x00\x00\x00\x02",
+);
+
+/// A subproblem whose bound is 2^62 + 1.
+const FAR: (u8, &[u8]) = (
+    SNAPSHOT,
+    b"\x01\x00\x00\x00\x00\x00\x00\x00\x6e\x00\x00\x00\x03\x00\x00\x00\x01\x00\x00\x00\x01\x00\x00\x00\x00\x00\x00\x00\x00\x00\x00\x00\x03\x00\x00\x00\x01\x00\x00\x00\x00\x00\x00\x00\x01\x40\x00\x00\x00\x00\x00\x00\x01\x00\x00\x00\x01\x00\x00\x00\x01",
+);
+
+/// No ticket is left.
+const LAST_TICKET: (u8, &[u8]) = (
+    SNAPSHOT,
+    b"\x01\x00\x00\x00\x00\x00\x00\x00\x6e\x00\x00\x00\x03\x00\x00\x00\x01\x00\x00\x00\x01\x00\x00\x00\x00\xff\xff\xff\xff\xff\xff\xff\xff\x00\x00\x00\x01\x00\x00\x00\x00\x00\x00\x00\x01\x00\x00\x00\x00\x00\x00\x00\x79\x00\x00\x00\x01\x00\x00\x00\x01",
+);
+
+/// Ticket 1 is finished, with a child.
+const FIRST_CHILD: (u8, &[u8]) = (
+    FINISH,
+    b"\x00\x00\x00\x00\x00\x00\x00\x01\x00\x00\x00\x01\xff\xff\xff\xff\xff\xff\xff\xff\x00\x00\x00\x00\x00\x00\x00\x78\x00\x00\x00\x02\x00\x00\x00\x01\x00\x00\x00\x01",
+);
+
 /// What is known of a board: the incumbent's value, the bound, and whether nothing is open.
 type Known = (Option<i64>, Option<i64>, bool);
 
@@ -202,6 +277,7 @@ fn restored<M: DpModel>(
     model: M,
     records: &Records,
 ) -> Result<Known, JournalError> {
+    assert!(rt; records.within() == 0, "the distance of the head");
     let model = shared(alloc, model).expect(rt, "memory");
     let board = replay(alloc, records, model, SETTINGS)?;
     Ok(last_known(board).0)
@@ -241,55 +317,81 @@ const REPLAYS: &[(&[(u8, &[u8])], Result<Known, JournalError>)] = &[
         &[ROOT_FARTHEST],
         Ok((None, Some(0x4000_0000_0000_0000), false)),
     ),
-    (&[ALL_ITEMS], Err(JournalError::NoSolution { offset: 67 })),
-    (&[SHORT], Err(JournalError::NoSolution { offset: 67 })),
+    (&[ALL_ITEMS], Err(JournalError::NoSolution { offset: 75 })),
+    (&[SHORT], Err(JournalError::NoSolution { offset: 75 })),
     (
         &[ROOT, SHORT],
-        Err(JournalError::NoSolution { offset: 165 }),
+        Err(JournalError::NoSolution { offset: 173 }),
     ),
-    (&[IMPROVE_111], Err(JournalError::Malformed { offset: 67 })),
+    (&[IMPROVE_111], Err(JournalError::Malformed { offset: 75 })),
     (
         &[IMPROVE_110, IMPROVE_110],
-        Err(JournalError::Malformed { offset: 129 }),
+        Err(JournalError::Malformed { offset: 137 }),
     ),
     (
         &[IMPROVE_120, IMPROVE_110],
-        Err(JournalError::Malformed { offset: 129 }),
+        Err(JournalError::Malformed { offset: 137 }),
     ),
-    (&[FIRST], Err(JournalError::Malformed { offset: 67 })),
+    (&[FIRST], Err(JournalError::Malformed { offset: 75 })),
     (
         &[ROOT_ALONE, ROOT_ALONE],
-        Err(JournalError::Malformed { offset: 117 }),
+        Err(JournalError::Malformed { offset: 125 }),
     ),
     (
         &[ROOT_TWICE, FIRST],
-        Err(JournalError::Malformed { offset: 165 }),
+        Err(JournalError::Malformed { offset: 173 }),
     ),
-    (&[ROOT_WHOLE], Err(JournalError::Malformed { offset: 67 })),
+    (&[ROOT_WHOLE], Err(JournalError::Malformed { offset: 75 })),
     (
         &[ROOT_NO_PREFIX],
-        Err(JournalError::Malformed { offset: 67 }),
+        Err(JournalError::Malformed { offset: 75 }),
     ),
-    (&[ROOT_FAR], Err(JournalError::Malformed { offset: 67 })),
+    (&[ROOT_FAR], Err(JournalError::Malformed { offset: 75 })),
     (
         &[ROOT_FAR_BELOW],
-        Err(JournalError::Malformed { offset: 67 }),
+        Err(JournalError::Malformed { offset: 75 }),
     ),
     (
         &[ROOT_REPLACES_ITSELF],
-        Err(JournalError::Malformed { offset: 67 }),
+        Err(JournalError::Malformed { offset: 75 }),
     ),
     (
         &[ROOT, FIRST_SAME],
-        Err(JournalError::Malformed { offset: 165 }),
+        Err(JournalError::Malformed { offset: 173 }),
     ),
     (
         &[ROOT, FIRST_OTHER],
-        Err(JournalError::Malformed { offset: 165 }),
+        Err(JournalError::Malformed { offset: 173 }),
     ),
     (
         &[ROOT, FIRST_REPLACES_OTHER],
-        Err(JournalError::Malformed { offset: 165 }),
+        Err(JournalError::Malformed { offset: 173 }),
+    ),
+    (&[BOTH], Ok((Some(110), Some(121), false))),
+    (&[BOTH, FIRST], Ok((Some(110), Some(120), false))),
+    (&[FIRST, ALL_ITEMS, BOTH], Ok((Some(110), Some(121), false))),
+    (
+        &[ROOT, BOTH, FIRST, NOTHING],
+        Ok((Some(120), Some(120), true)),
+    ),
+    (&[WITHOUT_SOLUTION], Ok((None, Some(121), false))),
+    (&[BOTH, ROOT], Err(JournalError::Malformed { offset: 198 })),
+    (&[WRONG_VALUE], Err(JournalError::Malformed { offset: 75 })),
+    (&[NO_SOLUTION], Err(JournalError::NoSolution { offset: 75 })),
+    (&[FALLING], Err(JournalError::Malformed { offset: 75 })),
+    (&[NOT_GIVEN], Err(JournalError::Malformed { offset: 75 })),
+    (&[WHOLE], Err(JournalError::Malformed { offset: 75 })),
+    (&[NO_PREFIX], Err(JournalError::Malformed { offset: 75 })),
+    (&[FAR], Err(JournalError::Malformed { offset: 75 })),
+    (
+        &[ROOT_ALONE, FAR],
+        Err(JournalError::Malformed { offset: 125 }),
+    ),
+    (&[FAR, NOTHING], Ok((Some(120), Some(120), true))),
+    (&[LAST_TICKET, FIRST], Ok((Some(110), Some(110), true))),
+    (
+        &[LAST_TICKET, FIRST_CHILD],
+        Err(JournalError::Malformed { offset: 174 }),
     ),
 ];
 

@@ -64,7 +64,7 @@ pub fn open_board(rt: &impl Abort, alloc: Global, model: Knapsack) -> (BoardTurn
     ensures numbers { map number_of result.1.items ≡ range_with_len 0 (seats_of result.0) }
 {
     let disk = MemDisk::new(Vec::new(alloc), Vec::new(alloc));
-    let kept = Kept::new(first_board(rt, alloc, model), disk, None);
+    let kept = Kept::new(first_board(rt, alloc, model), disk, None, 1);
     match open(alloc, kept, 2) {
         Ok(opened) => opened,
         Err(NoTurn { .. }) => panic!(rt; "memory"),

@@ -46,7 +46,12 @@ fn first_board<M: DpModel>(rt: &impl Abort, alloc: Global, model: &Arc<M>) -> Ke
     };
     let model = Arc::try_clone(model).expect(rt, "memory");
     let board = Board::begin(alloc, model, settings).expect(rt, "memory");
-    Kept::new(board, MemDisk::new(Vec::new(alloc), Vec::new(alloc)), None)
+    Kept::new(
+        board,
+        MemDisk::new(Vec::new(alloc), Vec::new(alloc)),
+        None,
+        1,
+    )
 }
 
 /// A desk whose book has so many words at most.

@@ -11,7 +11,7 @@ use Rattle.journal_bytes.specs.declared.tail.Tail.{Tail}
 use Rattle.board.specs.Laws.MoveLaw.{KeepsMove, keeps-move}
 use Rattle.board.specs.Moves.{out_at}
 use Rattle.board.specs.View.{BoardView}
-use Rattle.kept_board.specs.Moves.{Stays, Steps, Fails, IsMove}
+use Rattle.kept_board.specs.Moves.{Stays, Snaps, Steps, Fails, IsMove}
 use Rattle.kept_board.specs.View.{KeptView, journal_made, tag_of}
 
 -- a halt changes the cause alone
@@ -35,13 +35,15 @@ module _ {D : Type 0} (on : Ghosts D) where
   same_made (Some t) None m n has e = absurd (cc)
   same_made (Some t) (Some u) m n has e = ap Some e
 
-  -- a move of the board, or a halt by the journal
+  -- a move of the board, a snapshot, or a halt by the journal
   board-moves : (meaning : List ℤ → Dp) (before now : KeptView D) (who : ℕ) → IsMove on meaning before now who → KeepsMove before.board now.board who
   board-moves meaning before now who m = ⊎_elim
       (λ (s : Stays on before now). keeps-move meaning before.board now.board who (record { numbers = m.numbers; first = m.first; step = inl s.board }))
+      (λ others. ⊎_elim
+      (λ (s : Snaps on before now). keeps-move meaning before.board now.board who (record { numbers = m.numbers; first = m.first; step = inl s.board }))
       (λ rest. ⊎_elim
       (λ (s : Steps on (meaning before.board.numbers) who before now). keeps-move meaning before.board now.board who (record { numbers = m.numbers; first = m.first; step = inr s.made }))
-      (λ (f : Fails on (meaning before.board.numbers) who before now). keeps-halt meaning before.board now.board who m.numbers m.first f.halts) rest) m.step
+      (λ (f : Fails on (meaning before.board.numbers) who before now). keeps-halt meaning before.board now.board who m.numbers m.first f.halts) rest) others) m.step
 
   pub keeps-kept-move : (meaning : List ℤ → Dp) (before now : KeptView D) (who : ℕ) → IsMove on meaning before now who → KeepsKeptMove before now who
   keeps-kept-move meaning before now who m =

@@ -4,8 +4,11 @@ use Rattle.std.specs.List.{All}
 use Rattle.std.proofs.Common.{arith, sym, ap, ◌∙◌, add-one, refl}
 use Rattle.std.proofs.lemmas.Int.{ints, clamps}
 use Rattle.std.proofs.lemmas.List.{drop-drop, length-drop, length-take-le, take-append-drop, nil_from_length}
+use Rattle.std.proofs.lemmas.Nat.{mul-le}
 use Rattle.benefit_rows.specs.Benefits.{size_of, rank_of}
 use Rattle.benefit_rows.specs.BenefitLaws.{rank_of-append, rank_of-drop}
+use Rattle.pair_rows.specs.Pairs.{pair_count}
+use Rattle.pair_rows.specs.Laws.Pairs.{pair_count-is}
 use Rattle.max_cut.specs.Graph.{Graph, IsGraph, IsWeight, negatives_of, pairs_of, row_start, row_of, weights_from}
 
 -- the pairs before a row and those from it on are all pairs
@@ -55,6 +58,11 @@ weights_from-none g h =
     let last : g.vertices - g.vertices ≡ 0 = omega arith in
     nil_from_length (weights_from g g.vertices) (length-weights_from g h g.vertices (omega arith) ∙ ap pairs_of last)
 
+-- as many pairs as rows of pairs list
+pub pairs_of-same : (n : ℕ) → pairs_of n ≡ pair_count n
+pairs_of-same zero = refl
+pairs_of-same (suc n) = ap (λ m. n + m) (pairs_of-same n)
+
 -- there are at most 2^20 pairs
 pub pairs_of-most : (n : ℕ) → n ≤ 1024 → pairs_of n ≤ 1024 * n
 pairs_of-most zero h = omega arith
@@ -66,14 +74,17 @@ rank_of-weights (w ∷ ws) h =
     let first : size_of w ≤ℤ pos 500000000 = h 0 (pos 0) (omega arith) in
     omega (arith, ints, rank_of-weights ws (λ k d less. h (suc k) d (omega arith)))
 
--- all weights together are at most 2^49
-pub rank_of-most : (g : Graph) → IsGraph g → rank_of g.weights ≤ℤ pos (2 ^ 49)
-rank_of-most g h =
-    let few = h.few in let whole = h.whole in
-    omega (arith, ints, rank_of-weights g.weights h.small, pairs_of-most g.vertices h.few)
+-- there are at most 1,023 for each two vertices
+pairs_of-few : (n : ℕ) → n ≤ 1024 → pairs_of n ≤ 523776
+pairs_of-few n h =
+    let square : n * n ≤ 1024 * n = mul-le n n 1024 n h (omega arith) in
+    omega (arith, pairs_of-same n, pair_count-is n)
 
-pub rank_of-weights_from : (g : Graph) → IsGraph g → (k : ℕ) → rank_of (weights_from g k) ≤ℤ pos (2 ^ 49)
-rank_of-weights_from g h k = omega (arith, ints, rank_of-most g h, rank_of-drop (row_start g.vertices k) g.weights)
+-- all weights together are at most 2^48
+pub rank_of-most : (g : Graph) → IsGraph g → rank_of g.weights ≤ℤ pos (2 ^ 48)
+rank_of-most g h =
+    let few = pairs_of-few g.vertices h.few in let whole = h.whole in
+    omega (arith, ints, rank_of-weights g.weights h.small)
 
 -- the negative weights are together at most zero, and no more than all weights
 pub negatives_of-bounds : (ws : List ℤ) → (negatives_of ws ≤ℤ pos 0) × (pos 0 ≤ℤ (negatives_of ws +ℤ rank_of ws))

@@ -6,9 +6,10 @@ ghost use Rattle.turn.specs.Seats.{first_of, seen_of, out_of};
 ghost use Rattle.search_workers.specs.Prepared.{CanHold};
 ghost use Rattle.search_workers.specs.Ready.{IfOver, IsWorker, IsReadySeat, TakenOut};
 ghost use Rattle.search_workers.specs.Seen.{reach_seen};
-ghost use Rattle.search_workers.specs.Stopped.{HasLeft, HasEndedAt};
+ghost use Rattle.search_workers.specs.Stopped.{HasLeft, HasNothingOpen, HasEndedAt};
 
 use super::moving::{Asked, take};
+use board::Taken;
 use disk::Disk;
 use dp_model::{DpModel, Sub};
 use kept_board::Kept;
@@ -31,6 +32,7 @@ pub fn take_one<M: DpModel, D: Disk + Send, R: Wait>(
     ensures number { seat.new.number ≡ seat.old.number }
     ensures left { HasLeft turn.now seat.new }
     ensures ended { IfOver result.taken (HasEndedAt turn.now seat.new) }
+    ensures waits { result.taken ≡ Taken.WaitForOthers → HasNothingOpen turn.now seat.new }
     ensures reach { result.reach ≡ reach_seen turn.now seat.new }
     ensures no_less { NoLess (seen_of seat.old) (seen_of seat.new) }
     ensures out { TakenOut (M.meaning (M.numbers model.now)) result.taken (out_of seat.new) into.new.subproblem }

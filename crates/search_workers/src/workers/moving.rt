@@ -1,9 +1,9 @@
 //! What a worker does with the board while it holds the turn: each function makes one move, or none.
 
-ghost use Rattle.std.specs.Prelude.{◌≡◌, ◌≢◌, ◌⊎◌, ◌<◌, true, false, [], None, Some, IsSome, IfOk, OnOk, IfErr, MatchBool};
-ghost use Rattle.board_laws.specs.Board.{incumbent_value, reach};
-ghost use Rattle.board_laws.specs.Steps.{given_back};
-ghost use Rattle.board_laws.specs.declared.cause.Cause.TheVariants.{Journal};
+ghost use Rattle.std.specs.Prelude.{◌≡◌, ◌≢◌, ◌⊎◌, ℕ, ◌<◌, true, false, [], None, Some, option_map, unwrap_or, IsSome, IfOk, OnOk, IfErr, MatchBool};
+ghost use Rattle.board_laws.specs.Board.{incumbent_value, reach, slot_at};
+ghost use Rattle.board_laws.specs.Steps.{given_back, halted};
+ghost use Rattle.board_laws.specs.declared.cause.Cause.TheVariants.{Journal, Memory};
 ghost use Rattle.dp_model.specs.Numbers.{AtMost, OptionAtMost};
 ghost use Rattle.dp_model.specs.Prefixes.{IsSolution, value_of};
 ghost use Rattle.kept_board.specs.Moves.{IsMove};
@@ -14,7 +14,7 @@ ghost use Rattle.search_workers.specs.Prepared.{CanHold};
 ghost use Rattle.disk.specs.Counts.{Rose};
 ghost use Rattle.search_workers.specs.Later.{NoRoundFollows};
 ghost use Rattle.search_workers.specs.Ready.{IfOver, TakenOut};
-ghost use Rattle.search_workers.specs.Stopped.{IsLeftOut, IsWhy};
+ghost use Rattle.search_workers.specs.Stopped.{IsLeftOut, IsWhy, IsSameOrHalted};
 
 use super::stopped::Stopped;
 use board::{Cause, Fate, Taken};
@@ -44,6 +44,8 @@ pub fn take<M: DpModel, D: Disk>(
     requires room { CanHold (M.meaning (M.numbers model.now)) into.old }
     ensures ended { IfOver result.taken (NoRoundFollows kept.new.board.board) }
     ensures reach { result.reach ≡ reach kept.new.board.board }
+    ensures waits { result.taken ≡ Taken.WaitForOthers → (kept.new.board.board.open_ones ≡ []) × (kept.new.board.board.cause ≡ None) }
+    ensures ticket { result.ticket ≡ unwrap_or (option_map (λ o. o.ticket) (slot_at kept.new.board.board who)) 0 }
     ensures out { TakenOut (M.meaning (M.numbers model.now)) result.taken (out_at kept.new.board.board who) into.new.subproblem }
     ensures room { CanHold (M.meaning (M.numbers model.now)) into.new }
     ensures moves { (kept.new ≡ kept.old) ⊎ IsMove D.Disk M.meaning kept.old kept.new who }
@@ -126,10 +128,25 @@ pub fn finish<M: DpModel, D: Disk>(
     }
 }
 
+/// Writes a snapshot where one is due, unless the search is halted for the journal. The board stays as it is, unless the disk fails.
+pub fn snapshot<M: DpModel, D: Disk>(alloc: Global, kept: &mut Kept<M, D>)
+    ensures same { IsSameOrHalted D.Disk kept.old kept.new }
+    ensures out { (who : ℕ) → out_at kept.new.board.board who ≡ out_at kept.old.board.board who }
+    ensures stopped { kept.old.board.board.cause ≡ Some Journal → kept.new ≡ kept.old }
+    ensures moves { (who : ℕ) → (kept.new ≡ kept.old) ⊎ IsMove D.Disk M.meaning kept.old kept.new who }
+{
+    if has_failed(kept) || !kept.snapshot_due() {
+        return;
+    }
+    // Without memory the search goes on, and where the disk failed it is halted.
+    let _ = kept.snapshot(alloc);
+}
+
 /// Hands back what the worker has out where a cause is held, else halts the search for want of memory. Says whether it handed back.
 pub fn give_back<M: DpModel, D: Disk>(kept: &mut Kept<M, D>, who: u32) -> bool
     requires full { IsSome (out_at kept.old.board.board who) }
     ensures ended { result ≡ true → NoRoundFollows kept.new.board.board }
+    ensures halts { result ≡ false → (kept.old.board.board.cause ≡ None) × (kept.new.board.board ≡ halted kept.old.board.board Memory) }
     ensures out { MatchBool result (out_at kept.new.board.board who ≡ None) (out_at kept.new.board.board who ≡ out_at kept.old.board.board who) }
     ensures moves { (kept.new ≡ kept.old) ⊎ IsMove D.Disk M.meaning kept.old kept.new who }
 {

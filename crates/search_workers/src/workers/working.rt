@@ -16,6 +16,7 @@ ghost use Rattle.search_workers.specs.Stopped.{IsLeftOut, HasLeft, WasStopped, H
 use super::gate::{Gate, Step};
 use super::holding_finish::finish_one;
 use super::holding_give_back::give_up;
+use super::holding_snapshot::snapshot_one;
 use super::holding_take::take_one;
 use super::offering::{relax_one, restrict_one};
 use super::stopped::Stopped;
@@ -32,7 +33,8 @@ use std::sync::Wait;
 use turn::{Seat, Turn};
 
 /// Does rounds until nothing is open or out, a cause is held or the budget is taken up, and passes the gate after each step. Each step
-/// of the board is one holding of the turn, and diagrams are compiled outside the turn.
+/// of the board is one holding of the turn, and diagrams are compiled outside the turn. Once a subproblem is finished, the worker holds
+/// again and writes a snapshot where one is due.
 ///
 /// The seat is one of the turn's with nothing out, its number is below the workers of the settings, the turn's instance is the model's,
 /// and the desk was prepared for the model and the width of the settings. It may wait for other workers.
@@ -96,7 +98,8 @@ fn round<M: DpModel, D: Disk + Send, G: Gate + Sync, R: Wait>(
     }
 }
 
-/// The rest of a round, once a subproblem was taken. Says whether it was finished; if not it was given back.
+/// The rest of a round, once a subproblem was taken: it is finished, and a snapshot is written where one is due. Says whether it was
+/// finished; if not it was given back.
 fn go_on<M: DpModel, D: Disk + Send, G: Gate + Sync, R: Wait>(
     rt: &R,
     alloc: Global,
@@ -122,6 +125,7 @@ fn go_on<M: DpModel, D: Disk + Send, G: Gate + Sync, R: Wait>(
     match expand(rt, alloc, turn, seat, desk, model, gate, reach) {
         Ok(()) => {
             gate.pass(who, Step::Finished);
+            snapshot_one(rt, alloc, turn, seat);
             true
         }
         Err(Stopped::GaveBack) => {

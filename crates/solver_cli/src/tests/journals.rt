@@ -95,12 +95,12 @@ fn whole_file<R: Abort + Threads + Wait + Sync>(rt: &R, alloc: Global) -> Vec<u8
 /// Where its gates stand, and whether they are open.
 const GATES: &[(usize, u8)] = &[
     (0, 1),
-    (67, 1),
-    (129, 1),
-    (227, 1),
-    (277, 1),
-    (339, 1),
-    (389, 0),
+    (75, 1),
+    (137, 1),
+    (235, 1),
+    (285, 1),
+    (347, 1),
+    (397, 0),
 ];
 
 /// Whether the gates of the file stand where they are to stand.
@@ -114,7 +114,7 @@ fn has_gates(file: &[u8]) -> bool {
 fn a_search_leaves_its_journal(rt: HostRuntime) {
     let file = whole_file(&rt, rt.alloc());
     let read = (file.len(), has_gates(file.as_slice()));
-    assert_eq!(rt; read, (390, true));
+    assert_eq!(rt; read, (398, true));
 }
 
 #[test]
@@ -133,31 +133,65 @@ fn a_journal_is_gone_on_from(rt: HostRuntime) {
 fn a_changed_byte_is_damage(rt: HostRuntime) {
     let alloc = rt.alloc();
     let mut file = whole_file(&rt, alloc);
-    if let Some(byte) = file.get_mut(80) {
+    if let Some(byte) = file.get_mut(88) {
         *byte ^= 1;
     }
-    let damaged = "journal damaged 67\n";
+    let damaged = "journal damaged 75\n";
     prints_on(&rt, alloc, "resume j", file.as_slice(), damaged, 5);
 }
 
-/// Files in hexadecimal digits, and how the search of each goes on.
+/// Files in hexadecimal digits, and how the search of each goes on: with another first record, of other versions, with a distance
+/// that is too small and one that is too great, with wrong records behind the head, with a snapshot in a journal of version 1,
+/// with wrong snapshots, and with one behind which the tickets run out.
 const REFUSED: &[(&str, &str)] = &[
     ("01", NOT_BEGUN),
     (
-        "01030000001d000000010100000014332031300a363020350a353020340a373020360ae3969b0177db8e1e1b6cbafe358f9ea35671ca95ea7db696f4b35a81ae4c121900",
+        "0103000000250000000201000000000000000000000014332031300a363020350a353020340a373020360ae8fef6e29a37df6970a8ff715dec38e66db500e00ffabd838a25e01fa12c1f8c00",
         "journal malformed 0\n",
     ),
     (
-        "01010000001d000000090100000014332031300a363020350a353020340a373020360ace9b3312aac9e86ce834a99a2802a116b70370e897ecb6056f362de91c2e5c4900",
+        "0101000000250000000901000000000000000000000014332031300a363020350a353020340a373020360a119ec9fe18c4de94d584f06a1eff6135872f65a22b5c7af63595100de0781c7400",
         "journal version 9\n",
     ),
     (
-        "01010000001d000000010100000014332031300a363020350a353020340a373020360a52964171cd488ba3853cb62d078166c91ac554cd60dba8b8c17dab01863e7a83010200000018000000000000006e00000003000000010000000100000001e87ce4dceaeedf3dadd5bd2c81a1c6ddbd6ae4a00f585db5cc174edee736d93000",
-        "journal no-solution 67\n",
+        "0101000000250000000001000000000000000000000014332031300a363020350a353020340a373020360a282a69258751bcd0bef0824b77e9b7010be12047430ab05f151f01482d071e2500",
+        "journal version 0\n",
     ),
     (
-        "01010000001d000000010100000014332031300a363020350a353020340a373020360a52964171cd488ba3853cb62d078166c91ac554cd60dba8b8c17dab01863e7a83010200000018000000000000006f0000000300000001000000010000000000790ab3e139559233c60c1d78829f2c206a6031b238c74e7ba50ca7516856dc00",
+        "0101000000250000000201ffffffffffffffff00000014332031300a363020350a353020340a373020360ae6498d3abe88aca32bbc48067016843fac0922e1d8795bf02c1267fac7f04b2600",
+        "journal malformed 0\n",
+    ),
+    (
+        "0101000000250000000201000400000000000100000014332031300a363020350a353020340a373020360af3f6d03a35419b78449bb13875f4aa497d3464e0173e436305e82d713b109cd300",
+        "journal malformed 0\n",
+    ),
+    (
+        "0101000000250000000201000000000000000000000014332031300a363020350a353020340a373020360aabb9b151f9a6767344f3a4544cc434d3c64a064948c132d445382beb323546b8010200000018000000000000006e00000003000000010000000100000001a01757ea85cc57c2d83a2adb989c4478687a3810b0a606103e3250d1683ece1e00",
+        "journal no-solution 75\n",
+    ),
+    (
+        "0101000000250000000201000000000000000000000014332031300a363020350a353020340a373020360aabb9b151f9a6767344f3a4544cc434d3c64a064948c132d445382beb323546b8010200000018000000000000006f000000030000000100000001000000008f9c94ec50fd5ace1d96c7497a99ff2c42807176229fa769da02973729a5b25900",
+        "journal malformed 75\n",
+    ),
+    (
+        "01010000001d000000010100000014332031300a363020350a353020340a373020360a52964171cd488ba3853cb62d078166c91ac554cd60dba8b8c17dab01863e7a83010400000021000000000000000001000000010000000000000000000000000000007900000000ceb2d7b0396c988caaa37d07c0004ed3548b4442a31a971f6b8a6215bb17d89700",
         "journal malformed 67\n",
+    ),
+    (
+        "0101000000250000000201000000000000000000000014332031300a363020350a353020340a373020360aabb9b151f9a6767344f3a4544cc434d3c64a064948c132d445382beb323546b80104000000390100000000000000b4000000030000000100000001000000010000000000000001000000010000000000000000000000000000007900000000ef8fb428f858b28332fb60d47c241804a05ff3085a3c68b95b41fbacdca6f29900",
+        "journal no-solution 75\n",
+    ),
+    (
+        "0101000000250000000201000000000000000000000014332031300a363020350a353020340a373020360aabb9b151f9a6767344f3a4544cc434d3c64a064948c132d445382beb323546b801040000003901000000000000006f000000030000000100000001000000000000000000000001000000010000000000000000000000000000007900000000726ade48f190c179c65c6c563f1778835d3a65b08e99a411b108bbd277b1b39d00",
+        "journal malformed 75\n",
+    ),
+    (
+        "0101000000250000000201000000000000000000000014332031300a363020350a353020340a373020360aabb9b151f9a6767344f3a4544cc434d3c64a064948c132d445382beb323546b8010400000021000000000000000001000000010000000000000001000000000000007900000000ac58846c9d7cb1a2d2e636525ebe37d36dd3e999c1266b2cae5a8fbae2afedc600",
+        "journal malformed 75\n",
+    ),
+    (
+        "0101000000250000000201000000000000000000000014332031300a363020350a353020340a373020360aabb9b151f9a6767344f3a4544cc434d3c64a064948c132d445382beb323546b801040000002100ffffffffffffffff0000000100000000000000000000000000000079000000001c9cd9c2a2a8ddbfdbcf017ec81abf465354a76995f3abaadfc93434e9a3459c010300000024000000000000000000000001ffffffffffffffff00000000000000780000000100000000b886ad6836619fdcdc9896400258f0686ca8a3ccbe6e52e2fb24be1d8b4ee09700",
+        "journal malformed 146\n",
     ),
 ];
 
@@ -168,6 +202,40 @@ fn journals_are_refused(rt: HostRuntime) {
         let file = hex::decode(alloc, digits).expect(&rt, "a file");
         prints_on(&rt, alloc, "resume j", file.as_slice(), text, 5);
     }
+}
+
+/// What a crash has left of the search's journal in a file of version 1: the head, the solution of 110, the root with two children,
+/// and a closed gate.
+const VERSION_ONE: &str =
+    "01010000001d000000010100000014332031300a363020350a353020340a373020360a52964171cd488ba3853cb62d078166c91ac554cd60dba8b8c17dab01863e7a83010200000018000000000000006e000000030000000100000001000000007615177a84edd55f388ddf2b03ae7d53a15cb29a662da4db4b62bf1b10ea03a701030000003c000000000000000000000002ffffffffffffffff00000000000000790000000100000001ffffffffffffffff00000000000000780000000100000000495fdfa123fdf44dc92f6d2f105de1312d380c57003bce9188447b8307e16f5100";
+
+/// How a search of version 1 begins: the byte of the gate, the kind of the head, the length of its body, and the version.
+const VERSION_ONE_HEAD: &[u8] = b"\x01\x01\x00\x00\x00\x1d\x00\x00\x00\x01";
+
+#[test]
+fn a_journal_of_version_one_is_gone_on_from(rt: HostRuntime) {
+    let alloc = rt.alloc();
+    let file = hex::decode(alloc, VERSION_ONE).expect(&rt, "a file");
+    let told = run_over(&rt, alloc, "resume j --width 1", file.as_slice());
+    assert!(rt; is_best(&told));
+    let left = told.disk.bytes();
+    let read = (left.len() > file.len(), left.starts_with(VERSION_ONE_HEAD));
+    assert_eq!(rt; read, (true, true));
+    prints_on(&rt, alloc, "resume j", left, BEST, 0);
+}
+
+#[test]
+fn a_journal_has_the_distance_of_its_search(rt: HostRuntime) {
+    let alloc = rt.alloc();
+    let near = "proved within 10\nvalue 110\nassignment 1 1 0\n";
+    let told = run_over(
+        &rt,
+        alloc,
+        "solve knapsack --width 1 --within 10 --journal j",
+        &[],
+    );
+    assert!(rt; says(&told, near, 0));
+    prints_on(&rt, alloc, "resume j", told.disk.bytes(), near, 0);
 }
 
 /// What the search may print where only the call with this number fails.

@@ -38,6 +38,10 @@ const ASKED: &[(&str, &str)] = &[
         "Ok(Solve { model: MaxTwoSat, settings: JobSettings { width: None, workers: 1, budget: 18446744073709551615, cutset: LastExactLayer, stats: false, within: 1125899906842624, cover_words: None }, journal: None, part: None })",
     ),
     (
+        "solve|max2sat|--journal|j|--within=7",
+        "Ok(Solve { model: MaxTwoSat, settings: JobSettings { width: None, workers: 1, budget: 18446744073709551615, cutset: LastExactLayer, stats: false, within: 7, cover_words: None }, journal: Some(\"j\"), part: None })",
+    ),
+    (
         "resume|--|-j",
         "Ok(Resume { path: \"-j\", settings: DEFAULTS })",
     ),

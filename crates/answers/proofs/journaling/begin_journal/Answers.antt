@@ -1,11 +1,13 @@
-use Rattle.std.proofs.Common.{◌≡◌, ◌⊎◌, ℕ, List, [], inl, sym, ◌∙◌, ap, subst, IsTrue}
+use Rattle.std.proofs.Common.{◌≡◌, ◌⊎◌, ℕ, List, [], inl, sym, ◌∙◌, ap, subst, IsTrue, w64, to_z, of_z, rules}
 use Rattle.std.specs.Prelude.{IfErr, Err}
 use Rattle.std.proofs.lemmas.Result.{err_from_is_err_and}
 use Rattle.disk.specs.Counts.{Rose}
+use Rattle.journal_bytes.specs.Journal.{is_distance}
 use Rattle.journal_file.specs.Beginning.{BeganAt, IsBegun, LeavesSince, MayBegin}
 use Rattle.journal_file.specs.declared.error.JournalError.{JournalError}
 use Rattle.answers.specs.Journals.{HasBegun, IsRefusedToBegin}
 use Rattle.answers.specs.Kept.{head_of}
+use Rattle.answers.proofs.Heads.{passes, same-head}
 use Rattle.answers.proofs.Journaled.{after-attaching, at-first, begun-alone, nothing-yet, on-ok, refused-to-begin, unattached}
 use Rattle.answers.proofs.journaling.begin_journal.Goals as goal
 
@@ -21,7 +23,7 @@ returns-in_err-attach-clause-spared g c = nothing-yet g.D.Disk c.attach.new.self
 pub returns-in_err-attach-clause-refused : goal.returns-in_err-attach-clause-refused
 returns-in_err-attach-clause-refused g c =
     let now = c.attach.new.self in
-    let head = head_of g.P.Problem.theory c.args.name (g.P.DpModel.numbers c.args.model.now) in
+    let head = head_of g.P.Problem.theory c.args.name c.args.search.within (g.P.DpModel.numbers c.args.model.now) in
     let told = err_from_is_err_and c.from_residual.result c.from_residual.ensures.1 in
     subst (λ r. IfErr r (IsRefusedToBegin g.D.Disk head c.args.disk.now now)) (sym (told.1 ∙ ap (λ (e : JournalError). Err e) told.2))
     (c.in_err-attach.ensures.faults.1, nothing-yet g.D.Disk now (λ s. MayBegin s.content → (x : List ℕ) → g.D.Disk.left_since now s.moment x → HasBegun head [] x) c.attach.ensures.start c.attach.ensures.found)
@@ -42,9 +44,11 @@ pub returns-clause-since : goal.returns-clause-since
 returns-clause-since g c =
     let mid = c.attach.new.self in
     let new = c.begin.new.disk in
-    let head = ap (λ (t : List ℕ). record { model = c.args.name; text = t }) c.in_ok-text.ensures.text in
+    let h = c.head_of-head in
+    let read : to_z w64 (of_z w64 c.args.search.within) ≡ c.args.search.within = search rules in
+    let head = same-head h.result c.args.name c.args.search.within (g.P.Problem.theory.canonical (g.P.DpModel.numbers c.args.model.now)) h.ensures.model (h.ensures.within ∙ read) (h.ensures.text ∙ c.in_ok-text.ensures.text) in
     let keeps = c.begin.ensures.keeps in
-    after-attaching g.D.Disk mid new (λ s. MayBegin s.content → LeavesSince g.D.Disk.moment g.D.Disk.left_since s new (IsBegun (head_of g.P.Problem.theory c.args.name (g.P.DpModel.numbers c.args.model.now)))) keeps.still_tells c.attach.ensures.found keeps.same_found
+    after-attaching g.D.Disk mid new (λ s. MayBegin s.content → LeavesSince g.D.Disk.moment g.D.Disk.left_since s new (IsBegun (head_of g.P.Problem.theory c.args.name c.args.search.within (g.P.DpModel.numbers c.args.model.now)))) keeps.still_tells c.attach.ensures.found keeps.same_found
     (λ tells. at-first (g.D.Disk.start new) (g.D.Disk.seen mid) (g.D.Disk.seen new) _ _ (λ s x may. subst (λ h. LeavesSince g.D.Disk.moment g.D.Disk.left_since s new (IsBegun h)) head (x.1 may)) (c.begin.ensures.since tells c.attach.ensures.start))
 
 pub returns-clause-begins : goal.returns-clause-begins
@@ -71,7 +75,7 @@ returns-clause-refused g c =
     let new = c.begin.new.disk in
     let keeps = c.begin.ensures.keeps in
     let fresh = c.attach.ensures.start in
-    let head = head_of g.P.Problem.theory c.args.name (g.P.DpModel.numbers c.args.model.now) in
+    let head = head_of g.P.Problem.theory c.args.name c.args.search.within (g.P.DpModel.numbers c.args.model.now) in
     refused-to-begin g.D.Disk head c.args.disk.now new (g.D.Disk.seen mid) c.begin.result c.begin.ensures.errors
     (λ is. subst (λ n. Rose n (g.D.Disk.faults new)) c.in_ok-attach.ensures.faults (c.begin.ensures.disk is))
     (begun-alone g.D.Disk new head (returns-clause-since g c))
@@ -80,3 +84,8 @@ returns-clause-refused g c =
     (λ tells. at-first (g.D.Disk.start new) (g.D.Disk.seen mid) (g.D.Disk.seen new) _ _ (λ s x. x.0) (c.begin.ensures.since tells fresh)))
     (returns-clause-spared g c)
     (λ is tells. let e = c.begin.ensures.exists is (subst IsTrue keeps.still_tells tells) in (e.0, e.1))
+
+pub begin-requires-clause-within : goal.begin-requires-clause-within
+begin-requires-clause-within g c =
+    let read : to_z w64 (of_z w64 c.args.search.within) ≡ c.args.search.within = search rules in
+    subst (λ z. IsTrue (is_distance z)) (sym (c.head_of-head.ensures.within ∙ read)) (passes c.args.search.within c.requires.distance)

@@ -1,9 +1,11 @@
 use Rattle.std.proofs.Common.{◌≡◌, [], inl, sym, ◌∙◌, ap, subst, IsTrue}
 use Rattle.std.specs.Prelude.{Err, None, IsSome}
 use Rattle.std.proofs.lemmas.Result.{err_from_is_err_and}
+use Rattle.journal_bytes.specs.Journal.{journal_of}
 use Rattle.journal_file.specs.Beginning.{BeganAt}
 use Rattle.journal_file.specs.declared.error.JournalError.{JournalError}
 use Rattle.answers.specs.Journals.{HasOpened}
+use Rattle.answers.proofs.Heads.{head-distance, heads-near}
 use Rattle.answers.proofs.Journaled.{after-attaching, at-first, began-fresh, nothing-yet, opened-since, unattached}
 use Rattle.answers.proofs.journaling.open_journal.Goals as goal
 
@@ -40,3 +42,6 @@ returns-clause-opened g c =
     (after-attaching g.D.Disk mid new (λ s. s.content ≡ g.D.Disk.seen mid) keeps.still_tells c.attach.ensures.found keeps.same_found
     (λ tells. at-first (g.D.Disk.start new) (g.D.Disk.seen mid) (g.D.Disk.seen new) _ _ (λ s b. b.content) (c.reopen.ensures.start tells c.attach.ensures.start)))
     (began-fresh (g.D.Disk.start mid ≡ None) (IsSome (g.D.Disk.start new)) c.reopen.result c.attach.ensures.start c.reopen.ensures.began_refused)
+
+pub returns-clause-distance : goal.returns-clause-distance
+returns-clause-distance g c = heads-near c.reopen.result (journal_of c.reopen.ensures.exact.file) c.reopen.ensures.exact.opens (head-distance c.reopen.ensures.exact.file)

@@ -1,5 +1,5 @@
-use Rattle.std.proofs.Common.{rules, ◌≡◌}
-use Rattle.journal_bytes.specs.Journal.{head_view}
+use Rattle.std.proofs.Common.{rules, ◌≡◌, refl}
+use Rattle.journal_bytes.specs.Journal.{new_head}
 use Rattle.journal_bytes.specs.Spelling.{head_bytes}
 use Rattle.journal_bytes.proofs.Again.{head_written}
 use Rattle.journal_bytes.proofs.writing.head_body.Goals as goal
@@ -7,6 +7,6 @@ use Rattle.journal_bytes.proofs.writing.head_body.Goals as goal
 pub returns-clause-reads : goal.returns-clause-reads
 unfolding head_bytes
 returns-clause-reads c =
-    let h = head_view c.args.head.now in
-    let bytes : c.extend_from_slice-3.new.self.items ≡ head_bytes h = search rules in
-    head_written c.extend_from_slice-3.new.self.items h bytes c.requires
+    let h = new_head c.args.head.now in
+    let bytes : c.extend_from_slice-4.new.self.items ≡ head_bytes h = search rules in
+    head_written c.extend_from_slice-4.new.self.items h bytes refl c.requires.text c.requires.within

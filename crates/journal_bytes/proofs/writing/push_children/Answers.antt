@@ -4,7 +4,7 @@ use Rattle.std.proofs.lemmas.List.Elements.{All-more}
 use Rattle.journal_bytes.specs.declared.record.Child.{Child}
 use Rattle.journal_bytes.specs.Spelling.{child_bytes, ChildFits}
 use Rattle.journal_bytes.specs.Views.{child_view}
-use Rattle.journal_bytes.proofs.Sizes.{children_more}
+use Rattle.journal_bytes.proofs.Sizes.{bytes_more}
 use Rattle.journal_bytes.proofs.writing.push_children.Goals as goal
 
 pub loop-one-preserved : goal.loop-one-preserved
@@ -16,6 +16,6 @@ loop-one-preserved c =
     record {
       bytes = c.in_ok-push_child.ensures.bytes ∙ ap (λ (b : List ℕ). b ++ child_bytes (child_view one)) l.invariant.bytes ∙ append_assoc c.args.body.now.items so_far (child_bytes (child_view one))
           ∙ ap (λ (x : Child). c.args.body.now.items ++ (so_far ++ child_bytes (child_view x))) c.one-item.is
-          ∙ ap (λ (b : List ℕ). c.args.body.now.items ++ b) (sym (children_more children l.one-index one (omega arith)));
+          ∙ ap (λ (b : List ℕ). c.args.body.now.items ++ b) (sym (bytes_more child_view child_bytes children l.one-index one (omega arith)));
       fits = All-more (λ x. ChildFits (child_view x)) children l.one-index one (omega arith) l.invariant.fits (subst (λ (x : Child). ChildFits (child_view x)) c.one-item.is c.in_ok-push_child.ensures.fits);
     }

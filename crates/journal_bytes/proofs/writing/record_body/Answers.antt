@@ -31,3 +31,16 @@ returns-in-Finish-clause-size c =
     let r = record_view c.args.entry.now in
     let bytes : IfOk c.finish_body.result (λ v. v.items ≡ record_bytes r) = search rules in
     sized c.finish_body.result r bytes
+
+pub returns-in-Snapshot-clause-reads : goal.returns-in-Snapshot-clause-reads
+returns-in-Snapshot-clause-reads c =
+    let r = record_view c.args.entry.now in
+    let bytes : IfOk c.snapshot_body.result (λ v. v.items ≡ record_bytes r) = search rules in
+    let fits : OnOk c.snapshot_body.result (RecordFits r) = search rules in
+    written c.snapshot_body.result r bytes fits
+
+pub returns-in-Snapshot-clause-size : goal.returns-in-Snapshot-clause-size
+returns-in-Snapshot-clause-size c =
+    let r = record_view c.args.entry.now in
+    let bytes : IfOk c.snapshot_body.result (λ v. v.items ≡ record_bytes r) = search rules in
+    sized c.snapshot_body.result r bytes

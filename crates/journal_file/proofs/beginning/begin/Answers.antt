@@ -1,20 +1,20 @@
 use Rattle.std.proofs.Common.{◌⊎◌, inl, inr, sym, subst}
 use Rattle.std.specs.Prelude.{IsTrue}
-use Rattle.journal_bytes.specs.Journal.{head_view}
+use Rattle.journal_bytes.specs.Journal.{new_head}
 use Rattle.journal_file.specs.Beginning.{BeganAt, MayBegin}
 use Rattle.journal_file.proofs.Begun as begun
 use Rattle.journal_file.proofs.beginning.begin.Goals as goal
 
 pub returns-in_err-has_gate-clause-since : goal.returns-in_err-has_gate-clause-since
 returns-in_err-has_gate-clause-since g c tells fresh =
-    let h = head_view c.args.head.now in
+    let h = new_head c.args.head.now in
     let disk = c.probe.new.disk in
     let file = g.D.Disk.seen c.args.disk.now in
     begun.at_first file (g.D.Disk.start disk) (g.D.Disk.seen disk) (λ s. BeganAt g.D.Disk.moment g.D.Disk.left_since s disk file) (begun.Begun g.D.Disk.moment g.D.Disk.left_since h file disk) (c.probe.ensures.start tells fresh) (begun.at_probe g.D.Disk.moment g.D.Disk.left_since h file disk)
 
 pub returns-in_err-add_head-clause-since : goal.returns-in_err-add_head-clause-since
 returns-in_err-add_head-clause-since g c tells fresh =
-    let h = head_view c.args.head.now in
+    let h = new_head c.args.head.now in
     let mid = c.probe.new.disk in
     let new = c.add_head.new.disk in
     let file = g.D.Disk.seen c.args.disk.now in
@@ -23,7 +23,7 @@ returns-in_err-add_head-clause-since g c tells fresh =
 
 pub returns-clause-since : goal.returns-clause-since
 returns-clause-since g c tells fresh =
-    let h = head_view c.args.head.now in
+    let h = new_head c.args.head.now in
     let mid = c.probe.new.disk in
     let new = c.add_head.new.disk in
     let file = g.D.Disk.seen c.args.disk.now in

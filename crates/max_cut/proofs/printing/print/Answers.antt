@@ -7,7 +7,7 @@ use Rattle.max_cut.proofs.TextLengths.{text_short}
 use Rattle.max_cut.proofs.printing.print.Goals as goal
 
 pub returns-clause-short : goal.returns-clause-short
-returns-clause-short c = rw c.in_ok-text.ensures (text_short (instance_in c.args.model.now) c.args.model.now.prepared.graph)
+returns-clause-short c = rw c.in_ok-text.ensures (text_short (instance_in c.args.model.now) c.args.model.now.graph)
 
 pub returns-clause-reads_back : goal.returns-clause-reads_back
-returns-clause-reads_back c = ap instance_text c.in_ok-text.ensures ∙ reads_back (instance_in c.args.model.now) c.args.model.now.prepared.graph Never
+returns-clause-reads_back c = ap instance_text c.in_ok-text.ensures ∙ reads_back (instance_in c.args.model.now) c.args.model.now.graph Never

@@ -17,25 +17,25 @@ returns-clause-ends g c =
     let meaning = g.P.DpModel.meaning in
     let own = g.P.Problem.theory.own_value in
     let here = g.P.DpModel.numbers (arc_value c.args.start.model) in
-    let head = head_of g.P.Problem.theory c.args.name here in
+    let head = head_of g.P.Problem.theory c.args.name c.args.search.within here in
     let kept = c.new-kept.ensures in
     let board = c.args.start.board in
     let ended = c.search_from-ended.result.0 in
     let now = c.search_from-ended.result.1 in
     let searched = searched-here g.D.Disk meaning (g.P.DpModel.numbers c.deref.result.now) here (ap g.P.DpModel.numbers c.deref.ensures) c.new-kept.result board c.args.disk true kept.board kept.made (ap is_some kept.tail) now own c.args.search ended (c.search_from-ended.ensures.searched (own (g.P.DpModel.numbers c.deref.result.now)) (agrees_of g c.deref.result.now)) in
-    ends g.D.Disk (meaning here) (own here) head c.args.search c.requires.may.exact c.args.disk c.args.tail c.requires.ready now board.first (first-is (meaning here) c.args.search board c.args.start.desks c.requires.begun) c.requires.begun.good ended c.answer_of.result c.answer_of.ensures.answers searched
+    ends g.D.Disk (meaning here) (own here) head c.args.search c.requires.may.distance c.args.disk c.args.tail c.requires.ready now board.first (first-is (meaning here) c.args.search board c.args.start.desks c.requires.begun) c.requires.begun.good ended c.answer_of.result c.answer_of.ensures.answers searched
 
 pub returns-clause-left : goal.returns-clause-left
 returns-clause-left g c =
     let meaning = g.P.DpModel.meaning in
     let own = g.P.Problem.theory.own_value in
     let here = g.P.DpModel.numbers (arc_value c.args.start.model) in
-    let head = head_of g.P.Problem.theory c.args.name here in
+    let head = head_of g.P.Problem.theory c.args.name c.args.search.within here in
     let kept = c.new-kept.ensures in
     let board = c.args.start.board in
     let now = c.search_from-ended.result.1 in
     let keeps = keeps-here g.D.Disk meaning (g.P.DpModel.numbers c.deref.result.now) here (ap g.P.DpModel.numbers c.deref.ensures) c.new-kept.result board c.args.disk true kept.board kept.made (ap is_some kept.tail) now c.search_from-ended.ensures.keeps in
-    left g.D.Disk (meaning here) (own here) head c.args.search c.requires.may.exact c.args.disk c.args.tail c.requires.ready now board.board.settings c.requires.begun.ready.prepared.asked.distance keeps
+    left g.D.Disk (meaning here) (own here) head c.args.search c.requires.may.distance c.args.disk c.args.tail c.requires.ready now board.board.settings keeps
 
 pub returns-clause-names : goal.returns-clause-names
 returns-clause-names g c =
@@ -45,7 +45,7 @@ returns-clause-names g c =
     let kept = c.new-kept.ensures in
     let now = c.search_from-ended.result.1 in
     let keeps = keeps-here g.D.Disk meaning (g.P.DpModel.numbers c.deref.result.now) here (ap g.P.DpModel.numbers c.deref.ensures) c.new-kept.result c.args.start.board c.args.disk true kept.board kept.made (ap is_some kept.tail) now c.search_from-ended.ensures.keeps in
-    same-attached g.D.Disk (meaning here) (own here) (head_of g.P.Problem.theory c.args.name here) c.args.search c.requires.may.exact c.args.disk c.args.tail c.requires.ready now keeps.board keeps.keeps
+    same-attached g.D.Disk (meaning here) (own here) (head_of g.P.Problem.theory c.args.name c.args.search.within here) c.args.search c.requires.may.distance c.args.disk c.args.tail c.requires.ready now keeps.board keeps.keeps
 
 pub returns-clause-start : goal.returns-clause-start
 returns-clause-start g c =
@@ -55,7 +55,7 @@ returns-clause-start g c =
     let kept = c.new-kept.ensures in
     let now = c.search_from-ended.result.1 in
     let keeps = keeps-here g.D.Disk meaning (g.P.DpModel.numbers c.deref.result.now) here (ap g.P.DpModel.numbers c.deref.ensures) c.new-kept.result c.args.start.board c.args.disk true kept.board kept.made (ap is_some kept.tail) now c.search_from-ended.ensures.keeps in
-    same-begun g.D.Disk (meaning here) (own here) (head_of g.P.Problem.theory c.args.name here) c.args.search c.requires.may.exact c.args.disk c.args.tail c.requires.ready now keeps.board keeps.keeps
+    same-begun g.D.Disk (meaning here) (own here) (head_of g.P.Problem.theory c.args.name c.args.search.within here) c.args.search c.requires.may.distance c.args.disk c.args.tail c.requires.ready now keeps.board keeps.keeps
 
 pub answer_of-requires-clause-true_told : goal.answer_of-requires-clause-true_told
 answer_of-requires-clause-true_told g c κs within =

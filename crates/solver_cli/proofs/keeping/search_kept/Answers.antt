@@ -16,7 +16,7 @@ returns-in-Ok-clause-solves g c =
     let here = g.P.DpModel.numbers (arc_value c.args.start.model) in
     let dp = g.P.DpModel.meaning here in
     let own = g.P.Problem.theory.own_value here in
-    let head = head_of g.P.Problem.theory c.args.name here in
+    let head = head_of g.P.Problem.theory c.args.name c.args.search.within here in
     begun-solves g.D.Disk dp own head c.args.search c.args.disk c.search_begun.result.1 c.search_begun.result.0 c.search_begun.ensures.ends
 
 pub returns-in-Ok-clause-left : goal.returns-in-Ok-clause-left
@@ -26,7 +26,7 @@ returns-in-Ok-clause-left g c =
 pub returns-in-Err-clause-solves : goal.returns-in-Err-clause-solves
 returns-in-Err-clause-solves g c =
     let asked = c.requires.begun.ready.prepared.asked in (
-      subst (λ ns. IsRefusedToBegin g.D.Disk (head_of g.P.Problem.theory c.args.name ns) c.args.disk c.begin_journal.new.disk c.in-Err.error) (ap g.P.DpModel.numbers c.deref.ensures) c.in-Err.ensures.refused,
+      subst (λ ns. IsRefusedToBegin g.D.Disk (head_of g.P.Problem.theory c.args.name c.args.search.within ns) c.args.disk c.begin_journal.new.disk c.in-Err.error) (ap g.P.DpModel.numbers c.deref.ensures) c.in-Err.ensures.refused,
       (c.args.start.board.board.settings.width, asked.wide),
     )
 
@@ -36,6 +36,9 @@ returns-in-Err-clause-left g c =
     let here = g.P.DpModel.numbers m in
     let now = c.begin_journal.new.disk in (
       c.begin_journal.ensures.attaches,
-      left-begun-alone g.D.Disk (g.P.DpModel.meaning here) now (head_of g.P.Problem.theory c.args.name here) (laws_of g m) c.begin_journal.ensures.spared
-          (subst (λ ns. BeginsSince g.D.Disk (head_of g.P.Problem.theory c.args.name ns) now) (ap g.P.DpModel.numbers c.deref.ensures) c.begin_journal.ensures.since),
+      left-begun-alone g.D.Disk (g.P.DpModel.meaning here) now (head_of g.P.Problem.theory c.args.name c.args.search.within here) (laws_of g m) c.requires.may.distance c.begin_journal.ensures.spared
+          (subst (λ ns. BeginsSince g.D.Disk (head_of g.P.Problem.theory c.args.name c.args.search.within ns) now) (ap g.P.DpModel.numbers c.deref.ensures) c.begin_journal.ensures.since),
     )
+
+pub begin_journal-requires-clause-distance : goal.begin_journal-requires-clause-distance
+begin_journal-requires-clause-distance g c κs within = c.requires.may.distance

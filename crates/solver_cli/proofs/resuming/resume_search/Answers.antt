@@ -1,9 +1,12 @@
-use Rattle.std.proofs.Common.{true, is_some, ap, subst, sym, ◌∙◌}
-use Rattle.answers.proofs.Journaled.{none-follow}
+use Rattle.std.proofs.Common.{◌≡◌, Some, true, is_some, ap, subst, sym, ◌∙◌}
+use Rattle.answers.proofs.Journaled.{made-resumed, none-follow}
+use Rattle.kept_board.specs.Kept.{MayKeep}
 use Rattle.dp_model.specs.Laws.{IsLawful}
 use Rattle.journal_bytes.specs.Journal.{head_view}
-use Rattle.answers.specs.Kept.{GoesOn, MayBeAdded}
-use Rattle.solver_cli.proofs.GoingOn.{first-good, first-restored, gone-on, leaves, leaves-it, reported}
+use Rattle.answers.specs.Kept.{GoesOn, MayBeAdded, going_on}
+use Rattle.journal_replay.specs.Sound.{AreSound}
+use Rattle.solver_words.specs.declared.job.JobSettings.{JobSettings}
+use Rattle.solver_cli.proofs.GoingOn.{first-good, first-restored, gone-on, leaves, leaves-it, may-go-on, not-gone-on, reported}
 use Rattle.solver_cli.proofs.Told.{keeps-here, searched-here}
 use Rattle.solver_cli.proofs.resuming.resume_search.Given as given
 use Rattle.problem_theory.specs.Theory.{Agrees}
@@ -22,19 +25,23 @@ returns-in-Ok-clause-goes_on g c =
     let dp = meaning here in
     let own = g.P.Problem.theory.own_value in
     let at = ap g.P.DpModel.numbers c.deref.ensures ∙ c.in-Ok.ensures.model in
-    let head = head_view c.args.head.now in
+    let head = head_view c.args.tail.version c.args.head.now in
     let records = c.args.records.now in
     let kept = c.new-kept.ensures in
+    let search = c.going_on-search.result in
+    let same : search ≡ going_on head c.args.search = c.going_on-search.ensures c.args.tail.version in
+    let near = ap (λ (s : JobSettings). s.within) same in
+    let may = may-go-on head search c.args.search same c.requires.distance c.requires.may in
     let start = c.in-Ok.field-0 in
     let board = start.board in
     let on = c.in-Ok.ensures.goes_on in
     let ended = c.search_from-ended.result.0 in
     let now = c.search_from-ended.result.1 in
-    let searched = searched-here g.D.Disk meaning (g.P.DpModel.numbers c.deref.result.now) here at c.new-kept.result board c.args.disk true kept.board kept.made (ap is_some kept.tail) now own c.args.search ended (c.search_from-ended.ensures.searched (own (g.P.DpModel.numbers c.deref.result.now)) (agrees_of g c.deref.result.now)) in
-    let gone = gone-on g.D.Disk dp (own here) head records.records c.args.search c.requires.may.exact c.args.disk c.args.tail c.requires.opened now board.first on.accepted (first-restored dp c.args.search records board start.desks on)
-    (first-good dp (laws_of g c.args.model) c.args.search records board start.desks c.requires.may.may c.requires.may.exact on) ended searched in
+    let searched = searched-here g.D.Disk meaning (g.P.DpModel.numbers c.deref.result.now) here at c.new-kept.result board c.args.disk true kept.board kept.made (ap is_some kept.tail) now own search ended (c.search_from-ended.ensures.searched (own (g.P.DpModel.numbers c.deref.result.now)) (agrees_of g c.deref.result.now)) in
+    let gone = gone-on g.D.Disk dp (own here) head records.records search c.args.disk c.args.tail c.requires.opened now board.first on.accepted (first-restored dp search records board start.desks on)
+    (λ sound. first-good dp (laws_of g c.args.model) search records board start.desks may on (subst (λ z. AreSound dp z records.records) (sym near) sound)) ended searched in
     subst (GoesOn g.D.Disk dp (own here) head records.records records.first c.args.search now) (sym c.report_of.ensures)
-    (reported g.D.Disk dp (own here) head records.records c.args.search records.first now c.requires.coverless ended gone)
+    (reported g.D.Disk dp (own here) head records.records search c.args.search same records.first now c.requires.coverless ended gone)
 
 pub returns-in-Ok-clause-left : goal.returns-in-Ok-clause-left
 returns-in-Ok-clause-left g c =
@@ -46,10 +53,35 @@ returns-in-Ok-clause-left g c =
     let board = c.in-Ok.field-0.board in
     let now = c.search_from-ended.result.1 in
     let keeps = keeps-here g.D.Disk meaning (g.P.DpModel.numbers c.deref.result.now) here at c.new-kept.result board c.args.disk true kept.board kept.made (ap is_some kept.tail) now c.search_from-ended.ensures.keeps in
-    leaves g.D.Disk (meaning here) (own here) (head_view c.args.head.now) c.args.records.now.records c.args.search c.requires.may.exact c.args.disk c.args.tail c.requires.opened now board.board.settings c.in-Ok.ensures.goes_on.ready.prepared.asked.distance keeps
+    leaves g.D.Disk (meaning here) (own here) (head_view c.args.tail.version c.args.head.now) c.args.records.now.records c.going_on-search.result c.args.disk c.args.tail c.requires.opened now board.board.settings keeps
 
 pub returns-in-Err-clause-left : goal.returns-in-Err-clause-left
 returns-in-Err-clause-left g c =
     let dp = g.P.DpModel.meaning (g.P.DpModel.numbers c.args.model) in
     let rs = c.args.records.now.records in
-    leaves-it g.D.Disk (MayBeAdded dp rs) (head_view c.args.head.now) rs c.args.disk c.args.tail c.requires.opened (none-follow g.D.Disk dp rs)
+    leaves-it g.D.Disk (MayBeAdded dp c.args.head.now.within rs) (head_view c.args.tail.version c.args.head.now) rs c.args.disk c.args.tail c.requires.opened (none-follow g.D.Disk dp c.args.head.now.within rs)
+
+pub go_on-requires-clause-may : goal.go_on-requires-clause-may
+go_on-requires-clause-may g c κs within =
+    let head = head_view c.args.tail.version c.args.head.now in
+    may-go-on head c.going_on-search.result c.args.search (c.going_on-search.ensures c.args.tail.version) c.requires.distance c.requires.may
+
+pub go_on-requires-clause-within : goal.go_on-requires-clause-within
+go_on-requires-clause-within g c κs within = ap (λ (s : JobSettings). s.within) (c.going_on-search.ensures c.args.tail.version) ∙ sym c.requires.within
+
+pub returns-in-Err-clause-goes_on : goal.returns-in-Err-clause-goes_on
+returns-in-Err-clause-goes_on g c =
+    let here = g.P.DpModel.numbers c.args.model in
+    let head = head_view c.args.tail.version c.args.head.now in
+    not-gone-on g.D.Disk (g.P.DpModel.meaning here) (g.P.Problem.theory.own_value here) head c.args.records.now c.args.search c.args.disk c.going_on-search.result (c.going_on-search.ensures c.args.tail.version) c.in-Err.answer c.in-Err.ensures.refused
+
+pub new-kept-requires-clause-made : goal.new-kept-requires-clause-made
+new-kept-requires-clause-made g c κs within =
+    let here = g.P.DpModel.numbers c.args.model in
+    let board = c.in-Ok.field-0.board in
+    let on = c.in-Ok.ensures.goes_on in
+    let head = head_view c.args.tail.version c.args.head.now in
+    let near = on.ready.prepared.asked.distance ∙ ap (λ (s : JobSettings). s.within) (c.going_on-search.ensures c.args.tail.version) in
+    subst (λ ns. MayKeep g.D.Disk (g.P.DpModel.meaning ns) board.board c.args.disk (Some c.args.tail)) (sym c.in-Ok.ensures.numbers)
+    (made-resumed g.D.Disk (g.P.DpModel.meaning here) board.board.settings board.board c.args.disk c.args.tail head c.args.records.now.records
+    (c.requires.opened.is_attached, c.requires.opened.is_open) near on.accepted on.board)

@@ -1,3 +1,4 @@
+use Rattle.std.proofs.Common.{◌∙◌}
 use Rattle.solver_cli.proofs.Starts.{goes-on, passed-on}
 use Rattle.solver_cli.proofs.starting.go_on.Goals as goal
 
@@ -12,3 +13,6 @@ pub returns-in_err-settings-clause-refused : goal.returns-in_err-settings-clause
 returns-in_err-settings-clause-refused g c =
     let dp = g.M.DpModel.meaning (g.M.DpModel.numbers c.args.model) in
     passed-on dp c.args.search c.args.records.now c.in_err-settings.field-0.0 c.in_err-settings.ensures.refused c.from_residual.result c.from_residual.ensures.1
+
+pub restored-requires-clause-within : goal.restored-requires-clause-within
+restored-requires-clause-within g c κs within = c.in_ok-settings.ensures.prepared.asked.distance ∙ c.requires.within

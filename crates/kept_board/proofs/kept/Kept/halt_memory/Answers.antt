@@ -13,5 +13,5 @@ invariant_of-self g c =
 
 pub returns-clause-moves : goal.returns-clause-moves
 returns-clause-moves g c who =
-    subst (λ (v : KeptView g.row.D.Denot). IsMove g.D.Disk g.M.DpModel.meaning v (record { board = c.halt.new.self; disk = c.self.inside.disk; tail = c.self.inside.tail; made = c.self.inside.made.value }) who) c.self.view_is
-    (quiet-moves g.D.Disk g.M.DpModel.meaning c.self.inside.board c.halt.new.self c.halt.ensures.tag c.self.inside.made.value who (Halt Memory) c.self.inside.disk c.self.inside.tail tt tt refl tt c.halt.ensures.step)
+    subst (λ (v : KeptView g.row.D.Denot). IsMove g.D.Disk g.M.DpModel.meaning v (record { board = c.halt.new.self; disk = c.self.inside.disk; tail = c.self.inside.tail; made = c.self.inside.made.value; every = c.self.inside.every }) who) c.self.view_is
+    (quiet-moves g.D.Disk g.M.DpModel.meaning c.self.inside.board c.halt.new.self c.halt.ensures.tag c.self.inside.made.value c.self.inside.every who (Halt Memory) c.self.inside.disk c.self.inside.tail tt tt refl tt c.halt.ensures.step)

@@ -15,5 +15,5 @@ invariant_of-self g c =
 pub returns-clause-moves : goal.returns-clause-moves
 returns-clause-moves g c =
     let empty = subst (λ (v : KeptView g.row.D.Denot). slice_get v.board.board.slots c.args.who ≡ Some None) (sym c.self.view_is) c.requires.empty in
-    subst (λ (v : KeptView g.row.D.Denot). IsMove g.D.Disk g.M.DpModel.meaning v (record { board = c.take.new.self; disk = c.self.inside.disk; tail = c.self.inside.tail; made = c.self.inside.made.value }) c.args.who) c.self.view_is
-    (quiet-moves g.D.Disk g.M.DpModel.meaning c.self.inside.board c.take.new.self c.take.ensures.tag c.self.inside.made.value c.args.who (Take c.args.who) c.self.inside.disk c.self.inside.tail empty tt refl refl c.take.ensures.step)
+    subst (λ (v : KeptView g.row.D.Denot). IsMove g.D.Disk g.M.DpModel.meaning v (record { board = c.take.new.self; disk = c.self.inside.disk; tail = c.self.inside.tail; made = c.self.inside.made.value; every = c.self.inside.every }) c.args.who) c.self.view_is
+    (quiet-moves g.D.Disk g.M.DpModel.meaning c.self.inside.board c.take.new.self c.take.ensures.tag c.self.inside.made.value c.self.inside.every c.args.who (Take c.args.who) c.self.inside.disk c.self.inside.tail empty tt refl refl c.take.ensures.step)

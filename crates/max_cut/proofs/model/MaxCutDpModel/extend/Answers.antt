@@ -1,30 +1,28 @@
-use Rattle.std.proofs.Common.{◌+◌, ◌+ℤ◌, pos, length, drop, get_or, w64, ap, sym, ◌∙◌}
+use Rattle.std.proofs.Common.{ap, ◌∙◌, sym}
+use Rattle.std.specs.Prelude.{◌<◌}
+use Rattle.std.proofs.Common.{subst}
+use Rattle.std.proofs.Common.{w64}
 use Rattle.std.proofs.lemmas.Int.{to_z-of_z}
-use Rattle.benefit_rows.specs.Benefits.{choice_gain, rank_of}
-use Rattle.max_cut.specs.Graph.{row_of}
-use Rattle.max_cut.specs.Program.{pulls_of, settled_of}
-use Rattle.benefit_rows.specs.Benefits.{sums_of}
-use Rattle.max_cut.specs.Shown.{instance_in}
-use Rattle.max_cut.proofs.StateFacts.{step_facts, rank_of-later, rank_of-stepped, read_rank}
+use Rattle.dp_model.specs.Dp.{Dp}
+use Rattle.pair_rows.proofs.Handing.{test-on, extended-on}
+use Rattle.max_cut.proofs.Handing.{same}
 use Rattle.max_cut.proofs.model.MaxCutDpModel.extend.Goals as goal
 
-pub extend_row-requires : goal.extend_row-requires
-extend_row-requires c =
-    let facts = step_facts c.args.self.now c.args.k c.args.s.now c.requires.layer c.requires.state in
-    record {
-      vertex = facts.vertex;
-      cells = c.requires.cells ∙ sym facts.long;
-      weights = ap (λ ws. length ws + (c.args.k + 1)) c.row-row.ensures ∙ facts.weights;
-      benefit_sizes = facts.size;
-      weight_sizes = rw c.row-row.ensures facts.row;
-      done = c.requires.zeros;
-      rank = to_z-of_z w64 c.args.rank c.ranges.rank ∙ (c.requires.rank ∙ sym (rank_of-later (instance_in c.args.self.now) c.args.k c.args.s.now c.requires.state));
-      weights_rank = read_rank c.size_of_row-size.result (row_of (instance_in c.args.self.now) c.args.k) c.size_of_row-size.ensures facts.row ∙ ap rank_of (sym c.row-row.ensures);
-    }
+pub extend-requires : goal.extend-requires
+extend-requires c = record {
+  layer = subst (λ (p : Dp). c.args.k < p.vars) (sym (same c.args.self.now)) c.requires.layer;
+  state = test-on (same c.args.self.now) c.args.k c.args.s.now c.requires.state;
+  rank = to_z-of_z w64 c.args.rank c.ranges.rank ∙ (c.requires.rank ∙ ap (λ (p : Dp). p.rank c.args.k c.args.s.now) (sym (same c.args.self.now)));
+  decision = subst (λ (p : Dp). c.args.d < p.choices c.args.k) (sym (same c.args.self.now)) c.requires.decision;
+  cells = c.requires.cells ∙ ap (λ (p : Dp). p.words) (sym (same c.args.self.now));
+  zeros = c.requires.zeros;
+}
+
+pub returns-clause-allowed : goal.returns-clause-allowed
+returns-clause-allowed c = c.extend.ensures.allowed ∙ ap (λ (p : Dp). p.allowed c.args.k c.args.s.now c.args.d) (same c.args.self.now)
+
+pub returns-clause-row : goal.returns-clause-row
+returns-clause-row c some = c.extend.ensures.row some ∙ ap (λ (p : Dp). p.step c.args.k c.args.s.now c.args.d) (same c.args.self.now)
 
 pub returns-clause-extended : goal.returns-clause-extended
-returns-clause-extended c = (
-  c.extend_row.ensures.gain ∙ ap (λ ws. choice_gain (get_or c.args.s.now c.args.k (pos 0)) c.args.d +ℤ settled_of (drop (c.args.k + 1) c.args.s.now) (pulls_of c.args.d ws)) c.row-row.ensures,
-  c.extend_row.ensures.rank ∙ (ap (λ ws. rank_of (sums_of (drop (c.args.k + 1) c.args.s.now) (pulls_of c.args.d ws))) c.row-row.ensures
-      ∙ sym (rank_of-stepped (instance_in c.args.self.now) c.args.k c.args.s.now c.args.d)),
-)
+returns-clause-extended c = extended-on (same c.args.self.now) c.args.k c.args.s.now c.args.d c.extend.result c.extend.ensures.extended

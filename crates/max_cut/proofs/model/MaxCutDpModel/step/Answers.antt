@@ -1,15 +1,15 @@
-use Rattle.std.proofs.Common.{◌+◌, length, ap, sym, ◌∙◌, refl}
-use Rattle.max_cut.proofs.StateFacts.{step_facts}
+use Rattle.std.proofs.Common.{ap, ◌∙◌, sym}
+use Rattle.dp_model.specs.Dp.{Dp}
+use Rattle.pair_rows.proofs.Handing.{test-on, allowed-on}
+use Rattle.max_cut.proofs.Handing.{same}
 use Rattle.max_cut.proofs.model.MaxCutDpModel.step.Goals as goal
 
-pub write_step-requires : goal.write_step-requires
-write_step-requires c =
-    let facts = step_facts c.args.self.now c.args.k c.args.s.now c.requires.allowed.layer c.requires.state in
-    record {
-      vertex = facts.vertex;
-      cells = c.requires.cells ∙ sym facts.long;
-      done = refl;
-      weights = ap (λ ws. length ws + (c.args.k + 1)) c.row.ensures ∙ facts.weights;
-      benefit_sizes = facts.size;
-      weight_sizes = rw c.row.ensures facts.row;
-    }
+pub step-requires : goal.step-requires
+step-requires c = record {
+  state = test-on (same c.args.self.now) c.args.k c.args.s.now c.requires.state;
+  allowed = allowed-on (same c.args.self.now) c.args.k c.args.s.now c.args.d c.requires.allowed;
+  cells = c.requires.cells ∙ ap (λ (p : Dp). p.words) (sym (same c.args.self.now));
+}
+
+pub returns : goal.returns
+returns c = c.step.ensures ∙ ap (λ (p : Dp). p.step c.args.k c.args.s.now c.args.d) (same c.args.self.now)

@@ -6,7 +6,7 @@ use Rattle.turn.specs.Order.{NoLess}
 use Rattle.turn.specs.Seats.{first_of, seen_of}
 use Rattle.board_laws.specs.Board.{incumbent_value, reach_of}
 use Rattle.kept_board.specs.View.{KeptView, tag_of}
-use Rattle.search_workers.proofs.Stopping.{over-then, left-here, ended-here}
+use Rattle.search_workers.proofs.Stopping.{over-then, left-here, nothing-open, ended-here}
 use Rattle.search_workers.proofs.Moves.{still-no-less, reach-left}
 use Rattle.search_workers.proofs.workers.holding_take.take_one.Goals as goal
 
@@ -52,3 +52,8 @@ pub returns-clause-ended : goal.returns-clause-ended
 returns-clause-ended g c =
     over-then c.take-asked.result.taken (ended-here g.D.Disk g.M.DpModel.meaning c.args.turn.now c.args.seat.now _ c.value.result.now c.take-asked.new.kept c.number-who.result (search rules) (ap tag_of c.value.ensures.now ∙ c.hold-guard.ensures.tag) c.take-asked.ensures.moves (search rules) (search rules) (search rules))
     c.take-asked.ensures.ended
+
+pub returns-clause-waits : goal.returns-clause-waits
+returns-clause-waits g c = λ waits.
+    nothing-open g.D.Disk g.M.DpModel.meaning c.args.turn.now c.args.seat.now _ c.value.result.now c.take-asked.new.kept c.number-who.result (search rules) (ap tag_of c.value.ensures.now ∙ c.hold-guard.ensures.tag) c.take-asked.ensures.moves (search rules) (search rules) (search rules)
+    (c.take-asked.ensures.waits waits)

@@ -4,7 +4,7 @@ use Rattle.board_laws.specs.GoodBoard.{IsBoard}
 use Rattle.kept_board.specs.declared.tag.KeptTag.{KeptTag}
 use Rattle.board.specs.Moves.{out_at}
 use Rattle.board.specs.View.{BoardView}
-use Rattle.search_workers.proofs.Stopping.{over-left}
+use Rattle.search_workers.proofs.Stopping.{over-left, waits-left}
 use Rattle.search_workers.proofs.TakenOut.{taken_out, can_hold}
 use Rattle.search_workers.proofs.workers.moving.take.Given as given
 use Rattle.search_workers.proofs.workers.moving.take.Goals as goal
@@ -27,3 +27,6 @@ returns-clause-room g c =
 
 pub returns-clause-ended : goal.returns-clause-ended
 returns-clause-ended g c = over-left c.args.kept.now.board.board c.take-taken.new.self.board.board c.args.who c.take-taken.result c.take-taken.ensures.answer c.take-taken.ensures.step
+
+pub returns-clause-waits : goal.returns-clause-waits
+returns-clause-waits g c = waits-left c.args.kept.now.board.board c.take-taken.new.self.board.board c.args.who c.take-taken.result c.take-taken.ensures.answer c.take-taken.ensures.step

@@ -1,0 +1,7 @@
+pub mod Joined
+pub mod Settling
+pub mod Runs
+pub mod Splits
+pub mod Going
+pub mod Covered
+pub mod Turns

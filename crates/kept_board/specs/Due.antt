@@ -1,0 +1,16 @@
+-- When a snapshot is due.
+use Rattle.std.specs.Prelude.{ℕ, nat_eq, nat_le, Bool, true, false, ◌&&◌, length, Option, Some, None}
+use Rattle.board_laws.specs.Board.{frontier}
+use Rattle.journal_bytes.specs.declared.head.TheConstants.{VERSION}
+use Rattle.journal_bytes.specs.declared.tail.Tail.{Tail}
+use Rattle.kept_board.specs.View.{KeptView}
+use Rattle.kept_board.specs.declared.limits.TheConstants.{MOST_LISTED}
+
+-- whether a journal takes snapshots, and so many subproblems were finished since the last one
+abbrev pub has_grown : ℕ → Option Tail → Bool
+has_grown every None = false
+has_grown every (Some tail) = nat_eq tail.version VERSION && nat_le every tail.since
+
+-- whether a snapshot is due, which would not list too many
+abbrev pub is_due : {D : Type 0} → KeptView D → Bool
+is_due k = has_grown k.every k.tail && nat_le (length (frontier k.board.board)) MOST_LISTED

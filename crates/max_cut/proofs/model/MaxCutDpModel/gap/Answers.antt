@@ -1,0 +1,14 @@
+use Rattle.std.proofs.Common.{ap, ◌∙◌}
+use Rattle.dp_model.specs.Dp.{Dp}
+use Rattle.pair_rows.proofs.Handing.{state-on}
+use Rattle.max_cut.proofs.Handing.{same}
+use Rattle.max_cut.proofs.model.MaxCutDpModel.gap.Goals as goal
+
+pub gap-requires : goal.gap-requires
+gap-requires c = record {
+  covering = state-on (same c.args.self.now) c.args.k c.args.a.now c.requires.covering;
+  state = state-on (same c.args.self.now) c.args.k c.args.s.now c.requires.state;
+}
+
+pub returns : goal.returns
+returns c = c.gap.ensures ∙ ap (λ (p : Dp). p.gap c.args.k c.args.a.now c.args.s.now) (same c.args.self.now)

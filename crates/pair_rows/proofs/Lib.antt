@@ -1,0 +1,11 @@
+pub mod RunningSums
+pub mod Cells
+pub mod Shifting
+pub mod Writing
+pub mod ZeroRows
+pub mod Table
+pub mod Layers
+pub mod LayerLimits
+pub mod Summing
+pub mod Handing
+pub mod Mapped

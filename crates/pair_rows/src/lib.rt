@@ -1,0 +1,29 @@
+//! Variables of two values, where each variable and each two of them give something: a dynamic program over rows of signed benefits.
+//!
+//! `PairInstance` lists what is given, and `PairRows` prepares it for the calls of `DpModel`: layer `k` gives variable `k` its value,
+//! and a state has for each later variable how much more it gives by 1 than by 0. A decision adds a prepared row to the state. Its gain
+//! comes from sums of sizes alone. A problem of this kind keeps its own words and its text, holds the rows of the instance that
+//! equals it, and hands the calls of `DpModel` on. The crate stands on `dp_model` and `benefit_rows`.
+//!
+//! Promised, each in the contract of its call: a call gives exactly what the program of the instance says. `lawful_program` and
+//! `is_chained` say that this program meets the laws, and `own_value-agrees` that its feasible solutions are the assignments, each
+//! with what all entries give as its value. Only want of memory has no stated cause.
+//!
+//! ```
+//! let rows = PairRows::prepared(alloc, &instance)?;
+//! let gain = rows.gain(0, state, 1);
+//! ```
+#![tactic(auto)]
+
+mod limits;
+mod model;
+mod row;
+mod rows;
+mod shifts;
+mod source;
+mod sums;
+mod values;
+
+pub use rows::{PairRows, row_of, start_of_row};
+pub use source::PairInstance;
+pub use values::{PairValues, UnitValues};
