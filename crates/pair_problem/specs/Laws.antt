@@ -1,0 +1,3 @@
+-- What proofs cite and no clause.
+pub mod Adding
+pub mod Kept

@@ -1,0 +1,3 @@
+pub mod Adding
+-- what proofs cite and no clause
+pub mod Laws
