@@ -1,0 +1,4 @@
+pub mod RoundTrip
+pub mod TextLengths
+pub mod DrawnLines
+pub mod Passes

@@ -1,0 +1,3 @@
+-- What an `impl` cites and no clause.
+pub mod Numbers
+pub mod Listing

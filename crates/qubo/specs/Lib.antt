@@ -1,0 +1,12 @@
+pub mod Quadratic
+pub mod OwnWords
+pub mod Program
+pub mod Reading
+pub mod Printing
+pub mod Generating
+pub mod Room
+pub mod Shown
+-- what an `impl` cites and no clause
+pub mod Laws
+-- the problem of the program
+pub mod Theory
