@@ -3,7 +3,8 @@ use Rattle.std.specs.Prelude.{◌≡◌, ◌^◌, ◌≤◌, ℤ, pos, ◌+ℤ�
 use Rattle.std.specs.List.{list_all}
 use Rattle.max_two_sat.specs.declared.weights.UnitWeights.{UnitWeights}
 use Rattle.max_two_sat.specs.declared.weights.PairWeights.{PairWeights}
-use Rattle.max_two_sat.specs.Instance.{Instance, pair_count, units_total, pairs_total}
+use Rattle.max_two_sat.specs.Instance.{Instance, units_total, pairs_total}
+use Rattle.pair_rows.specs.Pairs.{pair_count}
 use Rattle.max_two_sat.specs.Lines.{line_count, weighs}
 
 -- no weight of the entry is negative

@@ -1,7 +1,7 @@
 use Rattle.std.proofs.Common.{arith, ◌<◌, ◌≤◌, length, ap, List}
 use Rattle.max_two_sat.specs.declared.weights.PairWeights.{PairWeights}
-use Rattle.max_two_sat.specs.Instance.{rows_of}
-use Rattle.max_two_sat.specs.Laws.Rows.{length-row_at, length-rows_of}
+use Rattle.pair_rows.specs.Pairs.{rows_of}
+use Rattle.pair_rows.specs.Laws.Pairs.{length-row_at, length-rows_of}
 use Rattle.max_two_sat.proofs.PrintedLines.{rows-printed, rows-all-printed}
 use Rattle.max_two_sat.proofs.printing.push_rows.Goals as goal
 
