@@ -134,8 +134,8 @@ row_value-most ps x ys h =
 rows_value-most : (n : ℕ) (ps : List PairWeights) (xs : List ℕ) → length ps ≡ pair_count n → IsTrue (pairs_are_positive ps) → rows_value (rows_of n ps) xs ≤ℤ pairs_total ps
 rows_value-most n ps xs whole h =
     let fits = pairs-in_range ps h in
-    let listed = rw (rows_of-map pair_values n ps) at plain.rows_value-most (rows_of n (map pair_values ps)) xs (positive-rows_of n (map pair_values ps) fits) in
-    let total = rw (rows_of-map pair_values n ps) at rows_most-rows_of n (map pair_values ps) (length-map ps pair_values ∙ whole) in
+    let listed = rw (rows_of-map pair_values n ps) at (plain.rows_value-most (rows_of n (map pair_values ps)) xs (positive-rows_of n (map pair_values ps) fits)) in
+    let total = rw (rows_of-map pair_values n ps) at (rows_most-rows_of n (map pair_values ps) (length-map ps pair_values ∙ whole)) in
     omega (arith, ints, rows-same (rows_of n ps) xs, pairs-most ps, listed, total)
 
 abbrev rows_are_positive : List (List PairWeights) → Bool

@@ -1,4 +1,4 @@
-use Rattle.std.proofs.Common.{◌≡◌, ◌^◌, ◌≤◌, arith, subst, sym}
+use Rattle.std.proofs.Common.{◌≡◌, ◌^◌, ◌≤◌, ◌∙◌, arith, rules, subst, sym, to_z, of_z, w64}
 use Rattle.std.proofs.lemmas.Int.{ints}
 use Rattle.pair_rows.specs.Instance.{Instance as Rows}
 use Rattle.pair_rows.specs.Limits.{IsInstance}
@@ -9,6 +9,7 @@ use Rattle.max_two_sat.specs.Limits.{IsWithinLimits}
 use Rattle.max_two_sat.specs.Program.{rows_in}
 use Rattle.max_two_sat.specs.Room.{IsGathered}
 use Rattle.max_two_sat.specs.Laws.Listing.{rows-kept}
+use Rattle.max_two_sat.specs.Laws.Totals.{parts-small}
 use Rattle.max_two_sat.proofs.instance.MaxTwoSat.prepared.Goals as goal
 
 within : (d : Draft) → IsGathered (gathered_in d) → d.clauses ≤ 2 ^ 20 → IsWithinLimits (instance_gathered d)
@@ -23,10 +24,23 @@ within d gathered few = record {
   some = gathered.some;
 }
 
+-- the weight of the tautologies is read as it is
+read : (d : Draft) → IsGathered (gathered_in d) → d.clauses ≤ 2 ^ 20 → to_z w64 (of_z w64 d.tautologies) ≡ d.tautologies
+read d gathered few = omega (arith, ints, gathered.tautologies, (parts-small (instance_gathered d) (within d gathered few)).tautologies)
+
 pub listed-requires : goal.listed-requires
-listed-requires c = rw (c.as_slice.ensures.value, c.as_slice-2.ensures.value) (within c.args.draft c.requires.gathered c.requires.few)
+listed-requires c =
+    rw (c.as_slice.ensures.value, c.as_slice-2.ensures.value, read c.args.draft c.requires.gathered c.requires.few)
+    (within c.args.draft c.requires.gathered c.requires.few)
 
 pub prepared-requires : goal.prepared-requires
 prepared-requires c =
-    let is : instance_of c.in_ok-source.source ≡ rows_in (instance_gathered c.args.draft) = rw (c.as_slice.ensures.value, c.as_slice-2.ensures.value) at c.in_ok-source.ensures in
+    let is : instance_of c.in_ok-source.source ≡ rows_in (instance_gathered c.args.draft) =
+    rw (c.as_slice.ensures.value, c.as_slice-2.ensures.value, read c.args.draft c.requires.gathered c.requires.few) at c.in_ok-source.ensures in
     subst (λ (i : Rows). IsInstance i) (sym is) (rows-kept (instance_gathered c.args.draft) (within c.args.draft c.requires.gathered c.requires.few))
+
+pub invariant_of-result : goal.invariant_of-result
+invariant_of-result c = record {
+  kept = search rules;
+  listed = c.in_ok-rows.ensures ∙ rw (c.as_slice.ensures.value, c.as_slice-2.ensures.value) at c.in_ok-source.ensures;
+}
