@@ -1,6 +1,5 @@
 -- The rows in memory have the program of the instance.
 use Rattle.std.proofs.Common.{◌≡◌, ap, sym, ◌∙◌}
-use Rattle.dp_model.specs.Dp.{Dp}
 use Rattle.pair_rows.specs.Program.{program_of as program_of_rows}
 use Rattle.pair_rows.specs.Shown.{program_in as program_in_rows}
 use Rattle.max_two_sat.specs.declared.instance.MaxTwoSat.{MaxTwoSat}

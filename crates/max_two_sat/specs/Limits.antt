@@ -1,5 +1,5 @@
 -- What every instance keeps to.
-use Rattle.std.specs.Prelude.{◌≡◌, ◌^◌, ◌≤◌, ℤ, pos, ◌+ℤ◌, ◌≤ℤ◌, Bool, ◌&&◌, int_le, List, length, IsTrue}
+use Rattle.std.specs.Prelude.{◌≡◌, ◌^◌, ◌≤◌, pos, ◌+ℤ◌, ◌≤ℤ◌, Bool, ◌&&◌, int_le, List, length, IsTrue}
 use Rattle.std.specs.List.{list_all}
 use Rattle.max_two_sat.specs.declared.weights.UnitWeights.{UnitWeights}
 use Rattle.max_two_sat.specs.declared.weights.PairWeights.{PairWeights}

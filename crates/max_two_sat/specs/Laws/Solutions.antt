@@ -1,12 +1,10 @@
 -- The feasible solutions of the program are the lists of truth values, with the weight that they satisfy.
-use Rattle.std.specs.Prelude.{ℕ, List, Some, None, ◌&&◌, ◌==◌, length, if◌then◌else◌}
-use Rattle.std.proofs.Common.{sym, subst}
+use Rattle.std.specs.Prelude.{ℕ, List}
 use Rattle.dp_model.specs.Solution.{SolutionGives}
-use Rattle.pair_rows.specs.OwnWords as plain
 use Rattle.pair_rows.specs.Laws.Solutions as rows
 use Rattle.max_two_sat.specs.Instance.{Instance}
 use Rattle.max_two_sat.specs.Limits.{IsWithinLimits}
-use Rattle.max_two_sat.specs.OwnWords.{weight_of, all_truth_values, own_value}
+use Rattle.max_two_sat.specs.OwnWords.{own_value}
 use Rattle.max_two_sat.specs.Program.{rows_in, program_of}
 use Rattle.max_two_sat.specs.Laws.Listing.{rows-kept, test-same, weight-same}
 

@@ -1,5 +1,5 @@
 -- What all clauses weigh.
-use Rattle.std.specs.Prelude.{◌^◌, ℤ, pos, ◌+ℤ◌, ◌≤ℤ◌, List, IsTrue}
+use Rattle.std.specs.Prelude.{◌^◌, pos, ◌+ℤ◌, ◌≤ℤ◌, List, IsTrue}
 use Rattle.std.proofs.Common.{arith}
 use Rattle.std.proofs.lemmas.Int.{ints}
 use Rattle.pair_rows.specs.Laws.Pairs.{total_by-positive}

@@ -1,4 +1,4 @@
-use Rattle.std.proofs.Common.{◌≡◌, ◌^◌, ◌≤◌, ◌∙◌, arith, rules, subst, sym, to_z, of_z, w64}
+use Rattle.std.proofs.Common.{◌≡◌, ◌^◌, ◌≤◌, ◌∙◌, arith, subst, sym, to_z, of_z, w64}
 use Rattle.std.proofs.lemmas.Int.{ints}
 use Rattle.pair_rows.specs.Instance.{Instance as Rows}
 use Rattle.pair_rows.specs.Limits.{IsInstance}
@@ -41,6 +41,6 @@ prepared-requires c =
 
 pub invariant_of-result : goal.invariant_of-result
 invariant_of-result c = record {
-  kept = search rules;
+  kept = rw (read c.args.draft c.requires.gathered c.requires.few) (within c.args.draft c.requires.gathered c.requires.few);
   listed = c.in_ok-rows.ensures ∙ rw (c.as_slice.ensures.value, c.as_slice-2.ensures.value) at c.in_ok-source.ensures;
 }
