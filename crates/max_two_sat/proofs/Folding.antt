@@ -11,13 +11,12 @@ use Rattle.max_two_sat.specs.declared.clause.Literals.TheVariants.{One, Two}
 use Rattle.max_two_sat.specs.declared.weights.UnitWeights.{UnitWeights}
 use Rattle.max_two_sat.specs.declared.weights.PairWeights.{PairWeights}
 use Rattle.max_two_sat.specs.Clauses.{empty_instance, heavier_unit, heavier_pair, place_of_pair, with_clause}
-use Rattle.max_two_sat.specs.Instance.{Instance, rows_of, pair_count, no_pair, no_unit}
+use Rattle.max_two_sat.specs.Instance.{Instance, no_pair, no_unit}
+use Rattle.pair_rows.specs.Pairs.{rows_of, pair_count, entries_before}
 use Rattle.max_two_sat.specs.Limits.{IsWithinLimits, PairIsPositive, UnitIsPositive, pairs_are_positive, units_are_positive, pair_is_positive, unit_is_positive}
 use Rattle.max_two_sat.specs.Laws.Limits.{unit-positive, pair-positive}
 use Rattle.max_two_sat.specs.Lines.{Clause, clause_where, clauses_of, literal, tautology_lines, unit_lines, units_lines, pair_lines, row_lines, rows_lines}
-use Rattle.max_two_sat.specs.Table.{entries_before}
-use Rattle.max_two_sat.proofs.Table.{entries_before-more}
-use Rattle.max_two_sat.specs.Laws.Totals.{all-drop, all-take}
+use Rattle.pair_rows.specs.Laws.Pairs.{entries_before-more, all-drop, all-take}
 use Rattle.max_two_sat.proofs.Gathering.{two-in-order}
 
 abbrev pub add_to : Instance → Clause → Instance

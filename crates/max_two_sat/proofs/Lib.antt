@@ -1,14 +1,7 @@
-pub mod RunningSums
-pub mod Cells
-pub mod Shifting
-pub mod Writing
-pub mod ZeroRows
-pub mod Table
-pub mod Layers
-pub mod LayerLimits
+pub mod Entries
+pub mod Handing
 pub mod Weighing
 pub mod Gathering
-pub mod Summing
 pub mod PrintedLines
 pub mod RoundTrip
 pub mod Folding

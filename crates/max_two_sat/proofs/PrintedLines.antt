@@ -6,10 +6,11 @@ use Rattle.std.proofs.lemmas.List.Concat.{flat_map-append}
 use Rattle.max_two_sat.specs.declared.clause.Literals.TheVariants.{Two}
 use Rattle.max_two_sat.specs.declared.weights.UnitWeights.{UnitWeights}
 use Rattle.max_two_sat.specs.declared.weights.PairWeights.{PairWeights}
-use Rattle.max_two_sat.specs.Instance.{Instance, rows_of, row_at, no_pair, no_unit}
+use Rattle.max_two_sat.specs.Instance.{Instance, no_pair, no_unit}
+use Rattle.pair_rows.specs.Pairs.{rows_of, row_at}
 use Rattle.max_two_sat.specs.Lines.{Clause, clause_where, literal, clauses_of, tautology_lines, unit_lines, units_lines, pair_lines, row_lines, rows_lines}
 use Rattle.max_two_sat.specs.Printed.{line_of, text_of, first_line_of}
-use Rattle.max_two_sat.specs.Laws.Rows.{drop-rows}
+use Rattle.pair_rows.specs.Laws.Pairs.{drop-rows}
 
 -- one more part is printed
 part-printed : (out part rest whole : List ℕ) (made : List ℕ) → made ≡ out ++ part → out ++ (part ++ rest) ≡ whole → made ++ rest ≡ whole

@@ -10,11 +10,12 @@ use Rattle.max_two_sat.specs.declared.clause.Literals.{Literals}
 use Rattle.max_two_sat.specs.declared.clause.Literals.TheVariants.{One, Two}
 use Rattle.max_two_sat.specs.declared.weights.UnitWeights.{UnitWeights}
 use Rattle.max_two_sat.specs.declared.weights.PairWeights.{PairWeights}
-use Rattle.max_two_sat.specs.Instance.{Instance, rows_of, pair_count, unit_total, pair_total, units_total, pairs_total}
+use Rattle.max_two_sat.specs.Instance.{Instance, unit_total, pair_total, units_total, pairs_total}
+use Rattle.pair_rows.specs.Pairs.{rows_of, pair_count}
 use Rattle.max_two_sat.specs.Limits.{IsWithinLimits, PairIsPositive, UnitIsPositive, pairs_are_positive, units_are_positive, pair_is_positive, unit_is_positive}
 use Rattle.max_two_sat.specs.Laws.Limits.{unit-positive, pair-positive}
 use Rattle.max_two_sat.specs.Lines.{Clause, clause_where, clauses_of, line_count, literal, tautology_lines, unit_lines, units_lines, pair_lines, row_lines, rows_lines, weighs, pair_weighing, unit_weighing, units_weighing, pairs_weighing}
-use Rattle.max_two_sat.specs.Laws.Totals.{all-drop, all-take, total_by-cut}
+use Rattle.pair_rows.specs.Laws.Pairs.{all-drop, all-take, total_by-cut}
 use Rattle.max_two_sat.proofs.RoundTrip.{ClauseStands, LiteralsStand}
 
 -- the clauses stand, and weigh and count so much

@@ -1,25 +1,29 @@
 -- Passes over a list of truth values.
-use Rattle.std.proofs.Common.{◌≡◌, ℕ, zero, suc, ◌+◌, ◌^◌, ◌<◌, ◌≤◌, ℤ, pos, ◌+ℤ◌, ◌-ℤ◌, ◌≤ℤ◌, Bool, true, false, List, [], ◌∷◌, length, drop, get_or, refl, arith, ap, subst, sym, ◌∙◌, FitsSigned, to_z, of_z, w64}
+use Rattle.std.proofs.Common.{◌≡◌, ℕ, zero, suc, ◌+◌, ◌-◌, ◌^◌, ◌<◌, ◌≤◌, ℤ, pos, ◌+ℤ◌, ◌-ℤ◌, ◌≤ℤ◌, Bool, true, false, List, [], ◌∷◌, length, take, drop, map, get_or, refl, arith, ap, subst, sym, ◌∙◌, FitsSigned, to_z, of_z, w64}
 use Rattle.std.specs.Prelude.{IsTrue, ◌&&◌, ◌==◌, nat_lt, Some, None, if◌then◌else◌}
+use Rattle.std.specs.List.{list_all}
 use Rattle.std.proofs.lemmas.Bool.{eqb-true, and_parts}
 use Rattle.std.proofs.lemmas.Bool.Decides.{nat_tests}
 use Rattle.std.proofs.lemmas.Int.{ints}
-use Rattle.std.proofs.lemmas.List.{drop_more, drop_all}
-use Rattle.max_two_sat.specs.declared.weights.UnitWeights.{UnitWeights}
-use Rattle.max_two_sat.specs.declared.weights.PairWeights.{PairWeights}
-use Rattle.max_two_sat.specs.Instance.{Instance, rows_of, row_at, pair_count, unit_total, pair_total, units_total, pairs_total, rows_total, no_pair, no_unit}
+use Rattle.std.proofs.lemmas.List.{drop_more, drop_all, length-map}
 use Rattle.dp_model.specs.Prefixes.{IsSolution}
 use Rattle.dp_model.specs.Solution.{IsSolutionWith, SolutionGives}
-use Rattle.max_two_sat.specs.Laws.Gaps.{row_value-most, rows_value-most}
+use Rattle.pair_rows.specs.Pairs.{rows_of, row_at, pair_count, entries_before}
+use Rattle.pair_rows.specs.Laws.Pairs.{length-rows_of, length-row_at, row_at-is, drop-rows, all-take, all-drop, all-rows_of, all-row_at, total_by-cut, rows_of-map}
+use Rattle.pair_rows.specs.Laws.Gaps as plain
+use Rattle.pair_rows.specs.Laws.Totals.{positive-rows_of, rows_most-rows_of}
+use Rattle.pair_rows.proofs.RunningSums.{SumGrows, sum-grows, sum-done}
+use Rattle.max_two_sat.specs.declared.weights.UnitWeights.{UnitWeights}
+use Rattle.max_two_sat.specs.declared.weights.PairWeights.{PairWeights}
+use Rattle.max_two_sat.specs.Instance.{Instance, unit_total, pair_total, units_total, pairs_total, no_pair, no_unit}
 use Rattle.max_two_sat.specs.Limits.{IsWithinLimits, PairIsPositive, UnitIsPositive, pairs_are_positive, units_are_positive, pair_is_positive, unit_is_positive}
 use Rattle.max_two_sat.specs.Laws.Limits.{unit-positive, pair-positive}
-use Rattle.max_two_sat.specs.OwnWords.{all_truth_values, own_value, weight_of, unit_value, pair_value, pair_left, units_value, row_value, rows_value}
-use Rattle.max_two_sat.specs.Program.{program_of}
+use Rattle.max_two_sat.specs.Laws.Listing.{pairs-in_range, pairs-most, row-same, rows-same}
 use Rattle.max_two_sat.specs.Laws.Solutions.{own_value-agrees}
-use Rattle.max_two_sat.specs.Laws.Rows.{length-rows_of, length-row_at, drop-rows}
-use Rattle.max_two_sat.specs.Laws.Totals.{units_total-positive, positive-rows_of, positive-row_at, rows_are_positive, rows_total-rows_of, rows_total-drop, rows_total-positive, all-drop}
-use Rattle.max_two_sat.proofs.Cells.{unit-at, pair-at}
-use Rattle.max_two_sat.proofs.RunningSums.{SumGrows, sum-grows, sum-done}
+use Rattle.max_two_sat.specs.Laws.Totals.{units_total-positive, pairs_total-positive}
+use Rattle.max_two_sat.specs.OwnWords.{all_truth_values, own_value, weight_of, unit_value, pair_value, pair_left, units_value, row_value, rows_value}
+use Rattle.max_two_sat.specs.Program.{pair_values, program_of}
+use Rattle.max_two_sat.proofs.Entries.{unit-at, pair-at}
 
 -- truth values
 
@@ -122,6 +126,21 @@ row_value-positive (p ∷ ps) x [] h = omega (arith, ints)
 row_value-positive (p ∷ ps) x (y ∷ ys) h =
     omega (arith, ints, pair_value-positive p x y (pair-positive p (and_parts _ _ h).0), row_value-positive ps x ys (and_parts (pair_is_positive p) _ h).1)
 
+-- a row gives at most its weight, and so do all rows
+row_value-most : (ps : List PairWeights) (x : ℕ) (ys : List ℕ) → IsTrue (pairs_are_positive ps) → row_value ps x ys ≤ℤ pairs_total ps
+row_value-most ps x ys h =
+    omega (arith, ints, row-same ps x ys, pairs-most ps, plain.row_value-most (map pair_values ps) x ys (pairs-in_range ps h))
+
+rows_value-most : (n : ℕ) (ps : List PairWeights) (xs : List ℕ) → length ps ≡ pair_count n → IsTrue (pairs_are_positive ps) → rows_value (rows_of n ps) xs ≤ℤ pairs_total ps
+rows_value-most n ps xs whole h =
+    let fits = pairs-in_range ps h in
+    let listed = rw (rows_of-map pair_values n ps) at (plain.rows_value-most (rows_of n (map pair_values ps)) xs (positive-rows_of n (map pair_values ps) fits)) in
+    let total = rw (rows_of-map pair_values n ps) at (rows_most-rows_of n (map pair_values ps) (length-map ps pair_values ∙ whole)) in
+    omega (arith, ints, rows-same (rows_of n ps) xs, pairs-most ps, listed, total)
+
+abbrev rows_are_positive : List (List PairWeights) → Bool
+rows_are_positive rows = list_all pairs_are_positive rows
+
 rows_value-positive : (rows : List (List PairWeights)) (xs : List ℕ) → IsTrue (rows_are_positive rows) → pos 0 ≤ℤ rows_value rows xs
 rows_value-positive [] xs h = omega (arith, ints)
 rows_value-positive (row ∷ rows) [] h = omega (arith, ints)
@@ -153,15 +172,16 @@ pub record RowThere (ps : List PairWeights) (n k : ℕ) (row : List PairWeights)
 
 pub row-there : (ps : List PairWeights) (n k : ℕ) (row : List PairWeights) → length ps ≡ pair_count n → k < n → IsTrue (pairs_are_positive ps) → row ≡ row_at (rows_of n ps) k → RowThere ps n k row
 row-there ps n k row whole h positive is =
-    let rows : List (List PairWeights) = rows_of n ps in
-    let all = positive-rows_of n ps positive in
-    let rest : rows_total (drop k rows) ≡ pairs_total (row_at rows k) +ℤ rows_total (drop (suc k) rows) = rw (drop-rows rows k (omega (arith, length-rows_of n ps))) refl in
-    let later = rows_total-positive (drop (suc k) rows) (all-drop pairs_are_positive (suc k) rows all) in
-    let front = rows_total-drop rows k all in
+    let here : List PairWeights = drop (entries_before n k) ps in
+    let cut : row ≡ take (n - suc k) here = is ∙ row_at-is n k ps h in
+    let from : IsTrue (pairs_are_positive here) = all-drop pair_is_positive (entries_before n k) ps positive in
+    let own : IsTrue (pairs_are_positive (take (n - suc k) here)) = all-take pair_is_positive (n - suc k) here from in
+    let before = pairs_total-positive (take (entries_before n k) ps) (all-take pair_is_positive (entries_before n k) ps positive) in
+    let later = pairs_total-positive (drop (n - suc k) here) (all-drop pair_is_positive (n - suc k) here from) in
     record {
       entries = omega (arith, ap length is, length-row_at n ps k whole h);
-      positive = rw is (positive-row_at rows k all);
-      weight = rw is (omega (arith, ints, rows_total-rows_of n ps whole));
+      positive = rw cut own;
+      weight = rw cut (omega (arith, ints, total_by-cut pair_total (entries_before n k) ps, total_by-cut pair_total (n - suc k) here));
     }
 
 pub rows-grow : (ps : List PairWeights) (xs : List ℕ) (k : ℕ) (row : List PairWeights) (total cell : ℤ) → k < length xs → length ps ≡ pair_count (length xs) → IsTrue (pairs_are_positive ps) → pairs_total ps ≤ℤ pos (2 ^ 48) →
@@ -170,14 +190,14 @@ pub rows-grow : (ps : List PairWeights) (xs : List ℕ) (k : ℕ) (row : List Pa
     SumGrows (rows_value (rows_of (length xs) ps) xs) (rows_value (drop (k + 1) (rows_of (length xs) ps)) (drop (k + 1) xs)) total cell
 rows-grow ps xs k row total cell h whole positive weight is cell_is before =
     let rows : List (List PairWeights) = rows_of (length xs) ps in
-    let all = positive-rows_of (length xs) ps positive in
+    let all = all-rows_of pair_is_positive (length xs) ps positive in
     let one : suc k ≡ k + 1 = omega arith in
     let cut : rows_value (drop k rows) (drop k xs) ≡ row_value (row_at rows k) (get_or xs k 0) (drop (k + 1) xs) +ℤ rows_value (drop (k + 1) rows) (drop (k + 1) xs) =
     rw (drop-rows rows k (omega (arith, length-rows_of (length xs) ps)), drop_more xs k 0 h) (ap (λ n. row_value (row_at rows k) (get_or xs k 0) (drop (k + 1) xs) +ℤ rows_value (drop n rows) (drop (k + 1) xs)) one) in
     let same : cell ≡ row_value (row_at rows k) (get_or xs k 0) (drop (k + 1) xs) = cell_is ∙ ap (λ r. row_value r (get_or xs k 0) (drop (k + 1) xs)) is in
     sum-grows (rows_value rows xs) (rows_value (drop k rows) (drop k xs)) cell (rows_value (drop (k + 1) rows) (drop (k + 1) xs)) total (rw same cut)
-    (rw same (row_value-positive (row_at rows k) (get_or xs k 0) (drop (k + 1) xs) (positive-row_at rows k all)))
-    (rows_value-positive (drop (k + 1) rows) (drop (k + 1) xs) (all-drop pairs_are_positive (k + 1) rows all)) (omega (arith, ints, rows_value-most rows xs all, rows_total-rows_of (length xs) ps whole)) before
+    (rw same (row_value-positive (row_at rows k) (get_or xs k 0) (drop (k + 1) xs) (all-row_at pair_is_positive rows k all)))
+    (rows_value-positive (drop (k + 1) rows) (drop (k + 1) xs) (all-drop pairs_are_positive (k + 1) rows all)) (omega (arith, ints, rows_value-most (length xs) ps xs whole positive)) before
 
 pub rows-done : (ps : List PairWeights) (xs : List ℕ) (k : ℕ) (total : ℤ) → length xs ≤ k →
     total +ℤ rows_value (drop k (rows_of (length xs) ps)) (drop k xs) ≡ rows_value (rows_of (length xs) ps) xs → total ≡ rows_value (rows_of (length xs) ps) xs
@@ -187,8 +207,7 @@ rows-done ps xs k total h before =
 
 pub rows-bounds : (ps : List PairWeights) (n : ℕ) (xs : List ℕ) → length ps ≡ pair_count n → IsTrue (pairs_are_positive ps) → (pos 0 ≤ℤ rows_value (rows_of n ps) xs) × (rows_value (rows_of n ps) xs ≤ℤ pairs_total ps)
 rows-bounds ps n xs whole positive =
-    let all = positive-rows_of n ps positive in
-    (rows_value-positive (rows_of n ps) xs all, omega (arith, ints, rows_value-most (rows_of n ps) xs all, rows_total-rows_of n ps whole))
+    (rows_value-positive (rows_of n ps) xs (all-rows_of pair_is_positive n ps positive), rows_value-most n ps xs whole positive)
 
 -- what value_of answers
 

@@ -5,8 +5,8 @@ use Rattle.max_two_sat.specs.declared.clause.Literals.{Literals}
 use Rattle.max_two_sat.specs.declared.clause.Literals.TheVariants.{Empty, One, Two}
 use Rattle.max_two_sat.specs.declared.weights.UnitWeights.{UnitWeights}
 use Rattle.max_two_sat.specs.declared.weights.PairWeights.{PairWeights}
-use Rattle.max_two_sat.specs.Instance.{Instance, pair_count, no_pair, no_unit}
-use Rattle.max_two_sat.specs.Table.{entries_before}
+use Rattle.max_two_sat.specs.Instance.{Instance, no_pair, no_unit}
+use Rattle.pair_rows.specs.Pairs.{pair_count, entries_before}
 
 -- an instance of so many variables without clauses
 abbrev pub empty_instance : ℕ → Instance

@@ -1,10 +1,6 @@
 -- What an `impl` cites and no clause.
 pub mod Limits
 pub mod Numbers
-pub mod Rows
-pub mod States
 pub mod Totals
-pub mod Sizes
-pub mod Split
-pub mod Gaps
+pub mod Listing
 pub mod Solutions

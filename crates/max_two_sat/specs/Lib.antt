@@ -4,9 +4,6 @@ pub mod OwnWords
 pub mod Program
 pub mod Numbers
 pub mod Shown
-pub mod Fitting
-pub mod Table
-pub mod Shifts
 pub mod Clauses
 pub mod Lines
 pub mod Texts

@@ -1,9 +1,10 @@
 -- What every instance keeps to.
-use Rattle.std.specs.Prelude.{◌≡◌, ◌^◌, ◌≤◌, ℤ, pos, ◌+ℤ◌, ◌≤ℤ◌, Bool, ◌&&◌, int_le, List, length, IsTrue}
+use Rattle.std.specs.Prelude.{◌≡◌, ◌^◌, ◌≤◌, pos, ◌+ℤ◌, ◌≤ℤ◌, Bool, ◌&&◌, int_le, List, length, IsTrue}
 use Rattle.std.specs.List.{list_all}
 use Rattle.max_two_sat.specs.declared.weights.UnitWeights.{UnitWeights}
 use Rattle.max_two_sat.specs.declared.weights.PairWeights.{PairWeights}
-use Rattle.max_two_sat.specs.Instance.{Instance, pair_count, units_total, pairs_total}
+use Rattle.max_two_sat.specs.Instance.{Instance, units_total, pairs_total}
+use Rattle.pair_rows.specs.Pairs.{pair_count}
 use Rattle.max_two_sat.specs.Lines.{line_count, weighs}
 
 -- no weight of the entry is negative

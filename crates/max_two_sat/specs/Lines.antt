@@ -6,7 +6,8 @@ use Rattle.max_two_sat.specs.declared.clause.Literals.{Literals}
 use Rattle.max_two_sat.specs.declared.clause.Literals.TheVariants.{One, Two}
 use Rattle.max_two_sat.specs.declared.weights.UnitWeights.{UnitWeights}
 use Rattle.max_two_sat.specs.declared.weights.PairWeights.{PairWeights}
-use Rattle.max_two_sat.specs.Instance.{Instance, rows_of}
+use Rattle.max_two_sat.specs.Instance.{Instance}
+use Rattle.pair_rows.specs.Pairs.{rows_of}
 
 -- a clause with its weight
 pub record Clause : Type 0 where

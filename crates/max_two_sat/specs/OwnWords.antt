@@ -2,7 +2,8 @@
 use Rattle.std.specs.Prelude.{ℕ, zero, suc, ℤ, pos, ◌+ℤ◌, Bool, true, false, ◌&&◌, ◌||◌, not, nat_lt, ◌==◌, List, [], ◌∷◌, length, Option, Some, None, if◌then◌else◌}
 use Rattle.max_two_sat.specs.declared.weights.UnitWeights.{UnitWeights}
 use Rattle.max_two_sat.specs.declared.weights.PairWeights.{PairWeights}
-use Rattle.max_two_sat.specs.Instance.{Instance, rows_of}
+use Rattle.max_two_sat.specs.Instance.{Instance}
+use Rattle.pair_rows.specs.Pairs.{rows_of}
 
 -- whether the value makes the variable true: 1 does, 0 does not
 abbrev pub is_true : ℕ → Bool

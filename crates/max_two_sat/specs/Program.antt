@@ -1,114 +1,26 @@
--- The dynamic program of an instance: layer k gives variable k its value, and a state has for each later variable the net benefit
--- of making it true, among the clauses that are decided but for it.
-use Rattle.std.specs.Prelude.{ℕ, zero, suc, ℤ, pos, neg_ℤ, ◌+ℤ◌, ◌-ℤ◌, Bool, true, false, ◌&&◌, ◌==◌, int_le, List, [], ◌∷◌, ◌++◌, length, take, drop, Some, map}
-use Rattle.std.specs.Int.{int_min}
-use Rattle.benefit_rows.specs.Benefits.{above_zero, below_zero, choice_gain, rank_of, gap_of, merged_of}
+-- The dynamic program of an instance: that of its variables and pairs with what their clauses give. Layer k gives variable k its value, and
+-- a state has for each later variable the net benefit of making it true, among the clauses that are decided but for it.
+use Rattle.std.specs.Prelude.{map}
 use Rattle.dp_model.specs.Dp.{Dp}
+use Rattle.pair_rows.specs.declared.values.UnitValues.{UnitValues}
+use Rattle.pair_rows.specs.declared.values.PairValues.{PairValues}
+use Rattle.pair_rows.specs.Instance.{Instance as Rows}
+use Rattle.pair_rows.specs.Program.{program_of as program_of_rows}
 use Rattle.max_two_sat.specs.declared.weights.UnitWeights.{UnitWeights}
 use Rattle.max_two_sat.specs.declared.weights.PairWeights.{PairWeights}
-use Rattle.max_two_sat.specs.Instance.{Instance, rows_of, row_at, unit_total, pair_total, rows_total}
+use Rattle.max_two_sat.specs.Instance.{Instance, unit_total, pair_total}
+use Rattle.max_two_sat.specs.OwnWords.{unit_value, pair_value}
 
--- the weight of the clauses on two variables that the first one's value satisfies
-abbrev pub settled : PairWeights → ℕ → ℤ
-settled p zero = p.second +ℤ p.neither
-settled p (suc _) = p.both +ℤ p.first
+-- what the clauses of an entry give, by the values of its variables
+abbrev pub unit_values : UnitWeights → UnitValues
+unit_values u = record { if_no = unit_value u 0; if_yes = unit_value u 1; most = unit_total u }
 
--- of the others, the weight of those with a positive literal of the second variable
-abbrev pub open_true : PairWeights → ℕ → ℤ
-open_true p zero = p.both
-open_true p (suc _) = p.second
+abbrev pub pair_values : PairWeights → PairValues
+pair_values p = record { no_no = pair_value p 0 0; no_yes = pair_value p 0 1; yes_no = pair_value p 1 0; yes_yes = pair_value p 1 1; most = pair_total p }
 
--- of the others, the weight of those with a negative literal of the second variable
-abbrev pub open_false : PairWeights → ℕ → ℤ
-open_false p zero = p.first
-open_false p (suc _) = p.neither
-
--- the benefits of the later variables after the decision
-abbrev pub grown : List PairWeights → List ℤ → ℕ → List ℤ
-grown [] ts d = []
-grown (p ∷ ps) [] d = []
-grown (p ∷ ps) (t ∷ ts) d = (t +ℤ (open_true p d -ℤ open_false p d)) ∷ grown ps ts d
-
--- what the decision satisfies with a later variable, and the lesser of what this one then has on its two sides
-abbrev pub cell_part : PairWeights → ℤ → ℕ → ℤ
-cell_part p t d = settled p d +ℤ int_min (above_zero t +ℤ open_true p d) (below_zero t +ℤ open_false p d)
-
--- the sum of this over the later variables
-abbrev pub shared_gain : List PairWeights → List ℤ → ℕ → ℤ
-shared_gain [] ts d = pos 0
-shared_gain (p ∷ ps) [] d = pos 0
-shared_gain (p ∷ ps) (t ∷ ts) d = cell_part p t d +ℤ shared_gain ps ts d
-
--- the decided variable has no benefit any more
-abbrev pub row_step : List PairWeights → List ℤ → ℕ → List ℤ
-row_step row [] d = []
-row_step row (t ∷ ts) d = pos 0 ∷ grown row ts d
-
-abbrev pub row_gain : List PairWeights → List ℤ → ℕ → ℤ
-row_gain row [] d = pos 0
-row_gain row (t ∷ ts) d = choice_gain t d +ℤ shared_gain row ts d
-
--- a state has a word for each variable, and one word where there is none
-abbrev pub words_of : ℕ → ℕ
-words_of zero = 1
-words_of (suc n) = suc n
-
-abbrev pub root_of : List UnitWeights → List ℤ
-root_of [] = pos 0 ∷ []
-root_of (u ∷ us) = map (λ v. v.positive -ℤ v.negative) (u ∷ us)
-
--- the sum of the lesser of the two unit weights
-abbrev pub lesser_units : List UnitWeights → ℤ
-lesser_units [] = pos 0
-lesser_units (u ∷ us) = int_min u.positive u.negative +ℤ lesser_units us
-
--- how large the benefits of the variables from a layer on may be: the unit weights and the weight with the variables before the layer
-abbrev pub raised_limits : List PairWeights → List ℤ → List ℤ
-raised_limits [] ls = []
-raised_limits (p ∷ ps) [] = []
-raised_limits (p ∷ ps) (l ∷ ls) = (l +ℤ pair_total p) ∷ raised_limits ps ls
-
-abbrev pub first_limits : List UnitWeights → List ℤ
-first_limits [] = pos 0 ∷ []
-first_limits (u ∷ us) = map unit_total (u ∷ us)
-
-abbrev pub limits_at : List UnitWeights → List PairWeights → ℕ → List ℤ
-limits_at units pairs zero = first_limits units
-limits_at units pairs (suc k) = raised_limits (row_at (rows_of (length units) pairs) k) (drop 1 (limits_at units pairs k))
-
--- whether the number is at most the limit in size
-abbrev pub is_within : ℤ → ℤ → Bool
-is_within t limit = int_le (neg_ℤ limit) t && int_le t limit
-
-abbrev pub all_zero : List ℤ → Bool
-all_zero [] = true
-all_zero (t ∷ ts) = is_within t (pos 0) && all_zero ts
-
-abbrev pub are_within : List ℤ → List ℤ → Bool
-are_within [] limits = true
-are_within (t ∷ ts) [] = false
-are_within (t ∷ ts) (limit ∷ limits) = is_within t limit && are_within ts limits
-
--- the row is a state of the layer: what is decided has no benefit, and the others are within their limits
-abbrev pub is_state_of : Instance → ℕ → List ℤ → Bool
-is_state_of i k s = (length s == words_of (length i.units)) && (all_zero (take k s) && are_within (drop k s) (limits_at i.units i.pairs k))
+-- the variables and pairs of an instance
+abbrev pub rows_in : Instance → Rows
+rows_in i = record { constant = i.tautologies; first = 2; units = map unit_values i.units; pairs = map pair_values i.pairs }
 
 abbrev pub program_of : Instance → Dp
-program_of i =
-    let rows = rows_of (length i.units) i.pairs in
-    record {
-      vars = length i.units;
-      words = words_of (length i.units);
-      choices = λ _. 2;
-      root = root_of i.units;
-      root_value = i.tautologies +ℤ lesser_units i.units;
-      is_state = is_state_of i;
-      allowed = λ _ _ _. true;
-      step = λ k s d. take k s ++ row_step (row_at rows k) (drop k s) d;
-      gain = λ k s d. row_gain (row_at rows k) (drop k s) d;
-      merged = λ _ a s. merged_of a s;
-      gap = λ k a s. Some (gap_of (drop k a) (drop k s));
-      rough = λ k s. Some (rank_of (drop k s) +ℤ rows_total (drop k rows));
-      rank = λ _ s. rank_of s;
-      bucket = λ _ _. 0;
-    }
+program_of i = program_of_rows (rows_in i)

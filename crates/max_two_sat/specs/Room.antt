@@ -4,7 +4,8 @@ use Rattle.max_two_sat.specs.declared.clause.Literal.{Literal}
 use Rattle.max_two_sat.specs.declared.header.Header.{Header}
 use Rattle.max_two_sat.specs.declared.header.Form.{Form}
 use Rattle.max_two_sat.specs.declared.header.Form.TheVariants.{Plain, Weighted}
-use Rattle.max_two_sat.specs.Instance.{Instance, pair_count, units_total, pairs_total}
+use Rattle.max_two_sat.specs.Instance.{Instance, units_total, pairs_total}
+use Rattle.pair_rows.specs.Pairs.{pair_count}
 use Rattle.max_two_sat.specs.Clauses.{FitsLiteral, Gathered}
 use Rattle.max_two_sat.specs.Limits.{units_are_positive, pairs_are_positive}
 use Rattle.max_two_sat.specs.Lines.{line_count, weighs}

@@ -1,13 +1,14 @@
 ghost use Rattle.std.specs.Prelude.{◌≡◌, ◌^◌, ◌+◌, ◌<◌, ◌≤◌, pos, ◌+ℤ◌, ◌≤ℤ◌, length, IfOk};
-ghost use Rattle.max_two_sat.specs.Instance.{pair_count, pair_total, unit_total};
+ghost use Rattle.pair_rows.specs.Pairs.{pair_count};
+ghost use Rattle.max_two_sat.specs.Instance.{pair_total, unit_total};
 ghost use Rattle.max_two_sat.specs.Limits.{PairIsPositive, UnitIsPositive};
 ghost use Rattle.max_two_sat.specs.Clauses.{FitsLiteral, FitsLiterals, gathered_with, heavier_pair, heavier_unit, nothing_gathered, place_of_pair, same_sign, with_pair, with_two, with_unit};
 ghost use Rattle.max_two_sat.specs.Room.{HasClauseRoom};
 ghost use Rattle.max_two_sat.specs.Drafted.{gathered_in, instance_gathered};
 
 use crate::clause::{Literal, Literals};
-use crate::instance::start_of_row;
 use crate::weights::{PairWeights, UnitWeights};
+use pair_rows::start_of_row;
 use std::alloc::{AllocError, Global};
 
 /// An instance while its clauses are read.

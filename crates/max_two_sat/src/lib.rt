@@ -3,8 +3,8 @@
 //!
 //! `MaxTwoSat` is an instance, `read` and `print` are its texts, and `value_of` is the weight that an assignment satisfies, by the
 //! problem's own words. It implements `DpModel` of the crate dp_model: layer `k` gives variable `k` its value, and a state has for
-//! each later variable the net benefit of making it true, among the clauses that are decided but for it. The crate stands on dp_model,
-//! tokens and benefit_rows.
+//! each later variable the net benefit of making it true, among the clauses that are decided but for it, as `pair_rows` keeps it. The
+//! crate stands on dp_model, tokens and pair_rows.
 //!
 //! Promised, each in the contract of its call: `read` answers the instance exactly where the text is in the grammar, and otherwise its
 //! first fault with its place; `print` gives the canonical text, which reads as the same instance; the program meets the six laws of
@@ -23,16 +23,13 @@ mod first_line;
 mod generating;
 mod header;
 mod instance;
-mod limits;
 mod lines;
+mod listing;
 mod model;
 mod printing;
 mod problem;
 mod reading;
 mod reading_clauses;
-mod row;
-mod shifts;
-mod sums;
 mod value;
 mod weights;
 

@@ -4,7 +4,7 @@ ghost use Rattle.std.specs.Prelude.{◌≡◌, ◌^◌, ◌≤◌, ◌++◌, len
 ghost use Rattle.std.specs.List.{flat_map};
 ghost use Rattle.tokens.specs.Text.{text_start};
 ghost use Rattle.tokens.specs.declared.comment.Comment.TheVariants.{LetterC};
-ghost use Rattle.max_two_sat.specs.Instance.{rows_of};
+ghost use Rattle.pair_rows.specs.Pairs.{rows_of};
 ghost use Rattle.max_two_sat.specs.Texts.{instance_at};
 ghost use Rattle.max_two_sat.specs.Lines.{rows_lines};
 ghost use Rattle.max_two_sat.specs.Shown.{instance_in};
@@ -13,6 +13,7 @@ ghost use Rattle.max_two_sat.specs.Printed.{first_line_of, line_of, text_of};
 use crate::clause::{Literal, Literals};
 use crate::instance::MaxTwoSat;
 use crate::lines::{count_pairs, count_units, push_clause, push_row, push_units, weighs};
+use pair_rows::row_of;
 use std::alloc::{AllocError, Global};
 use tokens::{push_number, push_text};
 
@@ -67,8 +68,9 @@ fn push_first_line(out: &mut Vec<u8>, model: &MaxTwoSat) -> Result<(), AllocErro
 fn push_rows(out: &mut Vec<u8>, model: &MaxTwoSat) -> Result<(), AllocError>
     ensures { OnOk result (out.new.items ≡ out.old.items ++ flat_map line_of (rows_lines 0 (rows_of (length model.now.units.items) model.now.pairs.items))) }
 {
-    for k in 0..model.units.as_slice().len() {
-        push_row(out, k, model.row(k))?;
+    let variables = model.units.as_slice().len();
+    for k in 0..variables {
+        push_row(out, k, row_of(model.pairs.as_slice(), variables, k))?;
     }
     Ok(())
 }

@@ -1,16 +1,17 @@
 //! The problem's own words: a truth value for each variable, and the weight of the clauses that it satisfies.
 
 ghost use Rattle.std.specs.Prelude.{◌≡◌, ◌^◌, ◌≤◌, ◌==◌, ◌&&◌, pos, ◌≤ℤ◌, length, IsTrue};
-ghost use Rattle.max_two_sat.specs.Instance.{pair_count, pair_total, pairs_total, rows_of, units_total};
+ghost use Rattle.pair_rows.specs.Pairs.{pair_count, rows_of};
+ghost use Rattle.max_two_sat.specs.Instance.{pair_total, pairs_total, units_total};
 ghost use Rattle.max_two_sat.specs.Limits.{PairIsPositive, pairs_are_positive, units_are_positive};
 ghost use Rattle.max_two_sat.specs.Shown.{instance_in};
 ghost use Rattle.max_two_sat.specs.OwnWords.{all_truth_values, own_value, pair_left, pair_value, row_value, rows_value, unit_value, units_value};
 ghost use Rattle.dp_model.specs.Solution.{SolutionGives};
 ghost use Rattle.max_two_sat.specs.Program.{program_of};
 
-use crate::instance::{MaxTwoSat, row_of};
-use crate::limits::pair_sum;
+use crate::instance::MaxTwoSat;
 use crate::weights::{PairWeights, UnitWeights};
+use pair_rows::row_of;
 
 /// The weight of the satisfied clauses, where the decisions give each variable 0 (false) or 1 (true). `None` exactly where they do
 /// not. Such lists are the feasible solutions of the program, with this value.
@@ -61,7 +62,8 @@ fn value_of_units(units: &[UnitWeights], values: &[u32]) -> i64
     total
 }
 
-fn value_of_unit(unit: UnitWeights, value: u32) -> i64
+/// The satisfied weight of the clauses with one literal on a variable.
+pub(crate) fn value_of_unit(unit: UnitWeights, value: u32) -> i64
     ensures { result ≡ unit_value unit value }
 {
     if value == 0 {
@@ -106,7 +108,7 @@ fn value_of_row(row: &[PairWeights], value: u32, later: &[u32]) -> i64
 }
 
 /// The satisfied weight of the clauses on two variables.
-fn value_of_pair(pair: PairWeights, first: u32, second: u32) -> i64
+pub(crate) fn value_of_pair(pair: PairWeights, first: u32, second: u32) -> i64
     requires positive { PairIsPositive pair }
     requires weight { pair_total pair ≤ℤ pos (2 ^ 48) }
     ensures { result ≡ pair_value pair first second }
@@ -127,4 +129,13 @@ fn unsatisfied(pair: PairWeights, first: u32, second: u32) -> i64
             pair.neither
         }
     }
+}
+
+/// What all clauses on two variables weigh.
+pub(crate) fn pair_sum(pair: PairWeights) -> i64
+    requires positive { PairIsPositive pair }
+    requires weight { pair_total pair ≤ℤ pos (2 ^ 48) }
+    ensures { result ≡ pair_total pair }
+{
+    (pair.both + pair.first) + (pair.second + pair.neither)
 }

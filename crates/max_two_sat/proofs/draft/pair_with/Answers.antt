@@ -3,7 +3,7 @@ use Rattle.std.proofs.lemmas.Int.{ints}
 use Rattle.max_two_sat.specs.declared.weights.PairWeights.{PairWeights}
 use Rattle.max_two_sat.specs.Instance.{pair_total}
 use Rattle.max_two_sat.specs.Limits.{PairIsPositive}
-use Rattle.max_two_sat.proofs.RunningSums.{WordsAdd, words-add}
+use Rattle.pair_rows.proofs.RunningSums.{WordsAdd, words-add}
 use Rattle.max_two_sat.proofs.draft.pair_with.Goals as goal
 
 -- each of the four weights has room for one more

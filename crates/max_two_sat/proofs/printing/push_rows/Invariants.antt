@@ -1,6 +1,6 @@
 use Rattle.std.proofs.Common.{◌≡◌, ◌++◌, drop, length}
 use Rattle.std.specs.List.{flat_map}
-use Rattle.max_two_sat.specs.Instance.{rows_of}
+use Rattle.pair_rows.specs.Pairs.{rows_of}
 use Rattle.max_two_sat.specs.Lines.{rows_lines}
 use Rattle.max_two_sat.specs.Printed.{line_of}
 use Rattle.max_two_sat.proofs.printing.push_rows.Given as goal

@@ -1,10 +1,10 @@
 use Rattle.max_two_sat.specs.Shown.{instance_in}
-use Rattle.max_two_sat.proofs.Layers.{units-most, pairs-most}
+use Rattle.max_two_sat.specs.Laws.Totals.{parts-small}
 use Rattle.max_two_sat.proofs.Weighing.{assigned, own-none, value-none, ValueIs, value-is}
 use Rattle.max_two_sat.proofs.value.value_of.Goals as goal
 
 pub value_of_units-units_part-requires-clause-weight : goal.value_of_units-units_part-requires-clause-weight
-value_of_units-units_part-requires-clause-weight c = rw c.as_slice-units.ensures.value (units-most (instance_in c.args.model.now) c.args.model.now.kept)
+value_of_units-units_part-requires-clause-weight c = rw c.as_slice-units.ensures.value (parts-small (instance_in c.args.model.now) c.args.model.now.kept).units
 
 pub returns-then-not-is_assignment-clause-solution : goal.returns-then-not-is_assignment-clause-solution
 returns-then-not-is_assignment-clause-solution c =
@@ -36,7 +36,7 @@ pub value_of_pairs-pairs_part-requires-clause-positive : goal.value_of_pairs-pai
 value_of_pairs-pairs_part-requires-clause-positive c = rw c.as_slice.ensures.value c.args.model.now.kept.pairs
 
 pub value_of_pairs-pairs_part-requires-clause-weight : goal.value_of_pairs-pairs_part-requires-clause-weight
-value_of_pairs-pairs_part-requires-clause-weight c = rw c.as_slice.ensures.value (pairs-most (instance_in c.args.model.now) c.args.model.now.kept)
+value_of_pairs-pairs_part-requires-clause-weight c = rw c.as_slice.ensures.value (parts-small (instance_in c.args.model.now) c.args.model.now.kept).pairs
 
 is : (c : goal.After-result-1) → ValueIs (instance_in c.args.model.now) c.args.decisions.now c.value_of_units-units_part.result c.value_of_pairs-pairs_part.result
 is c =

@@ -2,7 +2,7 @@ use Rattle.std.proofs.Common.{arith, to_z, w64, length, ◌+◌}
 use Rattle.std.proofs.lemmas.Int.{ints}
 use Rattle.std.proofs.lemmas.List.{length-drop}
 use Rattle.max_two_sat.proofs.Weighing.{row-there, rows-grow, rows-done, rows-bounds}
-use Rattle.max_two_sat.proofs.Writing.{tail-is}
+use Rattle.pair_rows.proofs.Writing.{tail-is}
 use Rattle.max_two_sat.proofs.value.value_of_pairs.Goals as goal
 
 pub value_of_row-total-requires-clause-lengths : goal.value_of_row-total-requires-clause-lengths

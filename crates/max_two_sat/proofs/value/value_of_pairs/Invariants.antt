@@ -1,5 +1,5 @@
 use Rattle.std.proofs.Common.{◌≡◌, pos, ◌+ℤ◌, ◌≤ℤ◌, drop, length}
-use Rattle.max_two_sat.specs.Instance.{rows_of}
+use Rattle.pair_rows.specs.Pairs.{rows_of}
 use Rattle.max_two_sat.specs.OwnWords.{rows_value}
 use Rattle.max_two_sat.proofs.value.value_of_pairs.Given as goal
 

@@ -1,7 +1,7 @@
 use Rattle.std.proofs.Common.{arith, to_z, w64}
 use Rattle.std.proofs.lemmas.Int.{ints}
 use Rattle.max_two_sat.specs.Instance.{no_pair}
-use Rattle.max_two_sat.proofs.Cells.{pair-at, pair_total-at}
+use Rattle.max_two_sat.proofs.Entries.{pair-at, pair_total-at}
 use Rattle.max_two_sat.proofs.Weighing.{row-grows, row-done, row-bounds}
 use Rattle.max_two_sat.proofs.value.value_of_row.Goals as goal
 

@@ -2,7 +2,7 @@ use Rattle.std.proofs.Common.{◌≡◌, ℕ, ℤ, w64, arith, refl, ◌∙◌}
 use Rattle.std.proofs.lemmas.Int.{to_z-of_z}
 use Rattle.max_two_sat.specs.Clauses.{Gathered}
 use Rattle.max_two_sat.specs.Instance.{Instance}
-use Rattle.max_two_sat.proofs.RunningSums.{words-add}
+use Rattle.pair_rows.proofs.RunningSums.{words-add}
 use Rattle.max_two_sat.proofs.draft.Draft.add.Goals as goal
 
 abbrev gathered : Instance → ℤ → ℕ → Gathered

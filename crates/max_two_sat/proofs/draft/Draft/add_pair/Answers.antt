@@ -6,7 +6,7 @@ use Rattle.max_two_sat.specs.Clauses.{heavier_pair}
 use Rattle.max_two_sat.specs.Drafted.{instance_gathered}
 use Rattle.max_two_sat.specs.Instance.{no_pair, pair_total, pairs_total}
 use Rattle.max_two_sat.specs.Limits.{PairIsPositive}
-use Rattle.max_two_sat.proofs.Cells.{pair-at, pair_total-at}
+use Rattle.max_two_sat.proofs.Entries.{pair-at, pair_total-at}
 use Rattle.max_two_sat.proofs.Gathering.{room-leaves}
 use Rattle.max_two_sat.proofs.draft.Draft.add_pair.Goals as goal
 

@@ -4,7 +4,7 @@ use Rattle.max_two_sat.specs.declared.weights.UnitWeights.{UnitWeights}
 use Rattle.max_two_sat.specs.Drafted.{instance_gathered}
 use Rattle.max_two_sat.specs.Instance.{unit_total, units_total}
 use Rattle.max_two_sat.specs.Limits.{UnitIsPositive}
-use Rattle.max_two_sat.proofs.Cells.{unit-at, unit_total-at}
+use Rattle.max_two_sat.proofs.Entries.{unit-at, unit_total-at}
 use Rattle.max_two_sat.proofs.Gathering.{room-leaves}
 use Rattle.max_two_sat.proofs.draft.Draft.add_unit.Goals as goal
 

@@ -1,6 +1,6 @@
 use Rattle.std.proofs.Common.{arith, length, ◌≡◌, ap}
-use Rattle.max_two_sat.specs.Table.{entries_before}
-use Rattle.max_two_sat.proofs.Table.{pair_count-most}
+use Rattle.pair_rows.specs.Pairs.{entries_before}
+use Rattle.pair_rows.specs.Laws.Pairs.{pair_count-most}
 use Rattle.max_two_sat.proofs.Gathering.{place-inside}
 use Rattle.max_two_sat.proofs.draft.Draft.place_of_pair.Goals as goal
 

@@ -1,38 +1,46 @@
-use Rattle.std.proofs.Common.{◌^◌, pos, ◌≤ℤ◌, arith, rules}
+use Rattle.std.proofs.Common.{◌≡◌, ◌^◌, ◌≤◌, ◌∙◌, arith, subst, sym, to_z, of_z, w64}
 use Rattle.std.proofs.lemmas.Int.{ints}
+use Rattle.pair_rows.specs.Instance.{Instance as Rows}
+use Rattle.pair_rows.specs.Limits.{IsInstance}
+use Rattle.pair_rows.specs.Shown.{instance_of}
 use Rattle.max_two_sat.specs.declared.draft.Draft.{Draft}
-use Rattle.max_two_sat.specs.Drafted.{gathered_in}
-use Rattle.max_two_sat.specs.Instance.{pairs_total}
+use Rattle.max_two_sat.specs.Drafted.{gathered_in, instance_gathered}
+use Rattle.max_two_sat.specs.Limits.{IsWithinLimits}
+use Rattle.max_two_sat.specs.Program.{rows_in}
 use Rattle.max_two_sat.specs.Room.{IsGathered}
-use Rattle.max_two_sat.specs.Laws.Totals.{units_total-positive}
+use Rattle.max_two_sat.specs.Laws.Listing.{rows-kept}
+use Rattle.max_two_sat.specs.Laws.Totals.{parts-small}
 use Rattle.max_two_sat.proofs.instance.MaxTwoSat.prepared.Goals as goal
 
-pairs-most : (d : Draft) → IsGathered (gathered_in d) → pairs_total d.pairs.items ≤ℤ pos (2 ^ 48)
-pairs-most d gathered = omega (arith, ints, gathered.weight, gathered.total, gathered.tautologies, units_total-positive d.units.items gathered.units)
+within : (d : Draft) → IsGathered (gathered_in d) → d.clauses ≤ 2 ^ 20 → IsWithinLimits (instance_gathered d)
+within d gathered few = record {
+  variables = gathered.variables;
+  whole = gathered.whole;
+  tautologies = gathered.tautologies;
+  units = gathered.units;
+  pairs = gathered.pairs;
+  total = omega (arith, ints, gathered.weight, gathered.total);
+  lines = omega (arith, gathered.lines);
+  some = gathered.some;
+}
 
-pub sums_from-requires-clause-weight : goal.sums_from-requires-clause-weight
-sums_from-requires-clause-weight c = rw c.as_slice.ensures.value (pairs-most c.args.draft c.requires.gathered)
+-- the weight of the tautologies is read as it is
+read : (d : Draft) → IsGathered (gathered_in d) → d.clauses ≤ 2 ^ 20 → to_z w64 (of_z w64 d.tautologies) ≡ d.tautologies
+read d gathered few = omega (arith, ints, gathered.tautologies, (parts-small (instance_gathered d) (within d gathered few)).tautologies)
 
-pub of_decision-requires-clause-weight : goal.of_decision-requires-clause-weight
-of_decision-requires-clause-weight c = rw c.as_slice-2.ensures.value (pairs-most c.args.draft c.requires.gathered)
+pub listed-requires : goal.listed-requires
+listed-requires c =
+    rw (c.as_slice.ensures.value, c.as_slice-2.ensures.value, read c.args.draft c.requires.gathered c.requires.few)
+    (within c.args.draft c.requires.gathered c.requires.few)
 
-pub of_decision-requires-2-clause-weight : goal.of_decision-requires-2-clause-weight
-of_decision-requires-2-clause-weight c = rw c.as_slice-3.ensures.value (pairs-most c.args.draft c.requires.gathered)
-
-pub sums_from-requires-clause-positive : goal.sums_from-requires-clause-positive
-sums_from-requires-clause-positive c = rw c.as_slice.ensures.value c.requires.gathered.pairs
-
-pub of_decision-requires-clause-positive : goal.of_decision-requires-clause-positive
-of_decision-requires-clause-positive c = rw c.as_slice-2.ensures.value c.requires.gathered.pairs
-
-pub of_decision-requires-2-clause-positive : goal.of_decision-requires-2-clause-positive
-of_decision-requires-2-clause-positive c = rw c.as_slice-3.ensures.value c.requires.gathered.pairs
+pub prepared-requires : goal.prepared-requires
+prepared-requires c =
+    let is : instance_of c.in_ok-source.source ≡ rows_in (instance_gathered c.args.draft) =
+    rw (c.as_slice.ensures.value, c.as_slice-2.ensures.value, read c.args.draft c.requires.gathered c.requires.few) at c.in_ok-source.ensures in
+    subst (λ (i : Rows). IsInstance i) (sym is) (rows-kept (instance_gathered c.args.draft) (within c.args.draft c.requires.gathered c.requires.few))
 
 pub invariant_of-result : goal.invariant_of-result
 invariant_of-result c = record {
-  kept = search rules;
-  summed = search rules;
-  false_shifts = search rules;
-  true_shifts = search rules;
-  limited = rw (c.as_slice-4.ensures.value, c.as_slice-5.ensures.value) at c.in_ok-limits.ensures;
+  kept = rw (read c.args.draft c.requires.gathered c.requires.few) (within c.args.draft c.requires.gathered c.requires.few);
+  listed = c.in_ok-rows.ensures ∙ rw (c.as_slice.ensures.value, c.as_slice-2.ensures.value) at c.in_ok-source.ensures;
 }

@@ -1,30 +1,19 @@
-use Rattle.std.proofs.Common.{arith, ◌∙◌, w64}
-use Rattle.std.proofs.lemmas.Int.{ints, to_z-of_z}
-use Rattle.max_two_sat.specs.Shown.{instance_in}
-use Rattle.max_two_sat.specs.Laws.Sizes.{rank_of-state}
-use Rattle.max_two_sat.proofs.Layers.{layer-has, same-state}
-use Rattle.max_two_sat.proofs.Writing.{tail-is}
+use Rattle.std.proofs.Common.{ap, ◌∙◌, sym}
+use Rattle.std.proofs.Common.{w64}
+use Rattle.std.proofs.lemmas.Int.{to_z-of_z}
+use Rattle.dp_model.specs.Dp.{Dp}
+use Rattle.dp_model.specs.Gaps.{within}
+use Rattle.pair_rows.proofs.Handing.{state-on}
+use Rattle.max_two_sat.proofs.Handing.{same}
 use Rattle.max_two_sat.proofs.model.MaxTwoSatDpModel.covers_within.Goals as goal
 
-pub gap_within-requires-clause-from_rank : goal.gap_within-requires-clause-from_rank
-gap_within-requires-clause-from_rank c =
-    let i = instance_in c.args.self.now in
-    rw tail-is (to_z-of_z w64 c.args.rank_a c.ranges.rank_a ∙ (c.requires.covering_rank ∙ rank_of-state i c.args.k c.args.a.now (same-state i c.args.k c.args.a.now c.requires.covering)))
-
-pub gap_within-requires-clause-to_rank : goal.gap_within-requires-clause-to_rank
-gap_within-requires-clause-to_rank c =
-    let i = instance_in c.args.self.now in
-    rw tail-is (to_z-of_z w64 c.args.rank_s c.ranges.rank_s ∙ (c.requires.rank ∙ rank_of-state i c.args.k c.args.s.now (same-state i c.args.k c.args.s.now c.requires.state)))
-
-pub gap_within-requires-clause-from_size : goal.gap_within-requires-clause-from_size
-gap_within-requires-clause-from_size c =
-    let i = instance_in c.args.self.now in
-    rw tail-is (omega (arith, ints, (layer-has i c.args.k c.args.a.now c.args.self.now.kept (same-state i c.args.k c.args.a.now c.requires.covering)).rank))
-
-pub gap_within-requires-clause-to_size : goal.gap_within-requires-clause-to_size
-gap_within-requires-clause-to_size c =
-    let i = instance_in c.args.self.now in
-    rw tail-is (omega (arith, ints, (layer-has i c.args.k c.args.s.now c.args.self.now.kept (same-state i c.args.k c.args.s.now c.requires.state)).rank))
+pub covers_within-requires : goal.covers_within-requires
+covers_within-requires c = record {
+  covering = state-on (same c.args.self.now) c.args.k c.args.a.now c.requires.covering;
+  covering_rank = to_z-of_z w64 c.args.rank_a c.ranges.rank_a ∙ (c.requires.covering_rank ∙ ap (λ (p : Dp). p.rank c.args.k c.args.a.now) (sym (same c.args.self.now)));
+  state = state-on (same c.args.self.now) c.args.k c.args.s.now c.requires.state;
+  rank = to_z-of_z w64 c.args.rank_s c.ranges.rank_s ∙ (c.requires.rank ∙ ap (λ (p : Dp). p.rank c.args.k c.args.s.now) (sym (same c.args.self.now)));
+}
 
 pub returns : goal.returns
-returns c = rw (tail-is c.args.k c.args.a.now, tail-is c.args.k c.args.s.now, to_z-of_z w64 c.args.most c.ranges.most) at c.gap_within.ensures
+returns c = (rw (to_z-of_z w64 c.args.most c.ranges.most) at c.covers_within.ensures) ∙ ap (λ (p : Dp). within c.args.most (p.gap c.args.k c.args.a.now c.args.s.now)) (same c.args.self.now)

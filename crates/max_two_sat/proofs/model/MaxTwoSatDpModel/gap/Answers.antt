@@ -1,20 +1,14 @@
-use Rattle.std.proofs.Common.{arith, ap, Some, ◌∙◌, w64}
-use Rattle.std.proofs.lemmas.Int.{ints, to_z-of_z}
-use Rattle.max_two_sat.specs.Shown.{instance_in}
-use Rattle.max_two_sat.proofs.Layers.{layer-has, same-state}
-use Rattle.max_two_sat.proofs.Writing.{tail-is}
+use Rattle.std.proofs.Common.{ap, ◌∙◌}
+use Rattle.dp_model.specs.Dp.{Dp}
+use Rattle.pair_rows.proofs.Handing.{state-on}
+use Rattle.max_two_sat.proofs.Handing.{same}
 use Rattle.max_two_sat.proofs.model.MaxTwoSatDpModel.gap.Goals as goal
 
-pub gap-requires-clause-from_rank : goal.gap-requires-clause-from_rank
-gap-requires-clause-from_rank c =
-    let i = instance_in c.args.self.now in
-    rw tail-is (omega (arith, ints, (layer-has i c.args.k c.args.a.now c.args.self.now.kept (same-state i c.args.k c.args.a.now c.requires.covering)).rank))
-
-pub gap-requires-clause-to_rank : goal.gap-requires-clause-to_rank
-gap-requires-clause-to_rank c =
-    let i = instance_in c.args.self.now in
-    rw tail-is (omega (arith, ints, (layer-has i c.args.k c.args.s.now c.args.self.now.kept (same-state i c.args.k c.args.s.now c.requires.state)).rank))
+pub gap-requires : goal.gap-requires
+gap-requires c = record {
+  covering = state-on (same c.args.self.now) c.args.k c.args.a.now c.requires.covering;
+  state = state-on (same c.args.self.now) c.args.k c.args.s.now c.requires.state;
+}
 
 pub returns : goal.returns
-returns c =
-    ap (λ g. Some g) (to_z-of_z w64 c.gap.result (record { sfits = c.gap.type_inv }) ∙ (rw (tail-is c.args.k c.args.a.now, tail-is c.args.k c.args.s.now) at c.gap.ensures))
+returns c = c.gap.ensures ∙ ap (λ (p : Dp). p.gap c.args.k c.args.a.now c.args.s.now) (same c.args.self.now)

@@ -1,31 +1,15 @@
-use Rattle.std.proofs.Common.{arith, ◌≡◌, ◌≤◌, length}
-use Rattle.std.proofs.lemmas.List.{length-drop}
-use Rattle.max_two_sat.specs.Instance.{Instance}
-use Rattle.max_two_sat.specs.Shown.{instance_in}
-use Rattle.max_two_sat.specs.Laws.Numbers.{instance_of-numbers_of}
-use Rattle.max_two_sat.specs.Program.{words_of}
-use Rattle.max_two_sat.proofs.Layers.{state-then, state-else}
-use Rattle.max_two_sat.proofs.Writing.{tail-is}
+use Rattle.std.proofs.Common.{ap, ◌∙◌, sym}
+use Rattle.std.specs.Prelude.{◌≤◌}
+use Rattle.std.proofs.Common.{subst}
+use Rattle.dp_model.specs.Dp.{Dp}
+use Rattle.max_two_sat.proofs.Handing.{same}
 use Rattle.max_two_sat.proofs.model.MaxTwoSatDpModel.is_state.Goals as goal
 
-pub limits-requires : goal.limits-requires
-limits-requires c = rw instance_of-numbers_of at c.requires.layer
+pub is_state-requires : goal.is_state-requires
+is_state-requires c = record {
+  layer = subst (λ (p : Dp). c.args.k ≤ p.vars) (sym (same c.args.self.now)) c.requires.layer;
+  cells = c.requires.cells ∙ ap (λ (p : Dp). p.words) (sym (same c.args.self.now));
+}
 
-pub are_within-requires-clause-cells : goal.are_within-requires-clause-cells
-are_within-requires-clause-cells c =
-    let i : Instance = instance_in c.args.self.now in
-    let cells : length c.args.s.now ≡ words_of (length i.units) = rw instance_of-numbers_of at c.requires.cells in
-    rw tail-is (omega (arith, length-drop c.args.k c.args.s.now, c.limits.ensures.cells))
-
-pub returns-then-is_zero_row : goal.returns-then-is_zero_row
-returns-then-is_zero_row c =
-    let i : Instance = instance_in c.args.self.now in
-    let cells : length c.args.s.now ≡ words_of (length i.units) = rw instance_of-numbers_of at c.requires.cells in
-    let within = rw (tail-is c.args.k c.args.s.now, c.limits.ensures.limits) at c.are_within.ensures in
-    rw (instance_of-numbers_of i) (state-then i c.args.k c.args.s.now c.is_zero_row.result c.are_within.result cells c.if-is_zero_row.true c.is_zero_row.ensures within)
-
-pub returns-else-is_zero_row : goal.returns-else-is_zero_row
-returns-else-is_zero_row c =
-    let i : Instance = instance_in c.args.self.now in
-    let cells : length c.args.s.now ≡ words_of (length i.units) = rw instance_of-numbers_of at c.requires.cells in
-    rw (instance_of-numbers_of i) (state-else i c.args.k c.args.s.now c.is_zero_row.result cells c.if-is_zero_row.false c.is_zero_row.ensures)
+pub returns : goal.returns
+returns c = c.is_state.ensures ∙ ap (λ (p : Dp). p.is_state c.args.k c.args.s.now) (same c.args.self.now)

@@ -1,23 +1,14 @@
-use Rattle.std.proofs.Common.{length, arith}
-use Rattle.std.proofs.lemmas.List.{length-drop}
-use Rattle.benefit_rows.proofs.Merging.{merged_written}
-use Rattle.max_two_sat.specs.Shown.{instance_in}
-use Rattle.max_two_sat.proofs.Layers.{layer-has, none-before, same-state, words-over}
-use Rattle.max_two_sat.proofs.Writing.{tail-is}
+use Rattle.std.proofs.Common.{ap, ◌∙◌}
+use Rattle.dp_model.specs.Dp.{Dp}
+use Rattle.pair_rows.proofs.Handing.{state-on}
+use Rattle.max_two_sat.proofs.Handing.{same}
 use Rattle.max_two_sat.proofs.model.MaxTwoSatDpModel.merge_into.Goals as goal
 
 pub merge_into-requires : goal.merge_into-requires
-merge_into-requires c =
-    let i = instance_in c.args.self.now in
-    let kept = (layer-has i c.args.k c.args.acc.now c.args.self.now.kept (same-state i c.args.k c.args.acc.now c.requires.kept)).cells in
-    let state = (layer-has i c.args.k c.args.s.now c.args.self.now.kept (same-state i c.args.k c.args.s.now c.requires.state)).cells in
-    rw (tail-is c.args.k c.args.acc.now, tail-is c.args.k c.args.s.now) (omega (arith, kept, state, length-drop c.args.k c.args.acc.now, length-drop c.args.k c.args.s.now))
+merge_into-requires c = record {
+  kept = state-on (same c.args.self.now) c.args.k c.args.acc.now c.requires.kept;
+  state = state-on (same c.args.self.now) c.args.k c.args.s.now c.requires.state;
+}
 
 pub returns : goal.returns
-returns c =
-    let i = instance_in c.args.self.now in
-    let kept = same-state i c.args.k c.args.acc.now c.requires.kept in
-    let state = same-state i c.args.k c.args.s.now c.requires.state in
-    let cells = (layer-has i c.args.k c.args.acc.now c.args.self.now.kept kept).cells in
-    merged_written c.args.k c.args.acc.now c.args.s.now _ (omega (arith, kept.layer, cells, words-over (length i.units)))
-    (none-before i c.args.k c.args.acc.now kept) (none-before i c.args.k c.args.s.now state) (rw (tail-is c.args.k c.args.s.now) at c.merge_into.ensures)
+returns c = c.merge_into.ensures ∙ ap (λ (p : Dp). p.merged c.args.k c.args.acc.now c.args.s.now) (same c.args.self.now)

@@ -1,18 +1,13 @@
-use Rattle.std.proofs.Common.{arith, w64, sym, ◌∙◌}
-use Rattle.std.proofs.lemmas.Int.{ints, to_z-of_z}
-use Rattle.max_two_sat.specs.Shown.{instance_in}
-use Rattle.max_two_sat.specs.Laws.Sizes.{rank_of-state}
-use Rattle.max_two_sat.proofs.Layers.{layer-has, same-state}
-use Rattle.max_two_sat.proofs.Writing.{tail-is}
+use Rattle.std.proofs.Common.{ap, ◌∙◌}
+use Rattle.std.proofs.Common.{w64}
+use Rattle.std.proofs.lemmas.Int.{to_z-of_z}
+use Rattle.dp_model.specs.Dp.{Dp}
+use Rattle.pair_rows.proofs.Handing.{state-on}
+use Rattle.max_two_sat.proofs.Handing.{same}
 use Rattle.max_two_sat.proofs.model.MaxTwoSatDpModel.rank.Goals as goal
 
 pub rank-requires : goal.rank-requires
-rank-requires c =
-    let i = instance_in c.args.self.now in
-    rw tail-is (omega (arith, ints, (layer-has i c.args.k c.args.s.now c.args.self.now.kept (same-state i c.args.k c.args.s.now c.requires)).rank))
+rank-requires c = state-on (same c.args.self.now) c.args.k c.args.s.now c.requires
 
 pub returns : goal.returns
-returns c =
-    let i = instance_in c.args.self.now in
-    to_z-of_z w64 c.rank.result (record { sfits = c.rank.type_inv })
-    ∙ ((rw (tail-is c.args.k c.args.s.now) at c.rank.ensures) ∙ sym (rank_of-state i c.args.k c.args.s.now (same-state i c.args.k c.args.s.now c.requires)))
+returns c = to_z-of_z w64 c.rank.result (record { sfits = c.rank.type_inv }) ∙ (c.rank.ensures ∙ ap (λ (p : Dp). p.rank c.args.k c.args.s.now) (same c.args.self.now))

@@ -1,38 +1,15 @@
-use Rattle.std.proofs.Common.{◌+◌, ◌++◌, pos, length, replicate, drop, arith, ap, refl, ◌∙◌}
-use Rattle.benefit_rows.specs.Benefits.{sums_of}
-use Rattle.max_two_sat.specs.Laws.Numbers.{instance_of-numbers_of}
-use Rattle.max_two_sat.specs.Shown.{instance_in}
-use Rattle.max_two_sat.specs.Instance.{row_at, rows_of}
-use Rattle.max_two_sat.proofs.Layers.{none-before, row-fits, same-allowed, same-cells, same-test}
-use Rattle.max_two_sat.proofs.Shifting.{shifts-fit}
-use Rattle.max_two_sat.proofs.Writing.{step-shifts}
+use Rattle.std.proofs.Common.{ap, ◌∙◌, sym}
+use Rattle.dp_model.specs.Dp.{Dp}
+use Rattle.pair_rows.proofs.Handing.{test-on, allowed-on}
+use Rattle.max_two_sat.proofs.Handing.{same}
 use Rattle.max_two_sat.proofs.model.MaxTwoSatDpModel.step.Goals as goal
 
-pub shifts-requires : goal.shifts-requires
-shifts-requires c = record {
-  variable = same-allowed (instance_in c.args.self.now) c.args.k c.args.s.now c.args.d c.requires.allowed;
-  decision = (rw instance_of-numbers_of at c.requires.allowed).choice;
+pub step-requires : goal.step-requires
+step-requires c = record {
+  state = test-on (same c.args.self.now) c.args.k c.args.s.now c.requires.state;
+  allowed = allowed-on (same c.args.self.now) c.args.k c.args.s.now c.args.d c.requires.allowed;
+  cells = c.requires.cells ∙ ap (λ (p : Dp). p.words) (sym (same c.args.self.now));
 }
 
-pub write_step-requires : goal.write_step-requires
-write_step-requires c =
-    let i = instance_in c.args.self.now in
-    let fits = row-fits i c.args.k c.args.s.now c.args.d c.args.self.now.kept c.requires.state c.requires.allowed in
-    let own = shifts-fit (row_at (rows_of (length i.units) i.pairs) c.args.k) c.args.k c.args.s.now c.args.d c.shifts.result.now fits c.shifts.ensures in
-    record {
-      cells = same-cells i c.args.k c.args.s.now c.args.out.now c.args.self.now.kept c.requires.state (same-allowed i c.args.k c.args.s.now c.args.d c.requires.allowed) c.requires.cells;
-      done = refl;
-      entries = own.entries;
-      sizes = own.sizes;
-      benefits = fits.rank;
-    }
-
 pub returns : goal.returns
-returns c =
-    let i = instance_in c.args.self.now in
-    let layer = same-allowed i c.args.k c.args.s.now c.args.d c.requires.allowed in
-    let fits = row-fits i c.args.k c.args.s.now c.args.d c.args.self.now.kept c.requires.state c.requires.allowed in
-    let own = shifts-fit (row_at (rows_of (length i.units) i.pairs) c.args.k) c.args.k c.args.s.now c.args.d c.shifts.result.now fits c.shifts.ensures in
-    rw (instance_of-numbers_of i)
-    (c.write_step.ensures.row ∙ (ap (λ zs. replicate (c.args.k + 1) (pos 0) ++ sums_of (drop (c.args.k + 1) c.args.s.now) zs) c.shifts.ensures
-    ∙ step-shifts (row_at (rows_of (length i.units) i.pairs) c.args.k) c.args.s.now c.args.k c.args.d own.below (none-before i c.args.k c.args.s.now (same-test i c.args.k c.args.s.now (omega arith) c.requires.state))))
+returns c = c.step.ensures ∙ ap (λ (p : Dp). p.step c.args.k c.args.s.now c.args.d) (same c.args.self.now)

@@ -1,7 +1,0 @@
-use Rattle.std.proofs.Common.{◌≡◌, ◌+◌, take}
-use Rattle.max_two_sat.specs.Program.{limits_at}
-use Rattle.max_two_sat.proofs.limits.limits_behind.Given as goal
-
--- the limits of the variables so far
-abbrev pub invariant-loop-i : goal.invariant-loop-i
-invariant-loop-i l = l.cells.items ≡ take l.i (limits_at l.units l.pairs (l.k + 1))

@@ -1,0 +1,25 @@
+use Rattle.std.proofs.Common.{arith, refl}
+use Rattle.std.proofs.lemmas.Int.{ints}
+use Rattle.pair_rows.proofs.Mapped.{map-more, map-done}
+use Rattle.max_two_sat.specs.Instance.{no_pair}
+use Rattle.max_two_sat.specs.Program.{pair_values}
+use Rattle.max_two_sat.proofs.Entries.{pair-at, pair_total-at}
+use Rattle.max_two_sat.proofs.listing.values_of_pairs.Goals as goal
+
+pub values_of_pair-requires-clause-positive : goal.values_of_pair-requires-clause-positive
+values_of_pair-requires-clause-positive c = pair-at c.args.pairs.now c.loop-i.i no_pair c.loop-i-test.true c.requires.positive
+
+pub values_of_pair-requires-clause-weight : goal.values_of_pair-requires-clause-weight
+values_of_pair-requires-clause-weight c =
+    omega (arith, ints, pair_total-at c.args.pairs.now c.loop-i.i no_pair c.loop-i-test.true c.requires.positive)
+
+pub loop-i-init : goal.loop-i-init
+loop-i-init c = rw c.in_ok-values.ensures.items refl
+
+pub loop-i-preserved : goal.loop-i-preserved
+loop-i-preserved c =
+    rw c.in_ok-push.ensures.items
+    (map-more pair_values no_pair c.args.pairs.now c.loop-i.i c.loop-i.values.items _ c.loop-i-test.true c.values_of_pair.ensures c.loop-i.invariant)
+
+pub returns : goal.returns
+returns c = map-done pair_values c.args.pairs.now c.loop-i.i c.loop-i.values.items c.loop-i-test.false c.loop-i.invariant
