@@ -25,12 +25,12 @@ from .errors import (
     UnknownProblem,
     WordsRefused,
 )
-from .instances import PROBLEMS, Instance, Knapsack, Max2Sat, MaxCut, Table, Tardiness, Tsptw
+from .instances import PROBLEMS, Instance, Knapsack, Max2Sat, MaxCut, Qubo, Table, Tardiness, Tsptw
 from .progress import Progress
 from .solver import Interrupted, Solver
 
 __all__ = [
     "PROBLEMS", "CoverRefused", "HammockdoveError", "InputTooLong", "Instance", "InstanceRefused", "Interrupted", "InvalidInstance",
-    "JournalDamaged", "JournalRefused", "Knapsack", "Max2Sat", "MaxCut", "NotBegun", "Outcome", "ProgramFailed", "Progress", "Refused",
+    "JournalDamaged", "JournalRefused", "Knapsack", "Max2Sat", "MaxCut", "NotBegun", "Outcome", "ProgramFailed", "Progress", "Qubo", "Refused",
     "Result", "Solver", "Stop", "Table", "TableRefused", "Tardiness", "TextRefused", "Tsptw", "UnknownProblem", "Verdict", "WordsRefused",
 ]  # fmt: skip

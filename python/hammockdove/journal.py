@@ -16,7 +16,7 @@ from typing import NamedTuple, NoReturn
 from .errors import JournalDamaged, NotBegun
 
 VERSIONS = (1, 2)
-MODELS = {1: "knapsack", 2: "maxcut", 3: "max2sat", 4: "tsptw", 5: "tardiness", 6: "table"}
+MODELS = {1: "knapsack", 2: "maxcut", 3: "max2sat", 4: "tsptw", 5: "tardiness", 6: "table", 7: "qubo"}
 MOST_WITHIN = 2**50
 
 _HEAD, _IMPROVE, _FINISH, _SNAPSHOT = 1, 2, 3, 4

@@ -1,7 +1,7 @@
 import unittest
 from importlib.util import find_spec
 
-from hammockdove import PROBLEMS, InvalidInstance, Knapsack, Max2Sat, MaxCut, Table, Tardiness, TextRefused, Tsptw
+from hammockdove import PROBLEMS, InvalidInstance, Knapsack, Max2Sat, MaxCut, Qubo, Table, Tardiness, TextRefused, Tsptw
 
 TABLE = {"layers": [{"states": 1, "next": [[0, None]], "gain": [[3, None]]}, {"states": 1}], "root_value": 4}
 
@@ -26,6 +26,7 @@ class InstanceTests(unittest.TestCase):
             (Knapsack(10, [60, 50], [5, 4], [1, 3]), "2 10\n60 5\n50 4 3\n"),
             (MaxCut(3, [(0, 1, 4), (1, 2, -2)]), "3 2\n1 2 4\n2 3 -2\n"),
             (Max2Sat(2, [(5, [1, -2]), (1, [2]), (2, [])]), "p wcnf 2 3\n5 1 -2 0\n1 2 0\n2 0\n"),
+            (Qubo(3, [(0, 0, 4), (0, 2, -2)]), "3 2\n1 1 4\n1 3 -2\n"),
             (Tsptw([[0, 2], [3, 0]], [(0, 9), (1, 5)]), "2\n0 2\n3 0\n0 9\n1 5\n"),
             (Tardiness([3, 2], [1, 3], [4, 2]), "2\n3 1 4\n2 3 2\n"),
         ):
@@ -46,6 +47,8 @@ class InstanceTests(unittest.TestCase):
             (MaxCut(3, [(0, 1, 4), (1, 2, -2), (0, 0, 9)]), (0, 1, 1), 4),
             (MaxCut(2, [(0, 1, 4)]), (1, 0), None),
             (Max2Sat(2, [(5, [1, -2]), (1, [2]), (2, []), (3, [1, -1])]), (0, 1), 4),
+            (Qubo(3, [(0, 0, 4), (0, 2, -2), (1, 1, 3), (0, 1, 5)]), (1, 1, 0), 12),
+            (Qubo(1, [(0, 0, 4)]), (2,), None),
             (Tsptw([[0, 2, 5], [3, 0, 1], [4, 1, 0]], [(0, 20), (4, 5), (0, 9)]), (1, 2, 0), -9),
             (Tsptw([[0, 2, 5], [3, 0, 1], [4, 1, 0]], [(0, 20), (4, 5), (0, 9)]), (2, 1, 0), None),
             (Tsptw([[0]], [(3, 4)]), (0,), -3),
@@ -67,6 +70,8 @@ class InstanceTests(unittest.TestCase):
             lambda: MaxCut(2, [(0, 1)]),
             lambda: MaxCut(2, [], ["a"]),
             lambda: MaxCut.from_matrix([[0, 1], [2, 0]]),
+            lambda: Qubo(2, [(1, 0, 1)]),
+            lambda: Qubo.from_matrix([[0, 1]]),
             lambda: Max2Sat(2, [(1, [1, 2, 1])]),
             lambda: Max2Sat(2, [(1, [3])]),
             lambda: Tsptw([[0, 1]], [(0, 1)]),
@@ -96,6 +101,8 @@ class InstanceTests(unittest.TestCase):
         self.assertEqual((cut.text(), cut.sides([0, 1, 0])), ("3 2\n1 2 3\n2 3 1\n", (["a", "c"], ["b"])))
         self.assertRaises(InvalidInstance, MaxCut.from_networkx, Graph([("a", "b", 3)], directed=True))
         self.assertEqual(MaxCut.from_matrix([[5, 3], [3, 0]]).edges, ((0, 1, 3),))
+        self.assertEqual(Qubo.from_matrix([[5, 3], [1, 0]]), Qubo(2, [(0, 0, 5), (0, 1, 4)]))
+        self.assertEqual(Qubo.from_weights({(2, 0): -1}), Qubo(3, [(0, 2, -1)]))
 
     @unittest.skipUnless(find_spec("networkx") and find_spec("numpy"), "networkx and numpy are not there")
     def test_networkx_and_numpy(self):

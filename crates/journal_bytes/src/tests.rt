@@ -112,9 +112,9 @@ fn the_first_wrong_record_is_told(rt: HostRuntime) -> Result<(), Fail> {
             &[(1, b"\x00\x00\x00\x01\x00\x00\x00\x00\x00")],
             Err(Refusal::Malformed { offset: 0 }),
         ),
-        (&[(1, b"\x00\x00\x00\x01\x06\x00\x00\x00\x00")], Ok(0)),
+        (&[(1, b"\x00\x00\x00\x01\x07\x00\x00\x00\x00")], Ok(0)),
         (
-            &[(1, b"\x00\x00\x00\x01\x07\x00\x00\x00\x00")],
+            &[(1, b"\x00\x00\x00\x01\x08\x00\x00\x00\x00")],
             Err(Refusal::Malformed { offset: 0 }),
         ),
         (

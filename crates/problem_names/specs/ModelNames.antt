@@ -3,7 +3,7 @@ use Rattle.std.specs.Prelude.{◌≡◌, ◌↔◌, refl, ℕ, nat_eq, ◌==◌,
 use Rattle.std.specs.Cmp.Lexicographic.{pointwise}
 use Rattle.problem_names.specs.declared.TheConstants.ModelName.{ALL}
 use Rattle.problem_names.specs.declared.ModelName.{ModelName}
-use Rattle.problem_names.specs.declared.ModelName.TheVariants.{Knapsack, MaxCut, MaxTwoSat, TspWindows, OneMachine, Table}
+use Rattle.problem_names.specs.declared.ModelName.TheVariants.{Knapsack, MaxCut, MaxTwoSat, TspWindows, OneMachine, Table, Qubo}
 use Rattle.problem_names.specs.declared.Sizes.{Sizes}
 
 -- the word that names the problem
@@ -14,6 +14,7 @@ text_of MaxTwoSat = codes "max2sat"
 text_of TspWindows = codes "tsptw"
 text_of OneMachine = codes "tardiness"
 text_of Table = codes "table"
+text_of Qubo = codes "qubo"
 
 -- the byte of the problem in a journal
 abbrev pub byte_of : ModelName → ℕ
@@ -23,6 +24,7 @@ byte_of MaxTwoSat = 3
 byte_of TspWindows = 4
 byte_of OneMachine = 5
 byte_of Table = 6
+byte_of Qubo = 7
 
 -- the sizes of which instances are drawn, none for a problem that is not drawn
 abbrev pub sizes_of : ModelName → Option Sizes
@@ -32,6 +34,7 @@ sizes_of MaxTwoSat = Some (record { least = 0; most = 1024 })
 sizes_of TspWindows = Some (record { least = 1; most = 300 })
 sizes_of OneMachine = Some (record { least = 0; most = 100 })
 sizes_of Table = None
+sizes_of Qubo = Some (record { least = 0; most = 1024 })
 
 -- whether two words are the same
 abbrev pub word_same : List ℕ → List ℕ → Bool
@@ -57,6 +60,7 @@ name_again MaxTwoSat = refl
 name_again TspWindows = refl
 name_again OneMachine = refl
 name_again Table = refl
+name_again Qubo = refl
 
 -- each problem is found by its own byte
 pub byte_again : (name : ModelName) → model_of_byte (byte_of name) ≡ Some name
@@ -66,3 +70,4 @@ byte_again MaxTwoSat = refl
 byte_again TspWindows = refl
 byte_again OneMachine = refl
 byte_again Table = refl
+byte_again Qubo = refl

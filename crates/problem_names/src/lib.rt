@@ -25,6 +25,7 @@ pub enum ModelName {
     TspWindows,
     OneMachine,
     Table,
+    Qubo,
 }
 
 /// The sizes of drawn instances, from the least to the greatest.
@@ -38,13 +39,14 @@ pub struct Sizes {
 
 impl ModelName {
     /// Every problem.
-    pub const ALL: [ModelName; 6] = [
+    pub const ALL: [ModelName; 7] = [
         ModelName::Knapsack,
         ModelName::MaxCut,
         ModelName::MaxTwoSat,
         ModelName::TspWindows,
         ModelName::OneMachine,
         ModelName::Table,
+        ModelName::Qubo,
     ];
 
     /// The word that names the problem in commands and texts.
@@ -58,6 +60,7 @@ impl ModelName {
             ModelName::TspWindows => "tsptw",
             ModelName::OneMachine => "tardiness",
             ModelName::Table => "table",
+            ModelName::Qubo => "qubo",
         }
     }
 
@@ -72,6 +75,7 @@ impl ModelName {
             ModelName::TspWindows => 4,
             ModelName::OneMachine => 5,
             ModelName::Table => 6,
+            ModelName::Qubo => 7,
         }
     }
 
@@ -81,7 +85,7 @@ impl ModelName {
     {
         let (least, most) = match self {
             ModelName::Knapsack => (0, 1000),
-            ModelName::MaxCut | ModelName::MaxTwoSat => (0, 1024),
+            ModelName::MaxCut | ModelName::MaxTwoSat | ModelName::Qubo => (0, 1024),
             ModelName::TspWindows => (1, 300),
             ModelName::OneMachine => (0, 100),
             ModelName::Table => return None,

@@ -4,7 +4,9 @@ pub use knapsack::Knapsack;
 pub use max_cut::MaxCut;
 pub use max_two_sat::MaxTwoSat;
 pub use one_machine::OneMachine;
+pub use pair_problem::PairModel;
 pub use problem_names::ModelName;
+pub use qubo::Qubo;
 pub use table_model::TableModel;
 pub use tsp_windows::TspWindows;
 
@@ -33,6 +35,9 @@ macro_rules! by_name {
             }
             $crate::choosing::ModelName::Table => {
                 $call::<$crate::choosing::TableModel $($(, $other)*)?>($($argument),*)
+            }
+            $crate::choosing::ModelName::Qubo => {
+                $call::<$crate::choosing::PairModel<$crate::choosing::Qubo> $($(, $other)*)?>($($argument),*)
             }
         }
     };

@@ -3,6 +3,7 @@
 mod cuts;
 mod knapsacks;
 mod orders;
+mod quadratics;
 mod satisfiability;
 mod tables;
 mod tours;

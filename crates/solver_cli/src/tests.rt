@@ -217,6 +217,12 @@ const PRINTED: &[Case] = &[
         0,
     ),
     (
+        "solve qubo",
+        "5 9\n1 1 6\n2 2 4\n3 3 5\n4 4 -3\n5 5 2\n1 2 -7\n2 4 6\n3 5 -4\n1 4 2\n",
+        "proved\nvalue 13\nassignment 1 1 1 1 0\n",
+        0,
+    ),
+    (
         "solve max2sat",
         "p wcnf 2 4\n3 1 2 0\n2 -1 2 0\n4 1 -2 0\n1 -1 -2 0\n",
         "proved\nvalue 9\nassignment 1 1\n",
@@ -272,6 +278,12 @@ const PRINTED: &[Case] = &[
     ),
     ("generate knapsack 2 0", "", "2 68\n1 19 2\n18 49 2\n", 0),
     ("generate maxcut 2 0", "", "2 1\n1 2 -4\n", 0),
+    (
+        "generate qubo 1 0",
+        "",
+        "1 4\n1 1 39\n1 1 -57\n1 1 -38\n1 1 18\n",
+        0,
+    ),
     ("generate max2sat 2 0", "", DRAWN_CLAUSES, 0),
     ("generate tsptw 3 0", "", DRAWN_TOURS, 0),
     ("generate tardiness 2 0", "", "2\n1 9 8\n8 9 7\n", 0),
@@ -301,6 +313,12 @@ const REFUSED: &[Case] = &[
     ("solve knapsack", "0 5\n7\n", "instance trailing 2 1\n", 3),
     ("solve knapsack", "\u{e9}\n", "instance not-ascii 1 1\n", 3),
     ("solve maxcut", "2 1\n1 3 5\n", "instance vertex 2 3\n", 3),
+    (
+        "solve qubo",
+        "2 1\n2 1 5\n",
+        "instance out-of-range 2 3\n",
+        3,
+    ),
     ("solve tsptw", "1\n0\n5 4\n", "instance window 3 3\n", 3),
     (
         "solve tardiness",

@@ -10,7 +10,7 @@ fn each_problem_has_its_word(rt: HostRuntime) {
 }
 
 /// The problem of each byte, and bytes of none.
-const BYTES: [(u8, Option<&str>); 9] = [
+const BYTES: [(u8, Option<&str>); 10] = [
     (0, None),
     (1, Some("knapsack")),
     (2, Some("maxcut")),
@@ -18,7 +18,8 @@ const BYTES: [(u8, Option<&str>); 9] = [
     (4, Some("tsptw")),
     (5, Some("tardiness")),
     (6, Some("table")),
-    (7, None),
+    (7, Some("qubo")),
+    (8, None),
     (255, None),
 ];
 

@@ -4,8 +4,9 @@ from .base import PROBLEMS, Instance
 from .cut import MaxCut
 from .knapsack import Knapsack
 from .machine import Tardiness
+from .quadratic import Qubo
 from .sat import Max2Sat
 from .table import Table
 from .tours import Tsptw
 
-__all__ = ["PROBLEMS", "Instance", "Knapsack", "Max2Sat", "MaxCut", "Table", "Tardiness", "Tsptw"]
+__all__ = ["PROBLEMS", "Instance", "Knapsack", "Max2Sat", "MaxCut", "Qubo", "Table", "Tardiness", "Tsptw"]
