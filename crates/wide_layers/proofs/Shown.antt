@@ -1,11 +1,11 @@
 -- Candidates in their blocks, as they are seen.
-use Rattle.std.proofs.Common.{◌≡◌, ℕ, zero, suc, ◌+◌, ◌-◌, ◌*◌, ◌<◌, ◌≤◌, ℤ, List, [], ◌∷◌, ◌++◌, length, length-append, mul-le-mul_right, take, drop, get_or, refl, sym, ap, ap₂, subst, ◌∙◌, arith}
-use Rattle.std.proofs.lemmas.List.{take_all, drop-drop, length-drop, take-append-le, drop-append-le, nil_from_length, append-nil}
+use Rattle.std.proofs.Common.{◌≡◌, ℕ, zero, suc, ◌+◌, ◌*◌, ◌<◌, ◌≤◌, ℤ, List, [], ◌∷◌, ◌++◌, length, length-append, mul-le-mul_right, take, drop, get_or, refl, sym, ap, ap₂, subst, ◌∙◌, arith}
+use Rattle.std.proofs.lemmas.List.{take_all, drop-drop, length-drop, take-append-le, drop-append-le, nil_from_length}
 use Rattle.dp_model.specs.Lists.{Each}
 use Rattle.dp_model.proofs.Members.{Each-append, Each-then}
 use Rattle.wide_layers.specs.declared.piece.Made.{Made}
 use Rattle.wide_layers.specs.Candidates.{Candidate}
-use Rattle.wide_layers.specs.Pieces.{PieceView, with_states, shown, all_shown, IsSized}
+use Rattle.wide_layers.specs.Pieces.{with_states, shown, all_shown, IsSized}
 
 pub length-shown : (words : ℕ) (parents : List ℤ) (ms : List Made) (cells : List ℤ) → length (all_shown words parents ms cells) ≡ length ms
 length-shown words parents [] cells = refl
@@ -49,8 +49,8 @@ module _ (words : ℕ) (parents more after : List ℤ) (ms ms2 : List Made) (cel
   pub pushed-sized : IsSized words after ms2 cells2
   pushed-sized = record {
     rows = (let a = ap length ms_are in let b = ap length cells_are in let c = length-append ms (m ∷ []) in let d = length-append cells row in let e = h.rows in
-    let count : length ms2 ≡ length ms + 1 = omega (arith, a, c) in
-    subst (λ (n : ℕ). length cells2 ≡ n * words) (sym count) (omega (arith, b, d, e, one)));
+        let count : length ms2 ≡ length ms + 1 = omega (arith, a, c) in
+        subst (λ (n : ℕ). length cells2 ≡ n * words) (sym count) (omega (arith, b, d, e, one)));
     states = subst (Each (λ (m : Made). m.state + words ≤ length after)) (sym ms_are)
         (Each-append (λ (m : Made). m.state + words ≤ length after) ms (m ∷ [])
         (subst (λ (ps : List ℤ). Each (λ (m : Made). m.state + words ≤ length ps) ms) (sym parents_are) (states-more words parents more ms h.states)) (fits, tt));

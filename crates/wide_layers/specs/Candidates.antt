@@ -1,5 +1,5 @@
 -- The candidates of a layer, by earlier parent and then by lesser decision.
-use Rattle.std.specs.Prelude.{◌≡◌, ℕ, zero, suc, ◌+◌, ◌-◌, ℤ, Bool, true, List, [], ◌++◌, map, slice_get, option_map, unwrap_or}
+use Rattle.std.specs.Prelude.{◌≡◌, ℕ, zero, suc, ◌+◌, ◌-◌, ℤ, true, List, [], ◌++◌, map, slice_get, option_map, unwrap_or}
 use Rattle.dp_model.specs.Dp.{Dp}
 use Rattle.dp_model.specs.Decisions.{below}
 use Rattle.dp_laws.specs.Diagrams.Nodes.{DdNode}

@@ -72,9 +72,7 @@ impl<'p> Hand<'p> {
         ensures some { IfSome result (λ e. AreTold self.now.pieces.now s.now d e.gain e.rank out.new) }
     {
         let place = self.next_place();
-        if place.piece >= self.pieces.len()
-            || place.candidate >= self.pieces[place.piece].len()
-        {
+        if place.piece >= self.pieces.len() || place.candidate >= self.pieces[place.piece].len() {
             return None;
         }
         let told = self.pieces[place.piece].tell(place.candidate, s, d, out)?;

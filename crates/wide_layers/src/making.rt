@@ -6,7 +6,7 @@ ghost use Rattle.dp_model.specs.Gaps.{IsStateOf};
 ghost use Rattle.dp_laws.specs.Rules.Compiling.{expand};
 ghost use Rattle.layer_build.specs.Layers.{last_depth, last_layer, expand_last};
 ghost use Rattle.layer_build.specs.UnderWay.{IsUnderWay};
-ghost use Rattle.wide_layers.specs.Candidates.{candidates_by, candidates_of, candidates_between};
+ghost use Rattle.wide_layers.specs.Candidates.{state_at, candidates_by, candidates_of, candidates_between};
 ghost use Rattle.wide_layers.specs.Pieces.{AreRight};
 
 use crate::piece::Piece;
@@ -39,7 +39,7 @@ fn push_by<M: DpModel>(
     requires choice { decision < (M.meaning (M.numbers model.now)).choices k }
     requires row { length row.old ≡ (M.meaning (M.numbers model.now)).words }
     requires words { piece.old.words ≡ (M.meaning (M.numbers model.now)).words }
-    ensures ok { OnOk result (piece.new.candidates ≡ piece.old.candidates ++ candidates_by (M.meaning (M.numbers model.now)) k parent.place parent.entry.state.now (decision ∷ [])) }
+    ensures ok { OnOk result (piece.new.candidates ≡ piece.old.candidates ++ candidates_by (M.meaning (M.numbers model.now)) k parent.entry.place parent.entry.state.now (decision ∷ [])) }
     ensures right { AreRight (M.meaning (M.numbers model.now)) k piece.old → AreRight (M.meaning (M.numbers model.now)) k piece.new }
     ensures words { piece.new.words ≡ piece.old.words }
 {
@@ -63,7 +63,7 @@ fn push_all<M: DpModel>(
     requires rank { parent.rank ≡ (M.meaning (M.numbers model.now)).rank k parent.state.now }
     requires row { length row.old ≡ (M.meaning (M.numbers model.now)).words }
     requires words { piece.old.words ≡ (M.meaning (M.numbers model.now)).words }
-    ensures ok { OnOk result (piece.new.candidates ≡ piece.old.candidates ++ candidates_of (M.meaning (M.numbers model.now)) k parent.place parent.entry.state.now) }
+    ensures ok { OnOk result (piece.new.candidates ≡ piece.old.candidates ++ candidates_of (M.meaning (M.numbers model.now)) k parent.entry.place parent.entry.state.now) }
     ensures right { AreRight (M.meaning (M.numbers model.now)) k piece.old → AreRight (M.meaning (M.numbers model.now)) k piece.new }
     ensures words { piece.new.words ≡ piece.old.words }
 {
@@ -74,6 +74,24 @@ fn push_all<M: DpModel>(
         decision = model.next_choice(k, parent.state, decision + 1);
     }
     Ok(())
+}
+
+/// The node of the last layer at the place, whose row is held.
+fn parent_at<'s, M: DpModel>(space: &'s Workspace, model: &M, i: usize) -> Parent<'s>
+    requires under_way { IsUnderWay (M.meaning (M.numbers model.now)) space.now }
+    requires held { space.now.held ≤ last_depth space.now }
+    requires within { i < length (last_layer space.now.layers) }
+    ensures place { result.place ≡ i }
+    ensures state { result.state.now ≡ state_at (last_layer space.now.layers) i }
+    ensures rank { result.rank ≡ (M.meaning (M.numbers model.now)).rank (last_depth space.now) result.state.now }
+{
+    let k = space.last_depth();
+    let state = space.row(k, i);
+    Parent {
+        place: i as u32,
+        state,
+        rank: model.rank(k, state),
+    }
 }
 
 /// The piece gets the candidates of the nodes of the last layer from the place `from` to the one before `to`, by earlier parent and
@@ -98,12 +116,7 @@ pub fn make<M: DpModel>(
     piece.clear(model.words());
     let mut row = vec![in alloc; 0i64; model.words()]?;
     'parents: for i in from..to {
-        let state = space.row(k, i);
-        let parent = Parent {
-            place: i as u32,
-            state,
-            rank: model.rank(k, state),
-        };
+        let parent = parent_at(space, model, i);
         push_all(model, k, parent, row.as_mut_slice(), piece)?;
     }
     Ok(())

@@ -37,6 +37,22 @@ pub enum Way<'r, R: Threads + Sync> {
     Wide(Wide<'r, R>),
 }
 
+/// Where the part with this number begins, of parts of so many nodes.
+fn start_of(i: usize, size: usize, nodes: usize) -> usize
+    ensures { result ≤ nodes }
+{
+    i.saturating_mul(size).min(nodes)
+}
+
+/// Where a part ends that begins there.
+fn end_of(from: usize, size: usize, nodes: usize) -> usize
+    requires { from ≤ nodes }
+    ensures order { from ≤ result }
+    ensures within { result ≤ nodes }
+{
+    from.saturating_add(size).min(nodes)
+}
+
 /// The piece gets the candidates of as many nodes as `size`, from `i` times as many on, as far as there are nodes and memory.
 fn make_part<M: DpModel>(
     alloc: Global,
@@ -50,8 +66,8 @@ fn make_part<M: DpModel>(
     ensures { AreRight (M.meaning (M.numbers model.now)) (last_depth space.now) piece.new }
 {
     let nodes = space.nodes(space.last_depth());
-    let from = i.saturating_mul(size).min(nodes);
-    let to = from.saturating_add(size).min(nodes);
+    let from = start_of(i, size, nodes);
+    let to = end_of(from, size, nodes);
     let _ = make(alloc, space, model, from, to, piece);
 }
 

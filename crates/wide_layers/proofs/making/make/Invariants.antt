@@ -1,4 +1,4 @@
-use Rattle.std.proofs.Common.{◌≡◌, ◌-◌, ◌≤◌, length}
+use Rattle.std.proofs.Common.{◌≡◌, ◌-◌}
 use Rattle.layer_build.specs.Layers.{last_layer}
 use Rattle.wide_layers.specs.Candidates.{state_at, candidates_from}
 use Rattle.wide_layers.proofs.making.make.Given as goal

@@ -1,7 +1,7 @@
-use Rattle.std.proofs.Common.{rules, ◌≡◌, [], ◌∷◌, ◌++◌, refl, sym, ap, subst, ◌∙◌}
+use Rattle.std.proofs.Common.{◌++◌, refl, sym, ap, subst, ◌∙◌}
 use Rattle.std.proofs.lemmas.List.{append-nil}
 use Rattle.dp_model.proofs.Members.{Each-append}
-use Rattle.wide_layers.specs.Candidates.{Candidate, IsMade, IsRight}
+use Rattle.wide_layers.specs.Candidates.{IsMade, IsRight}
 use Rattle.wide_layers.specs.Pieces.{PieceView, AreRight}
 use Rattle.wide_layers.proofs.Right.{made-by, by-refused, ok-then, on-either}
 use Rattle.wide_layers.proofs.making.push_by.Goals as goal

@@ -1,4 +1,4 @@
-use Rattle.std.proofs.Common.{rules, ◌≡◌, ◌<◌, ◌≤◌, length, get_or, sym, ap, subst, ◌∙◌, arith}
+use Rattle.std.proofs.Common.{◌≡◌, ◌<◌, length, get_or, ap, subst, arith}
 use Rattle.std.proofs.lemmas.List.{get_or_default}
 use Rattle.wide_layers.specs.Pieces.{PieceView, piece_at, candidate_at, IsTold}
 use Rattle.wide_layers.proofs.hand.Hand.recall.Goals as goal
@@ -10,8 +10,8 @@ returns-clause-some c =
     let j = c.next_place-place.result.candidate in
     let low : i < length ps = (let t = c.if-place-self.false in omega arith) in
     let p = c.index-self-place-2.result in
-    let same : p ≡ piece_at ps i = c.index-self-place-2.is ∙ get_or_default ps i p _ low in
-    let first : c.index-self-place.result ≡ piece_at ps i = c.index-self-place.is ∙ get_or_default ps i c.index-self-place.result _ low in
+    let same : get_or ps i p ≡ piece_at ps i = get_or_default ps i p _ low in
+    let first : get_or ps i c.index-self-place.result ≡ piece_at ps i = get_or_default ps i c.index-self-place.result _ low in
     let within : j < length (piece_at ps i).candidates = (let t = c.if-place-len.false in let e = c.len.ensures in let n = ap (λ (v : PieceView). length v.candidates) first in omega (arith, t, e, n)) in
     record {
       piece = i;

@@ -1,4 +1,4 @@
-use Rattle.std.proofs.Common.{rules, ◌≡◌, ◌+◌, ◌*◌, ◌<◌, ◌≤◌, length, take, drop, get_or, vec_len, true, sym, ap, subst, ◌∙◌, arith}
+use Rattle.std.proofs.Common.{rules, ◌≡◌, ◌+◌, ◌*◌, ◌<◌, ◌≤◌, length, take, drop, get_or, vec_len, sym, ap, subst, ◌∙◌, arith}
 use Rattle.layer_candidates.proofs.HeldRows.{each-here}
 use Rattle.wide_layers.specs.declared.piece.Made.{Made}
 use Rattle.wide_layers.specs.Candidates.{Candidate}
