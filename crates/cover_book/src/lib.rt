@@ -25,6 +25,7 @@ mod exploring;
 mod gathering;
 mod rows;
 mod serving;
+mod settling;
 mod thinning;
 mod waiting;
 mod whole;
@@ -32,4 +33,5 @@ mod writing;
 
 pub use diagrams::ShownDiagram;
 pub use exploration::Exploration;
+pub use settling::settle;
 pub use whole::explore_whole;
