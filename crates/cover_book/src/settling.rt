@@ -6,7 +6,7 @@ ghost use Rattle.bound_cover.specs.Clamping.{AreWritable, IsReachable};
 ghost use Rattle.bound_cover.specs.Exploring.{HoldsAll};
 ghost use Rattle.bound_cover.specs.Verdicts.{checked_rows};
 
-use crate::whole::explore_whole;
+use crate::whole::{explore_whole, thin_cover};
 use bound_cover::Cover;
 use cover_pages::CoverBook;
 use dp_model::{DpModel, OutOfMemory};
@@ -21,11 +21,26 @@ pub fn settle<M: DpModel>(
     alloc: Global,
     model: &M,
     claim: Option<i64>,
-    _books: &[CoverBook],
+    books: &[CoverBook],
 ) -> Result<Cover, OutOfMemory>
     ensures best { IfOk result (λ cover. claim ≡ best (M.meaning (M.numbers model.now)) → checked_rows (M.meaning (M.numbers model.now)) claim cover ≡ None) }
     ensures passes { IfOk result (λ cover. HoldsAll (M.meaning (M.numbers model.now)) claim → IsReachable claim → checked_rows (M.meaning (M.numbers model.now)) claim cover ≡ None) }
     ensures writable { IfOk result (λ cover. AreWritable cover) }
 {
+    if has_pages(books) {
+        if let Some(cover) = thin_cover(alloc, model, claim, books)? {
+            return Ok(cover);
+        }
+    }
     explore_whole(alloc, model, claim)
+}
+
+/// Whether there is a page in one of the books.
+fn has_pages(books: &[CoverBook]) -> bool {
+    'books: for book in books {
+        if book.pages() > 0 {
+            return true;
+        }
+    }
+    false
 }
