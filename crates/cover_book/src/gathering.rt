@@ -237,7 +237,9 @@ fn gather_node<M: DpModel, S: RowSource>(
     if let Some(server) = serve(alloc, model, depth, row.words, bound, number, servers)? {
         return Ok(server);
     }
-    put_node(alloc, model, source, depth, node, &row, bound, numbers, layer)?;
+    put_node(
+        alloc, model, source, depth, node, &row, bound, numbers, layer,
+    )?;
     Ok(number)
 }
 

@@ -116,7 +116,11 @@ impl<'b> Pages<'b> {
     }
 
     /// The page with a number.
-    pub(crate) fn page(&self, alloc: Global, number: usize) -> Result<Option<Page<'b>>, OutOfMemory> {
+    pub(crate) fn page(
+        &self,
+        alloc: Global,
+        number: usize,
+    ) -> Result<Option<Page<'b>>, OutOfMemory> {
         let Some(at) = self.pages.get(number) else {
             return Ok(None);
         };
@@ -226,7 +230,9 @@ impl<'b> RowSource for Page<'b> {
     }
 
     fn last_depth(&self) -> usize {
-        self.head.first.saturating_add(self.layers.saturating_sub(1))
+        self.head
+            .first
+            .saturating_add(self.layers.saturating_sub(1))
     }
 
     fn nodes(&self, depth: usize) -> usize {
@@ -252,12 +258,7 @@ impl<'b> RowSource for Page<'b> {
         })
     }
 
-    fn arcs(
-        &self,
-        alloc: Global,
-        depth: usize,
-        node: usize,
-    ) -> Result<Vec<CoverArc>, OutOfMemory> {
+    fn arcs(&self, alloc: Global, depth: usize, node: usize) -> Result<Vec<CoverArc>, OutOfMemory> {
         match self.node(depth, node) {
             None => Ok(Vec::new(alloc)),
             Some(node) => node.arcs.to_vec(alloc),

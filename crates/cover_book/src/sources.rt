@@ -52,8 +52,7 @@ pub(crate) trait RowSource {
         requires { depth < 2 ^ 32 };
 
     /// The arcs of a node, whose targets are places in the next layer.
-    fn arcs(&self, alloc: Global, depth: usize, node: usize)
-    -> Result<Vec<CoverArc>, OutOfMemory>;
+    fn arcs(&self, alloc: Global, depth: usize, node: usize) -> Result<Vec<CoverArc>, OutOfMemory>;
 
     /// What a node waits for; none where that is not known.
     fn wait(&self, alloc: Global, depth: usize, node: usize) -> Result<Option<Wait>, OutOfMemory>;
@@ -113,12 +112,7 @@ impl<'w> RowSource for Diagram<'w> {
         })
     }
 
-    fn arcs(
-        &self,
-        alloc: Global,
-        depth: usize,
-        node: usize,
-    ) -> Result<Vec<CoverArc>, OutOfMemory> {
+    fn arcs(&self, alloc: Global, depth: usize, node: usize) -> Result<Vec<CoverArc>, OutOfMemory> {
         if !has_node(self, depth, node) {
             return Ok(Vec::new(alloc));
         }

@@ -305,7 +305,15 @@ fn keep_waiting<M: DpModel>(
         None => push_row(row.bound, row.words, None, &mut kept.rows)?,
         Some(arcs) => push_row(row.bound, row.words, Some(arcs.as_slice()), &mut kept.rows)?,
     }
-    add_server(alloc, model, k, row.words, row.bound, number, &mut kept.servers)?;
+    add_server(
+        alloc,
+        model,
+        k,
+        row.words,
+        row.bound,
+        number,
+        &mut kept.servers,
+    )?;
     Ok(number)
 }
 
@@ -338,13 +346,19 @@ fn keep_row<M: DpModel>(
     if let Some(wait) = wait_of(layer.waiting.as_slice(), place) {
         let (words, bound) = (row.words, row.bound);
         let row = OpenRow { words, bound, wait };
-        return keep_waiting(
-            alloc, model, claim, k, row, pages, space, layers, kept,
-        );
+        return keep_waiting(alloc, model, claim, k, row, pages, space, layers, kept);
     }
     let arcs = if row.has_arcs { Some(row.arcs) } else { None };
     push_row(row.bound, row.words, arcs, &mut kept.rows)?;
-    add_server(alloc, model, k, row.words, row.bound, number, &mut kept.servers)?;
+    add_server(
+        alloc,
+        model,
+        k,
+        row.words,
+        row.bound,
+        number,
+        &mut kept.servers,
+    )?;
     Ok(number)
 }
 
@@ -476,7 +490,16 @@ fn next_layer<M: DpModel>(
     ensures writable { OnOk result (AreWritable cover.new) }
 {
     let marks = marks_of(alloc, above, count_at(layers, k))?;
-    let next = thin_layer(alloc, model, claim, k, marks.as_slice(), pages, space, layers)?;
+    let next = thin_layer(
+        alloc,
+        model,
+        claim,
+        k,
+        marks.as_slice(),
+        pages,
+        space,
+        layers,
+    )?;
     write_layer(alloc, above, next.numbers.as_slice(), cover)?;
     Ok(next.rows)
 }
@@ -506,7 +529,17 @@ fn next_layers<M: DpModel>(
 {
     let mut above = first;
     'layers: for k in 0..model.vars() {
-        let next = next_layer(alloc, model, claim, k + 1, &above, pages, space, layers, cover)?;
+        let next = next_layer(
+            alloc,
+            model,
+            claim,
+            k + 1,
+            &above,
+            pages,
+            space,
+            layers,
+            cover,
+        )?;
         above = next;
     }
     Ok(above)
