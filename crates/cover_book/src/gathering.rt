@@ -7,6 +7,7 @@ ghost use Rattle.cover_book.specs.Servers.{AreServers};
 
 use crate::serving::{Servers, add_server, serve};
 use crate::sources::{Below, NodeRow, RowSource, Wait};
+use crate::tracing::path_to;
 use crate::writing::{clamped_bound, highest, lowest};
 use bound_cover::{Cover, CoverArc, is_state_row};
 use dp_model::{DpModel, OutOfMemory};
@@ -186,27 +187,63 @@ fn is_rough<M: DpModel>(model: &M, k: usize, words: &[i64], bound: Option<i64>) 
     }
 }
 
-/// Gives a row of a node its arcs, whose targets' rows have these numbers, or what it waits for, and puts it into the layer.
+/// What stands below the row of a node: nothing where its rough bound is enough.
+fn below_at<M: DpModel>(model: &M, k: usize, row: &NodeRow) -> Below
+    requires { k ≤ (M.meaning (M.numbers model.now)).vars }
+{
+    if row.below == Below::Nothing || is_rough(model, k, row.words, bound_at(model, k, row.bound)) {
+        Below::Nothing
+    } else {
+        row.below
+    }
+}
+
+/// What a node waits for: what its diagram tells, or a diagram of the decisions by which it is reached.
+fn wait_of<M: DpModel, S: RowSource>(
+    alloc: Global,
+    model: &M,
+    claim: Option<i64>,
+    source: &S,
+    depth: usize,
+    node: usize,
+) -> Result<Option<Wait>, OutOfMemory>
+    requires { depth ≤ (M.meaning (M.numbers model.now)).vars }
+{
+    if let Some(wait) = source.wait(alloc, depth, node)? {
+        return Ok(Some(wait));
+    }
+    match path_to(alloc, model, claim, source, depth, node)? {
+        None => Ok(None),
+        Some(decisions) => Ok(Some(Wait {
+            decisions,
+            ticket: None,
+        })),
+    }
+}
+
+/// Puts the row of a node into the layer, with its arcs, whose targets' rows have these numbers, or with what it waits for.
 fn put_node<M: DpModel, S: RowSource>(
     alloc: Global,
     model: &M,
+    claim: Option<i64>,
     source: &S,
     depth: usize,
     node: usize,
     row: &NodeRow,
-    bound: Option<i64>,
+    below: Below,
     numbers: &[u32],
     layer: &mut Gathered,
 ) -> Result<(), OutOfMemory>
     requires { depth ≤ (M.meaning (M.numbers model.now)).vars }
 {
-    if row.below == Below::Arcs {
+    let bound = bound_at(model, depth, row.bound);
+    if below == Below::Arcs {
         let arcs = source.arcs(alloc, depth, node)?;
         let arcs = renumbered(alloc, arcs.as_slice(), numbers)?;
         return push_row(bound, row.words, Some(arcs.as_slice()), &mut layer.rows);
     }
-    if row.below == Below::Waits && !is_rough(model, depth, row.words, bound) {
-        if let Some(wait) = source.wait(alloc, depth, node)? {
+    if below == Below::Waits {
+        if let Some(wait) = wait_of(alloc, model, claim, source, depth, node)? {
             layer.wait(layer.count(), wait)?;
         }
     }
@@ -221,6 +258,7 @@ fn gather_node<M: DpModel, S: RowSource>(
     source: &S,
     depth: usize,
     node: usize,
+    below: Below,
     numbers: &[u32],
     layer: &mut Gathered,
     servers: &mut Servers,
@@ -238,19 +276,19 @@ fn gather_node<M: DpModel, S: RowSource>(
         return Ok(server);
     }
     put_node(
-        alloc, model, source, depth, node, &row, bound, numbers, layer,
+        alloc, model, claim, source, depth, node, &row, below, numbers, layer,
     )?;
     Ok(number)
 }
 
-/// The numbers of the rows of a layer's nodes, as far as they are marked. Those that none serves are put in.
+/// The numbers of the rows of those nodes of a layer that need one. Those that none serves are put in.
 fn gather_layer<M: DpModel, S: RowSource>(
     alloc: Global,
     model: &M,
     claim: Option<i64>,
     source: &S,
     depth: usize,
-    marks: &[bool],
+    needed: &[Option<Below>],
     numbers: &[u32],
     layer: &mut Gathered,
 ) -> Result<Vec<u32>, OutOfMemory>
@@ -258,9 +296,9 @@ fn gather_layer<M: DpModel, S: RowSource>(
 {
     let mut servers = layer.servers(alloc, model, depth)?;
     let mut new = Vec::new(alloc);
-    'nodes: for node in 0..marks.len() {
+    'nodes: for node in 0..needed.len() {
         let mut number = 0;
-        if marks[node] {
+        if let Some(below) = needed[node] {
             number = gather_node(
                 alloc,
                 model,
@@ -268,6 +306,7 @@ fn gather_layer<M: DpModel, S: RowSource>(
                 source,
                 depth,
                 node,
+                below,
                 numbers,
                 layer,
                 &mut servers,
@@ -277,32 +316,6 @@ fn gather_layer<M: DpModel, S: RowSource>(
     }
     layer.set_servers(&servers)?;
     Ok(new)
-}
-
-/// Which nodes of the next layer the arcs of a layer's marked nodes lead to, as far as their rows keep them.
-fn marks_below<M: DpModel, S: RowSource>(
-    alloc: Global,
-    model: &M,
-    claim: Option<i64>,
-    source: &S,
-    depth: usize,
-    above: &[bool],
-) -> Result<Vec<bool>, OutOfMemory>
-    requires { depth < (M.meaning (M.numbers model.now)).vars }
-{
-    let _vars = model.vars();
-    let mut marks = vec![in alloc; false; source.nodes(depth + 1)]?;
-    'nodes: for node in 0..above.len() {
-        if !above[node] {
-            continue;
-        }
-        if let Some(row) = source.row(claim, depth, node) {
-            if row.below == Below::Arcs || depth == source.first_depth() {
-                mark(source.arcs(alloc, depth, node)?.as_slice(), &mut marks);
-            }
-        }
-    }
-    Ok(marks)
 }
 
 /// Marks the targets of arcs.
@@ -316,22 +329,66 @@ pub(crate) fn mark(arcs: &[CoverArc], marks: &mut [bool]) {
     }
 }
 
-/// Which nodes need rows, of each layer below the first one, down to the last layer that has such nodes.
+/// Which nodes of the next layer the arcs of a layer's rows lead to.
+fn marks_below<S: RowSource>(
+    alloc: Global,
+    source: &S,
+    depth: usize,
+    above: &[Option<Below>],
+) -> Result<Vec<bool>, OutOfMemory> {
+    let mut marks = vec![in alloc; false; source.nodes(depth.saturating_add(1))]?;
+    'nodes: for node in 0..above.len() {
+        if above[node] == Some(Below::Arcs) {
+            let arcs = source.arcs(alloc, depth, node)?;
+            mark(arcs.as_slice(), &mut marks);
+        }
+    }
+    Ok(marks)
+}
+
+/// What stands below the rows of the marked nodes of a layer; none for the others.
+fn needed_of<M: DpModel, S: RowSource>(
+    alloc: Global,
+    model: &M,
+    claim: Option<i64>,
+    source: &S,
+    depth: usize,
+    marks: &[bool],
+) -> Result<Vec<Option<Below>>, OutOfMemory>
+    requires { depth ≤ (M.meaning (M.numbers model.now)).vars }
+{
+    let mut needed = vec![in alloc; None; marks.len()]?;
+    'nodes: for node in 0..marks.len() {
+        if !marks[node] {
+            continue;
+        }
+        if let Some(row) = source.row(claim, depth, node) {
+            let below = below_at(model, depth, &row);
+            if let Some(cell) = needed.get_mut(node) {
+                *cell = Some(below);
+            }
+        }
+    }
+    Ok(needed)
+}
+
+/// Which nodes need rows, and what stands below these, of each layer below the first one, down to the last layer that has such nodes.
 fn needed_nodes<M: DpModel, S: RowSource>(
     alloc: Global,
     model: &M,
     claim: Option<i64>,
     source: &S,
-) -> Result<Vec<Vec<bool>>, OutOfMemory> {
-    let mut above = vec![in alloc; true; 1]?;
+) -> Result<Vec<Vec<Option<Below>>>, OutOfMemory> {
+    let mut above = vec![in alloc; Some(Below::Arcs); 1]?;
     let mut layers = Vec::new(alloc);
     'layers: for depth in source.first_depth()..model.vars() {
-        let marks = marks_below(alloc, model, claim, source, depth, above.as_slice())?;
-        if !marks.iter().any(|is_marked| *is_marked) {
+        let marks = marks_below(alloc, source, depth, above.as_slice())?;
+        if !marks.contains(&true) {
             break;
         }
-        above = marks.to_vec(alloc)?;
-        layers.push(marks)?;
+        let needed = needed_of(alloc, model, claim, source, depth + 1, marks.as_slice())?;
+        above = needed.to_vec(alloc)?;
+        layers.push(needed)?;
     }
     Ok(layers)
 }
@@ -344,12 +401,12 @@ fn gather_layers<M: DpModel, S: RowSource>(
     source: &S,
     layers: &mut [Gathered],
 ) -> Result<Vec<u32>, OutOfMemory> {
-    let marks = needed_nodes(alloc, model, claim, source)?;
+    let needed = needed_nodes(alloc, model, claim, source)?;
     let first = source.first_depth();
     let mut numbers = Vec::new(alloc);
-    let count = marks.len();
+    let count = needed.len();
     'layers: for i in 0..count {
-        let marks = marks[count - 1 - i].as_slice();
+        let here = needed[count - 1 - i].as_slice();
         let depth = first.saturating_add(count - i);
         if depth > model.vars() {
             continue;
@@ -361,7 +418,7 @@ fn gather_layers<M: DpModel, S: RowSource>(
                 claim,
                 source,
                 depth,
-                marks,
+                here,
                 numbers.as_slice(),
                 layer,
             )?;

@@ -34,6 +34,7 @@ mod serving;
 mod settling;
 mod sources;
 mod thinning;
+mod tracing;
 mod waiting;
 mod whole;
 mod writing;

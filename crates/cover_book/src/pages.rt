@@ -26,12 +26,22 @@ struct Successor {
     ticket: u64,
 }
 
+/// The child that got a ticket.
+#[derive(Clone, Copy, Debug, PartialEq, Eq, PartialOrd, Ord)]
+struct Origin {
+    ticket: u64,
+    book: usize,
+    page: usize,
+    child: usize,
+}
+
 /// The pages of several books. A ticket that another one took the place of stands for that one.
 #[derive(Debug, Drop)]
 pub(crate) struct Pages<'b> {
     books: &'b [CoverBook],
     // by their tickets
     pages: Vec<PageAt>,
+    origins: Vec<Origin>,
     // by the older ticket
     successors: Vec<Successor>,
 }
@@ -42,6 +52,7 @@ pub(crate) struct Page<'b> {
     book: &'b CoverBook,
     page: usize,
     head: PageHead,
+    prefix: Option<&'b [u32]>,
     layers: usize,
     // whether its children are those of the frontier
     has_frontier: bool,
@@ -60,17 +71,45 @@ fn ticket_of(fate: Fate) -> Option<u64> {
     }
 }
 
-/// Puts in the children of a page that took the place of others.
-fn add_successors(
+/// Puts in a child with its fate.
+fn add_child(
+    mut at: Origin,
+    fate: Fate,
+    origins: &mut Vec<Origin>,
+    successors: &mut Vec<Successor>,
+) -> Result<(), OutOfMemory> {
+    match fate {
+        Fate::Replaced { ticket, old } => {
+            successors.push(Successor { old, ticket })?;
+            at.ticket = ticket;
+            origins.push(at)?;
+        }
+        Fate::Entered { ticket } => {
+            at.ticket = ticket;
+            origins.push(at)?;
+        }
+        Fate::Below | Fate::Kept { .. } | Fate::Dominated { .. } => {}
+    }
+    Ok(())
+}
+
+/// Puts in the children of a page.
+fn add_children(
+    number: usize,
     book: &CoverBook,
     page: usize,
+    origins: &mut Vec<Origin>,
     successors: &mut Vec<Successor>,
 ) -> Result<(), OutOfMemory> {
     'children: for i in 0..book.children(page) {
         if let Some(child) = book.child(page, i) {
-            if let Fate::Replaced { ticket, old } = child.fate {
-                successors.push(Successor { old, ticket })?;
-            }
+            let at = Origin {
+                ticket: 0,
+                book: number,
+                page,
+                child: i,
+            };
+            add_child(at, child.fate, origins, successors)?;
         }
     }
     Ok(())
@@ -80,15 +119,18 @@ impl<'b> Pages<'b> {
     /// The pages of books.
     pub(crate) fn of(alloc: Global, books: &'b [CoverBook]) -> Result<Pages<'b>, OutOfMemory> {
         let mut pages = Vec::new(alloc);
+        let mut origins = Vec::new(alloc);
         let mut successors = Vec::new(alloc);
         'books: for i in 0..books.len() {
-            add_pages(i, &books[i], &mut pages, &mut successors)?;
+            add_pages(i, &books[i], &mut pages, &mut origins, &mut successors)?;
         }
         pages.sort_unstable();
+        origins.sort_unstable();
         successors.sort_unstable();
         Ok(Pages {
             books,
             pages,
+            origins,
             successors,
         })
     }
@@ -127,7 +169,23 @@ impl<'b> Pages<'b> {
         let Some(book) = self.books.get(at.book) else {
             return Ok(None);
         };
-        page_of(alloc, book, at.page)
+        page_of(alloc, book, at.page, self.decisions_of(at.ticket))
+    }
+
+    /// The decisions of the subproblem with a ticket; that of the whole problem is 0.
+    fn decisions_of(&self, ticket: u64) -> Option<&'b [u32]> {
+        if ticket == 0 {
+            return Some(&[]);
+        }
+        let at = match self
+            .origins
+            .binary_search_by_key(&ticket, |origin| origin.ticket)
+        {
+            Ok(i) => self.origins[i],
+            Err(_) => return None,
+        };
+        let child = self.books.get(at.book)?.child(at.page, at.child)?;
+        Some(child.decisions)
     }
 }
 
@@ -136,6 +194,7 @@ fn add_pages(
     number: usize,
     book: &CoverBook,
     pages: &mut Vec<PageAt>,
+    origins: &mut Vec<Origin>,
     successors: &mut Vec<Successor>,
 ) -> Result<(), OutOfMemory> {
     'pages: for page in 0..book.pages() {
@@ -145,7 +204,7 @@ fn add_pages(
                 book: number,
                 page,
             })?;
-            add_successors(book, page, successors)?;
+            add_children(number, book, page, origins, successors)?;
         }
     }
     Ok(())
@@ -156,6 +215,7 @@ fn page_of<'b>(
     alloc: Global,
     book: &'b CoverBook,
     page: usize,
+    prefix: Option<&'b [u32]>,
 ) -> Result<Option<Page<'b>>, OutOfMemory> {
     let Some(head) = book.page(page) else {
         return Ok(None);
@@ -172,6 +232,7 @@ fn page_of<'b>(
         book,
         page,
         head,
+        prefix,
         layers: book.layers(page),
         has_frontier,
         places,
@@ -235,6 +296,10 @@ impl<'b> RowSource for Page<'b> {
             .saturating_add(self.layers.saturating_sub(1))
     }
 
+    fn prefix(&self) -> Option<&[u32]> {
+        self.prefix
+    }
+
     fn nodes(&self, depth: usize) -> usize {
         match depth.checked_sub(self.head.first) {
             None => 0,
@@ -253,6 +318,7 @@ impl<'b> RowSource for Page<'b> {
         };
         Some(NodeRow {
             words: node.row,
+            value: node.value,
             bound,
             below: self.below(claim, depth, &node),
         })

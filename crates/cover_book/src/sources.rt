@@ -21,10 +21,11 @@ pub(crate) enum Below {
     Nothing,
 }
 
-/// The row of a node: its words, what it claims, and what stands below it.
+/// The row of a node: its words, the greatest length of a path to it, what it claims, and what stands below it.
 #[derive(Clone, Copy, Debug)]
 pub(crate) struct NodeRow<'d> {
     pub(crate) words: &'d [i64],
+    pub(crate) value: i64,
     pub(crate) bound: Option<i128>,
     pub(crate) below: Below,
 }
@@ -44,6 +45,9 @@ pub(crate) trait RowSource {
     /// The depth of the last layer.
     fn last_depth(&self) -> usize;
 
+    /// The decisions before the first layer; none where they are not known.
+    fn prefix(&self) -> Option<&[u32]>;
+
     /// How many nodes there are at a depth.
     fn nodes(&self, depth: usize) -> usize;
 
@@ -54,7 +58,7 @@ pub(crate) trait RowSource {
     /// The arcs of a node, whose targets are places in the next layer.
     fn arcs(&self, alloc: Global, depth: usize, node: usize) -> Result<Vec<CoverArc>, OutOfMemory>;
 
-    /// What a node waits for; none where that is not known.
+    /// What a node waits for; none where the diagram does not tell it.
     fn wait(&self, alloc: Global, depth: usize, node: usize) -> Result<Option<Wait>, OutOfMemory>;
 }
 
@@ -93,6 +97,10 @@ impl<'w> RowSource for Diagram<'w> {
         Diagram::last_depth(self)
     }
 
+    fn prefix(&self) -> Option<&[u32]> {
+        None
+    }
+
     fn nodes(&self, depth: usize) -> usize {
         if depth < Diagram::first_depth(self) || Diagram::last_depth(self) < depth {
             return 0;
@@ -107,6 +115,7 @@ impl<'w> RowSource for Diagram<'w> {
         let deep = is_deep(self.first_reduced(), depth);
         Some(NodeRow {
             words: Diagram::row(self, depth, node),
+            value: Diagram::value(self, depth, node),
             bound: claim_of(claim, deep, self, depth, node),
             below: below_of(claim, self, depth, node),
         })
