@@ -33,7 +33,7 @@ mod saying;
 
 pub use checking::check;
 pub use concluding::conclude;
-pub use covering::{Subject, told};
+pub use covering::{Conclusion, Subject, told};
 pub use digesting::digest_text;
 pub use inputs::{answer_cover, answer_parts, unread};
 pub use joining::join_texts;
