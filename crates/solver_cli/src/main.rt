@@ -16,6 +16,7 @@
 #![tactic(auto)]
 
 mod answering;
+mod books;
 mod drawing;
 mod keeping;
 mod limits;
