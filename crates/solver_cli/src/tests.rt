@@ -124,7 +124,7 @@ fn is_accepted<R: Abort + Threads + Wait + Sync>(rt: &R, alloc: Global, told: &T
 }
 
 /// What is printed for each case begins as it must, and a check accepts it.
-fn covers<R: Abort + Threads + Wait + Sync>(rt: &R, alloc: Global, cases: &[Case]) {
+fn prints_accepted<R: Abort + Threads + Wait + Sync>(rt: &R, alloc: Global, cases: &[Case]) {
     for (line, input, text, status) in cases.iter().copied() {
         let told = run_line(rt, alloc, line, input.as_bytes());
         let right = begins(&told, text, status) && is_accepted(rt, alloc, &told);

@@ -1,7 +1,7 @@
 //! Covers that are made from the books of a search, and bounds that come from its diagrams.
 
 use crate::tests::{
-    Case, TEN_ITEMS, THREE_ITEMS, begins, covers, is_accepted, prints, run_line, run_over,
+    Case, TEN_ITEMS, THREE_ITEMS, begins, is_accepted, prints, prints_accepted, run_line, run_over,
 };
 use std::alloc::Global;
 use std::process::Abort;
@@ -75,7 +75,7 @@ const COVERED: &[Case] = &[
 
 #[test]
 fn covers_of_books_are_accepted(rt: HostRuntime) {
-    covers(&rt, rt.alloc(), COVERED);
+    prints_accepted(&rt, rt.alloc(), COVERED);
 }
 
 /// How many rows layer 1 has in the text of a cover.

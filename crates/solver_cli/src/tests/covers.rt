@@ -1,4 +1,4 @@
-use super::{Case, DRAWN_CLAUSES, TEN_ITEMS, THREE_ITEMS, covers, prints, run_line, says};
+use super::{Case, DRAWN_CLAUSES, TEN_ITEMS, THREE_ITEMS, prints, prints_accepted, run_line, says};
 use std::alloc::Global;
 use std::process::Abort;
 use std::sync::Wait;
@@ -322,7 +322,7 @@ const COVERED: &[Case] = &[
 
 #[test]
 fn printed_covers_are_accepted(rt: HostRuntime) {
-    covers(&rt, rt.alloc(), COVERED);
+    prints_accepted(&rt, rt.alloc(), COVERED);
 }
 
 /// Searches after which no cover is printed.
