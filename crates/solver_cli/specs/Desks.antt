@@ -1,6 +1,6 @@
 -- The desks of the workers.
-use Rattle.std.specs.Prelude.{◌≡◌, ℕ, ◌/◌, List, [], flat_map, Option, option_map, option_to_list, vec_len, Vec, Result, Ok, Err}
-use Rattle.std.specs.List.{All}
+use Rattle.std.specs.Prelude.{◌≡◌, ℕ, ◌/◌, List, [], Option, option_map, option_to_list, vec_len, Vec, Result, Ok, Err}
+use Rattle.std.specs.List.{All, flat_map}
 use Rattle.std.specs.declared.alloc.Global.{Global}
 use Rattle.dp_model.specs.Dp.{Dp}
 use Rattle.cover_pages.specs.Books.{BookView}
