@@ -122,5 +122,8 @@ fn search_begun<P: Problem, D: Disk + Send, G: Gate + Sync, R: Threads + Wait + 
     } = start;
     let kept = Kept::new(board, disk, Some(tail), SNAPSHOT_EVERY);
     let (ended, disk) = search_from(run, kept, &mut desks, &*model, search);
-    (answer_of(run.alloc, name, &*model, ended, search, desks), disk)
+    (
+        answer_of(run.alloc, name, &*model, ended, search, desks),
+        disk,
+    )
 }

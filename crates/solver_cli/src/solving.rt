@@ -52,7 +52,10 @@ pub fn solve<P: Problem, D: Disk + Send, G: Gate + Sync, R: Threads + Wait + Syn
         ) => {
             let kept = Kept::new(board, disk, None, SNAPSHOT_EVERY);
             let (ended, disk) = search_from(run, kept, &mut desks, &*model, search);
-            (answer_of(run.alloc, name, &*model, ended, search, desks), disk)
+            (
+                answer_of(run.alloc, name, &*model, ended, search, desks),
+                disk,
+            )
         }
         Err(answer) => (answer, disk),
     }

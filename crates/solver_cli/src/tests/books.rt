@@ -122,9 +122,7 @@ fn solves_tour<R: Abort + Threads + Wait + Sync>(
     let told = run_over(rt, alloc, line, tour, Vec::new(alloc));
     let file = told.disk.bytes().to_vec(alloc).expect(rt, "a file");
     let again = run_over(rt, alloc, "resume t", &[], file);
-    begins(&told, BEST_TOUR, 0)
-        && is_accepted(rt, alloc, &told)
-        && begins(&again, BEST_TOUR, 0)
+    begins(&told, BEST_TOUR, 0) && is_accepted(rt, alloc, &told) && begins(&again, BEST_TOUR, 0)
 }
 
 #[test]
@@ -141,7 +139,10 @@ fn a_drawn_instance_is_solved_alike(rt: HostRuntime) {
     let line = "generate knapsack 100 7 --solve";
     let first = run_line(&rt, rt.alloc(), line, &[]);
     let second = run_line(&rt, rt.alloc(), line, &[]);
-    assert_eq!(rt; (first.status, first.text.taken()), (0, second.text.taken()));
+    assert_eq!(rt;
+        (first.status, first.text.taken()),
+        (0, second.text.taken())
+    );
 }
 
 /// A merged node is too heavy for the last item. The rough bound of each child alone would leave it open.
