@@ -105,8 +105,6 @@ fn a_cover_has_the_rows_of_a_book(rt: HostRuntime) {
 const TOURS: &[&str] = &[
     "solve tsptw --workers 4 --cover --journal t",
     "solve tsptw --workers 4 --cover --journal t --cutset frontier",
-    "solve tsptw --workers 4 --cover --journal t --width 4",
-    "solve tsptw --workers 4 --cover --journal t --width 4 --cutset frontier",
 ];
 
 /// How each of them ends, and a search that goes on from its journal.
