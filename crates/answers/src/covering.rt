@@ -10,7 +10,8 @@ ghost use Rattle.answers.specs.Outcomes.{IsTrueOf};
 ghost use Rattle.answers.specs.Parts.{own_in, program_in};
 
 use bound_cover::claim_of;
-use cover_book::explore_whole;
+use cover_book::settle;
+use cover_pages::CoverBook;
 use cover_text::push_cover;
 use dp_model::{DpModel, OutOfMemory};
 use problem_names::{ModelName, PartNumber};
@@ -29,54 +30,67 @@ pub struct Subject {
     pub part: Option<PartNumber>,
 }
 
+/// How a search that is over ended, and what was asked of it.
+#[derive(Debug, Drop)]
+pub struct Conclusion {
+    /// Its outcome.
+    pub outcome: Outcome,
+    /// Its counts, if they are asked for.
+    pub counts: Option<Counts>,
+    /// What was asked of the search.
+    pub search: JobSettings,
+}
+
 /// The answer to a search of an instance, or of a part of it, whose outcome is true: its report, followed by a cover if one is asked for and
-/// the search went to its end. `model` is the instance, and `program` is what was searched.
+/// the search went to its end. `model` is the instance, and `program` is what was searched. The cover is made of the diagrams in the books,
+/// where they are diagrams of `program`; the answer is right whatever the books hold.
 pub fn told<P: Problem, M: DpModel>(
     alloc: Global,
     subject: Subject,
     model: &P,
     program: &M,
-    outcome: Outcome,
-    counts: Option<Counts>,
-    search: JobSettings,
+    ended: Conclusion,
+    books: &[CoverBook],
 ) -> Answer
     requires named { theory_of subject.name ≡ P.theory }
     requires part { MayBePart subject.part }
     requires program { M.meaning (M.numbers program.now) ≡ program_in subject.part (P.theory.program (P.numbers model.now)) }
-    requires true_told { IsTrueOf (M.meaning (M.numbers program.now)) (own_in subject.part (P.theory.own_value (P.numbers model.now))) search.budget outcome }
-    requires sized { AreSized counts }
-    ensures report { IsReport search outcome counts result }
+    requires true_told { IsTrueOf (M.meaning (M.numbers program.now)) (own_in subject.part (P.theory.own_value (P.numbers model.now))) ended.search.budget ended.outcome }
+    requires sized { AreSized ended.counts }
+    ensures report { IsReport ended.search ended.outcome ended.counts result }
     ensures covered { IsCoveredIn subject.name subject.part (P.theory.canonical (P.numbers model.now)) result }
 {
-    let Some(words) = search.cover_words else {
-        return Answer::Searched(outcome, counts);
-    };
-    if !outcome.is_final() {
+    let Conclusion {
+        outcome,
+        counts,
+        search,
+    } = ended;
+    if search.cover_words.is_none() || !outcome.is_final() {
         return Answer::Searched(outcome, counts);
     }
     let claim = claim_of(outcome.value(), outcome.distance());
-    match cover_text(alloc, subject, model, program, claim, words) {
+    match cover_text(alloc, subject, model, program, claim, books) {
         Ok(text) => Answer::Covered(outcome, counts, Some(text)),
         Err(_) => Answer::Covered(outcome, counts, None),
     }
 }
 
-/// The text of a cover for a claim that no feasible solution exceeds, or for `None` if there is no feasible solution. Fails only for
-/// want of memory. The number of words that it may have has no effect.
+/// The text of a cover for a claim that no feasible solution exceeds, or for `None` if there is no feasible solution. It is made of the
+/// diagrams in the books as far as they serve. Fails only for want of memory.
 fn cover_text<P: Problem, M: DpModel>(
     alloc: Global,
     subject: Subject,
     model: &P,
     program: &M,
     claim: Option<i64>,
-    _words: u64,
+    books: &[CoverBook],
 ) -> Result<Vec<u8>, OutOfMemory>
     requires holds { HoldsAll (M.meaning (M.numbers program.now)) claim }
     requires reachable { IsReachable claim }
     ensures text { IfOk result (λ text. IsCoverText (M.meaning (M.numbers program.now)) subject.name subject.part (P.theory.canonical (P.numbers model.now)) claim text.items) }
     ensures reads_back { IfOk result (λ text. P.theory.spelled (P.theory.canonical (P.numbers model.now)) ≡ Ok (P.numbers model.now)) }
 {
-    let cover = explore_whole(alloc, program, claim)?;
+    let cover = settle(alloc, program, claim, books)?;
     let instance = P::print(alloc, model)?;
     let mut text = Vec::new(alloc);
     push_head(&mut text, subject, instance.len())?;

@@ -10,8 +10,8 @@
 //! its disk, and when its answer is right, is defined in `specs/Journals.antt` and `specs/Kept.antt`.
 //!
 //! It stands on `problems` for instances, on `parts` for parts of them, on `board` for the board of a search, on `disk` and `journal_file` for
-//! journals, on `journal_replay` and `kept_board` for what their records make, on `bound_cover`, `cover_book` and
-//! `cover_text` for covers, on `sha2` for digests, on `streams` for streams, on `solver_words` for the words and on `solver_report`
+//! journals, on `journal_replay` and `kept_board` for what their records make, on `bound_cover`, `cover_pages`, `cover_book` and
+//! `cover_text` for covers and the books that they are made from, on `sha2` for digests, on `streams` for streams, on `solver_words` for the words and on `solver_report`
 //! for answers and their texts. It starts no search: the program does.
 //!
 //! ```
@@ -33,7 +33,7 @@ mod saying;
 
 pub use checking::check;
 pub use concluding::conclude;
-pub use covering::{Subject, told};
+pub use covering::{Conclusion, Subject, told};
 pub use digesting::digest_text;
 pub use inputs::{answer_cover, answer_parts, unread};
 pub use joining::join_texts;

@@ -1,37 +1,36 @@
 //! Layers of rows that diagrams leave, of which an exploration keeps some.
 
-ghost use Rattle.std.specs.Prelude.{◌≡◌, ◌≤◌, ◌<◌, IsSome, IfOk, OnOk, length};
-ghost use Rattle.dp_model.specs.Lists.{Each};
-ghost use Rattle.dp_laws.specs.Diagrams.Nodes.{node_at};
-ghost use Rattle.relaxed_dd.specs.Shown.{layers_of, last_of};
+ghost use Rattle.std.specs.Prelude.{◌≡◌, ◌≤◌, ◌<◌, IfOk, OnOk, length};
 ghost use Rattle.bound_cover.specs.Clamping.{AreWritable, IsWritable};
 ghost use Rattle.bound_cover.specs.Stored.{last_layer};
-ghost use Rattle.cover_book.specs.Servers.{IsServer};
+ghost use Rattle.cover_book.specs.Servers.{AreServers};
 
-use crate::adding::all_wait;
-use crate::rows::{arcs_of, claim_of, has_arcs, is_deep};
-use crate::serving::{Server, serve};
+use crate::serving::{Servers, add_server, serve};
+use crate::sources::{Below, NodeRow, RowSource, Wait};
+use crate::tracing::path_to;
 use crate::writing::{clamped_bound, highest, lowest};
-use bound_cover::{Cover, CoverArc};
+use bound_cover::{Cover, CoverArc, is_state_row};
 use dp_model::{DpModel, OutOfMemory};
-use relaxed_dd::Diagram;
 use std::alloc::Global;
+
+/// How many rows of a layer serve others while it is gathered.
+const MOST_SERVERS: usize = 16;
 
 /// The greatest size of a bound that a cover's text can hold.
 const MOST_BOUND: i64 = 4_611_686_018_427_387_904;
 
-/// A row that waits for a diagram: its number in its layer, and the decisions of its prefix.
+/// A row that waits, by its number in its layer.
 #[derive(Debug, Drop)]
-pub(crate) struct WaitingPrefix {
+pub(crate) struct Waiter {
     pub(crate) place: u32,
-    pub(crate) decisions: Vec<u32>,
+    pub(crate) wait: Wait,
 }
 
 /// The rows of a layer, those of them that wait, in order, and the numbers of those that serve further ones.
 #[derive(Debug, Drop)]
 pub(crate) struct Gathered {
     pub(crate) rows: Cover,
-    pub(crate) waiting: Vec<WaitingPrefix>,
+    pub(crate) waiting: Vec<Waiter>,
     strong: Vec<u32>,
 }
 
@@ -51,10 +50,9 @@ impl Gathered {
     }
 
     /// Puts a row that waits behind those that do.
-    pub(crate) fn wait(&mut self, place: u32, decisions: Vec<u32>) -> Result<(), OutOfMemory> {
+    pub(crate) fn wait(&mut self, place: u32, wait: Wait) -> Result<(), OutOfMemory> {
         self.waiting.reserve(1)?;
-        self.waiting
-            .push_reserved(WaitingPrefix { place, decisions });
+        self.waiting.push_reserved(Waiter { place, wait });
         Ok(())
     }
 
@@ -64,31 +62,24 @@ impl Gathered {
         alloc: Global,
         model: &M,
         depth: usize,
-    ) -> Result<Vec<Server>, OutOfMemory>
+    ) -> Result<Servers, OutOfMemory>
         requires { depth ≤ (M.meaning (M.numbers model.now)).vars }
-        ensures { IfOk result (λ servers. Each (IsServer (M.meaning (M.numbers model.now)) depth) servers.items) }
+        ensures { IfOk result (λ servers. AreServers (M.meaning (M.numbers model.now)) depth servers) }
     {
-        let mut servers = Vec::new(alloc);
+        let mut servers = Servers::new(alloc, MOST_SERVERS);
         'strong: for number in self.strong.iter() {
             if let Some(row) = self.rows.row(0, *number as usize) {
-                serve(
-                    alloc,
-                    model,
-                    depth,
-                    row.words,
-                    row.bound,
-                    *number,
-                    &mut servers,
-                )?;
+                let bound = row.bound;
+                add_server(alloc, model, depth, row.words, bound, *number, &mut servers)?;
             }
         }
         Ok(servers)
     }
 
     /// Keeps the numbers of the rows that serve others.
-    fn set_servers(&mut self, servers: &[Server]) -> Result<(), OutOfMemory> {
+    fn set_servers(&mut self, servers: &Servers) -> Result<(), OutOfMemory> {
         self.strong.clear();
-        'servers: for server in servers {
+        'servers: for server in servers.list.iter() {
             self.strong.push(server.number)?;
         }
         Ok(())
@@ -176,135 +167,258 @@ fn renumbered_arc(arc: CoverArc, numbers: &[u32]) -> CoverArc {
 }
 
 /// What the row of a node claims, brought into the range of its layer.
-fn bound_of<M: DpModel>(
-    model: &M,
-    claim: Option<i64>,
-    diagram: &Diagram,
-    depth: usize,
-    node: usize,
-) -> Option<i64>
-    requires low { depth ≤ (M.meaning (M.numbers model.now)).vars }
-    requires first { (layers_of diagram.now).first ≤ depth }
-    requires place { IsSome (node_at (layers_of diagram.now) depth node) }
+pub(crate) fn bound_at<M: DpModel>(model: &M, depth: usize, bound: Option<i128>) -> Option<i64>
+    requires { depth ≤ (M.meaning (M.numbers model.now)).vars }
 {
-    let deep = is_deep(diagram.first_reduced(), depth);
-    let bound = claim_of(claim, deep, diagram, depth, node);
     clamped_bound(lowest(depth), highest(model, depth), bound)
 }
 
-/// The number of a node's row: one that serves it, or its own, which is put in then. The rows of its targets have these numbers.
-fn gather_node<M: DpModel>(
+/// Whether the rough bound of a row is at most its own bound.
+fn is_rough<M: DpModel>(model: &M, k: usize, words: &[i64], bound: Option<i64>) -> bool
+    requires { k ≤ (M.meaning (M.numbers model.now)).vars }
+{
+    if !is_state_row(model, k, words) {
+        return false;
+    }
+    match (model.rough(k, words), bound) {
+        (None, _) => true,
+        (Some(_), None) => false,
+        (Some(rough), Some(bound)) => rough <= bound,
+    }
+}
+
+/// What stands below the row of a node: nothing where its rough bound is enough.
+fn below_at<M: DpModel>(model: &M, k: usize, row: &NodeRow) -> Below
+    requires { k ≤ (M.meaning (M.numbers model.now)).vars }
+{
+    if row.below == Below::Nothing || is_rough(model, k, row.words, bound_at(model, k, row.bound)) {
+        Below::Nothing
+    } else {
+        row.below
+    }
+}
+
+/// What a node waits for: what its diagram tells, or a diagram of the decisions by which it is reached.
+fn wait_of<M: DpModel, S: RowSource>(
     alloc: Global,
     model: &M,
     claim: Option<i64>,
-    diagram: &Diagram,
+    source: &S,
     depth: usize,
     node: usize,
+) -> Result<Option<Wait>, OutOfMemory>
+    requires { depth ≤ (M.meaning (M.numbers model.now)).vars }
+{
+    if let Some(wait) = source.wait(alloc, depth, node)? {
+        return Ok(Some(wait));
+    }
+    match path_to(alloc, model, claim, source, depth, node)? {
+        None => Ok(None),
+        Some(decisions) => Ok(Some(Wait {
+            decisions,
+            ticket: None,
+        })),
+    }
+}
+
+/// Puts the row of a node into the layer, with its arcs, whose targets' rows have these numbers, or with what it waits for.
+fn put_node<M: DpModel, S: RowSource>(
+    alloc: Global,
+    model: &M,
+    claim: Option<i64>,
+    source: &S,
+    depth: usize,
+    node: usize,
+    row: &NodeRow,
+    below: Below,
     numbers: &[u32],
     layer: &mut Gathered,
-    servers: &mut Vec<Server>,
+) -> Result<(), OutOfMemory>
+    requires { depth ≤ (M.meaning (M.numbers model.now)).vars }
+{
+    let bound = bound_at(model, depth, row.bound);
+    if below == Below::Arcs {
+        let arcs = source.arcs(alloc, depth, node)?;
+        let arcs = renumbered(alloc, arcs.as_slice(), numbers)?;
+        return push_row(bound, row.words, Some(arcs.as_slice()), &mut layer.rows);
+    }
+    if below == Below::Waits {
+        if let Some(wait) = wait_of(alloc, model, claim, source, depth, node)? {
+            layer.wait(layer.count(), wait)?;
+        }
+    }
+    push_row(bound, row.words, None, &mut layer.rows)
+}
+
+/// The number of a node's row: one that serves it, or its own, which is put in then. The rows of its targets have these numbers.
+fn gather_node<M: DpModel, S: RowSource>(
+    alloc: Global,
+    model: &M,
+    claim: Option<i64>,
+    source: &S,
+    depth: usize,
+    node: usize,
+    below: Below,
+    numbers: &[u32],
+    layer: &mut Gathered,
+    servers: &mut Servers,
 ) -> Result<u32, OutOfMemory>
     requires low { depth ≤ (M.meaning (M.numbers model.now)).vars }
-    requires first { (layers_of diagram.now).first ≤ depth }
-    requires place { IsSome (node_at (layers_of diagram.now) depth node) }
-    requires servers { Each (IsServer (M.meaning (M.numbers model.now)) depth) servers.old.items }
-    ensures { Each (IsServer (M.meaning (M.numbers model.now)) depth) servers.new.items }
+    requires servers { AreServers (M.meaning (M.numbers model.now)) depth servers.old }
+    ensures { AreServers (M.meaning (M.numbers model.now)) depth servers.new }
 {
-    let bound = bound_of(model, claim, diagram, depth, node);
-    let words = diagram.row(depth, node);
     let number = layer.count();
-    if let Some(server) = serve(alloc, model, depth, words, bound, number, servers)? {
+    let Some(row) = source.row(claim, depth, node) else {
+        return Ok(number);
+    };
+    let bound = bound_at(model, depth, row.bound);
+    if let Some(server) = serve(alloc, model, depth, row.words, bound, number, servers)? {
         return Ok(server);
     }
-    if has_arcs(model, claim, diagram, depth, node) {
-        let arcs = arcs_of(alloc, diagram, depth, node, 0)?;
-        let arcs = renumbered(alloc, arcs.as_slice(), numbers)?;
-        push_row(bound, words, Some(arcs.as_slice()), &mut layer.rows)?;
-        return Ok(number);
-    }
-    if depth < model.vars() && diagram.exact(depth, node) {
-        let mut decisions = vec![in alloc; 0u32; depth]?;
-        diagram.path(depth, node, &mut decisions);
-        layer.wait(number, decisions)?;
-    }
-    push_row(bound, words, None, &mut layer.rows)?;
+    put_node(
+        alloc, model, claim, source, depth, node, &row, below, numbers, layer,
+    )?;
     Ok(number)
 }
 
-/// The numbers of the rows of a layer of a diagram. Those that none serves are put in.
-fn gather_layer<M: DpModel>(
+/// The numbers of the rows of those nodes of a layer that need one. Those that none serves are put in.
+fn gather_layer<M: DpModel, S: RowSource>(
     alloc: Global,
     model: &M,
     claim: Option<i64>,
-    diagram: &Diagram,
+    source: &S,
     depth: usize,
+    needed: &[Option<Below>],
     numbers: &[u32],
     layer: &mut Gathered,
 ) -> Result<Vec<u32>, OutOfMemory>
-    requires low { depth ≤ (M.meaning (M.numbers model.now)).vars }
-    requires first { (layers_of diagram.now).first ≤ depth }
-    requires last { depth ≤ last_of (layers_of diagram.now) }
+    requires { depth ≤ (M.meaning (M.numbers model.now)).vars }
 {
     let mut servers = layer.servers(alloc, model, depth)?;
     let mut new = Vec::new(alloc);
-    let nodes = diagram.nodes(depth);
-    'nodes: for node in 0..nodes {
-        let number = gather_node(
-            alloc,
-            model,
-            claim,
-            diagram,
-            depth,
-            node,
-            numbers,
-            layer,
-            &mut servers,
-        )?;
+    'nodes: for node in 0..needed.len() {
+        let mut number = 0;
+        if let Some(below) = needed[node] {
+            number = gather_node(
+                alloc,
+                model,
+                claim,
+                source,
+                depth,
+                node,
+                below,
+                numbers,
+                layer,
+                &mut servers,
+            )?;
+        }
         new.push(number)?;
     }
-    layer.set_servers(servers.as_slice())?;
+    layer.set_servers(&servers)?;
     Ok(new)
 }
 
-/// The depth of the last layer of a diagram that leaves rows: the last exact one, where all its nodes wait.
-fn last_gathered(claim: Option<i64>, diagram: &Diagram) -> usize
-    ensures { result ≤ last_of (layers_of diagram.now) }
-{
-    let first = diagram.first_depth();
-    let last = diagram.last_depth();
-    let Some(reduced) = diagram.first_reduced() else {
-        return last;
-    };
-    if reduced <= first || last < reduced {
-        return last;
-    }
-    if all_wait(claim, diagram, reduced - 1) {
-        reduced - 1
-    } else {
-        last
+/// Marks the targets of arcs.
+pub(crate) fn mark(arcs: &[CoverArc], marks: &mut [bool]) {
+    'arcs: for arc in arcs {
+        if let Some(target) = arc.target {
+            if let Some(cell) = marks.get_mut(target as usize) {
+                *cell = true;
+            }
+        }
     }
 }
 
-/// The numbers of the rows of the nodes just below a diagram's root, once the rows of all its layers are put in, the lowest first.
-fn gather_layers<M: DpModel>(
+/// Which nodes of the next layer the arcs of a layer's rows lead to.
+fn marks_below<S: RowSource>(
+    alloc: Global,
+    source: &S,
+    depth: usize,
+    above: &[Option<Below>],
+) -> Result<Vec<bool>, OutOfMemory> {
+    let mut marks = vec![in alloc; false; source.nodes(depth.saturating_add(1))]?;
+    'nodes: for node in 0..above.len() {
+        if above[node] == Some(Below::Arcs) {
+            let arcs = source.arcs(alloc, depth, node)?;
+            mark(arcs.as_slice(), &mut marks);
+        }
+    }
+    Ok(marks)
+}
+
+/// What stands below the rows of the marked nodes of a layer; none for the others.
+fn needed_of<M: DpModel, S: RowSource>(
     alloc: Global,
     model: &M,
     claim: Option<i64>,
-    diagram: &Diagram,
+    source: &S,
+    depth: usize,
+    marks: &[bool],
+) -> Result<Vec<Option<Below>>, OutOfMemory>
+    requires { depth ≤ (M.meaning (M.numbers model.now)).vars }
+{
+    let mut needed = vec![in alloc; None; marks.len()]?;
+    'nodes: for node in 0..marks.len() {
+        if !marks[node] {
+            continue;
+        }
+        if let Some(row) = source.row(claim, depth, node) {
+            let below = below_at(model, depth, &row);
+            if let Some(cell) = needed.get_mut(node) {
+                *cell = Some(below);
+            }
+        }
+    }
+    Ok(needed)
+}
+
+/// Which nodes need rows, and what stands below these, of each layer below the first one, down to the last layer that has such nodes.
+fn needed_nodes<M: DpModel, S: RowSource>(
+    alloc: Global,
+    model: &M,
+    claim: Option<i64>,
+    source: &S,
+) -> Result<Vec<Vec<Option<Below>>>, OutOfMemory> {
+    let mut above = vec![in alloc; Some(Below::Arcs); 1]?;
+    let mut layers = Vec::new(alloc);
+    'layers: for depth in source.first_depth()..model.vars() {
+        let marks = marks_below(alloc, source, depth, above.as_slice())?;
+        if !marks.contains(&true) {
+            break;
+        }
+        let needed = needed_of(alloc, model, claim, source, depth + 1, marks.as_slice())?;
+        above = needed.to_vec(alloc)?;
+        layers.push(needed)?;
+    }
+    Ok(layers)
+}
+
+/// The numbers of the rows of the nodes just below a diagram's root, once the rows of all its layers are put in, the lowest first.
+fn gather_layers<M: DpModel, S: RowSource>(
+    alloc: Global,
+    model: &M,
+    claim: Option<i64>,
+    source: &S,
     layers: &mut [Gathered],
 ) -> Result<Vec<u32>, OutOfMemory> {
-    let first = diagram.first_depth();
-    let end = last_gathered(claim, diagram).min(model.vars());
+    let needed = needed_nodes(alloc, model, claim, source)?;
+    let first = source.first_depth();
     let mut numbers = Vec::new(alloc);
-    'layers: for i in 0..end.saturating_sub(first) {
-        let depth = end - i;
+    let count = needed.len();
+    'layers: for i in 0..count {
+        let here = needed[count - 1 - i].as_slice();
+        let depth = first.saturating_add(count - i);
+        if depth > model.vars() {
+            continue;
+        }
         if let Some(layer) = layers.get_mut(depth) {
             numbers = gather_layer(
                 alloc,
                 model,
                 claim,
-                diagram,
+                source,
                 depth,
+                here,
                 numbers.as_slice(),
                 layer,
             )?;
@@ -313,19 +427,15 @@ fn gather_layers<M: DpModel>(
     Ok(numbers)
 }
 
-/// Puts the rows of a diagram into the layers, and gives the arcs of its root; a diagram has one.
-pub(crate) fn gather<M: DpModel>(
+/// Puts the rows of a diagram into the layers, and gives the arcs of its root.
+pub(crate) fn gather<M: DpModel, S: RowSource>(
     alloc: Global,
     model: &M,
     claim: Option<i64>,
-    diagram: &Diagram,
+    source: &S,
     layers: &mut [Gathered],
 ) -> Result<Vec<CoverArc>, OutOfMemory> {
-    let numbers = gather_layers(alloc, model, claim, diagram, layers)?;
-    let first = diagram.first_depth();
-    if diagram.nodes(first) == 0 {
-        return Ok(Vec::new(alloc));
-    }
-    let arcs = arcs_of(alloc, diagram, first, 0, 0)?;
+    let numbers = gather_layers(alloc, model, claim, source, layers)?;
+    let arcs = source.arcs(alloc, source.first_depth(), 0)?;
     renumbered(alloc, arcs.as_slice(), numbers.as_slice())
 }

@@ -113,7 +113,7 @@ pub(crate) fn is_deep(reduced: Option<usize>, depth: usize) -> bool
 }
 
 /// Whether the layer at the depth is the last exact one.
-fn is_last_exact(reduced: Option<usize>, depth: usize) -> bool
+pub(crate) fn is_last_exact(reduced: Option<usize>, depth: usize) -> bool
     requires { depth < 2 ^ 32 }
     ensures { result ≡ is_last_exact reduced depth }
 {

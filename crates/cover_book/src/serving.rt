@@ -1,16 +1,13 @@
 //! Rows that serve others of their layer: an arc to a row may lead to any row whose bound, lifted by the gap to it, is at most its own.
 
-ghost use Rattle.std.specs.Prelude.{◌≡◌, ◌<◌, ◌≤◌, length, IfSome};
+ghost use Rattle.std.specs.Prelude.{◌≡◌, ◌<◌, ◌≤◌, [], length, IfSome};
 ghost use Rattle.dp_model.specs.Gaps.{IsStateOf};
 ghost use Rattle.dp_model.specs.Lists.{Each};
-ghost use Rattle.cover_book.specs.Servers.{IsServer};
+ghost use Rattle.cover_book.specs.Servers.{AreServers, IsServer};
 
 use bound_cover::is_state_row;
 use dp_model::{DpModel, OutOfMemory};
 use std::alloc::Global;
-
-/// How many rows of a layer serve others at most: those with the least bounds, and of those with the greatest ranks.
-const MOST_SERVERS: usize = 64;
 
 /// A row that may serve others.
 #[derive(Debug, Drop)]
@@ -19,6 +16,26 @@ pub(crate) struct Server {
     rank: i64,
     bound: Option<i64>,
     pub(crate) number: u32,
+}
+
+/// Rows of a layer that serve others: at most so many, but one at least, those with the least bounds, and of those with the greatest
+/// ranks.
+#[derive(Debug, Drop)]
+pub(crate) struct Servers {
+    most: usize,
+    pub(crate) list: Vec<Server>,
+}
+
+impl Servers {
+    /// No rows, of at most so many. It takes no memory.
+    pub(crate) fn new(alloc: Global, most: usize) -> Servers
+        ensures { result.list.items ≡ [] }
+    {
+        Servers {
+            most,
+            list: Vec::new(alloc),
+        }
+    }
 }
 
 /// The greatest gap at which a row with the one bound serves a row with the other; none where no gap does.
@@ -105,20 +122,21 @@ fn put_server<M: DpModel>(
     _model: &M,
     _k: usize,
     server: Server,
-    servers: &mut Vec<Server>,
+    servers: &mut Servers,
 ) -> Result<(), OutOfMemory>
-    requires servers { Each (IsServer (M.meaning (M.numbers _model.now)) _k) servers.old.items }
+    requires servers { AreServers (M.meaning (M.numbers _model.now)) _k servers.old }
     requires server { IsServer (M.meaning (M.numbers _model.now)) _k server }
-    ensures { Each (IsServer (M.meaning (M.numbers _model.now)) _k) servers.new.items }
+    ensures { AreServers (M.meaning (M.numbers _model.now)) _k servers.new }
 {
-    if servers.len() < MOST_SERVERS {
-        servers.reserve(1)?;
-        servers.push_reserved(server);
+    let count = servers.list.len();
+    if count == 0 || count < servers.most {
+        servers.list.reserve(1)?;
+        servers.list.push_reserved(server);
         return Ok(());
     }
-    let place = place_of_weakest(servers.as_slice());
-    if is_stronger(server.rank, server.bound, &servers[place]) {
-        servers[place] = server;
+    let place = place_of_weakest(servers.list.as_slice());
+    if is_stronger(server.rank, server.bound, &servers.list[place]) {
+        servers.list[place] = server;
     }
     Ok(())
 }
@@ -135,6 +153,66 @@ pub(crate) fn rank_of<M: DpModel>(model: &M, k: usize, words: &[i64]) -> Option<
     }
 }
 
+/// Lets a row with this rank serve, under its number.
+fn join_servers<M: DpModel>(
+    alloc: Global,
+    model: &M,
+    k: usize,
+    words: &[i64],
+    rank: i64,
+    bound: Option<i64>,
+    number: u32,
+    servers: &mut Servers,
+) -> Result<(), OutOfMemory>
+    requires servers { AreServers (M.meaning (M.numbers model.now)) k servers.old }
+    requires state { IsStateOf (M.meaning (M.numbers model.now)) k words.now }
+    requires rank { rank ≡ (M.meaning (M.numbers model.now)).rank k words.now }
+    ensures { AreServers (M.meaning (M.numbers model.now)) k servers.new }
+{
+    let server = Server {
+        words: words.to_vec(alloc)?,
+        rank,
+        bound,
+        number,
+    };
+    put_server(model, k, server, servers)
+}
+
+/// Lets a row serve, under its number, where it is a state of the layer.
+pub(crate) fn add_server<M: DpModel>(
+    alloc: Global,
+    model: &M,
+    k: usize,
+    words: &[i64],
+    bound: Option<i64>,
+    number: u32,
+    servers: &mut Servers,
+) -> Result<(), OutOfMemory>
+    requires layer { k ≤ (M.meaning (M.numbers model.now)).vars }
+    requires servers { AreServers (M.meaning (M.numbers model.now)) k servers.old }
+    ensures { AreServers (M.meaning (M.numbers model.now)) k servers.new }
+{
+    match rank_of(model, k, words) {
+        None => Ok(()),
+        Some(rank) => join_servers(alloc, model, k, words, rank, bound, number, servers),
+    }
+}
+
+/// The number of a row that serves another one of its layer; none where there is none.
+pub(crate) fn server_of<M: DpModel>(
+    model: &M,
+    k: usize,
+    words: &[i64],
+    bound: Option<i64>,
+    servers: &Servers,
+) -> Option<u32>
+    requires layer { k ≤ (M.meaning (M.numbers model.now)).vars }
+    requires servers { AreServers (M.meaning (M.numbers model.now)) k servers.now }
+{
+    let rank = rank_of(model, k, words)?;
+    number_of_server(model, k, servers.list.as_slice(), words, rank, bound)
+}
+
 /// The number of a row that serves another one of its layer. Where there is none, the other one joins those that serve, under its own
 /// number.
 pub(crate) fn serve<M: DpModel>(
@@ -144,25 +222,43 @@ pub(crate) fn serve<M: DpModel>(
     words: &[i64],
     bound: Option<i64>,
     number: u32,
-    servers: &mut Vec<Server>,
+    servers: &mut Servers,
 ) -> Result<Option<u32>, OutOfMemory>
     requires layer { k ≤ (M.meaning (M.numbers model.now)).vars }
-    requires servers { Each (IsServer (M.meaning (M.numbers model.now)) k) servers.old.items }
-    ensures { Each (IsServer (M.meaning (M.numbers model.now)) k) servers.new.items }
+    requires servers { AreServers (M.meaning (M.numbers model.now)) k servers.old }
+    ensures { AreServers (M.meaning (M.numbers model.now)) k servers.new }
 {
     let Some(rank) = rank_of(model, k, words) else {
         return Ok(None);
     };
-    let found = number_of_server(model, k, servers.as_slice(), words, rank, bound);
-    if found.is_some() {
-        return Ok(found);
+    let found = number_of_server(model, k, servers.list.as_slice(), words, rank, bound);
+    if found.is_none() {
+        join_servers(alloc, model, k, words, rank, bound, number, servers)?;
     }
-    let server = Server {
-        words: words.to_vec(alloc)?,
-        rank,
-        bound,
-        number,
+    Ok(found)
+}
+
+/// Whether a row with a bound serves another one of its layer.
+pub(crate) fn is_served<M: DpModel>(
+    model: &M,
+    k: usize,
+    words: &[i64],
+    bound: Option<i64>,
+    other: &[i64],
+    wanted: Option<i64>,
+) -> bool
+    requires { k ≤ (M.meaning (M.numbers model.now)).vars }
+{
+    let Some(rank) = rank_of(model, k, words) else {
+        return false;
     };
-    put_server(model, k, server, servers)?;
-    Ok(None)
+    let Some(other_rank) = rank_of(model, k, other) else {
+        return false;
+    };
+    let Some(most) = most_gap(bound, wanted) else {
+        return false;
+    };
+    model
+        .covers_within(k, words, rank, other, other_rank, most)
+        .is_some()
 }

@@ -3,23 +3,29 @@
 //! Nothing here says that the cover passes its tests: whoever takes it tests it.
 
 ghost use Rattle.std.specs.Prelude.{◌≤◌, IfOk, IfSome, OnOk};
-ghost use Rattle.dp_model.specs.Lists.{Each};
 ghost use Rattle.dp_model.specs.Subproblem.{IsOwn};
 ghost use Rattle.layer_build.specs.Layers.{IsPreparedFor};
 ghost use Rattle.bound_cover.specs.Clamping.{AreWritable};
-ghost use Rattle.cover_book.specs.Servers.{IsServer};
+ghost use Rattle.cover_book.specs.Servers.{AreServers};
 
 use crate::claims::rest_of;
-use crate::gathering::{Gathered, WaitingPrefix, gather, last_count, push_row, renumbered};
-use crate::serving::{Server, rank_of, serve};
+use crate::gathering::{
+    Gathered, Waiter, bound_at, gather, last_count, mark, push_row, renumbered,
+};
+use crate::pages::{Page, Pages};
+use crate::serving::{Servers, add_server, is_served, rank_of, server_of};
+use crate::sources::{RowSource, Wait};
 use crate::whole::space_for;
-use crate::writing::{clamped_bound, highest, lowest};
 use bound_cover::{Cover, CoverArc};
+use cover_pages::CoverBook;
 use dp_model::{DpModel, OutOfMemory, Sub, walk};
 use layer_build::Workspace;
 use relaxed_dd::relaxed;
 use std::alloc::Global;
 use std::mem;
+
+/// How many kept rows of a layer serve others.
+const MOST_SERVERS: usize = 32;
 
 /// The layers of an exploration before it begins: one row for the root, which waits.
 fn start_layers<M: DpModel>(
@@ -29,11 +35,14 @@ fn start_layers<M: DpModel>(
 ) -> Result<Vec<Gathered>, OutOfMemory> {
     let mut words = vec![in alloc; 0i64; model.words()]?;
     model.root(&mut words);
-    let bound = rest_of(claim, model.root_value());
-    let bound = clamped_bound(lowest(0), highest(model, 0), bound);
+    let bound = bound_at(model, 0, rest_of(claim, model.root_value()));
     let mut top = Gathered::new(alloc);
     push_row(bound, words.as_slice(), None, &mut top.rows)?;
-    top.wait(0, Vec::new(alloc))?;
+    let root = Wait {
+        decisions: Vec::new(alloc),
+        ticket: Some(0),
+    };
+    top.wait(0, root)?;
     let mut layers = Vec::new(alloc);
     layers.push(top)?;
     'layers: for _ in 0..model.vars() {
@@ -42,11 +51,12 @@ fn start_layers<M: DpModel>(
     Ok(layers)
 }
 
-/// A row that a layer needs. In the order of such rows the least bound comes first, then the greatest rank, which is written as its
-/// complement.
+/// A row that a layer needs. In the order of such rows the least bound comes first, of those a row that has arcs, and then the greatest
+/// rank, which is written as its complement.
 #[derive(Clone, Copy, Debug, PartialEq, Eq, PartialOrd, Ord)]
 struct Needed {
     bound: Option<i64>,
+    lacks_arcs: bool,
     fall: i64,
     place: u32,
 }
@@ -61,17 +71,6 @@ fn marks_of(alloc: Global, above: &Cover, count: u32) -> Result<Vec<bool>, OutOf
         }
     }
     Ok(marks)
-}
-
-/// Marks the targets of arcs.
-fn mark(arcs: &[CoverArc], marks: &mut [bool]) {
-    'arcs: for arc in arcs {
-        if let Some(target) = arc.target {
-            if let Some(cell) = marks.get_mut(target as usize) {
-                *cell = true;
-            }
-        }
-    }
 }
 
 /// The rows of a layer that are marked, in their order.
@@ -96,8 +95,10 @@ fn needed_of<M: DpModel>(
         };
         let rank = rank_of(model, k, row.words).unwrap_or(0);
         let bound = row.bound;
+        let lacks_arcs = !row.has_arcs;
         needed.push(Needed {
             bound,
+            lacks_arcs,
             fall: !rank,
             place,
         })?;
@@ -121,10 +122,27 @@ struct Thinned {
     numbers: Vec<u32>,
 }
 
-/// Where the rows of a layer wait, by their places.
-fn prefix_of(waiting: &[WaitingPrefix], place: u32) -> Option<&[u32]> {
+/// The kept rows of a layer as they come, those of them that serve others, and for each page the number of the row that its diagram
+/// stands below.
+#[derive(Drop)]
+struct Kept {
+    rows: Cover,
+    servers: Servers,
+    by_page: Vec<Option<u32>>,
+}
+
+/// A row of a layer that waits.
+#[derive(Clone, Copy)]
+struct OpenRow<'r> {
+    words: &'r [i64],
+    bound: Option<i64>,
+    wait: &'r Wait,
+}
+
+/// What the row at a place of a layer waits for.
+fn wait_of(waiting: &[Waiter], place: u32) -> Option<&Wait> {
     match waiting.binary_search_by_key(&place, |w| w.place) {
-        Ok(i) => Some(waiting[i].decisions.as_slice()),
+        Ok(i) => Some(&waiting[i].wait),
         Err(_) => None,
     }
 }
@@ -174,6 +192,131 @@ fn arcs_by_diagram<M: DpModel>(
     Ok(Some(arcs))
 }
 
+/// The number of the row that a page's diagram stands below, which is kept with its arcs where it is not yet there.
+fn keep_page<M: DpModel>(
+    alloc: Global,
+    model: &M,
+    claim: Option<i64>,
+    k: usize,
+    number: usize,
+    page: &Page,
+    layers: &mut [Gathered],
+    kept: &mut Kept,
+) -> Result<Option<u32>, OutOfMemory>
+    requires layer { k ≤ (M.meaning (M.numbers model.now)).vars }
+    requires servers { AreServers (M.meaning (M.numbers model.now)) k kept.old.servers }
+    ensures { AreServers (M.meaning (M.numbers model.now)) k kept.new.servers }
+{
+    if let Some(Some(place)) = kept.by_page.get(number) {
+        return Ok(Some(*place));
+    }
+    let Some(top) = page.row(claim, k, 0) else {
+        return Ok(None);
+    };
+    let bound = bound_at(model, k, top.bound);
+    let arcs = gather(alloc, model, claim, page, layers)?;
+    let place = last_count(&kept.rows);
+    push_row(bound, top.words, Some(arcs.as_slice()), &mut kept.rows)?;
+    add_server(alloc, model, k, top.words, bound, place, &mut kept.servers)?;
+    if let Some(cell) = kept.by_page.get_mut(number) {
+        *cell = Some(place);
+    }
+    Ok(Some(place))
+}
+
+/// Whether the row that a page's diagram stands below serves another one.
+fn page_serves<M: DpModel>(
+    model: &M,
+    claim: Option<i64>,
+    k: usize,
+    page: &Page,
+    words: &[i64],
+    bound: Option<i64>,
+) -> bool
+    requires { k ≤ (M.meaning (M.numbers model.now)).vars }
+{
+    if page.first_depth() != k {
+        return false;
+    }
+    match page.row(claim, k, 0) {
+        None => false,
+        Some(top) => {
+            let own = bound_at(model, k, top.bound);
+            is_served(model, k, top.words, own, words, bound)
+        }
+    }
+}
+
+/// The number of the kept row that serves one that waits, where that is the row of a page; none where there is no such page, or where
+/// its row does not serve.
+fn keep_by_ticket<M: DpModel>(
+    alloc: Global,
+    model: &M,
+    claim: Option<i64>,
+    k: usize,
+    row: OpenRow,
+    pages: &Pages,
+    layers: &mut [Gathered],
+    kept: &mut Kept,
+) -> Result<Option<u32>, OutOfMemory>
+    requires layer { k ≤ (M.meaning (M.numbers model.now)).vars }
+    requires servers { AreServers (M.meaning (M.numbers model.now)) k kept.old.servers }
+    ensures { AreServers (M.meaning (M.numbers model.now)) k kept.new.servers }
+{
+    let Some(ticket) = row.wait.ticket else {
+        return Ok(None);
+    };
+    let Some(number) = pages.find(ticket) else {
+        return Ok(None);
+    };
+    let Some(page) = pages.page(alloc, number)? else {
+        return Ok(None);
+    };
+    if !page_serves(model, claim, k, &page, row.words, row.bound) {
+        return Ok(None);
+    }
+    keep_page(alloc, model, claim, k, number, &page, layers, kept)
+}
+
+/// The number of the kept row that serves one that waits: that of a page, or its own, which is kept with the arcs of a diagram.
+fn keep_waiting<M: DpModel>(
+    alloc: Global,
+    model: &M,
+    claim: Option<i64>,
+    k: usize,
+    row: OpenRow,
+    pages: &Pages,
+    space: &mut Workspace,
+    layers: &mut [Gathered],
+    kept: &mut Kept,
+) -> Result<u32, OutOfMemory>
+    requires layer { k ≤ (M.meaning (M.numbers model.now)).vars }
+    requires prepared { IsPreparedFor (M.meaning (M.numbers model.now)) space.old }
+    requires servers { AreServers (M.meaning (M.numbers model.now)) k kept.old.servers }
+    ensures prepared { IsPreparedFor (M.meaning (M.numbers model.now)) space.new }
+    ensures servers { AreServers (M.meaning (M.numbers model.now)) k kept.new.servers }
+{
+    if let Some(number) = keep_by_ticket(alloc, model, claim, k, row, pages, layers, kept)? {
+        return Ok(number);
+    }
+    let number = last_count(&kept.rows);
+    let decisions = row.wait.decisions.as_slice();
+    match arcs_by_diagram(alloc, model, claim, decisions, space, layers)? {
+        None => push_row(row.bound, row.words, None, &mut kept.rows)?,
+        Some(arcs) => push_row(row.bound, row.words, Some(arcs.as_slice()), &mut kept.rows)?,
+    }
+    add_server(
+        alloc,
+        model,
+        k,
+        row.words,
+        row.bound,
+        number,
+        &mut kept.servers,
+    )?;
+    Ok(number)
+}
+
 /// The number of a needed row of a layer: that of a kept one that serves it, or its own, with which it is kept.
 fn keep_row<M: DpModel>(
     alloc: Global,
@@ -182,60 +325,41 @@ fn keep_row<M: DpModel>(
     k: usize,
     place: u32,
     layer: &Gathered,
+    pages: &Pages,
     space: &mut Workspace,
     layers: &mut [Gathered],
-    kept: &mut Cover,
-    servers: &mut Vec<Server>,
+    kept: &mut Kept,
 ) -> Result<u32, OutOfMemory>
     requires layer { k ≤ (M.meaning (M.numbers model.now)).vars }
     requires prepared { IsPreparedFor (M.meaning (M.numbers model.now)) space.old }
-    requires servers { Each (IsServer (M.meaning (M.numbers model.now)) k) servers.old.items }
+    requires servers { AreServers (M.meaning (M.numbers model.now)) k kept.old.servers }
     ensures prepared { IsPreparedFor (M.meaning (M.numbers model.now)) space.new }
-    ensures servers { Each (IsServer (M.meaning (M.numbers model.now)) k) servers.new.items }
+    ensures servers { AreServers (M.meaning (M.numbers model.now)) k kept.new.servers }
 {
-    let number = last_count(kept);
+    let number = last_count(&kept.rows);
     let Some(row) = layer.rows.row(0, place as usize) else {
         return Ok(number);
     };
-    if let Some(server) = serve(alloc, model, k, row.words, row.bound, number, servers)? {
+    if let Some(server) = server_of(model, k, row.words, row.bound, &kept.servers) {
         return Ok(server);
     }
-    if row.has_arcs {
-        push_row(row.bound, row.words, Some(row.arcs), kept)?;
-        return Ok(number);
+    if let Some(wait) = wait_of(layer.waiting.as_slice(), place) {
+        let (words, bound) = (row.words, row.bound);
+        let row = OpenRow { words, bound, wait };
+        return keep_waiting(alloc, model, claim, k, row, pages, space, layers, kept);
     }
-    match arcs_at(
+    let arcs = if row.has_arcs { Some(row.arcs) } else { None };
+    push_row(row.bound, row.words, arcs, &mut kept.rows)?;
+    add_server(
         alloc,
         model,
-        claim,
-        layer.waiting.as_slice(),
-        place,
-        space,
-        layers,
-    )? {
-        None => push_row(row.bound, row.words, None, kept)?,
-        Some(arcs) => push_row(row.bound, row.words, Some(arcs.as_slice()), kept)?,
-    }
+        k,
+        row.words,
+        row.bound,
+        number,
+        &mut kept.servers,
+    )?;
     Ok(number)
-}
-
-/// The arcs of a row that waits; none where it does not wait.
-fn arcs_at<M: DpModel>(
-    alloc: Global,
-    model: &M,
-    claim: Option<i64>,
-    waiting: &[WaitingPrefix],
-    place: u32,
-    space: &mut Workspace,
-    layers: &mut [Gathered],
-) -> Result<Option<Vec<CoverArc>>, OutOfMemory>
-    requires { IsPreparedFor (M.meaning (M.numbers model.now)) space.old }
-    ensures { IsPreparedFor (M.meaning (M.numbers model.now)) space.new }
-{
-    match prefix_of(waiting, place) {
-        None => Ok(None),
-        Some(decisions) => arcs_by_diagram(alloc, model, claim, decisions, space, layers),
-    }
 }
 
 /// Writes the number of a row.
@@ -261,6 +385,7 @@ fn thin_layer<M: DpModel>(
     claim: Option<i64>,
     k: usize,
     marks: &[bool],
+    pages: &Pages,
     space: &mut Workspace,
     layers: &mut [Gathered],
 ) -> Result<Thinned, OutOfMemory>
@@ -270,25 +395,20 @@ fn thin_layer<M: DpModel>(
 {
     let layer = take_layer(alloc, k, layers);
     let needed = needed_of(alloc, model, k, &layer.rows, marks)?;
-    let mut rows = Cover::new(alloc);
     let mut numbers = vec![in alloc; 0u32; layer.count() as usize]?;
-    let mut servers = Vec::new(alloc);
+    let mut kept = Kept {
+        rows: Cover::new(alloc),
+        servers: Servers::new(alloc, MOST_SERVERS),
+        by_page: vec![in alloc; None; pages.len()]?,
+    };
     'needed: for i in 0..needed.len() {
         let place = needed[i].place;
         let number = keep_row(
-            alloc,
-            model,
-            claim,
-            k,
-            place,
-            &layer,
-            space,
-            layers,
-            &mut rows,
-            &mut servers,
+            alloc, model, claim, k, place, &layer, pages, space, layers, &mut kept,
         )?;
         set_number(&mut numbers, place, number);
     }
+    let rows = kept.rows;
     Ok(Thinned { rows, numbers })
 }
 
@@ -358,6 +478,7 @@ fn next_layer<M: DpModel>(
     claim: Option<i64>,
     k: usize,
     above: &Cover,
+    pages: &Pages,
     space: &mut Workspace,
     layers: &mut [Gathered],
     cover: &mut Cover,
@@ -369,7 +490,16 @@ fn next_layer<M: DpModel>(
     ensures writable { OnOk result (AreWritable cover.new) }
 {
     let marks = marks_of(alloc, above, count_at(layers, k))?;
-    let next = thin_layer(alloc, model, claim, k, marks.as_slice(), space, layers)?;
+    let next = thin_layer(
+        alloc,
+        model,
+        claim,
+        k,
+        marks.as_slice(),
+        pages,
+        space,
+        layers,
+    )?;
     write_layer(alloc, above, next.numbers.as_slice(), cover)?;
     Ok(next.rows)
 }
@@ -388,6 +518,7 @@ fn next_layers<M: DpModel>(
     model: &M,
     claim: Option<i64>,
     first: Cover,
+    pages: &Pages,
     space: &mut Workspace,
     layers: &mut [Gathered],
     cover: &mut Cover,
@@ -398,7 +529,17 @@ fn next_layers<M: DpModel>(
 {
     let mut above = first;
     'layers: for k in 0..model.vars() {
-        let next = next_layer(alloc, model, claim, k + 1, &above, space, layers, cover)?;
+        let next = next_layer(
+            alloc,
+            model,
+            claim,
+            k + 1,
+            &above,
+            pages,
+            space,
+            layers,
+            cover,
+        )?;
         above = next;
     }
     Ok(above)
@@ -409,6 +550,7 @@ fn first_layer<M: DpModel>(
     alloc: Global,
     model: &M,
     claim: Option<i64>,
+    pages: &Pages,
     space: &mut Workspace,
     layers: &mut [Gathered],
 ) -> Result<Cover, OutOfMemory>
@@ -416,7 +558,7 @@ fn first_layer<M: DpModel>(
     ensures { IsPreparedFor (M.meaning (M.numbers model.now)) space.new }
 {
     let top = vec![in alloc; true; 1]?;
-    let first = thin_layer(alloc, model, claim, 0, top.as_slice(), space, layers)?;
+    let first = thin_layer(alloc, model, claim, 0, top.as_slice(), pages, space, layers)?;
     Ok(first.rows)
 }
 
@@ -425,18 +567,21 @@ pub(crate) fn explore_thin<M: DpModel>(
     alloc: Global,
     model: &M,
     claim: Option<i64>,
+    books: &[CoverBook],
 ) -> Result<Cover, OutOfMemory>
     ensures { IfOk result (λ cover. AreWritable cover) }
 {
+    let pages = Pages::of(alloc, books)?;
     let mut space = space_for(alloc, model)?;
     let mut layers = start_layers(alloc, model, claim)?;
-    let first = first_layer(alloc, model, claim, &mut space, &mut layers)?;
+    let first = first_layer(alloc, model, claim, &pages, &mut space, &mut layers)?;
     let mut cover = Cover::new(alloc);
     let last = next_layers(
         alloc,
         model,
         claim,
         first,
+        &pages,
         &mut space,
         &mut layers,
         &mut cover,

@@ -11,6 +11,7 @@ ghost use Rattle.cover_book.specs.UnderWay.{IsUnderWay, waits_next};
 use crate::exploration::Exploration;
 use crate::thinning::explore_thin;
 use bound_cover::{Checker, Cover};
+use cover_pages::CoverBook;
 use dp_model::{DpModel, OutOfMemory};
 use layer_build::{PrepareError, Workspace, greatest_width};
 use relaxed_dd::relaxed;
@@ -34,22 +35,23 @@ pub fn explore_whole<M: DpModel>(
     ensures passes { IfOk result (λ cover. HoldsAll (M.meaning (M.numbers model.now)) claim → IsReachable claim → checked_rows (M.meaning (M.numbers model.now)) claim cover ≡ None) }
     ensures writable { IfOk result (λ cover. AreWritable cover) }
 {
-    if let Some(cover) = thin_cover(alloc, model, claim)? {
+    if let Some(cover) = thin_cover(alloc, model, claim, &[])? {
         return Ok(cover);
     }
     explore_each(alloc, model, claim)
 }
 
-/// The cover of a thin exploration, where it passes the checker's tests.
-fn thin_cover<M: DpModel>(
+/// The cover of a thin exploration by the pages of books, where it passes the checker's tests.
+pub(crate) fn thin_cover<M: DpModel>(
     alloc: Global,
     model: &M,
     claim: Option<i64>,
+    books: &[CoverBook],
 ) -> Result<Option<Cover>, OutOfMemory>
     ensures passes { IfOk result (λ o. IfSome o (λ cover. checked_rows (M.meaning (M.numbers model.now)) claim cover ≡ None)) }
     ensures writable { IfOk result (λ o. IfSome o (λ cover. AreWritable cover)) }
 {
-    let cover = explore_thin(alloc, model, claim)?;
+    let cover = explore_thin(alloc, model, claim, books)?;
     let mut checker = Checker::prepare(alloc, model)?;
     match checker.check_rows(model, claim, &cover) {
         None => Ok(Some(cover)),

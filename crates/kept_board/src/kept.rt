@@ -254,6 +254,17 @@ impl<M: DpModel, D: Disk> Kept<M, D> {
         }
     }
 
+    /// How many subproblems were finished since the last snapshot, or since the head where there is none; `None` exactly where there is
+    /// no journal.
+    pub fn since(&self) -> Option<u64>
+        ensures { result ≡ since_of self.now.tail }
+    {
+        match &self.tail {
+            Some(tail) => Some(tail.since),
+            None => None,
+        }
+    }
+
     /// Adds a snapshot to the journal: the incumbent, the next ticket, and all subproblems that are open or out, in order of ticket.
     /// Whoever reads the journal from then on begins there. One is due, and the cause is not `Journal`. The board stays as it is.
     ///

@@ -28,7 +28,7 @@ fn is_wide<M: DpModel>(space: &Workspace, model: &M) -> bool
 }
 
 /// Merges the last nodes of the last layer where it has to be reduced.
-fn reduce<M: DpModel>(space: &mut Workspace, model: &M)
+pub fn reduce<M: DpModel>(space: &mut Workspace, model: &M)
     requires under_way { IsUnderWay (M.meaning (M.numbers model.now)) space.old }
     requires some { 0 < length space.old.layers }
     ensures { HasReduced (M.meaning (M.numbers model.now)) space.old space.new }

@@ -14,6 +14,8 @@ mod building;
 mod compiling;
 mod diagram;
 mod suffixes;
+mod widely;
 
 pub use compiling::{compile, relaxed, shown};
 pub use diagram::Diagram;
+pub use widely::{compile_with, relaxed_with};

@@ -19,6 +19,7 @@ mod opening;
 mod stopped;
 mod together;
 mod working;
+mod worth;
 
 pub use fanning::side_by_side;
 pub use gate::{Gate, NoGate, Step};

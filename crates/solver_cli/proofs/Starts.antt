@@ -38,13 +38,13 @@ module _ (dp : Dp) (search : JobSettings) where
   -- ---- settings and desks
 
   module _ (w : ℕ) (asked : IsAskedWidth dp search.width w) where
-    pub all-prepared : (desks : Vec Desk Global) → AreCrew dp w search.workers search.cutset desks → (settings : Settings) → settings ≡ settings_for search w → ArePrepared dp search settings desks
+    pub all-prepared : (desks : Vec Desk Global) → AreCrew dp w search desks → (settings : Settings) → settings ≡ settings_for search w → ArePrepared dp search settings desks
     all-prepared desks crew settings named =
         subst (λ (s : Settings). ArePrepared dp search s desks) (sym named)
-        (record { asked = record { crew = refl; budget = refl; distance = refl; wide = record { asked = asked; fits = crew.fits } }; count = crew.count; each = crew.prepared; kinds = crew.kinds })
+        (record { asked = record { crew = refl; budget = refl; distance = refl; wide = record { asked = asked; fits = crew.fits } }; count = crew.count; each = crew.prepared; kinds = crew.kinds; books = crew.books })
 
     -- without desks
-    pub unready : IsLawful dp → (e : PrepareError) → AreAllDesks dp w search.workers search.cutset (Err e) → IsUnready dp search (unprepared e)
+    pub unready : IsLawful dp → (e : PrepareError) → AreAllDesks dp w search (Err e) → IsUnready dp search (unprepared e)
     unready laws preparing.Width never = refused dp laws search.width w asked never
     unready laws preparing.OutOfMemory none = tt
 

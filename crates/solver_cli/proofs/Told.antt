@@ -1,5 +1,6 @@
 -- What is answered to a search, from how it ended.
-use Rattle.std.proofs.Common.{◌≡◌, ℕ, ℤ, List, Bool, false, Option, is_some, Result, Ok, Err, IfOk, Vec, Global, sym, subst, ap, ◌∙◌}
+use Rattle.std.proofs.Common.{◌≡◌, ℕ, ℤ, List, Bool, false, Option, is_some, Result, Ok, Err, IfOk, Vec, Global, sym, subst, ap, ◌∙◌, slice_index_or}
+use Rattle.std.specs.List.{All}
 use Rattle.std.specs.declared.alloc.AllocError.{AllocError}
 use Rattle.disk.specs.declared.disk.Disk.{Ghosts}
 use Rattle.dp_model.specs.Dp.{Dp}
@@ -17,7 +18,10 @@ use Rattle.answers.specs.Over.{IsOver}
 use Rattle.solver_words.specs.declared.job.JobSettings.{JobSettings}
 use Rattle.answers.proofs.Ending.{report-ends, counted-sized}
 use Rattle.answers.proofs.Journaled.{has-none}
+use Rattle.search_workers.specs.Collected.{MayBeBook}
+use Rattle.search_workers.specs.Prepared.{IsPreparedDesk}
 use Rattle.search_workers.specs.declared.desk.Desk.{Desk}
+use Rattle.solver_cli.specs.Desks.{HaveBooksOf}
 use Rattle.solver_cli.specs.Searches.{IsAnswerTo, IsKeptOn, KeepsSome}
 use Rattle.solver_cli.specs.Starts.{HasBegun}
 use Rattle.solver_cli.proofs.Searched.{in-words}
@@ -29,6 +33,10 @@ Told = Outcome × Option Counts
 pub if-told : (P Q : Told → Type 0) → ((told : Told) → P told → Q told) → (ended : Result Told AllocError) → IfOk ended P → IfOk ended Q
 if-told P Q f (Ok told) p = f told p
 if-told P Q f (Err e) p = tt
+
+-- what is prepared by the numbers of an instance has books of the same instance
+pub books-here : (meaning : List ℤ → Dp) (ns here : List ℤ) → ns ≡ here → (w : ℕ) (desks : List Desk) → All (IsPreparedDesk (meaning ns) w) desks → HaveBooksOf (meaning here) desks
+books-here meaning ns here at w desks all k d less = subst (λ n. MayBeBook (meaning n) (slice_index_or desks k d).book) at (all k d less).book
 
 -- what is answered to it
 pub told-ends : (dp : Dp) (search : JobSettings) (Has : Outcome → Option Counts → Type 0) (ended : Result Told AllocError) (answer : Answer) → IsAnswerTo search ended answer → IfOk ended (λ told. Has told.0 told.1) → Ends dp search Has answer

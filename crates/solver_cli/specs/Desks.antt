@@ -1,23 +1,39 @@
 -- The desks of the workers.
-use Rattle.std.specs.Prelude.{◌≡◌, ℕ, vec_len, Vec, Result, Ok, Err}
-use Rattle.std.specs.List.{All}
+use Rattle.std.specs.Prelude.{◌≡◌, ℕ, ◌/◌, List, [], Option, option_map, option_to_list, vec_len, Vec, Result, Ok, Err}
+use Rattle.std.specs.List.{All, flat_map}
 use Rattle.std.specs.declared.alloc.Global.{Global}
 use Rattle.dp_model.specs.Dp.{Dp}
-use Rattle.dp_model.specs.declared.cut_kind.CutKind.{CutKind}
+use Rattle.cover_pages.specs.Books.{BookView}
 use Rattle.layer_build.specs.Layers.{IsWidth}
 use Rattle.layer_build.specs.declared.workspace.PrepareError.{PrepareError}
 use Rattle.layer_build.specs.declared.workspace.PrepareError.TheVariants.{Width, OutOfMemory}
+use Rattle.search_workers.specs.Collected.{MayBeBook}
 use Rattle.search_workers.specs.Prepared.{IsPreparedDesk}
 use Rattle.search_workers.specs.declared.desk.Desk.{Desk}
+use Rattle.solver_words.specs.declared.job.JobSettings.{JobSettings}
 
--- a desk for each worker, of a width that is positive and fits, with children of this kind; a refused width exactly where it is not positive or does not fit
-pub record AreCrew (dp : Dp) (w workers : ℕ) (kind : CutKind) (desks : Vec Desk Global) : Type 0 where
-  pub count : vec_len desks ≡ workers
+-- the book of a worker at the start of a search: an empty one where a cover is asked for, for its share of the words
+abbrev pub book_for : Dp → JobSettings → Option BookView
+book_for dp search = option_map (λ words. record { words = dp.words; limit = words / search.workers; pages = [] }) search.cover_words
+
+-- a desk for each worker, of a width that is positive and fits, with the children and the book that are asked for; a refused width exactly where it is not
+-- positive or does not fit
+pub record AreCrew (dp : Dp) (w : ℕ) (search : JobSettings) (desks : Vec Desk Global) : Type 0 where
+  pub count : vec_len desks ≡ search.workers
   pub prepared : All (IsPreparedDesk dp w) desks.items
-  pub kinds : All (λ (desk : Desk). desk.kind ≡ kind) desks.items
+  pub kinds : All (λ (desk : Desk). desk.kind ≡ search.cutset) desks.items
+  pub books : All (λ (desk : Desk). desk.book ≡ book_for dp search) desks.items
   pub fits : IsWidth dp w
 
-abbrev pub AreAllDesks : Dp → ℕ → ℕ → CutKind → Result (Vec Desk Global) PrepareError → Type 0
-AreAllDesks dp w workers kind (Ok desks) = AreCrew dp w workers kind desks
-AreAllDesks dp w workers kind (Err Width) = IsWidth dp w → ⊥
-AreAllDesks dp w workers kind (Err OutOfMemory) = Unit {0}
+abbrev pub AreAllDesks : Dp → ℕ → JobSettings → Result (Vec Desk Global) PrepareError → Type 0
+AreAllDesks dp w search (Ok desks) = AreCrew dp w search desks
+AreAllDesks dp w search (Err Width) = IsWidth dp w → ⊥
+AreAllDesks dp w search (Err OutOfMemory) = Unit {0}
+
+-- the books of desks, in order
+abbrev pub books_in : List Desk → List BookView
+books_in desks = flat_map (λ (desk : Desk). option_to_list desk.book) desks
+
+-- the book of each desk, where it has one, has diagrams of the program alone
+abbrev pub HaveBooksOf : Dp → List Desk → Type 0
+HaveBooksOf dp desks = All (λ (desk : Desk). MayBeBook dp desk.book) desks

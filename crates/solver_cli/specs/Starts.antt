@@ -19,6 +19,7 @@ use Rattle.solver_report.specs.declared.answer.Answer.{Answer}
 use Rattle.solver_report.specs.declared.answer.Answer.TheVariants as answers
 use Rattle.search_workers.specs.Prepared.{IsPreparedDesk}
 use Rattle.search_workers.specs.declared.desk.Desk.{Desk}
+use Rattle.solver_cli.specs.Desks.{book_for}
 
 -- the settings of a search with diagrams of this width: a table of at most 4096 entries
 abbrev pub settings_for : JobSettings → ℕ → Settings
@@ -31,12 +32,13 @@ pub record AreAsked (dp : Dp) (search : JobSettings) (settings : Settings) : Typ
   pub distance : settings.within ≡ search.within
   pub wide : IsSearchWidth dp search.width settings.width
 
--- such settings, and a desk for each worker, with children of the kind that is asked for
+-- such settings, and a desk for each worker, with the children and the book that are asked for
 pub record ArePrepared (dp : Dp) (search : JobSettings) (settings : Settings) (desks : Vec Desk Global) : Type 0 where
   pub asked : AreAsked dp search settings
   pub count : vec_len desks ≡ search.workers
   pub each : All (IsPreparedDesk dp settings.width) desks.items
   pub kinds : All (λ (desk : Desk). desk.kind ≡ search.cutset) desks.items
+  pub books : All (λ (desk : Desk). desk.book ≡ book_for dp search) desks.items
 
 -- a board of which nothing is out and that no cause halts, as it was made, for which settings and desks are prepared
 pub record IsReadyFor (dp : Dp) (search : JobSettings) (b : BoardView) (desks : Vec Desk Global) : Type 0 where

@@ -118,9 +118,12 @@ fn search_begun<P: Problem, D: Disk + Send, G: Gate + Sync, R: Threads + Wait + 
     let Start {
         model,
         board,
-        desks,
+        mut desks,
     } = start;
     let kept = Kept::new(board, disk, Some(tail), SNAPSHOT_EVERY);
-    let (ended, disk) = search_from(run, kept, desks, &*model, search);
-    (answer_of(run.alloc, name, &*model, ended, search), disk)
+    let (ended, disk) = search_from(run, kept, &mut desks, &*model, search);
+    (
+        answer_of(run.alloc, name, &*model, ended, search, desks),
+        disk,
+    )
 }

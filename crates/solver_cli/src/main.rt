@@ -6,7 +6,8 @@
 //! contract also says what a crash at any moment of the run leaves of it.
 //!
 //! It stands on `answers` for answers and their texts, and on `search_workers` for the search, which it starts. A width is refused
-//! exactly if it is 0 or above the greatest width of the instance.
+//! exactly if it is 0 or above the greatest width of the instance. If a cover is asked for, each worker has a book of `cover_pages`, and the
+//! cover is made from the books.
 //!
 //! ```
 //! // The words leave out the program's name. Here they are `solve` and `knapsack`, and nothing touches the disk.
@@ -16,6 +17,7 @@
 #![tactic(auto)]
 
 mod answering;
+mod books;
 mod drawing;
 mod keeping;
 mod limits;

@@ -103,10 +103,10 @@ fn search_program<P: Problem, M: DpModel, D: Disk + Send, G: Gate + Sync, R: Thr
     let Start {
         model,
         board,
-        desks,
+        mut desks,
     } = start;
     let kept = Kept::new(board, disk, None, SNAPSHOT_EVERY);
-    let (ended, disk) = search_from(run, kept, desks, &*model, search);
-    let answer = answer_in(run.alloc, subject, whole, &*model, ended, search);
+    let (ended, disk) = search_from(run, kept, &mut desks, &*model, search);
+    let answer = answer_in(run.alloc, subject, whole, &*model, ended, search, desks);
     (answer, disk)
 }

@@ -126,11 +126,11 @@ fn resume_search<P: Problem, D: Disk + Send, G: Gate + Sync, R: Threads + Wait +
             Start {
                 model,
                 board,
-                desks,
+                mut desks,
             },
         ) => {
             let kept = Kept::new(board, disk, Some(tail), SNAPSHOT_EVERY);
-            let (ended, disk) = search_from(run, kept, desks, &*model, search);
+            let (ended, disk) = search_from(run, kept, &mut desks, &*model, search);
             (report_of(ended), disk)
         }
         Err(answer) => (answer, disk),

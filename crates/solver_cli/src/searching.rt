@@ -41,6 +41,7 @@ fn explore<M: DpModel, D: Disk + Send, G: Gate + Sync, R: Threads + Wait + Sync>
     requires workers { kept.board.board.settings.workers ≡ vec_len desks.old }
     requires prepared { All (IsPreparedDesk (M.meaning (M.numbers model.now)) kept.board.board.settings.width) desks.old.items }
     ensures explored { IfOk result.0 (HasExplored D.Disk (M.meaning (M.numbers model.now)) kept result.1) }
+    ensures prepared { All (IsPreparedDesk (M.meaning (M.numbers model.now)) kept.board.board.settings.width) desks.new.items }
     ensures err { IfErr result.0 (λ _. IsKeptOn D.Disk (M.meaning (M.numbers model.now)) (is_some kept.tail) kept.made result.1 kept.board.board) }
 {
     match explore_together(run.rt, run.alloc, kept, desks, model, run.gate) {
@@ -56,21 +57,22 @@ fn explore<M: DpModel, D: Disk + Send, G: Gate + Sync, R: Threads + Wait + Sync>
 }
 
 /// Searches from the board on by a worker for each desk, and answers how the search ended, with its counts. Fails only for want of memory,
-/// before the search or for the copy of its solution. The disk comes back. The model may be any dynamic program, with own words that agree
-/// with it.
+/// before the search or for the copy of its solution. The disk comes back, and the desks are prepared as before, so the book of each has
+/// diagrams of the model alone. The model may be any dynamic program, with own words that agree with it.
 pub fn search_from<M: DpModel, D: Disk + Send, G: Gate + Sync, R: Threads + Wait + Sync>(
     run: &Runner<'_, G, R>,
     kept: Kept<M, D>,
-    mut desks: Vec<Desk>,
+    desks: &mut Vec<Desk>,
     model: &M,
     search: JobSettings,
 ) -> (Result<(Outcome, Option<Counts>), OutOfMemory>, D)
     requires numbers { kept.board.numbers ≡ M.numbers model.now }
-    requires ready { IsReadyFor (M.meaning (M.numbers model.now)) search kept.board desks }
+    requires ready { IsReadyFor (M.meaning (M.numbers model.now)) search kept.board desks.old }
     ensures searched { (own : List ℕ → Option ℤ) → Agrees (M.meaning (M.numbers model.now)) own → IfOk result.0 (λ told. HasSearched (M.meaning (M.numbers model.now)) own (λ _. kept.board.first) (IsGood (M.meaning (M.numbers model.now)) kept.board.first) search (IsKeptOn D.Disk (M.meaning (M.numbers model.now)) (is_some kept.tail) kept.made result.1) told.0 told.1) }
     ensures keeps { KeepsSome D.Disk (M.meaning (M.numbers model.now)) (is_some kept.tail) kept.made result.1 kept.board.board.settings }
+    ensures prepared { All (IsPreparedDesk (M.meaning (M.numbers model.now)) kept.board.board.settings.width) desks.new.items }
 {
-    let (explored, disk) = explore(run, kept, &mut desks, model);
+    let (explored, disk) = explore(run, kept, desks, model);
     match explored {
         Ok(board) => (concluded(run.alloc, board, model, search), disk),
         Err(error) => (Err(error), disk),

@@ -6,19 +6,21 @@ ghost use Rattle.solver_words.specs.Possible.{MaySearch};
 ghost use Rattle.answers.specs.Covers.{IsCovered, IsCoveredIn};
 ghost use Rattle.answers.specs.Outcomes.{IsTrueOf};
 ghost use Rattle.answers.specs.Parts.{own_in, program_in};
+ghost use Rattle.solver_cli.specs.Desks.{HaveBooksOf};
 ghost use Rattle.solver_cli.specs.Searches.{IsAnswerTo};
 
+use crate::books::books_of;
 use crate::limits::SNAPSHOT_EVERY;
 use crate::runner::Runner;
 use crate::searching::search_from;
 use crate::starting::{Start, begin_search};
-use answers::{Subject, told};
+use answers::{Conclusion, Subject, told};
 use disk::Disk;
 use dp_model::{DpModel, OutOfMemory};
 use kept_board::Kept;
 use problem_names::ModelName;
 use problem_theory::Problem;
-use search_workers::Gate;
+use search_workers::{Desk, Gate};
 use solver_report::{Answer, Counts, Outcome};
 use solver_words::JobSettings;
 use std::alloc::Global;
@@ -45,34 +47,39 @@ pub fn solve<P: Problem, D: Disk + Send, G: Gate + Sync, R: Threads + Wait + Syn
             Start {
                 model,
                 board,
-                desks,
+                mut desks,
             },
         ) => {
             let kept = Kept::new(board, disk, None, SNAPSHOT_EVERY);
-            let (ended, disk) = search_from(run, kept, desks, &*model, search);
-            (answer_of(run.alloc, name, &*model, ended, search), disk)
+            let (ended, disk) = search_from(run, kept, &mut desks, &*model, search);
+            (
+                answer_of(run.alloc, name, &*model, ended, search, desks),
+                disk,
+            )
         }
         Err(answer) => (answer, disk),
     }
 }
 
 /// The answer to a search of an instance of the named problem: its report, followed by a cover if one is asked for and the search went to
-/// its end; or that memory ran out.
+/// its end; or that memory ran out. The cover is made from the books of the desks, which are those of the search.
 pub fn answer_of<P: Problem>(
     alloc: Global,
     name: ModelName,
     model: &P,
     ended: Result<(Outcome, Option<Counts>), OutOfMemory>,
     search: JobSettings,
+    desks: Vec<Desk>,
 ) -> Answer
     requires named { theory_of name ≡ P.theory }
     requires true_told { IfOk ended (λ told. IsTrueOf (P.meaning (P.numbers model.now)) (P.theory.own_value (P.numbers model.now)) search.budget told.0) }
     requires sized { IfOk ended (λ told. AreSized told.1) }
+    requires books { HaveBooksOf (P.meaning (P.numbers model.now)) desks.items }
     ensures answers { IsAnswerTo search ended result }
     ensures covered { IsCovered name (P.theory.canonical (P.numbers model.now)) result }
 {
     let subject = Subject { name, part: None };
-    answer_in(alloc, subject, model, model, ended, search)
+    answer_in(alloc, subject, model, model, ended, search, desks)
 }
 
 /// The same for a search of an instance or of a part of it. `model` is the instance, and `program` is what was searched.
@@ -83,17 +90,27 @@ pub fn answer_in<P: Problem, M: DpModel>(
     program: &M,
     ended: Result<(Outcome, Option<Counts>), OutOfMemory>,
     search: JobSettings,
+    desks: Vec<Desk>,
 ) -> Answer
     requires named { theory_of subject.name ≡ P.theory }
     requires part { MayBePart subject.part }
     requires program { M.meaning (M.numbers program.now) ≡ program_in subject.part (P.theory.program (P.numbers model.now)) }
     requires true_told { IfOk ended (λ told. IsTrueOf (M.meaning (M.numbers program.now)) (own_in subject.part (P.theory.own_value (P.numbers model.now))) search.budget told.0) }
     requires sized { IfOk ended (λ told. AreSized told.1) }
+    requires books { HaveBooksOf (M.meaning (M.numbers program.now)) desks.items }
     ensures answers { IsAnswerTo search ended result }
     ensures covered { IsCoveredIn subject.name subject.part (P.theory.canonical (P.numbers model.now)) result }
 {
     match ended {
-        Ok((outcome, counts)) => told(alloc, subject, model, program, outcome, counts, search),
+        Ok((outcome, counts)) => {
+            let ended = Conclusion {
+                outcome,
+                counts,
+                search,
+            };
+            let books = books_of(alloc, desks).unwrap_or(Vec::new(alloc));
+            told(alloc, subject, model, program, ended, books.as_slice())
+        }
         Err(_) => Answer::OutOfMemory,
     }
 }

@@ -9,11 +9,13 @@ ghost use Rattle.journal_replay.specs.Accepting.{AreAccepted, AreRefused};
 ghost use Rattle.journal_replay.specs.Replay.{replay_of, restored_from};
 ghost use Rattle.solver_words.specs.Possible.{MaySearch};
 ghost use Rattle.answers.specs.Widths.{IsAskedWidth};
-ghost use Rattle.solver_cli.specs.Desks.{AreAllDesks};
+ghost use Rattle.search_workers.specs.Prepared.{AreDesks};
+ghost use Rattle.solver_cli.specs.Desks.{AreAllDesks, book_for};
 ghost use Rattle.solver_cli.specs.Starts.{ArePrepared, DoesNotGoOn, GoesOnFrom, HasBegun, IsUnready, settings_for, unprepared};
 
+use crate::books::book_for;
 use board::{Board, Settings};
-use dp_model::{CutKind, DpModel, OutOfMemory};
+use dp_model::{DpModel, OutOfMemory};
 use journal_bytes::Records;
 use journal_file::JournalError;
 use journal_replay::replay;
@@ -103,7 +105,7 @@ fn prepared<M: DpModel>(
     ensures refused { IfErr result (IsUnready (M.meaning (M.numbers model.now)) search) }
 {
     let width = width_for(model, search.width);
-    match desks_for(alloc, model, width, search.workers, search.cutset) {
+    match desks_for(alloc, model, width, search) {
         Ok(desks) => Ok((settings_for(search, width), desks)),
         Err(error) => Err(unprepared(error)),
     }
@@ -124,21 +126,36 @@ fn desks_for<M: DpModel>(
     alloc: Global,
     model: &M,
     width: u32,
-    workers: u32,
-    cutset: CutKind,
+    search: JobSettings,
 ) -> Result<Vec<Desk>, PrepareError>
-    requires { 1 ≤ workers }
-    ensures { AreAllDesks (M.meaning (M.numbers model.now)) width workers cutset result }
+    requires { 1 ≤ search.workers }
+    ensures { AreAllDesks (M.meaning (M.numbers model.now)) width search result }
 {
-    let first = Desk::prepare(alloc, model, width, cutset, None)?;
-    let Ok(mut desks) = Vec::with_capacity(alloc, workers as usize) else {
+    let first = desk_for(alloc, model, width, search)?;
+    let Ok(mut desks) = Vec::with_capacity(alloc, search.workers as usize) else {
         return Err(PrepareError::OutOfMemory);
     };
     desks.push_reserved(first);
-    for _made in 1..workers {
-        desks.push_reserved(Desk::prepare(alloc, model, width, cutset, None)?);
+    for _made in 1..search.workers {
+        desks.push_reserved(desk_for(alloc, model, width, search)?);
     }
     Ok(desks)
+}
+
+/// A desk for a worker, with a book if a cover is asked for.
+fn desk_for<M: DpModel>(
+    alloc: Global,
+    model: &M,
+    width: u32,
+    search: JobSettings,
+) -> Result<Desk, PrepareError>
+    requires { 1 ≤ search.workers }
+    ensures desk { AreDesks (M.meaning (M.numbers model.now)) width result }
+    ensures kind { IfOk result (λ desk. desk.kind ≡ search.cutset) }
+    ensures book { IfOk result (λ desk. desk.book ≡ book_for (M.meaning (M.numbers model.now)) search) }
+{
+    let book = book_for(alloc, model, search);
+    Desk::prepare(alloc, model, width, search.cutset, book)
 }
 
 /// The answer where no desks are prepared.

@@ -1,3 +1,4 @@
+mod books;
 mod covers;
 mod journals;
 mod meeting;
@@ -82,12 +83,13 @@ fn source_of(rt: &impl Abort, alloc: Global, bytes: &[u8], failing: &[u64]) -> M
     MemSource::new(bytes, failing.to_vec(alloc).expect(rt, "the calls"))
 }
 
-/// Runs the words of a line on an input, and with no file.
-fn run_line<R: Abort + Threads + Wait + Sync>(
+/// Runs the words of a line on an input, over a file with these bytes.
+fn run_over<R: Abort + Threads + Wait + Sync>(
     rt: &R,
     alloc: Global,
     line: &str,
     input: &[u8],
+    file: Vec<u8>,
 ) -> Told {
     run_between(
         rt,
@@ -95,9 +97,39 @@ fn run_line<R: Abort + Threads + Wait + Sync>(
         line,
         source_of(rt, alloc, input, &[]),
         MemSink::new(alloc, Vec::new(alloc)),
-        MemDisk::new(Vec::new(alloc), Vec::new(alloc)),
+        MemDisk::new(file, Vec::new(alloc)),
         &NoGate,
     )
+}
+
+/// Runs the words of a line on an input, and with no file.
+fn run_line<R: Abort + Threads + Wait + Sync>(
+    rt: &R,
+    alloc: Global,
+    line: &str,
+    input: &[u8],
+) -> Told {
+    run_over(rt, alloc, line, input, Vec::new(alloc))
+}
+
+/// Whether what is printed begins with this, with this status.
+fn begins(told: &Told, text: &str, status: u8) -> bool {
+    told.text.taken().starts_with(text.as_bytes()) && told.status == status
+}
+
+/// Whether a check accepts what is printed.
+fn is_accepted<R: Abort + Threads + Wait + Sync>(rt: &R, alloc: Global, told: &Told) -> bool {
+    let verdict = run_line(rt, alloc, "check", told.text.taken());
+    says(&verdict, "accepted\n", 0)
+}
+
+/// What is printed for each case begins as it must, and a check accepts it.
+fn prints_accepted<R: Abort + Threads + Wait + Sync>(rt: &R, alloc: Global, cases: &[Case]) {
+    for (line, input, text, status) in cases.iter().copied() {
+        let told = run_line(rt, alloc, line, input.as_bytes());
+        let right = begins(&told, text, status) && is_accepted(rt, alloc, &told);
+        assert!(rt; right, "{line} on {input}");
+    }
 }
 
 /// The words of a line, an input, what is printed, and the status.

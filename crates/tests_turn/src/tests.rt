@@ -53,7 +53,7 @@ fn one_worker_collects(rt: HostRuntime) {
                 finished: 3
             }
     );
-    let full = collected(&rt, rt.alloc(), 0);
+    let full = collected(&rt, rt.alloc(), 1);
     assert!(rt;
         full == Collection {
             pages: 0,

@@ -14,9 +14,9 @@ use std::alloc::Global;
 use std::sync::Wait;
 use turn::{Seat, Turn};
 
-/// Holds, writes a snapshot where one is due, and leaves. The board stays as it was found, unless the disk fails: then the search is
-/// halted for the journal. Where the search was halted for that before, nothing is written. Where there is no memory for a snapshot,
-/// the search goes on without. The seat has nothing out.
+/// Holds, writes a snapshot where one is due and worth its bytes, and leaves. The board stays as it was found, unless the disk fails:
+/// then the search is halted for the journal. Where the search was halted for that before, nothing is written. Where there is no
+/// memory for a snapshot, the search goes on without. The seat has nothing out.
 pub fn snapshot_one<M: DpModel, D: Disk + Send, R: Wait>(
     rt: &R,
     alloc: Global,

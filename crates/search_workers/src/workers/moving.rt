@@ -15,8 +15,10 @@ ghost use Rattle.disk.specs.Counts.{Rose};
 ghost use Rattle.search_workers.specs.Later.{NoRoundFollows};
 ghost use Rattle.search_workers.specs.Ready.{IfOver, TakenOut};
 ghost use Rattle.search_workers.specs.Stopped.{IsLeftOut, IsWhy, IsSameOrHalted};
+ghost use Rattle.search_workers.specs.Worth.{is_worth};
 
 use super::stopped::Stopped;
+use super::worth::is_worth_writing;
 use board::{Cause, Fate, Taken};
 use disk::Disk;
 use dp_model::{DpModel, Sub};
@@ -128,14 +130,16 @@ pub fn finish<M: DpModel, D: Disk>(
     }
 }
 
-/// Writes a snapshot where one is due, unless the search is halted for the journal. The board stays as it is, unless the disk fails.
+/// Writes a snapshot where one is due and worth its bytes, unless the search is halted for the journal. The board stays as it is,
+/// unless the disk fails.
 pub fn snapshot<M: DpModel, D: Disk>(alloc: Global, kept: &mut Kept<M, D>)
     ensures same { IsSameOrHalted D.Disk kept.old kept.new }
     ensures out { (who : ℕ) → out_at kept.new.board.board who ≡ out_at kept.old.board.board who }
     ensures stopped { kept.old.board.board.cause ≡ Some Journal → kept.new ≡ kept.old }
+    ensures spared { is_worth kept.old ≡ false → kept.new ≡ kept.old }
     ensures moves { (who : ℕ) → (kept.new ≡ kept.old) ⊎ IsMove D.Disk M.meaning kept.old kept.new who }
 {
-    if has_failed(kept) || !kept.snapshot_due() {
+    if has_failed(kept) || !kept.snapshot_due() || !is_worth_writing(kept) {
         return;
     }
     // Without memory the search goes on, and where the disk failed it is halted.

@@ -89,7 +89,7 @@ fn fan_all<M: DpModel, D: Disk + Send, G: Gate + Sync, R: Threads + Wait + Sync>
 /// so that what is promised does not rest on how a worker ended. It may wait for other workers.
 ///
 /// Board and model are of one instance, nothing is out, there are as many desks as workers of the settings, and each desk was prepared
-/// for the model and the width of the settings.
+/// for the model and the width of the settings. So it is afterwards, and the book of a desk has diagrams of the model's instance alone.
 ///
 /// # Errors
 ///
@@ -111,6 +111,8 @@ pub fn explore_together<M: DpModel, D: Disk + Send, G: Gate + Sync, R: Threads +
     ensures later { IfOk result (λ k. IsLater (M.meaning (M.numbers model.now)) kept.board.board k.board.board) }
     ensures ended { IfOk result (λ k. NoRoundFollows k.board.board) }
     ensures complete { IfOk result (λ k. IsGood (M.meaning (M.numbers model.now)) kept.board.first → IsComplete (M.meaning (M.numbers model.now)) k.board.board) }
+    ensures prepared { All (IsPreparedDesk (M.meaning (M.numbers model.now)) kept.board.board.settings.width) desks.new.items }
+    ensures desks { vec_len desks.new ≡ vec_len desks.old }
     ensures err { IfErr result (λ n. n.value ≡ kept) }
 {
     match work_together(rt, alloc, kept, desks, model, gate) {

@@ -34,7 +34,7 @@ use turn::{Seat, Turn};
 
 /// Does rounds until nothing is open or out, a cause is held or the budget is taken up, and passes the gate after each step. Each step
 /// of the board is one holding of the turn, and diagrams are compiled outside the turn. Once a subproblem is finished, the worker holds
-/// again and writes a snapshot where one is due.
+/// again and writes a snapshot where one is due and worth its bytes.
 ///
 /// The seat is one of the turn's with nothing out, its number is below the workers of the settings, the turn's instance is the model's,
 /// and the desk was prepared for the model and the width of the settings. It may wait for other workers.
@@ -98,8 +98,8 @@ fn round<M: DpModel, D: Disk + Send, G: Gate + Sync, R: Wait>(
     }
 }
 
-/// The rest of a round, once a subproblem was taken: it is finished, and a snapshot is written where one is due. Says whether it was
-/// finished; if not it was given back.
+/// The rest of a round, once a subproblem was taken: it is finished, and a snapshot is written where one is due and worth its bytes.
+/// Says whether it was finished; if not it was given back.
 fn go_on<M: DpModel, D: Disk + Send, G: Gate + Sync, R: Wait>(
     rt: &R,
     alloc: Global,

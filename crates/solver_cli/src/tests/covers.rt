@@ -1,4 +1,4 @@
-use super::{Case, DRAWN_CLAUSES, TEN_ITEMS, THREE_ITEMS, prints, run_line, says};
+use super::{Case, DRAWN_CLAUSES, TEN_ITEMS, THREE_ITEMS, prints, prints_accepted, run_line, says};
 use std::alloc::Global;
 use std::process::Abort;
 use std::sync::Wait;
@@ -320,21 +320,9 @@ const COVERED: &[Case] = &[
     ),
 ];
 
-/// Whether the case is printed so, and what is printed is accepted.
-fn covers<R: Abort + Threads + Wait + Sync>(rt: &R, alloc: Global, case: Case) -> bool {
-    let (line, input, begins, status) = case;
-    let told = run_line(rt, alloc, line, input.as_bytes());
-    let text = told.text.taken();
-    let verdict = run_line(rt, alloc, "check", text);
-    text.starts_with(begins.as_bytes()) && told.status == status && says(&verdict, "accepted\n", 0)
-}
-
 #[test]
 fn printed_covers_are_accepted(rt: HostRuntime) {
-    for case in COVERED.iter().copied() {
-        let right = covers(&rt, rt.alloc(), case);
-        assert!(rt; right, "{} on {}", case.0, case.1);
-    }
+    prints_accepted(&rt, rt.alloc(), COVERED);
 }
 
 /// Searches after which no cover is printed.

@@ -1,10 +1,10 @@
-use Rattle.std.proofs.Common.{true, is_some, ap, sym, subst, IfOk}
+use Rattle.std.proofs.Common.{true, is_some, ap, sym, subst, IfOk, ◌∙◌}
 use Rattle.std.specs.Arc.{arc_value}
 use Rattle.answers.specs.Kept.{head_of}
 use Rattle.solver_cli.proofs.Beginning.{ends, left, same-attached, same-begun}
 use Rattle.answers.specs.Outcomes.{IsTrueOf}
 use Rattle.solver_cli.specs.Searches.{IsKeptOn}
-use Rattle.solver_cli.proofs.Told.{first-is, keeps-here, searched-here, told-true}
+use Rattle.solver_cli.proofs.Told.{books-here, first-is, keeps-here, searched-here, told-true}
 use Rattle.problem_theory.specs.Theory.{Agrees}
 use Rattle.solver_cli.proofs.keeping.search_begun.Given as given
 use Rattle.solver_cli.proofs.keeping.search_begun.Goals as goal
@@ -70,3 +70,8 @@ answer_of-requires-clause-true_told g c κs within =
     let searched = searched-here g.D.Disk meaning ns here (ap g.P.DpModel.numbers c.deref.ensures) c.new-kept.result board c.args.disk true kept.board kept.made (ap is_some kept.tail) now own c.args.search ended (c.search_from-ended.ensures.searched (own ns) (agrees_of g c.deref.result.now)) in
     subst (λ n. IfOk ended (λ told. IsTrueOf (meaning n) (own n) c.args.search.budget told.0)) (sym (ap g.P.DpModel.numbers c.deref-2.ensures))
     (told-true (meaning here) (own here) c.args.search board.first (IsKeptOn g.D.Disk (meaning here) true c.args.disk now) c.requires.begun.good ended searched)
+
+pub answer_of-requires-clause-books : goal.answer_of-requires-clause-books
+answer_of-requires-clause-books g c κs within =
+    let numbers = g.P.DpModel.numbers in
+    books-here g.P.DpModel.meaning (numbers c.deref.result.now) (numbers c.deref-2.result.now) (ap numbers (c.deref.ensures ∙ sym c.deref-2.ensures)) c.new-kept.result.board.board.settings.width c.search_from-ended.new.desks.items c.search_from-ended.ensures.prepared

@@ -7,7 +7,7 @@ use Rattle.answers.specs.Outcomes.{IsTrueOf}
 use Rattle.answers.specs.Parts.{own_in, program_in}
 use Rattle.answers.proofs.Parts.{agrees-in}
 use Rattle.solver_cli.specs.Searches.{IsKeptOn}
-use Rattle.solver_cli.proofs.Told.{keeps-here, none-kept, none-solves, searched-here, told-true}
+use Rattle.solver_cli.proofs.Told.{books-here, keeps-here, none-kept, none-solves, searched-here, told-true}
 use Rattle.solver_cli.proofs.parting.search_program.Given as given
 use Rattle.solver_cli.proofs.parting.search_program.Goals as goal
 
@@ -68,3 +68,8 @@ answer_in-answer-requires-clause-true_told g c κs within =
     let searched = searched-here g.D.Disk meaning ns here at c.new-kept.result board c.args.disk false kept.board kept.made (ap is_some kept.tail) now (λ _. own) c.args.search ended (c.search_from-ended.ensures.searched own agrees) in
     subst (λ n. IfOk ended (λ told. IsTrueOf (meaning n) own c.args.search.budget told.0)) (sym (ap g.M.DpModel.numbers c.deref-2.ensures))
     (told-true (meaning here) own c.args.search board.first (IsKeptOn g.D.Disk (meaning here) false c.args.disk now) c.requires.begun.good ended searched)
+
+pub answer_in-answer-requires-clause-books : goal.answer_in-answer-requires-clause-books
+answer_in-answer-requires-clause-books g c κs within =
+    let numbers = g.M.DpModel.numbers in
+    books-here g.M.DpModel.meaning (numbers c.deref.result.now) (numbers c.deref-2.result.now) (ap numbers (c.deref.ensures ∙ sym c.deref-2.ensures)) c.new-kept.result.board.board.settings.width c.search_from-ended.new.desks.items c.search_from-ended.ensures.prepared

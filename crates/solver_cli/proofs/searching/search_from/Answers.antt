@@ -7,11 +7,11 @@ pub concluded-requires-clause-over : goal.concluded-requires-clause-over
 concluded-requires-clause-over g c κs within =
     let dp = g.M.DpModel.meaning (g.M.DpModel.numbers c.args.model.now) in
     let e = subst (λ r. IfOk r (HasExplored g.D.Disk dp c.args.kept c.explore-explored.result.1)) c.in-Ok.is c.explore-explored.ensures.explored in
-    over g.D.Disk dp c.args.search c.args.kept c.explore-explored.result.1 c.in-Ok.board e c.args.desks c.requires.ready
+    over g.D.Disk dp c.args.search c.args.kept c.explore-explored.result.1 c.in-Ok.board e c.args.desks.now c.requires.ready
 
 pub returns-in-Ok-clause-searched : goal.returns-in-Ok-clause-searched
 returns-in-Ok-clause-searched g c = λ own agrees.
     let dp = g.M.DpModel.meaning (g.M.DpModel.numbers c.args.model.now) in
     let e = subst (λ r. IfOk r (HasExplored g.D.Disk dp c.args.kept c.explore-explored.result.1)) c.in-Ok.is c.explore-explored.ensures.explored in
     searched g.D.Disk dp c.args.search c.args.kept c.explore-explored.result.1 c.in-Ok.board e own
-    (over g.D.Disk dp c.args.search c.args.kept c.explore-explored.result.1 c.in-Ok.board e c.args.desks c.requires.ready) c.concluded.result (c.concluded.ensures own agrees)
+    (over g.D.Disk dp c.args.search c.args.kept c.explore-explored.result.1 c.in-Ok.board e c.args.desks.now c.requires.ready) c.concluded.result (c.concluded.ensures own agrees)

@@ -1,7 +1,7 @@
 use Rattle.std.proofs.Common.{false, is_some, ap, sym, subst, IfOk, ◌∙◌}
 use Rattle.answers.specs.Outcomes.{IsTrueOf}
 use Rattle.solver_cli.specs.Searches.{IsKeptOn}
-use Rattle.solver_cli.proofs.Told.{keeps-here, none-kept, none-solves, searched-here, told-true}
+use Rattle.solver_cli.proofs.Told.{books-here, keeps-here, none-kept, none-solves, searched-here, told-true}
 use Rattle.problem_theory.specs.Theory.{Agrees}
 use Rattle.solver_cli.proofs.solving.solve.Given as given
 use Rattle.solver_cli.proofs.solving.solve.Goals as goal
@@ -47,3 +47,8 @@ answer_of-requires-clause-true_told g c κs within =
     let searched = searched-here g.D.Disk meaning ns here at c.new-kept.result board c.args.disk false kept.board kept.made (ap is_some kept.tail) now own c.args.search ended (c.search_from-ended.ensures.searched (own ns) (agrees_of g c.deref.result.now)) in
     subst (λ n. IfOk ended (λ told. IsTrueOf (meaning n) (own n) c.args.search.budget told.0)) (sym (ap g.P.DpModel.numbers c.deref-in-Ok.ensures ∙ c.in-Ok.ensures.model))
     (told-true (meaning here) (own here) c.args.search board.first (IsKeptOn g.D.Disk (meaning here) false c.args.disk now) c.in-Ok.ensures.begun.good ended searched)
+
+pub answer_of-requires-clause-books : goal.answer_of-requires-clause-books
+answer_of-requires-clause-books g c κs within =
+    let numbers = g.P.DpModel.numbers in
+    books-here g.P.DpModel.meaning (numbers c.deref.result.now) (numbers c.deref-in-Ok.result.now) (ap numbers (c.deref.ensures ∙ sym c.deref-in-Ok.ensures)) c.new-kept.result.board.board.settings.width c.search_from-ended.new.desks.items c.search_from-ended.ensures.prepared

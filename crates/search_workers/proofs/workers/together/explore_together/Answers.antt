@@ -1,4 +1,5 @@
 use Rattle.std.proofs.Common.{◌≡◌, ◌<◌, length, arith, subst, sym, ap}
+use Rattle.std.proofs.lemmas.List.Elements.{All-set}
 use Rattle.board_laws.specs.GoodBoard.{IsBoard}
 use Rattle.kept_board.specs.Moves.{IsMove}
 use Rattle.kept_board.specs.declared.tag.KeptTag.{KeptTag}
@@ -26,3 +27,11 @@ returns-in-Ok-clause-moved g c = moved_then (IsMove g.D.Disk g.M.DpModel.meaning
 
 pub returns-in-Ok-clause-later : goal.returns-in-Ok-clause-later
 returns-in-Ok-clause-later g c = later-then _ _ c.in-Ok.kept.board.board _ c.in-Ok.ensures.later c.explore.ensures.later
+
+pub returns-in-Ok-clause-prepared : goal.returns-in-Ok-clause-prepared
+returns-in-Ok-clause-prepared g c =
+    let dp = g.M.DpModel.meaning (g.M.DpModel.numbers c.args.model.now) in
+    let first = c.args.kept.board.board.settings in
+    let width : c.in-Ok.kept.board.board.settings.width ≡ first.width = ap (λ (t : KeptTag g.row.D.Denot). t.board.settings.width) c.in-Ok.ensures.tag in
+    let desk = c.explore.new.desk in
+    All-set (IsPreparedDesk dp first.width) c.work_together.new.desks.items 0 desk (subst (λ w. IsPreparedDesk dp w desk) width c.explore.ensures.prepared) c.work_together.ensures.prepared

@@ -1,0 +1,207 @@
+//! How a layer is expanded.
+
+ghost use Rattle.std.specs.Prelude.{◌≡◌, ◌+◌, ◌<◌, ◌≤◌, length, take};
+ghost use Rattle.dp_laws.specs.Rules.Compiling.{expand, prune};
+ghost use Rattle.layer_build.specs.Layers.{last_depth, last_layer, expand_last};
+ghost use Rattle.layer_build.specs.UnderWay.{IsUnderWay};
+ghost use Rattle.wide_layers.specs.Pieces.{AreRight, AllRight};
+ghost use Rattle.wide_layers.specs.Ready.{MayMake};
+
+use crate::making::make;
+use crate::piece::Piece;
+use crate::recalled::Recalled;
+use dp_model::DpModel;
+use layer_build::Workspace;
+use std::alloc::Global;
+use std::thread;
+use std::thread::Threads;
+
+/// The fewest nodes of a layer that is made in pieces: with fewer, threads cost more than they save.
+const FEWEST_NODES: usize = 256;
+
+/// Pieces in which the candidates of a layer are made, each by a thread of its own where one can be made.
+#[derive(Drop)]
+pub struct Wide<'r, R: Threads + Sync> {
+    rt: &'r R,
+    alloc: Global,
+    parts: usize,
+    pieces: Vec<Piece>,
+}
+
+/// How a layer is expanded.
+#[derive(Drop)]
+pub enum Way<'r, R: Threads + Sync> {
+    /// By one thread.
+    Plain,
+    /// In pieces.
+    Wide(Wide<'r, R>),
+}
+
+/// Where the part with this number begins, of parts of so many nodes.
+fn start_of(i: usize, size: usize, nodes: usize) -> usize
+    ensures { result ≤ nodes }
+{
+    i.saturating_mul(size).min(nodes)
+}
+
+/// Where a part ends that begins there.
+fn end_of(from: usize, size: usize, nodes: usize) -> usize
+    requires { from ≤ nodes }
+    ensures order { from ≤ result }
+    ensures within { result ≤ nodes }
+{
+    from.saturating_add(size).min(nodes)
+}
+
+/// The piece gets the candidates of as many nodes as `size`, from `i` times as many on, as far as there are nodes and memory.
+fn make_part<M: DpModel>(
+    alloc: Global,
+    space: &Workspace,
+    model: &M,
+    size: usize,
+    i: usize,
+    piece: &mut Piece,
+)
+    requires { MayMake (M.meaning (M.numbers model.now)) space.now }
+    ensures { AreRight (M.meaning (M.numbers model.now)) (last_depth space.now) piece.new }
+{
+    let nodes = space.nodes(space.last_depth());
+    let from = start_of(i, size, nodes);
+    let to = end_of(from, size, nodes);
+    let _ = make(alloc, space, model, from, to, piece);
+}
+
+impl<'r, R: Threads + Sync> Wide<'r, R> {
+    /// So many parts, from 1 to 64. It takes no memory.
+    pub fn new(rt: &'r R, alloc: Global, parts: u32) -> Wide<'r, R>
+        requires some { 0 < parts }
+        requires few { parts ≤ 64 }
+    {
+        Wide {
+            rt,
+            alloc,
+            parts: parts as usize,
+            pieces: Vec::new(alloc),
+        }
+    }
+
+    /// There are as many pieces as parts, as far as there is memory.
+    fn fill_up(&mut self) {
+        for _ in self.pieces.len()..self.parts {
+            let _ = self.pieces.push(Piece::new(self.alloc));
+        }
+    }
+
+    /// Makes candidates of the last layer. Answers how many of the pieces have some.
+    fn make<M: DpModel>(&mut self, space: &Workspace, model: &M) -> usize
+        requires { MayMake (M.meaning (M.numbers model.now)) space.now }
+        ensures within { result ≤ length self.new.pieces.items }
+        ensures right { AllRight (M.meaning (M.numbers model.now)) (last_depth space.now) (take result self.new.pieces.items) }
+    {
+        let nodes = space.nodes(space.last_depth());
+        self.fill_up();
+        let count = self.pieces.len();
+        if nodes < FEWEST_NODES || count == 0 {
+            return 0;
+        }
+        make_parts(
+            self.rt,
+            self.alloc,
+            space,
+            model,
+            nodes.div_ceil(count),
+            self.pieces.as_mut_slice(),
+        );
+        count
+    }
+}
+
+/// Makes candidates of the last layer in all pieces.
+fn make_parts<R: Threads + Sync, M: DpModel>(
+    rt: &R,
+    alloc: Global,
+    space: &Workspace,
+    model: &M,
+    size: usize,
+    pieces: &mut [Piece],
+)
+    requires some { 0 < length pieces.old }
+    requires may { MayMake (M.meaning (M.numbers model.now)) space.now }
+    ensures { AllRight (M.meaning (M.numbers model.now)) (last_depth space.now) pieces.new }
+{
+    let count = pieces.len();
+    thread::for_each_mut(
+        rt,
+        pieces,
+        count,
+        &|i: usize, piece: &mut Piece|
+            requires { MayMake (M.meaning (M.numbers model.now)) space.now }
+            ensures { AreRight (M.meaning (M.numbers model.entry.now)) (last_depth space.entry.now) piece.exit.now }
+        { make_part(alloc, space, model, size, i, piece) },
+    );
+}
+
+impl<'r, R: Threads + Sync> Way<'r, R> {
+    /// The way in so many parts, from 1 to 64; with one it is the plain one. It takes no memory.
+    pub fn in_parts(rt: &'r R, alloc: Global, parts: u32) -> Way<'r, R>
+        requires some { 0 < parts }
+        requires few { parts ≤ 64 }
+    {
+        if parts == 1 {
+            Way::Plain
+        } else {
+            Way::Wide(Wide::new(rt, alloc, parts))
+        }
+    }
+
+    /// Expands the last layer, whose rows are held, as `Workspace::expand_layer` does.
+    pub fn expand<M: DpModel>(&mut self, space: &mut Workspace, model: &M)
+        requires under_way { IsUnderWay (M.meaning (M.numbers model.now)) space.old }
+        requires below { last_depth space.old < (M.meaning (M.numbers model.now)).vars }
+        requires narrow { length space.old.prefix + 2 ≤ last_depth space.old → length (last_layer space.old.layers) ≤ space.old.width }
+        requires held { space.old.held ≤ last_depth space.old }
+        ensures layers { space.new ≡ record space.old {
+          layers = expand_last (expand (M.meaning (M.numbers model.now)) (last_depth space.old)) space.old.layers;
+          ranks = space.new.ranks;
+        } }
+        ensures under_way { IsUnderWay (M.meaning (M.numbers model.now)) space.new }
+    {
+        match self {
+            Way::Plain => space.expand_layer(model),
+            Way::Wide(wide) => {
+                let depth = space.last_depth();
+                let count = wide.make(space, model);
+                space.expand_layer(&Recalled::new(model, depth, &wide.pieces[..count]));
+            }
+        }
+    }
+
+    /// Expands the last layer, whose rows are held, into the next one and takes out of that what `strike` does, as
+    /// `Workspace::expand_pruned` does.
+    pub fn expand_pruned<M: DpModel>(
+        &mut self,
+        space: &mut Workspace,
+        model: &M,
+        threshold: Option<i64>,
+    )
+        requires under_way { IsUnderWay (M.meaning (M.numbers model.now)) space.old }
+        requires below { last_depth space.old < (M.meaning (M.numbers model.now)).vars }
+        requires narrow { length space.old.prefix + 2 ≤ last_depth space.old → length (last_layer space.old.layers) ≤ space.old.width }
+        requires held { space.old.held ≤ last_depth space.old }
+        ensures layers { space.new ≡ record space.old {
+          layers = expand_last (λ layer. prune (M.meaning (M.numbers model.now)) (last_depth space.old + 1) threshold (expand (M.meaning (M.numbers model.now)) (last_depth space.old) layer)) space.old.layers;
+          ranks = space.new.ranks;
+        } }
+        ensures under_way { IsUnderWay (M.meaning (M.numbers model.now)) space.new }
+    {
+        match self {
+            Way::Plain => space.expand_pruned(model, threshold),
+            Way::Wide(wide) => {
+                let depth = space.last_depth();
+                let count = wide.make(space, model);
+                let recalled = Recalled::new(model, depth, &wide.pieces[..count]);
+                space.expand_pruned(&recalled, threshold);
+            }
+        }
+    }
+}
