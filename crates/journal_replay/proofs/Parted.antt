@@ -58,7 +58,7 @@ module _ (dp : Dp) (b : BoardState) (p : ℕ → Bool) (g : IsBoard dp b) where
   restarted-is : restarted dp (option_map incumbent_recorded b.incumbent) b.next_ticket (chosen p 0 (map listed_recorded (frontier_of b))) ≡ state
   restarted-is = ap (restarted dp (option_map incumbent_recorded b.incumbent) b.next_ticket) recorded
       ∙ ap₂ (λ best os. record { incumbent = best; listed = os; next_ticket = b.next_ticket }) (best-again b.incumbent)
-        (all-again dp part (each-chosen (λ (o : Ticketed). IsOwn dp o.subproblem) p 0 (frontier_of b) (each-in_order (λ o. IsOwn dp o.subproblem) (frontier b) g.own)))
+      (all-again dp part (each-chosen (λ (o : Ticketed). IsOwn dp o.subproblem) p 0 (frontier_of b) (each-in_order (λ o. IsOwn dp o.subproblem) (frontier b) g.own)))
 
   starts-are : starts_of (part_of p (snapshot_record b)) ≡ prefixes part
   starts-are = ap (map (λ (o : ListedView). o.decisions)) recorded ∙ listed-prefixes part
