@@ -1,11 +1,15 @@
 //! Instances that are made entry by entry.
 
-ghost use Rattle.std.specs.Prelude.{◌≡◌, ◌^◌, ◌<◌, ◌≤◌, pos, ◌≤ℤ◌, length, IfOk};
+ghost use Rattle.std.specs.Prelude.{◌≡◌, ◌^◌, ◌<◌, ◌≤◌, pos, neg_ℤ, ◌+ℤ◌, ◌≤ℤ◌, length, IfOk};
+ghost use Rattle.std.specs.Int.{int_min};
+ghost use Rattle.benefit_rows.specs.Benefits.{size_of};
 ghost use Rattle.pair_rows.specs.Limits.{IsInstance, UnitFits, PairFits};
 ghost use Rattle.pair_rows.specs.Pairs.{pair_count};
 ghost use Rattle.pair_rows.specs.Shown.{instance_of};
-ghost use Rattle.pair_problem.specs.Adding.{unit_sum, pair_sum, nothing_of, place_of, with_unit, with_pair};
+ghost use Rattle.pair_problem.specs.Adding.{unit_sum, pair_sum, nothing_of, place_of, with_unit, with_pair, with_product, unit_weight, pair_weight};
+ghost use Rattle.pair_problem.specs.Room.{HasRoom};
 
+use benefit_rows::{above_zero, below_zero, size};
 use pair_rows::{PairInstance, PairValues, UnitValues, start_of_row};
 use std::alloc::{AllocError, Global};
 
@@ -56,6 +60,55 @@ pub fn add_pair(list: &mut PairInstance, a: usize, b: usize, pair: PairValues)
     let at = place_of(list, a, b);
     let sum = pair_sum(list.pairs[at], pair);
     list.pairs[at] = sum;
+}
+
+/// Adds a weight that counts where the variables `a` and `b` are 1. They may be the same, and `b` is not before `a`.
+pub fn add_product(list: &mut PairInstance, a: usize, b: usize, weight: i64)
+    requires { HasRoom (instance_of list.old) a b weight }
+    ensures { instance_of list.new ≡ with_product (instance_of list.old) a b weight }
+{
+    list.constant = with_weight(list.constant, weight);
+    if a == b {
+        add_unit(list, a, unit_weight(weight));
+    } else {
+        add_pair(list, a, b, pair_weight(weight));
+    }
+}
+
+/// A constant with a weight more, if that is negative.
+fn with_weight(constant: i64, weight: i64) -> i64
+    requires small { size_of weight ≤ℤ pos (2 ^ 48) }
+    requires low { (neg_ℤ (pos (2 ^ 48)) +ℤ size_of weight) ≤ℤ constant }
+    requires high { constant ≤ℤ pos (2 ^ 48) }
+    ensures { result ≡ constant +ℤ int_min weight (pos 0) }
+{
+    constant + weight.min(0)
+}
+
+/// What a weight gives beyond its negative part, by one variable.
+fn unit_weight(weight: i64) -> UnitValues
+    requires { size_of weight ≤ℤ pos (2 ^ 50) }
+    ensures { result ≡ unit_weight weight }
+{
+    UnitValues {
+        if_no: below_zero(weight),
+        if_yes: above_zero(weight),
+        most: size(weight),
+    }
+}
+
+/// What a weight gives beyond its negative part, by two variables.
+fn pair_weight(weight: i64) -> PairValues
+    requires { size_of weight ≤ℤ pos (2 ^ 50) }
+    ensures { result ≡ pair_weight weight }
+{
+    PairValues {
+        no_no: below_zero(weight),
+        no_yes: below_zero(weight),
+        yes_no: below_zero(weight),
+        yes_yes: above_zero(weight),
+        most: size(weight),
+    }
 }
 
 /// Where the entry of two variables stands.

@@ -18,6 +18,6 @@ mod model;
 mod pair_model;
 mod problem;
 
-pub use adding::{add_pair, add_unit, nothing_of};
+pub use adding::{add_pair, add_product, add_unit, nothing_of};
 pub use listing::PairProblem;
 pub use pair_model::PairModel;
