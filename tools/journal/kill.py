@@ -22,13 +22,17 @@ def main():
     draw = random.Random(seed)
     wrong = kept = 0
     with tempfile.TemporaryDirectory() as folder:
+        # How long the first record takes: on a busy machine the program starts slowly.
+        began = time.monotonic()
+        subprocess.run([*tool, "append", os.path.join(folder, "first"), "1", "1"], stdout=subprocess.DEVNULL, check=True)
+        longest = 2 * (time.monotonic() - began) + 0.1
         for run in range(times):
             if run % 10 == 0:
                 name = os.path.join(folder, "journal%d" % run)
                 acknowledged = 0
             decisions = draw.choice([0, 1, 40, 500, 20000])
             child = subprocess.Popen([*tool, "append", name, "1000000", str(decisions)], stdout=subprocess.PIPE)
-            time.sleep(draw.uniform(0.0, 0.12))
+            time.sleep(draw.uniform(0.0, longest))
             child.send_signal(signal.SIGKILL)
             lines = child.stdout.read().split(b"\n")[:-1]
             child.wait()
