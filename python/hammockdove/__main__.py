@@ -51,7 +51,7 @@ def _convert(words: argparse.Namespace) -> int:
 def _solve(words: argparse.Namespace) -> int:
     found = _converted(words)
     try:
-        result = Solver().solve(found.instance, timeout=words.timeout, workers=words.workers, width=words.width, journal=words.journal)
+        result = Solver().solve(found.instance, timeout=words.timeout, workers=words.workers, parts=words.parts, width=words.width, journal=words.journal)
     except Interrupted as interrupted:
         _tell(interrupted.result, found)
         return _INTERRUPTED
@@ -113,6 +113,7 @@ def _parser() -> argparse.ArgumentParser:
     _add_file(one)
     one.add_argument("--timeout", type=float, metavar="SECONDS")
     one.add_argument("--workers", type=int)
+    one.add_argument("--parts", type=int)
     one.add_argument("--width", type=int)
     one.add_argument("--journal", type=Path)
     return parser

@@ -52,6 +52,7 @@ class Solver:
         *,
         timeout: float | None = None,
         workers: int | None = None,
+        parts: int | None = None,
         width: int | None = None,
         cutset: Literal["lel", "frontier"] | None = None,
         budget: int | None = None,
@@ -74,7 +75,7 @@ class Solver:
         Raises a `Refused` where the program refuses the instance or an option, and `ProgramFailed` where it ends without an answer.
         """
         model, given = _text_of(instance)
-        words = ["solve", model, *_options(workers=workers, width=width, cutset=cutset, budget=budget, within=within)]
+        words = ["solve", model, *_options(workers=workers, parts=parts, width=width, cutset=cutset, budget=budget, within=within)]
         words += ["--stats", *(["--cover"] if cover else [])]
         path = None if journal is False else self._journal_path(journal)
         if path is not None:
@@ -98,6 +99,7 @@ class Solver:
         *,
         timeout: float | None = None,
         workers: int | None = None,
+        parts: int | None = None,
         width: int | None = None,
         cutset: Literal["lel", "frontier"] | None = None,
         budget: int | None = None,
@@ -106,7 +108,7 @@ class Solver:
     ) -> Result:
         """Goes on with the search of a journal. Options and errors are those of `solve`; the journal stays."""
         _require(journal)
-        words = ["resume", str(journal), *_options(workers=workers, width=width, cutset=cutset, budget=budget), "--stats"]
+        words = ["resume", str(journal), *_options(workers=workers, parts=parts, width=width, cutset=cutset, budget=budget), "--stats"]
         result = self._search(words, b"", Path(journal), timeout, progress, every)
         return replace(result, within=_distance_of(Path(journal)))
 

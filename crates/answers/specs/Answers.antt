@@ -53,9 +53,10 @@ KeepsNone b = b.cause ≢ Some causes.Journal
 abbrev pub Solves : Dp → (List ℕ → Option ℤ) → JobSettings → Answer → Type 0
 Solves dp own search answer = Ends dp search (HasSearchedFromStart dp own search KeepsNone) answer
 
--- how an instance that is drawn is searched: to the best solution, with the default width, one worker, the greatest budget, its counts, and without a cover
+-- how an instance that is drawn is searched: to the best solution, with the default width, one worker, the greatest budget, its counts, without a cover,
+-- and with whole layers
 abbrev pub by_default : JobSettings
-by_default = record { width = None; workers = 1; budget = 2 ^ 64 - 1; cutset = LastExactLayer; stats = true; within = pos 0; cover_words = None }
+by_default = record { width = None; workers = 1; budget = 2 ^ 64 - 1; cutset = LastExactLayer; stats = true; within = pos 0; cover_words = None; parts = 1 }
 
 -- what a digest may answer
 abbrev pub Digests : List ℕ → Answer → Type 0

@@ -4,8 +4,9 @@ use Rattle.dp_laws.specs.Diagrams.Nodes.{DdNode, node_at}
 use Rattle.layer_nodes.specs.Nodes.{NodeView, LayerView, shown, shown_from, shown_layer}
 use Rattle.layer_build.specs.contracts.workspace.Workspace.{the_view, the_invariant}
 use Rattle.layer_build.specs.declared.workspace.Workspace.TheInside.{Inside}
-use Rattle.layer_build.specs.Layers.{SpaceView, diagram_of, layer_at}
+use Rattle.layer_build.specs.Layers.{SpaceView, diagram_of, last_layer, layer_at}
 use Rattle.layer_build.specs.Stacked.{path_in, paths_at, paths_below, shown_down, shown_stack, nodes_in}
+use Rattle.layer_build.proofs.Going.{last_paths, last-seen}
 use Rattle.layer_build.proofs.Shown.{length-shown}
 
 -- the j-th layer that is seen
@@ -45,6 +46,17 @@ map-map f g (Some x) = refl
 pub read-seen : {X : Type 0} (i : Inside) → the_invariant i → (depth node : ℕ) → i.stack.first ≤ depth → depth ≤ i.stack.last → (f : DdNode → X) (x : X)
     → option_map (λ (n : NodeView). f (shown (path_of i depth node) n)) (slice_get (nodes_in i.stack depth) node) ≡ Some x → option_map f (node_at (diagram_of (the_view i)) depth node) ≡ Some x
 read-seen i h depth node low high f x e = ap (option_map f) (node-seen i h depth node low high) ∙ (map-map f (shown (path_of i depth node)) (slice_get (nodes_in i.stack depth) node) ∙ e)
+
+-- and so of a node of the last layer
+pub read-last : {X : Type 0} (i : Inside) → the_invariant i → (node : ℕ) → (f : DdNode → X) (x : X)
+    → option_map (λ (n : NodeView). f (shown (path_in (last_paths i) node) n)) (slice_get i.stack.newest.nodes node) ≡ Some x → option_map f (slice_get (last_layer (the_view i).layers) node) ≡ Some x
+read-last i h node f x e =
+    let ps = last_paths i in
+    let nodes = i.stack.newest.nodes in
+    let from-zero : 0 + node ≡ node = omega arith in
+    ap (λ (l : List DdNode). option_map f (slice_get l node)) (last-seen i h)
+    ∙ (ap (option_map f) (get-shown (path_in ps) 0 nodes node ∙ ap (λ (k : ℕ). option_map (shown (path_in ps k)) (slice_get nodes node)) from-zero)
+    ∙ (map-map f (shown (path_in ps node)) (slice_get nodes node) ∙ e))
 
 pub read-at : {X : Type 0} (f : NodeView → X) {l m : LayerView} {x : X} (node : ℕ) → l ≡ m → option_map f (slice_get l.nodes node) ≡ Some x → option_map f (slice_get m.nodes node) ≡ Some x
 read-at f {l} {m} {x} node same e = subst (λ (k : LayerView). option_map f (slice_get k.nodes node) ≡ Some x) same e

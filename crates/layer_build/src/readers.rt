@@ -67,6 +67,14 @@ impl Workspace {
         layer_at(&self.stack, depth).row(&self.stack.region, node)
     }
 
+    /// The state of a node of the last layer, whose rows are always held.
+    pub fn last_row(&self, node: usize) -> &[i64]
+        requires { node < length (last_layer self.now.layers) }
+        ensures { option_map (λ n. n.row) (slice_get (last_layer self.now.layers) node) ≡ Some result.now }
+    {
+        self.stack.newest.row(&self.stack.region, node)
+    }
+
     /// The greatest length of a path to a node.
     pub fn value(&self, depth: usize, node: usize) -> i64
         requires first { length self.now.prefix ≤ depth }

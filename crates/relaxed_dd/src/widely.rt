@@ -30,7 +30,6 @@ fn build_layer<M: DpModel, R: Threads + Sync>(
     requires some { 0 < length space.old.layers }
     requires below { last_depth space.old < (M.meaning (M.numbers model.now)).vars }
     requires narrow { length space.old.prefix + 2 ≤ last_depth space.old → length (last_layer space.old.layers) ≤ space.old.width }
-    requires held { space.old.held ≤ last_depth space.old }
     ensures { HasBuilt (M.meaning (M.numbers model.now)) threshold space.old space.new }
 {
     way.expand_pruned(space, model, threshold);
@@ -46,7 +45,6 @@ fn build<M: DpModel, R: Threads + Sync>(
 )
     requires under_way { IsUnderWay (M.meaning (M.numbers model.now)) space.old }
     requires started { IsStarted (M.meaning (M.numbers model.now)) space.old }
-    requires held { space.old.held ≡ length space.old.prefix }
     ensures { HasCompiled (M.meaning (M.numbers model.now)) threshold space.old space.new }
 {
     let first = space.first_depth();

@@ -1,7 +1,8 @@
-ghost use Rattle.std.specs.Prelude.{◌≡◌, IfOk};
+ghost use Rattle.std.specs.Prelude.{◌≡◌, ◌<◌, ◌≤◌, IfOk};
 ghost use Rattle.search_workers.specs.Collected.{MayBeBook};
 ghost use Rattle.search_workers.specs.Prepared.{AreDesks};
 
+use crate::parts::Parts;
 use board::Fate;
 use cover_pages::CoverBook;
 use dp_model::{CutKind, DpModel, Sub};
@@ -10,8 +11,8 @@ use layer_build::{PrepareError, Workspace};
 use std::alloc::Global;
 
 /// All that one worker needs for its rounds: the subproblem that it has out with its ticket, the memory in which diagrams are compiled, their
-/// children and of which kind these are, a buffer for fates, which grows to the size that rounds need and is used again, and
-/// perhaps a book that collects the relaxed diagrams.
+/// children and of which kind these are, a buffer for fates, which grows to the size that rounds need and is used again, perhaps a
+/// book that collects the relaxed diagrams, and in how many parts the layers of these are made.
 #[derive(Drop)]
 pub struct Desk {
     pub taken: Sub,
@@ -21,22 +22,28 @@ pub struct Desk {
     pub kind: CutKind,
     pub fates: Vec<Fate>,
     pub book: Option<CoverBook>,
+    pub parts: Parts,
 }
 
 impl Desk {
     /// A desk for the rounds on the model with diagrams of the width, which is at least 1 and at most the greatest one, and with
-    /// their children of the kind. Where there is a book, it has diagrams of the model's instance alone.
+    /// their children of the kind. Where there is a book, it has diagrams of the model's instance alone. The layers of relaxed
+    /// diagrams are made in so many parts, from 1 to 64.
     pub fn prepare<M: DpModel>(
         alloc: Global,
         model: &M,
         width: u32,
         kind: CutKind,
         book: Option<CoverBook>,
+        parts: u32,
     ) -> Result<Desk, PrepareError>
         requires book { MayBeBook (M.meaning (M.numbers model.now)) book }
+        requires some_parts { 0 < parts }
+        requires few_parts { parts ≤ 64 }
         ensures desk { AreDesks (M.meaning (M.numbers model.now)) width result }
         ensures kind { IfOk result (λ desk. desk.kind ≡ kind) }
         ensures book { IfOk result (λ desk. desk.book ≡ book) }
+        ensures parts { IfOk result (λ desk. desk.parts ≡ parts) }
     {
         let space = Workspace::prepare(alloc, model, width)?;
         let cutset = Children::prepare(alloc, model, width, kind)?;
@@ -49,6 +56,7 @@ impl Desk {
                 kind,
                 fates: Vec::new(alloc),
                 book,
+                parts: Parts::new(parts),
             }),
             Err(_) => Err(PrepareError::OutOfMemory),
         }

@@ -5,7 +5,8 @@
 //! completion is better than the threshold and the beam, so the subproblem is finished without children. Otherwise its relaxed
 //! diagram is compiled with the reach as it is then; the solution that it finds is offered, and its children are those of the kind
 //! that the desk was prepared for. A worker whose desk has a book puts the relaxed diagram into it once the subproblem is finished, so it
-//! compiles that diagram in either case.
+//! compiles that diagram in either case. A worker makes the layers of relaxed diagrams in as many parts as its desk says, and the
+//! diagrams are the same with any number of them.
 //!
 //! The crate has two parts, and a `Desk` is what a round needs in either:
 //!
@@ -14,7 +15,7 @@
 //!   side, and `explore_together` a whole search, which ends with `explore` on the closed board.
 //!
 //! ```
-//! let mut desk = Desk::prepare(alloc, &model, 100, CutKind::LastExactLayer, None)?;
+//! let mut desk = Desk::prepare(alloc, &model, 100, CutKind::LastExactLayer, None, 1)?;
 //! explore(alloc, &mut kept, &mut desk, &model);
 //! let bound = kept.board().bound();
 //! ```
@@ -23,11 +24,13 @@
 mod branched;
 mod collecting;
 mod desk;
+mod parts;
 mod rounds;
 mod workers;
 
 pub use branched::Branched;
 pub use desk::Desk;
+pub use parts::Parts;
 pub use rounds::explore;
 pub use workers::{
     Asked, Gate, NoGate, Step, Stopped, close, explore_together, fan_out, finish_one, give_up,

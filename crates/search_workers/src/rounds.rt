@@ -5,5 +5,5 @@ mod compiling;
 mod exploring;
 mod offering;
 
-pub use compiling::fill;
+pub use compiling::fill_with;
 pub use exploring::explore;

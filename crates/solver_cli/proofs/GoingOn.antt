@@ -87,7 +87,7 @@ first-good dp laws search records board desks may on sound =
 
 -- a search that goes on may be made within the distance of its journal
 pub may-go-on : (head : HeadView) (search asked : JobSettings) → search ≡ going_on head asked → IsDistance head.within → MaySearch asked → MaySearch search
-may-go-on head search asked same near may = subst MaySearch (sym same) (record { some_workers = may.some_workers; few_workers = may.few_workers; distance = near })
+may-go-on head search asked same near may = subst MaySearch (sym same) (record { some_workers = may.some_workers; few_workers = may.few_workers; some_parts = may.some_parts; few_parts = may.few_parts; distance = near })
 
 -- without a cover
 coverless : (cover : Option ℕ) (final : Bool) → cover ≡ None → (is_some cover && final) ≡ false

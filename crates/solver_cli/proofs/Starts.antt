@@ -41,7 +41,7 @@ module _ (dp : Dp) (search : JobSettings) where
     pub all-prepared : (desks : Vec Desk Global) → AreCrew dp w search desks → (settings : Settings) → settings ≡ settings_for search w → ArePrepared dp search settings desks
     all-prepared desks crew settings named =
         subst (λ (s : Settings). ArePrepared dp search s desks) (sym named)
-        (record { asked = record { crew = refl; budget = refl; distance = refl; wide = record { asked = asked; fits = crew.fits } }; count = crew.count; each = crew.prepared; kinds = crew.kinds; books = crew.books })
+        (record { asked = record { crew = refl; budget = refl; distance = refl; wide = record { asked = asked; fits = crew.fits } }; count = crew.count; each = crew.prepared; kinds = crew.kinds; books = crew.books; parts = crew.parts })
 
     -- without desks
     pub unready : IsLawful dp → (e : PrepareError) → AreAllDesks dp w search (Err e) → IsUnready dp search (unprepared e)

@@ -16,13 +16,14 @@ use Rattle.solver_words.specs.declared.job.JobSettings.{JobSettings}
 abbrev pub book_for : Dp → JobSettings → Option BookView
 book_for dp search = option_map (λ words. record { words = dp.words; limit = words / search.workers; pages = [] }) search.cover_words
 
--- a desk for each worker, of a width that is positive and fits, with the children and the book that are asked for; a refused width exactly where it is not
--- positive or does not fit
+-- a desk for each worker, of a width that is positive and fits, with the children, the book and the parts of layers that are asked for; a refused width
+-- exactly where it is not positive or does not fit
 pub record AreCrew (dp : Dp) (w : ℕ) (search : JobSettings) (desks : Vec Desk Global) : Type 0 where
   pub count : vec_len desks ≡ search.workers
   pub prepared : All (IsPreparedDesk dp w) desks.items
   pub kinds : All (λ (desk : Desk). desk.kind ≡ search.cutset) desks.items
   pub books : All (λ (desk : Desk). desk.book ≡ book_for dp search) desks.items
+  pub parts : All (λ (desk : Desk). desk.parts ≡ search.parts) desks.items
   pub fits : IsWidth dp w
 
 abbrev pub AreAllDesks : Dp → ℕ → JobSettings → Result (Vec Desk Global) PrepareError → Type 0

@@ -32,13 +32,14 @@ pub record AreAsked (dp : Dp) (search : JobSettings) (settings : Settings) : Typ
   pub distance : settings.within ≡ search.within
   pub wide : IsSearchWidth dp search.width settings.width
 
--- such settings, and a desk for each worker, with the children and the book that are asked for
+-- such settings, and a desk for each worker, with the children, the book and the parts of layers that are asked for
 pub record ArePrepared (dp : Dp) (search : JobSettings) (settings : Settings) (desks : Vec Desk Global) : Type 0 where
   pub asked : AreAsked dp search settings
   pub count : vec_len desks ≡ search.workers
   pub each : All (IsPreparedDesk dp settings.width) desks.items
   pub kinds : All (λ (desk : Desk). desk.kind ≡ search.cutset) desks.items
   pub books : All (λ (desk : Desk). desk.book ≡ book_for dp search) desks.items
+  pub parts : All (λ (desk : Desk). desk.parts ≡ search.parts) desks.items
 
 -- a board of which nothing is out and that no cause halts, as it was made, for which settings and desks are prepared
 pub record IsReadyFor (dp : Dp) (search : JobSettings) (b : BoardView) (desks : Vec Desk Global) : Type 0 where

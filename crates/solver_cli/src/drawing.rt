@@ -25,6 +25,7 @@ const BY_DEFAULT: JobSettings = JobSettings {
     stats: true,
     within: 0,
     cover_words: None,
+    parts: 1,
 };
 
 /// Draws an instance of the named problem, of size `n`, from the seed. The answer is its canonical text. If `solved`, the answer is how a

@@ -128,7 +128,7 @@ fn desks_for<M: DpModel>(
     width: u32,
     search: JobSettings,
 ) -> Result<Vec<Desk>, PrepareError>
-    requires { 1 ≤ search.workers }
+    requires { MaySearch search }
     ensures { AreAllDesks (M.meaning (M.numbers model.now)) width search result }
 {
     let first = desk_for(alloc, model, width, search)?;
@@ -142,20 +142,21 @@ fn desks_for<M: DpModel>(
     Ok(desks)
 }
 
-/// A desk for a worker, with a book if a cover is asked for.
+/// A desk for a worker, with a book if a cover is asked for. It makes layers in as many parts as are asked for.
 fn desk_for<M: DpModel>(
     alloc: Global,
     model: &M,
     width: u32,
     search: JobSettings,
 ) -> Result<Desk, PrepareError>
-    requires { 1 ≤ search.workers }
+    requires { MaySearch search }
     ensures desk { AreDesks (M.meaning (M.numbers model.now)) width result }
     ensures kind { IfOk result (λ desk. desk.kind ≡ search.cutset) }
     ensures book { IfOk result (λ desk. desk.book ≡ book_for (M.meaning (M.numbers model.now)) search) }
+    ensures parts { IfOk result (λ desk. desk.parts ≡ search.parts) }
 {
     let book = book_for(alloc, model, search);
-    Desk::prepare(alloc, model, width, search.cutset, book)
+    Desk::prepare(alloc, model, width, search.cutset, book, search.parts)
 }
 
 /// The answer where no desks are prepared.

@@ -4,6 +4,7 @@ mod journals;
 mod meeting;
 mod partial;
 mod tables;
+mod wide;
 mod words;
 
 use crate::run;

@@ -18,7 +18,7 @@ use Rattle.solver_words.specs.Grammar.{Argument, Text, has_flag, line_of, settin
 use Rattle.solver_words.specs.Words.{IsAnswer, JobView, Refusal, and_then, asked, by_command, check_line, check_syntax, cut_of, digest_line, digest_of, digest_syntax, generate, generate_line, generate_of, generate_syntax, is_refused, extended, job_view, join_line, join_syntax, meaning, model_of, optional, or_default, or_model, or_number, part_asked, part_written, positional_number, ranged, resume_line, resume_of, resume_syntax, searched, settings_of, solve, solve_line, solve_of, solve_syntax, usage}
 use Rattle.solver_words.specs.declared.job.Job.{Job}
 use Rattle.solver_words.specs.declared.job.JobSettings.{JobSettings}
-use Rattle.solver_words.specs.declared.limits.TheConstants.{MOST_COVER_WORDS}
+use Rattle.solver_words.specs.declared.limits.TheConstants.{MOST_COVER_WORDS, MOST_LAYER_PARTS}
 use Rattle.solver_words.specs.declared.words_error.WordsError.{WordsError}
 use Rattle.solver_words.specs.Possible.{IsPossible, MaySearch, MaySearchExactly}
 
@@ -66,9 +66,9 @@ positional-within : (name : Text) (least most : ℕ) (word : Option Text) → If
 positional-within name least most None = tt
 positional-within name least most (Some word) = or_number-within least most name (ranged least most word) (then-within least most _)
 
-by_default-within : (o : Option ℕ) → IfSome o (IsWithin 1 MOST_WORKERS) → IsWithin 1 MOST_WORKERS (or_default 1 o)
-by_default-within None h = (omega arith, omega arith)
-by_default-within (Some n) h = h
+by_default-within : (most : ℕ) → 1 ≤ most → (o : Option ℕ) → IfSome o (IsWithin 1 most) → IsWithin 1 most (or_default 1 o)
+by_default-within most some None h = (omega arith, some)
+by_default-within most some (Some n) h = h
 
 -- ---- parts
 
@@ -93,17 +93,19 @@ part-asked (Some word) =
 
 -- ---- searches
 
--- settings with from 1 to 16 workers, no distance and no cover
+-- settings with from 1 to 16 workers and layers in from 1 to 64 parts, no distance and no cover
 abbrev AreExact : JobSettings → Type 0
-AreExact settings = IsWithin 1 MOST_WORKERS settings.workers × (settings.within ≡ pos 0) × (settings.cover_words ≡ None)
+AreExact settings = IsWithin 1 MOST_WORKERS settings.workers × IsWithin 1 MOST_LAYER_PARTS settings.parts × (settings.within ≡ pos 0) × (settings.cover_words ≡ None)
 
 settings-exact : (value : Text → Option Text) (stats : Bool) → IfOk (settings_of value stats) AreExact
 settings-exact value stats =
     behind AreExact _ (λ width.
     next (λ o. IfSome o (IsWithin 1 MOST_WORKERS)) AreExact _ (λ workers few.
+    next (λ o. IfSome o (IsWithin 1 MOST_LAYER_PARTS)) AreExact _ (λ parts low.
     behind AreExact _ (λ budget.
-    behind AreExact _ (λ cutset. (by_default-within workers few, refl, refl)) (cut_of (value (codes "cutset"))))
+    behind AreExact _ (λ cutset. (by_default-within MOST_WORKERS (omega arith) workers few, by_default-within MOST_LAYER_PARTS (omega arith) parts low, refl, refl)) (cut_of (value (codes "cutset"))))
     (optional (codes "budget") 0 _ (value (codes "budget"))))
+    (optional (codes "parts") 1 MOST_LAYER_PARTS (value (codes "parts"))) (optional-within (codes "parts") 1 MOST_LAYER_PARTS (value (codes "parts"))))
     (optional (codes "workers") 1 MOST_WORKERS (value (codes "workers"))) (optional-within (codes "workers") 1 MOST_WORKERS (value (codes "workers"))))
     (optional (codes "width") 1 MOST_WIDTH (value (codes "width")))
 
@@ -115,13 +117,13 @@ distance-small (Some n) h = h.1
 may-search : (settings : JobSettings) (within cover : Option ℕ) → AreExact settings → IfSome within (IsWithin 0 MOST_DISTANCE) → MaySearch (extended settings within cover)
 may-search settings within cover exact few =
     let most = distance-small within few in
-    record { some_workers = exact.0.0; few_workers = exact.0.1; distance = record { least = omega (arith, ints); most = omega (arith, ints) } }
+    record { some_workers = exact.0.0; few_workers = exact.0.1; some_parts = exact.1.0; few_parts = exact.1.1; distance = record { least = omega (arith, ints); most = omega (arith, ints) } }
 
 -- without one it is made exactly
 may-exactly : (settings : JobSettings) → AreExact settings → MaySearchExactly settings
 may-exactly settings exact =
-    let none = exact.1 in
-    record { may = record { some_workers = exact.0.0; few_workers = exact.0.1; distance = record { least = omega (arith, ints); most = omega (arith, ints) } }; exact = none }
+    let none = exact.2 in
+    record { may = record { some_workers = exact.0.0; few_workers = exact.0.1; some_parts = exact.1.0; few_parts = exact.1.1; distance = record { least = omega (arith, ints); most = omega (arith, ints) } }; exact = none }
 
 -- ---- jobs
 
@@ -158,7 +160,7 @@ solve-asked name value flag =
 
 resume-asked : (path : Option Text) (value : Text → Option Text) (flag : Text → Bool) → IfOk (resume_of path value flag) IsPossible
 resume-asked None value flag = tt
-resume-asked (Some path) value flag = next AreExact IsPossible _ (λ settings exact. (may-exactly settings exact, exact.2)) (settings_of value (flag (codes "stats"))) (settings-exact value (flag (codes "stats")))
+resume-asked (Some path) value flag = next AreExact IsPossible _ (λ settings exact. (may-exactly settings exact, exact.3)) (settings_of value (flag (codes "stats"))) (settings-exact value (flag (codes "stats")))
 
 digest-asked : (name : Option Text) → IfOk (digest_of name) IsPossible
 digest-asked name = behind IsPossible _ (λ model. tt) (model_of name)

@@ -103,9 +103,10 @@ module _ (m : ArgMatches) (arguments : List Argument) (reads : RowsTell solve_sy
   settings_same stats e =
       let a = value_read solve_syntax arguments m reads (codes "width") refl in
       let b = value_read solve_syntax arguments m reads (codes "workers") refl in
+      let p = value_read solve_syntax arguments m reads (codes "parts") refl in
       let c = value_read solve_syntax arguments m reads (codes "budget") refl in
       let d = value_read solve_syntax arguments m reads (codes "cutset") refl in
-      rw (a, b, c, d, e) refl
+      rw (a, b, p, c, d, e) refl
 
   stats_is : (stats : Bool) → ((b : Bool) → one_text (found_of m) (codes "stats") ≡ Some (cond b (codes "true") (codes "false")) → stats ≡ b) → stats ≡ has_flag (codes "stats") arguments
   stats_is stats given = given (has_flag (codes "stats") arguments) (flag_read solve_syntax arguments m reads (codes "stats") refl)
@@ -213,10 +214,11 @@ module _ (m : ArgMatches) (arguments : List Argument) (reads : RowsTell resume_s
     same_settings =
         let a = value_read resume_syntax arguments m reads (codes "width") refl in
         let b = value_read resume_syntax arguments m reads (codes "workers") refl in
+        let p = value_read resume_syntax arguments m reads (codes "parts") refl in
         let c = value_read resume_syntax arguments m reads (codes "budget") refl in
         let d = value_read resume_syntax arguments m reads (codes "cutset") refl in
         let e = given (has_flag (codes "stats") arguments) (flag_read resume_syntax arguments m reads (codes "stats") refl) in
-        rw (a, b, c, d, e) refl
+        rw (a, b, p, c, d, e) refl
 
     pub resume_no_settings : (r : Result Job WordsError) (e : WordsError) → IsErrAnd r (λ y. y ≡ e)
         → IfSome (refusal_of e) (λ why. settings_of (first_value (found_of m)) stats ≡ Err why) → IsAnswer job_view (resume_line arguments) r

@@ -8,11 +8,14 @@ use Rattle.problem_names.specs.ModelNames.{sizes_of}
 use Rattle.problem_names.specs.Parts.{IsPart}
 use Rattle.solver_words.specs.Words.{JobView, solve, resume, check, join, digest, generate}
 use Rattle.solver_words.specs.declared.job.JobSettings.{JobSettings}
+use Rattle.solver_words.specs.declared.limits.TheConstants.{MOST_LAYER_PARTS}
 
--- a search has from 1 to 16 workers, and its distance from the best is from 0 to 2^50
+-- a search has from 1 to 16 workers and makes layers in from 1 to 64 parts, and its distance from the best is from 0 to 2^50
 pub record MaySearch (settings : JobSettings) : Type 0 where
   pub some_workers : 1 ≤ settings.workers
   pub few_workers : settings.workers ≤ MOST_WORKERS
+  pub some_parts : 1 ≤ settings.parts
+  pub few_parts : settings.parts ≤ MOST_LAYER_PARTS
   pub distance : IsDistance settings.within
 
 -- a search of a part has the distance 0, and so have the words of one that goes on

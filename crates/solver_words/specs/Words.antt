@@ -14,7 +14,7 @@ use Rattle.solver_words.specs.Grammar.{Syntax, Argument, Text, has_flag, line_of
 use Rattle.solver_words.specs.declared.job.Job.{Job}
 use Rattle.solver_words.specs.declared.job.Job.TheVariants.{Solve, Resume, Check, Join, Digest, Generate}
 use Rattle.solver_words.specs.declared.job.JobSettings.{JobSettings}
-use Rattle.solver_words.specs.declared.limits.TheConstants.{DEFAULT_COVER_WORDS, MOST_COVER_WORDS}
+use Rattle.solver_words.specs.declared.limits.TheConstants.{DEFAULT_COVER_WORDS, MOST_COVER_WORDS, MOST_LAYER_PARTS}
 use Rattle.solver_words.specs.declared.words_error.WordsError.{WordsError}
 use Rattle.solver_words.specs.declared.words_error.WordsError.TheVariants.{Usage, Model, Number, Cutset, OutOfMemory}
 
@@ -23,14 +23,14 @@ use Rattle.solver_words.specs.declared.words_error.WordsError.TheVariants.{Usage
 abbrev pub solve_syntax : Syntax
 solve_syntax = record {
   positional = codes "model" ∷ [];
-  valued = codes "width" ∷ codes "workers" ∷ codes "budget" ∷ codes "cutset" ∷ codes "journal" ∷ codes "cover-words" ∷ codes "within" ∷ codes "part" ∷ [];
+  valued = codes "width" ∷ codes "workers" ∷ codes "parts" ∷ codes "budget" ∷ codes "cutset" ∷ codes "journal" ∷ codes "cover-words" ∷ codes "within" ∷ codes "part" ∷ [];
   flags = codes "cover" ∷ codes "stats" ∷ [];
 }
 
 abbrev pub resume_syntax : Syntax
 resume_syntax = record {
   positional = codes "path" ∷ [];
-  valued = codes "width" ∷ codes "workers" ∷ codes "budget" ∷ codes "cutset" ∷ [];
+  valued = codes "width" ∷ codes "workers" ∷ codes "parts" ∷ codes "budget" ∷ codes "cutset" ∷ [];
   flags = codes "stats" ∷ [];
 }
 
@@ -144,6 +144,7 @@ abbrev pub settings_of : (Text → Option Text) → Bool → Result JobSettings 
 settings_of value stats =
     and_then (λ width.
     and_then (λ workers.
+    and_then (λ parts.
     and_then (λ budget.
     and_then (λ cutset. Ok (record {
       width = width;
@@ -153,9 +154,11 @@ settings_of value stats =
       stats = stats;
       within = pos 0;
       cover_words = None;
+      parts = or_default 1 parts;
     }))
     (cut_of (value (codes "cutset"))))
     (optional (codes "budget") 0 greatest_budget (value (codes "budget"))))
+    (optional (codes "parts") 1 MOST_LAYER_PARTS (value (codes "parts"))))
     (optional (codes "workers") 1 MOST_WORKERS (value (codes "workers"))))
     (optional (codes "width") 1 MOST_WIDTH (value (codes "width")))
 

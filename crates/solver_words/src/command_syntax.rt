@@ -13,6 +13,7 @@ pub(crate) const SOLVE: CommandSyntax = CommandSyntax {
     valued: &[
         "width",
         "workers",
+        "parts",
         "budget",
         "cutset",
         "journal",
@@ -25,7 +26,7 @@ pub(crate) const SOLVE: CommandSyntax = CommandSyntax {
 
 pub(crate) const RESUME: CommandSyntax = CommandSyntax {
     positional: &["path"],
-    valued: &["width", "workers", "budget", "cutset"],
+    valued: &["width", "workers", "parts", "budget", "cutset"],
     flags: &["stats"],
 };
 

@@ -19,6 +19,8 @@ pub struct JobSettings {
     /// `Some` if a cover is to follow the report of a search that went to its end, with the number of words that it may have. `None` if
     /// no cover is asked for.
     pub cover_words: Option<u64>,
+    /// In how many parts a worker makes a layer of a relaxed diagram, from 1 to 64.
+    pub parts: u32,
 }
 
 /// What the words ask for.

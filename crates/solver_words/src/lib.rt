@@ -20,6 +20,6 @@ mod values;
 mod words_error;
 
 pub use job::{Job, JobSettings};
-pub use limits::{DEFAULT_COVER_WORDS, MOST_COVER_WORDS};
+pub use limits::{DEFAULT_COVER_WORDS, MOST_COVER_WORDS, MOST_LAYER_PARTS};
 pub use reading::read_words;
 pub use words_error::WordsError;

@@ -3,6 +3,7 @@ ghost use Rattle.clap.specs.Matches.{first_value, found_of, one_text};
 ghost use Rattle.solver_words.specs.Words.{IsAnswer, natural_in_64_bits, ranged, optional, settings_of, cut_named, model_of, part_asked, part_from, part_written, positional_number};
 
 use crate::job::JobSettings;
+use crate::limits::MOST_LAYER_PARTS;
 use crate::words_error::WordsError;
 use clap::ArgMatches;
 use dp_model::{CutKind, MOST_WIDTH, MOST_WORKERS};
@@ -126,6 +127,7 @@ pub(crate) fn read_settings(matches: &ArgMatches, stats: bool) -> Result<JobSett
 {
     let width = read_optional(matches, "width", 1, MOST_WIDTH as u64)?;
     let workers = read_optional(matches, "workers", 1, MOST_WORKERS as u64)?;
+    let parts = read_optional(matches, "parts", 1, MOST_LAYER_PARTS as u64)?;
     let budget = read_optional(matches, "budget", 0, u64::MAX)?;
     let cutset = match matches.get_str("cutset") {
         Some(word) => read_cut(word)?,
@@ -139,6 +141,7 @@ pub(crate) fn read_settings(matches: &ArgMatches, stats: bool) -> Result<JobSett
         stats,
         within: 0,
         cover_words: None,
+        parts: parts.unwrap_or(1) as u32,
     })
 }
 

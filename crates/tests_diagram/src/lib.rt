@@ -1,7 +1,8 @@
 //! Tests of diagrams over real problems: the beam of a restricted diagram below the empty prefix, relaxed diagrams with the children
-//! that they leave, how many rows are held while one is made, and what is kept of a layer that is reduced to its first nodes.
+//! that they leave, how many rows are held while one is made, what is kept of a layer that is reduced to its first nodes, and
+//! diagrams in parts.
 //!
-//! It stands on `problem_theory`, `knapsack`, `max_cut`, `layer_build`, `restricted_dd`, `relaxed_dd` and `exact_cutset`.
+//! It stands on `problem_theory`, `knapsack`, `max_cut`, `layer_build`, `wide_layers`, `restricted_dd`, `relaxed_dd` and `exact_cutset`.
 #![tactic(auto)]
 
 #[cfg(test)]
@@ -12,3 +13,5 @@ mod relaxing;
 mod roots;
 #[cfg(test)]
 mod stepping;
+#[cfg(test)]
+mod widely;

@@ -121,7 +121,7 @@ fn has_counts(rt: &impl Abort, diagram: &Diagram, counts: &[(usize, usize)]) {
 }
 
 /// Whether a layer of the depth has a node.
-fn has_nodes(diagram: &Diagram, depth: usize) -> bool
+pub fn has_nodes(diagram: &Diagram, depth: usize) -> bool
     ensures first { IsTrue result → (layers_of diagram.now).first ≤ depth }
     ensures node { IsTrue result → IsSome (node_at (layers_of diagram.now) depth 0) }
 {

@@ -68,7 +68,7 @@ fn one_desk<M: DpModel>(rt: &impl Abort, alloc: Global, model: &M) -> Vec<Desk>
     ensures one { vec_len result ≡ 1 }
     ensures prepared { All (IsPreparedDesk (M.meaning (M.numbers model.now)) WIDTH) result.items }
 {
-    match Desk::prepare(alloc, model, WIDTH, CutKind::LastExactLayer, None) {
+    match Desk::prepare(alloc, model, WIDTH, CutKind::LastExactLayer, None, 1) {
         Ok(desk) => alone(rt, alloc, desk),
         Err(_) => panic!(rt; "the desk"),
     }

@@ -60,7 +60,7 @@ fn desk_with_book<M: DpModel>(rt: &impl Abort, alloc: Global, model: &M, words: 
     ensures prepared { All (IsPreparedDesk (M.meaning (M.numbers model.now)) WIDTH) result.items }
 {
     let book = CoverBook::new(alloc, model.words(), words);
-    match Desk::prepare(alloc, model, WIDTH, CutKind::LastExactLayer, Some(book)) {
+    match Desk::prepare(alloc, model, WIDTH, CutKind::LastExactLayer, Some(book), 1) {
         Ok(desk) => one_desk(rt, alloc, desk),
         Err(_) => panic!(rt; "the desk"),
     }

@@ -1,11 +1,11 @@
 -- The nodes of a last layer, as readers see them.
-use Rattle.std.proofs.Common.{◌≡◌, ℕ, suc, ◌-◌, ◌<◌, ◌≤◌, ℤ, pos, false, List, [], ◌∷◌, length, slice_get, Option, Some, None, option_map, option_and_then, unwrap_or, is_some, IsSome, sym, ap, subst, ◌∙◌, arith}
+use Rattle.std.proofs.Common.{◌≡◌, ℕ, suc, ◌-◌, ◌<◌, ◌≤◌, ℤ, pos, false, List, [], ◌∷◌, length, slice_get, Option, Some, None, option_map, unwrap_or, sym, ap, subst, ◌∙◌, arith}
 use Rattle.std.proofs.lemmas.Option.{slice_get-get_or}
 use Rattle.dp_model.specs.Dp.{Dp}
 use Rattle.dp_model.specs.Gaps.{IsStateOf}
 use Rattle.dp_model.specs.Lists.{Each}
-use Rattle.dp_laws.specs.Diagrams.Nodes.{DdNode, node_at}
-use Rattle.layer_build.specs.Layers.{SpaceView, diagram_of, layer_at, last_depth, last_layer}
+use Rattle.dp_laws.specs.Diagrams.Nodes.{DdNode}
+use Rattle.layer_build.specs.Layers.{SpaceView, layer_at, last_depth, last_layer}
 use Rattle.layer_candidates.proofs.HeldRows.{each-here}
 use Rattle.wide_layers.specs.Candidates.{state_at}
 
@@ -25,26 +25,13 @@ layer-last s depth some at =
     let e : depth - length s.prefix ≡ length s.layers - 1 = omega (arith, at) in
     ap (λ (o : Option (List DdNode)). unwrap_or o []) (ap (slice_get s.layers) e ∙ last-got s.layers some)
 
--- a node of the last layer
-node-last : (s : SpaceView) (depth i : ℕ) → 1 ≤ length s.layers → depth ≡ last_depth s → node_at (diagram_of s) depth i ≡ slice_get (last_layer s.layers) i
-node-last s depth i some at =
-    let e : depth - length s.prefix ≡ length s.layers - 1 = omega (arith, at) in
-    ap (option_and_then (λ (layer : List DdNode). slice_get layer i)) (ap (slice_get s.layers) e ∙ last-got s.layers some)
-
-pub last-some : (s : SpaceView) (depth i : ℕ) → 1 ≤ length s.layers → depth ≡ last_depth s → i < length (last_layer s.layers) → IsSome (node_at (diagram_of s) depth i)
-last-some s depth i some at less = ap is_some (node-last s depth i some at ∙ slice_get-get_or (last_layer s.layers) i no_node less)
-
-pub state-last : (s : SpaceView) (depth i : ℕ) (row : List ℤ) → 1 ≤ length s.layers → depth ≡ last_depth s → option_map (λ (n : DdNode). n.row) (node_at (diagram_of s) depth i) ≡ Some row → state_at (last_layer s.layers) i ≡ row
-state-last s depth i row some at read =
-    ap (λ (o : Option DdNode). unwrap_or (option_map (λ (n : DdNode). n.row) o) []) (sym (node-last s depth i some at)) ∙ ap (λ (o : Option (List ℤ)). unwrap_or o []) read
-
 -- it is a state
 pub state-within : (dp : Dp) (k : ℕ) (nodes : List DdNode) (i : ℕ) → Each (λ (n : DdNode). IsStateOf dp k n.row) nodes → i < length nodes → IsStateOf dp k (state_at nodes i)
 state-within dp k nodes i h less =
     subst (IsStateOf dp k) (sym (ap (λ (o : Option DdNode). unwrap_or (option_map (λ (n : DdNode). n.row) o) []) (slice_get-get_or nodes i no_node less))) (each-here (λ (n : DdNode). IsStateOf dp k n.row) nodes i no_node h less)
 
 -- and so is the row that is read
-pub row-is-state : (dp : Dp) (s : SpaceView) (depth i : ℕ) (row : List ℤ) → 1 ≤ length s.layers → depth ≡ last_depth s → Each (λ (n : DdNode). IsStateOf dp (last_depth s) n.row) (last_layer s.layers) → i < length (last_layer s.layers)
-    → option_map (λ (n : DdNode). n.row) (node_at (diagram_of s) depth i) ≡ Some row → IsStateOf dp depth row
-row-is-state dp s depth i row some at h less read =
-    subst (λ (k : ℕ). IsStateOf dp k row) (sym at) (subst (IsStateOf dp (last_depth s)) (state-last s depth i row some at read) (state-within dp (last_depth s) (last_layer s.layers) i h less))
+pub row-is-state : (dp : Dp) (s : SpaceView) (depth i : ℕ) (row : List ℤ) → depth ≡ last_depth s → Each (λ (n : DdNode). IsStateOf dp (last_depth s) n.row) (last_layer s.layers) → i < length (last_layer s.layers)
+    → state_at (last_layer s.layers) i ≡ row → IsStateOf dp depth row
+row-is-state dp s depth i row at h less read =
+    subst (λ (k : ℕ). IsStateOf dp k row) (sym at) (subst (IsStateOf dp (last_depth s)) read (state-within dp (last_depth s) (last_layer s.layers) i h less))

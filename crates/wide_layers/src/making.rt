@@ -76,17 +76,16 @@ fn push_all<M: DpModel>(
     Ok(())
 }
 
-/// The node of the last layer at the place, whose row is held.
+/// The node of the last layer at the place.
 fn parent_at<'s, M: DpModel>(space: &'s Workspace, model: &M, i: usize) -> Parent<'s>
     requires under_way { IsUnderWay (M.meaning (M.numbers model.now)) space.now }
-    requires held { space.now.held ≤ last_depth space.now }
     requires within { i < length (last_layer space.now.layers) }
     ensures place { result.place ≡ i }
     ensures state { result.state.now ≡ state_at (last_layer space.now.layers) i }
     ensures rank { result.rank ≡ (M.meaning (M.numbers model.now)).rank (last_depth space.now) result.state.now }
 {
     let k = space.last_depth();
-    let state = space.row(k, i);
+    let state = space.last_row(i);
     Parent {
         place: i as u32,
         state,
@@ -106,7 +105,6 @@ pub fn make<M: DpModel>(
 ) -> Result<(), OutOfMemory>
     requires under_way { IsUnderWay (M.meaning (M.numbers model.now)) space.now }
     requires below { last_depth space.now < (M.meaning (M.numbers model.now)).vars }
-    requires held { space.now.held ≤ last_depth space.now }
     requires order { from ≤ to }
     requires within { to ≤ length (last_layer space.now.layers) }
     ensures ok { OnOk result (piece.new.candidates ≡ candidates_between (M.meaning (M.numbers model.now)) (last_depth space.now) (last_layer space.now.layers) from to) }
@@ -133,7 +131,6 @@ pub fn candidates<M: DpModel>(
 ) -> Result<Piece, OutOfMemory>
     requires under_way { IsUnderWay (M.meaning (M.numbers model.now)) space.now }
     requires below { last_depth space.now < (M.meaning (M.numbers model.now)).vars }
-    requires held { space.now.held ≤ last_depth space.now }
     requires order { from ≤ to }
     requires within { to ≤ length (last_layer space.now.layers) }
     ensures { IfOk result (λ p. p.candidates ≡ candidates_between (M.meaning (M.numbers model.now)) (last_depth space.now) (last_layer space.now.layers) from to) }

@@ -154,12 +154,11 @@ impl<'r, R: Threads + Sync> Way<'r, R> {
         }
     }
 
-    /// Expands the last layer, whose rows are held, as `Workspace::expand_layer` does.
+    /// Expands the last layer, as `Workspace::expand_layer` does.
     pub fn expand<M: DpModel>(&mut self, space: &mut Workspace, model: &M)
         requires under_way { IsUnderWay (M.meaning (M.numbers model.now)) space.old }
         requires below { last_depth space.old < (M.meaning (M.numbers model.now)).vars }
         requires narrow { length space.old.prefix + 2 ≤ last_depth space.old → length (last_layer space.old.layers) ≤ space.old.width }
-        requires held { space.old.held ≤ last_depth space.old }
         ensures layers { space.new ≡ record space.old {
           layers = expand_last (expand (M.meaning (M.numbers model.now)) (last_depth space.old)) space.old.layers;
           ranks = space.new.ranks;
@@ -176,8 +175,7 @@ impl<'r, R: Threads + Sync> Way<'r, R> {
         }
     }
 
-    /// Expands the last layer, whose rows are held, into the next one and takes out of that what `strike` does, as
-    /// `Workspace::expand_pruned` does.
+    /// Expands the last layer into the next one and takes out of that what `strike` does, as `Workspace::expand_pruned` does.
     pub fn expand_pruned<M: DpModel>(
         &mut self,
         space: &mut Workspace,
@@ -187,7 +185,6 @@ impl<'r, R: Threads + Sync> Way<'r, R> {
         requires under_way { IsUnderWay (M.meaning (M.numbers model.now)) space.old }
         requires below { last_depth space.old < (M.meaning (M.numbers model.now)).vars }
         requires narrow { length space.old.prefix + 2 ≤ last_depth space.old → length (last_layer space.old.layers) ≤ space.old.width }
-        requires held { space.old.held ≤ last_depth space.old }
         ensures layers { space.new ≡ record space.old {
           layers = expand_last (λ layer. prune (M.meaning (M.numbers model.now)) (last_depth space.old + 1) threshold (expand (M.meaning (M.numbers model.now)) (last_depth space.old) layer)) space.old.layers;
           ranks = space.new.ranks;

@@ -27,8 +27,10 @@ use dp_model::{CutKind, DpModel, Sub};
 use exact_cutset::{Children, children};
 use kept_board::{Kept, KeptError};
 use layer_build::Workspace;
-use relaxed_dd::{Diagram, compile, shown};
+use relaxed_dd::{Diagram, compile, compile_with, shown};
 use std::alloc::Global;
+use std::thread::Threads;
+use wide_layers::Way;
 
 /// A record's body has fewer bytes: 2^32.
 const MOST_BYTES: u64 = 1 << 32;
@@ -119,7 +121,7 @@ pub fn relax<M: DpModel, D: Disk>(
 /// Fills `cutset` from the relaxed diagram of a subproblem, with its children of the kind and the solution that it finds. Where a
 /// record that names all children of the frontier would be too large, it takes those of the last exact layer instead. It takes no
 /// memory.
-pub fn fill<M: DpModel>(
+fn fill<M: DpModel>(
     space: &mut Workspace,
     cutset: &mut Children,
     taken: &Sub,
@@ -138,6 +140,30 @@ pub fn fill<M: DpModel>(
     ensures cutset { HoldsChildren (M.meaning (M.numbers model.now)) space.old.width kind cutset.new }
 {
     compile(space, model, taken, threshold);
+    take_children(model, &shown(space), kind, cutset);
+}
+
+/// Fills `cutset` as `fill` does, whatever the way is in which the layers of the diagram are expanded. The way may take memory.
+pub fn fill_with<M: DpModel, R: Threads + Sync>(
+    space: &mut Workspace,
+    cutset: &mut Children,
+    taken: &Sub,
+    threshold: Option<i64>,
+    kind: CutKind,
+    model: &M,
+    way: &mut Way<'_, R>,
+)
+    requires own { IsOwn (M.meaning (M.numbers model.now)) taken.now.subproblem }
+    requires prepared { IsPreparedFor (M.meaning (M.numbers model.now)) space.old }
+    requires cutset { HoldsChildren (M.meaning (M.numbers model.now)) space.old.width kind cutset.old }
+    ensures subs { cutset.new.subs ≡ taken_from (M.meaning (M.numbers model.now)) (relaxed (M.meaning (M.numbers model.now)) (reached (M.meaning (M.numbers model.now)) taken.now.subproblem.decisions) space.old.width threshold) kind }
+    ensures found { cutset.new.found ≡ found_in (M.meaning (M.numbers model.now)) (relaxed (M.meaning (M.numbers model.now)) (reached (M.meaning (M.numbers model.now)) taken.now.subproblem.decisions) space.old.width threshold) }
+    ensures holds { HoldsDiagram (M.meaning (M.numbers model.now)) space.new cutset.new }
+    ensures prepared { IsPreparedFor (M.meaning (M.numbers model.now)) space.new }
+    ensures width { space.new.width ≡ space.old.width }
+    ensures cutset { HoldsChildren (M.meaning (M.numbers model.now)) space.old.width kind cutset.new }
+{
+    compile_with(space, model, taken, threshold, way);
     take_children(model, &shown(space), kind, cutset);
 }
 

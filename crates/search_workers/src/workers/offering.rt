@@ -23,7 +23,8 @@ ghost use Rattle.search_workers.specs.Stopped.{IsLeftOut, HasLeft, WasStopped};
 use super::gate::{Gate, Step};
 use super::holding_improve::improve_one;
 use super::stopped::Stopped;
-use crate::rounds::fill;
+use crate::parts::Parts;
+use crate::rounds::fill_with;
 use disk::Disk;
 use dp_model::{CutKind, DpModel, Found, Sub};
 use exact_cutset::Children;
@@ -32,6 +33,7 @@ use layer_build::Workspace;
 use restricted_dd::compile;
 use std::alloc::Global;
 use std::sync::Wait;
+use std::thread::Threads;
 use turn::{Seat, Turn};
 
 /// What the restricted diagram of a subproblem leaves.
@@ -123,13 +125,13 @@ pub fn restrict_one<M: DpModel, D: Disk + Send, G: Gate, R: Wait>(
     Ok(Restricted { reduced, reach })
 }
 
-/// Compiles the relaxed diagram of a subproblem outside the turn, with the reach by what the seat has seen as threshold, fills
-/// `cutset` with its children, as `fill` does, and offers the solution that it finds.
+/// Compiles the relaxed diagram of a subproblem outside the turn, with the reach by what the seat has seen as threshold and its layers
+/// in so many parts, fills `cutset` with its children, as `fill_with` does, and offers the solution that it finds.
 ///
 /// # Errors
 ///
 /// As `improve_one` says.
-pub fn relax_one<M: DpModel, D: Disk + Send, G: Gate, R: Wait>(
+pub fn relax_one<M: DpModel, D: Disk + Send, G: Gate, R: Threads + Wait + Sync>(
     rt: &R,
     alloc: Global,
     turn: &Turn<Kept<M, D>>,
@@ -139,6 +141,7 @@ pub fn relax_one<M: DpModel, D: Disk + Send, G: Gate, R: Wait>(
     cutset: &mut Children,
     taken: &Sub,
     kind: CutKind,
+    parts: Parts,
     model: &M,
     reach: Option<i64>,
 ) -> Result<(), Stopped>
@@ -164,7 +167,8 @@ pub fn relax_one<M: DpModel, D: Disk + Send, G: Gate, R: Wait>(
     ensures width { space.new.width ≡ space.old.width }
     ensures cutset { HoldsChildren (M.meaning (M.numbers model.now)) space.old.width kind cutset.new }
 {
-    fill(space, cutset, taken, reach, kind, model);
+    let mut way = parts.way(rt, alloc);
+    fill_with(space, cutset, taken, reach, kind, model, &mut way);
     let _ = offer_one(rt, alloc, turn, seat, gate, cutset.found(), reach)?;
     Ok(())
 }

@@ -23,13 +23,14 @@ use super::stopped::Stopped;
 use crate::branched::Branched;
 use crate::collecting::collect_from;
 use crate::desk::Desk;
-use crate::rounds::fill;
+use crate::rounds::fill_with;
 use board::Taken;
 use disk::Disk;
 use dp_model::DpModel;
 use kept_board::{Kept, KeptError};
 use std::alloc::Global;
 use std::sync::Wait;
+use std::thread::Threads;
 use turn::{Seat, Turn};
 
 /// Does rounds until nothing is open or out, a cause is held or the budget is taken up, and passes the gate after each step. Each step
@@ -38,7 +39,7 @@ use turn::{Seat, Turn};
 ///
 /// The seat is one of the turn's with nothing out, its number is below the workers of the settings, the turn's instance is the model's,
 /// and the desk was prepared for the model and the width of the settings. It may wait for other workers.
-pub fn work<M: DpModel, D: Disk + Send, G: Gate + Sync, R: Wait>(
+pub fn work<M: DpModel, D: Disk + Send, G: Gate + Sync, R: Threads + Wait + Sync>(
     rt: &R,
     alloc: Global,
     turn: &Turn<Kept<M, D>>,
@@ -64,7 +65,7 @@ pub fn work<M: DpModel, D: Disk + Send, G: Gate + Sync, R: Wait>(
 }
 
 /// A round. Says whether another one may follow.
-fn round<M: DpModel, D: Disk + Send, G: Gate + Sync, R: Wait>(
+fn round<M: DpModel, D: Disk + Send, G: Gate + Sync, R: Threads + Wait + Sync>(
     rt: &R,
     alloc: Global,
     turn: &Turn<Kept<M, D>>,
@@ -100,7 +101,7 @@ fn round<M: DpModel, D: Disk + Send, G: Gate + Sync, R: Wait>(
 
 /// The rest of a round, once a subproblem was taken: it is finished, and a snapshot is written where one is due and worth its bytes.
 /// Says whether it was finished; if not it was given back.
-fn go_on<M: DpModel, D: Disk + Send, G: Gate + Sync, R: Wait>(
+fn go_on<M: DpModel, D: Disk + Send, G: Gate + Sync, R: Threads + Wait + Sync>(
     rt: &R,
     alloc: Global,
     turn: &Turn<Kept<M, D>>,
@@ -145,7 +146,7 @@ fn go_on<M: DpModel, D: Disk + Send, G: Gate + Sync, R: Wait>(
 /// # Errors
 ///
 /// It was given back in a holding that found the search halted for the journal, or a step was refused and it is out still.
-fn expand<M: DpModel, D: Disk + Send, G: Gate + Sync, R: Wait>(
+fn expand<M: DpModel, D: Disk + Send, G: Gate + Sync, R: Threads + Wait + Sync>(
     rt: &R,
     alloc: Global,
     turn: &Turn<Kept<M, D>>,
@@ -186,7 +187,13 @@ fn expand<M: DpModel, D: Disk + Send, G: Gate + Sync, R: Wait>(
 }
 
 /// Compiles the relaxed diagram of a subproblem that has no children, where the desk has a book for it. Says whether it did.
-fn fill_for_book<M: DpModel>(desk: &mut Desk, threshold: Option<i64>, model: &M) -> bool
+fn fill_for_book<M: DpModel, R: Threads + Sync>(
+    rt: &R,
+    alloc: Global,
+    desk: &mut Desk,
+    threshold: Option<i64>,
+    model: &M,
+) -> bool
     requires own { IsOwn (M.meaning (M.numbers model.now)) desk.old.taken.subproblem }
     requires room { HasDeskRoom (M.meaning (M.numbers model.now)) desk.old.space.width desk.old }
     ensures holds { result ≡ true → HoldsDiagram (M.meaning (M.numbers model.now)) desk.new.space desk.new.cutset }
@@ -196,13 +203,15 @@ fn fill_for_book<M: DpModel>(desk: &mut Desk, threshold: Option<i64>, model: &M)
     if desk.book.is_none() {
         return false;
     }
-    fill(
+    let mut way = desk.parts.way(rt, alloc);
+    fill_with(
         &mut desk.space,
         &mut desk.cutset,
         &desk.taken,
         threshold,
         desk.kind,
         model,
+        &mut way,
     );
     true
 }
@@ -212,7 +221,7 @@ fn fill_for_book<M: DpModel>(desk: &mut Desk, threshold: Option<i64>, model: &M)
 /// # Errors
 ///
 /// As `expand` says.
-fn branch<M: DpModel, D: Disk + Send, G: Gate + Sync, R: Wait>(
+fn branch<M: DpModel, D: Disk + Send, G: Gate + Sync, R: Threads + Wait + Sync>(
     rt: &R,
     alloc: Global,
     turn: &Turn<Kept<M, D>>,
@@ -254,7 +263,7 @@ fn branch<M: DpModel, D: Disk + Send, G: Gate + Sync, R: Wait>(
         return Ok(Branched {
             threshold: reach,
             children: Vec::new(alloc),
-            on_desk: fill_for_book(desk, restricted.reach, model),
+            on_desk: fill_for_book(rt, alloc, desk, restricted.reach, model),
         });
     }
     relax_one(
@@ -267,6 +276,7 @@ fn branch<M: DpModel, D: Disk + Send, G: Gate + Sync, R: Wait>(
         &mut desk.cutset,
         &desk.taken,
         desk.kind,
+        desk.parts,
         model,
         restricted.reach,
     )?;

@@ -13,7 +13,7 @@ fn words_of(rt: &impl Abort, alloc: Global, line: &str) -> Vec<String> {
 }
 
 const DEFAULTS: &str =
-    "JobSettings { width: None, workers: 1, budget: 18446744073709551615, cutset: LastExactLayer, stats: false, within: 0, cover_words: None }";
+    "JobSettings { width: None, workers: 1, budget: 18446744073709551615, cutset: LastExactLayer, stats: false, within: 0, cover_words: None, parts: 1 }";
 
 /// Words and what they ask for, or why they are refused.
 const ASKED: &[(&str, &str)] = &[
@@ -23,23 +23,31 @@ const ASKED: &[(&str, &str)] = &[
     ),
     (
         "solve|--width=64|--cover|maxcut|--workers|2|--budget=9|--cutset|lel|--journal=a=b|--cover-words|50|--within|0|--stats",
-        "Ok(Solve { model: MaxCut, settings: JobSettings { width: Some(64), workers: 2, budget: 9, cutset: LastExactLayer, stats: true, within: 0, cover_words: Some(50) }, journal: Some(\"a=b\"), part: None })",
+        "Ok(Solve { model: MaxCut, settings: JobSettings { width: Some(64), workers: 2, budget: 9, cutset: LastExactLayer, stats: true, within: 0, cover_words: Some(50), parts: 1 }, journal: Some(\"a=b\"), part: None })",
     ),
     (
         "resume|j|--cutset=frontier",
-        "Ok(Resume { path: \"j\", settings: JobSettings { width: None, workers: 1, budget: 18446744073709551615, cutset: Frontier, stats: false, within: 0, cover_words: None } })",
+        "Ok(Resume { path: \"j\", settings: JobSettings { width: None, workers: 1, budget: 18446744073709551615, cutset: Frontier, stats: false, within: 0, cover_words: None, parts: 1 } })",
     ),
     (
         "solve|max2sat|--cover",
-        "Ok(Solve { model: MaxTwoSat, settings: JobSettings { width: None, workers: 1, budget: 18446744073709551615, cutset: LastExactLayer, stats: false, within: 0, cover_words: Some(67108864) }, journal: None, part: None })",
+        "Ok(Solve { model: MaxTwoSat, settings: JobSettings { width: None, workers: 1, budget: 18446744073709551615, cutset: LastExactLayer, stats: false, within: 0, cover_words: Some(67108864), parts: 1 }, journal: None, part: None })",
     ),
     (
         "solve|max2sat|--cover-words=5|--within=1125899906842624",
-        "Ok(Solve { model: MaxTwoSat, settings: JobSettings { width: None, workers: 1, budget: 18446744073709551615, cutset: LastExactLayer, stats: false, within: 1125899906842624, cover_words: None }, journal: None, part: None })",
+        "Ok(Solve { model: MaxTwoSat, settings: JobSettings { width: None, workers: 1, budget: 18446744073709551615, cutset: LastExactLayer, stats: false, within: 1125899906842624, cover_words: None, parts: 1 }, journal: None, part: None })",
     ),
     (
         "solve|max2sat|--journal|j|--within=7",
-        "Ok(Solve { model: MaxTwoSat, settings: JobSettings { width: None, workers: 1, budget: 18446744073709551615, cutset: LastExactLayer, stats: false, within: 7, cover_words: None }, journal: Some(\"j\"), part: None })",
+        "Ok(Solve { model: MaxTwoSat, settings: JobSettings { width: None, workers: 1, budget: 18446744073709551615, cutset: LastExactLayer, stats: false, within: 7, cover_words: None, parts: 1 }, journal: Some(\"j\"), part: None })",
+    ),
+    (
+        "solve|knapsack|--parts|064|--workers=16",
+        "Ok(Solve { model: Knapsack, settings: JobSettings { width: None, workers: 16, budget: 18446744073709551615, cutset: LastExactLayer, stats: false, within: 0, cover_words: None, parts: 64 }, journal: None, part: None })",
+    ),
+    (
+        "resume|j|--parts=2",
+        "Ok(Resume { path: \"j\", settings: JobSettings { width: None, workers: 1, budget: 18446744073709551615, cutset: LastExactLayer, stats: false, within: 0, cover_words: None, parts: 2 } })",
     ),
     (
         "resume|--|-j",
@@ -100,6 +108,16 @@ const ASKED: &[(&str, &str)] = &[
         "solve|knapsack|--cutset=x|--width=0",
         "Err(Number { option: \"width\" })",
     ),
+    (
+        "solve|knapsack|--parts=0|--workers=17",
+        "Err(Number { option: \"workers\" })",
+    ),
+    (
+        "solve|knapsack|--budget=x|--parts=65",
+        "Err(Number { option: \"parts\" })",
+    ),
+    ("resume|j|--parts=0", "Err(Number { option: \"parts\" })"),
+    ("generate|maxcut|24|7|--parts=8", "Err(Usage)"),
     (
         "solve|knapsack|--cutset=frontie|--cover-words=x",
         "Err(Cutset)",

@@ -1,5 +1,4 @@
-use Rattle.std.proofs.Common.{◌≡◌, ◌<◌, length, sym, ap, subst, arith}
-use Rattle.layer_build.specs.Layers.{SpaceView}
+use Rattle.std.proofs.Common.{◌≡◌, ◌<◌, sym, subst, arith}
 use Rattle.relaxed_dd.proofs.Built.{IsBuiltTo, starts, builds-further, builds-all, may-build}
 use Rattle.relaxed_dd.proofs.widely.build.Goals as goal
 
@@ -29,13 +28,6 @@ build_layer-requires-clause-narrow g c κs within =
     let dp = g.M.DpModel.meaning (g.M.DpModel.numbers c.args.model.now) in
     let low : c.layers.counter < dp.vars = (let e = c.vars-vars.ensures in let t = c.layers-test.true in omega arith) in
     (may-build dp c.args.threshold c.layers.counter c.args.space.now c.layers.space low c.layers.invariant).narrow
-
-pub build_layer-requires-clause-held : goal.build_layer-requires-clause-held
-build_layer-requires-clause-held g c κs within =
-    let same = ap (λ (s : SpaceView). s.held) c.layers.invariant.space in
-    let prefix = ap (λ (s : SpaceView). length s.prefix) c.layers.invariant.space in
-    let held = c.requires.held in
-    omega (arith, same, prefix, held)
 
 pub layers-preserved : goal.layers-preserved
 layers-preserved g c =

@@ -12,6 +12,7 @@ loop-made-preserved g c =
     let D : Desk → Type 0 = IsPreparedDesk dp c.args.width in
     let K : Desk → Type 0 = λ desk. desk.kind ≡ c.args.search.cutset in
     let B : Desk → Type 0 = λ desk. desk.book ≡ book_for dp c.args.search in
+    let P : Desk → Type 0 = λ desk. desk.parts ≡ c.args.search.parts in
     let i = c.loop-made.invariant in
     let made = c.in_ok-desk_for in
     let e = c.push_reserved-in-loop-made.ensures in (
@@ -22,4 +23,5 @@ loop-made-preserved g c =
       i.4,
       subst (λ (xs : List Desk). All K xs) (sym {A = List Desk} e.items) (All-push K c.loop-made.desks.items made.field-0 i.5 made.ensures.kind),
       subst (λ (xs : List Desk). All B xs) (sym {A = List Desk} e.items) (All-push B c.loop-made.desks.items made.field-0 i.6 made.ensures.book),
+      subst (λ (xs : List Desk). All P xs) (sym {A = List Desk} e.items) (All-push P c.loop-made.desks.items made.field-0 i.7 made.ensures.parts),
     )

@@ -13,3 +13,4 @@ invariant-loop-made g l =
     × IsWidth (g.M.DpModel.meaning (g.M.DpModel.numbers l.model)) l.width
     × All (λ (desk : Desk). desk.kind ≡ l.search.cutset) l.desks.items
     × All (λ (desk : Desk). desk.book ≡ book_for (g.M.DpModel.meaning (g.M.DpModel.numbers l.model)) l.search) l.desks.items
+    × All (λ (desk : Desk). desk.parts ≡ l.search.parts) l.desks.items

@@ -1,0 +1,40 @@
+ghost use Rattle.std.specs.Prelude.{◌≡◌, ◌<◌, ◌≤◌};
+
+use std::alloc::Global;
+use std::marker::Model;
+use std::thread::Threads;
+use wide_layers::Way;
+
+/// In how many parts a layer of a relaxed diagram is made: from 1 to 64. With 1 it is made by the worker alone.
+#[derive(Clone, Copy, Debug)]
+pub struct Parts {
+    count: u32,
+}
+
+impl Model for Parts {
+    ghost use Rattle.std.specs.Prelude.{ℕ, ◌<◌, ◌≤◌};
+
+    ghost Value = { ℕ };
+
+    ghost view = { λ p. p.count };
+
+    ghost invariant = { λ p. (0 < p.count) × (p.count ≤ 64) };
+
+    ghost inverse = { λ n. record { count = n } };
+}
+
+impl Parts {
+    /// So many parts.
+    pub fn new(count: u32) -> Parts
+        requires some { 0 < count }
+        requires few { count ≤ 64 }
+        ensures { result ≡ count }
+    {
+        Parts { count }
+    }
+
+    /// The way to expand layers in so many parts, each by a thread of the runtime where one can be made. It takes no memory.
+    pub(crate) fn way<'r, R: Threads + Sync>(self, rt: &'r R, alloc: Global) -> Way<'r, R> {
+        Way::in_parts(rt, alloc, self.count)
+    }
+}
