@@ -11,6 +11,7 @@ use Rattle.board_laws.specs.declared.cause.Cause.TheVariants.{Journal}
 use Rattle.board_laws.specs.declared.settings.Settings.{Settings}
 use Rattle.board_laws.specs.Board.{AreSettings, BoardState, full_slots}
 use Rattle.board_laws.specs.GoodBoard.{IsGood}
+use Rattle.board_laws.specs.Starts.{whole_search}
 use Rattle.board_laws.specs.Steps.{first_board}
 use Rattle.board_laws.specs.Taking.{is_budget_up}
 use Rattle.journal_bytes.specs.declared.tail.Tail.{Tail}
@@ -90,7 +91,7 @@ fronts-of : (dp : Dp) (within : ℤ) (old written : List RecordView) → AreAdde
 fronts-of dp within old written added front others same = fronts-added dp within old front others (subst (AreAdded dp within old) same added)
 
 fronts-begun : (dp : Dp) (within : ℤ) (written : List RecordView) → AreSound dp within [] → AreAdded dp within [] written → AreFrontsSound dp within written
-fronts-begun dp within written none added front others same = let front-of = fronts-of dp within [] written added front others same in (front-of.accepted, front-of.sound none)
+fronts-begun dp within written none added front others same = let front-of = fronts-of dp within [] written added front others same in (front-of.accepted, front-of.sound whole_search none)
 
 begun-front : (head : HeadView) (written : List RecordView) (file : List ℕ) → IsBegun head file → HasBegun head written file
 begun-front head written file begun = ⊎_elim (λ none. inl none) (λ has. inr (record { front = []; others = written; parts = refl; reads = has })) begun
@@ -447,7 +448,7 @@ module _ {D : Type 0} (on : Ghosts D) where
   }
 
   pub none-follow : (dp : Dp) (within : ℤ) (old : List RecordView) → MayBeAdded dp within old []
-  none-follow dp within old accepted = fronts-of dp within old [] (record { accepted = accepted; goes_on = tt; sound = λ sound. (journals-grow dp old []).last within sound })
+  none-follow dp within old accepted = fronts-of dp within old [] (record { accepted = accepted; goes_on = tt; sound = λ starts sound. (journals-grow dp old []).last starts within sound })
 
   -- nothing is behind the records where nothing was written
   pub none-behind : (Follows : Type 0) (now : D) (head : HeadView) (old : List RecordView) → Follows → IsUnwritten on now → SinceAttached on now (λ s. HasRecords head old s.content → HasGoneOn on Follows head old [] now s)

@@ -309,7 +309,7 @@ back-kept dp laws made b who o fringe fringe2 table room for_best cells spare_ce
     let step = back-step b who o fringe2.open_ones at put in
     let less = length-with o (full_slots (set b.slots who None)) (full_slots b.slots) (emptied b.slots who o at) in
     let fits = k.has_room.open_room in
-    let keeps : KeepsBoard dp b (given_back b who) = (let h = give-back-keeps dp laws in record { board = h.board b who; good = h.good b who held }) in
+    let keeps : KeepsBoard dp b (given_back b who) = (let h = give-back-keeps dp laws in record { board = h.board b who; good = λ {starts}. h.good b who held }) in
     kept-by dp made b (back b who fringe2.open_ones) fringe fringe2 table table room room for_best for_best cells spare_cells k
     (subst (KeepsBoard dp b) (sym step) keeps) refl words refl refl (omega arith) k.has_room.table_room (omega arith)
 

@@ -4,14 +4,16 @@ use Rattle.std.proofs.lemmas.Int.{ints}
 use Rattle.dp_model.specs.Dp.{Dp}
 use Rattle.dp_model.specs.Lists.{OneOf}
 use Rattle.dp_model.specs.Numbers.{AtMost, OptionAtMost, is_above}
-use Rattle.dp_model.specs.Prefixes.{IsContinuation, gain_of}
+use Rattle.dp_model.specs.Prefixes.{IsContinuation, IsMatched, gain_of, value_of}
 use Rattle.dp_model.specs.Subproblem.{IsOwn}
 use Rattle.dp_model.proofs.Members.{Has, one-of-has}
 use Rattle.dp_model.proofs.Paths.{value_of-append, completed}
 use Rattle.fringe.specs.Tickets.{Ticketed}
 use Rattle.board_laws.proofs.Lists.{one-map, one-mapped}
 use Rattle.board_laws.specs.Board.{prefixes, reach_of}
+use Rattle.board_laws.specs.Starts.{CoversFrom}
 use Rattle.dp_laws.specs.Floors.{ReachesBelow, IsFloor, Carries}
+use Rattle.dp_laws.proofs.Reaches.{at-most-raised, one-then}
 
 pub option-self : (reach : Option ℤ) → OptionAtMost reach reach
 option-self None = tt
@@ -33,6 +35,20 @@ carries-from dp reach os qs h k v one =
       | inl a ↦ inl a
       | inr b ↦ inr (one-mapped (λ (o : Ticketed). o.subproblem.decisions) (ReachesBelow dp k v) qs b)
     ]
+
+-- a solution that is at most the reach or matched is so where the frontier is carried
+met-carried : (dp : Dp) (reach more : Option ℤ) (P Q : List (List ℕ)) → OptionAtMost reach more → Carries dp more P Q
+    → (x : List ℕ) → AtMost (value_of dp x) reach ⊎ OneOf (IsMatched dp x) P → AtMost (value_of dp x) more ⊎ OneOf (IsMatched dp x) Q
+met-carried dp reach more P Q le carries x (inl low) = inl (at-most-raised (value_of dp x) reach more le low)
+met-carried dp reach more P Q le carries x (inr one) =
+    elim (carries 0 (value_of dp x) (one-then (IsMatched dp x) (ReachesBelow dp 0 (value_of dp x)) (λ p r. record { deep = omega arith; reaches = r }) P one)) as (λ _. AtMost (value_of dp x) more ⊎ OneOf (IsMatched dp x) Q) [
+      | inl low ↦ inl low
+      | inr other ↦ inr (one-then (ReachesBelow dp 0 (value_of dp x)) (IsMatched dp x) (λ p r. r.reaches) Q other)
+    ]
+
+-- a cover from start prefixes is carried
+pub from-carried : (dp : Dp) (starts : List (List ℕ)) (reach more : Option ℤ) (P Q : List (List ℕ)) → OptionAtMost reach more → Carries dp more P Q → CoversFrom dp starts reach P → CoversFrom dp starts more Q
+from-carried dp starts reach more P Q le carries h x s begun = met-carried dp reach more P Q le carries x (h x s begun)
 
 -- the floor of a prefix that is in the list
 pub own-floor : (dp : Dp) (reach : Option ℤ) (qs : List Ticketed) (o : Ticketed) → IsOwn dp o.subproblem → Has o qs

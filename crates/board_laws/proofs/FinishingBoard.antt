@@ -17,7 +17,7 @@ use Rattle.dp_laws.proofs.Lists.{each-filter, two-filter}
 use Rattle.fringe.specs.Fringe.{AreDifferent}
 use Rattle.fringe.specs.Tickets.{Ticketed, IsEarlier}
 use Rattle.dominance_table.specs.Entries.{TableEntry}
-use Rattle.board_laws.proofs.Carrying.{carries-from, option-self}
+use Rattle.board_laws.proofs.Carrying.{carries-from, from-carried, option-self}
 use Rattle.board_laws.proofs.Counting.{children-below, pots-split}
 use Rattle.board_laws.proofs.Differing.{kids-above, kids-differ}
 use Rattle.board_laws.proofs.Fates.{fates-hold, fates-many, kids-each, kids-two, kids-hold}
@@ -28,11 +28,10 @@ use Rattle.board_laws.proofs.Slots.{emptied, slot-full}
 use Rattle.board_laws.proofs.With.{with-right, each-out, two-out, sum-with, length-with}
 use Rattle.board_laws.specs.Board.{full_slots, prefixes, BoardState, frontier, reach}
 use Rattle.dp_laws.specs.Children.{AreApart, DifferInPlace}
-use Rattle.dp_laws.proofs.Reaches.{covers-carried}
 use Rattle.board_laws.specs.Entering.{entering, replaced, is_among, without_all, entry_of, put_all}
 use Rattle.board_laws.specs.Fates.{tickets_after, fate_of, fates_on}
 use Rattle.board_laws.specs.Finishing.{MayFinish}
-use Rattle.board_laws.specs.GoodBoard.{pot_of, share_of, IsEntry, IsBoard, IsGood}
+use Rattle.board_laws.specs.GoodBoard.{pot_of, share_of, IsEntry, IsBoard, IsGoodFrom}
 use Rattle.board_laws.specs.Laws.{FinishKeeps}
 use Rattle.board_laws.specs.Steps.{finished_by}
 use Rattle.board_laws.specs.declared.fate.Fate.{Fate}
@@ -122,8 +121,8 @@ finish-board dp laws b who threshold cs given_fates g m =
       settings = g.settings;
     }
 
-pub finish-good : (dp : Dp) → IsLawful dp → (b : BoardState) (who : ℕ) (threshold : Option ℤ) (cs : List Subproblem) (given_fates : List Fate) → IsBoard dp b → IsGood dp b → MayFinish dp b who threshold cs given_fates → IsGood dp (finished_by dp b who cs)
-finish-good dp laws b who threshold cs given_fates g h m =
+pub finish-good : (dp : Dp) → IsLawful dp → (starts : List (List ℕ)) (b : BoardState) (who : ℕ) (threshold : Option ℤ) (cs : List Subproblem) (given_fates : List Fate) → IsBoard dp b → IsGoodFrom dp starts b → MayFinish dp b who threshold cs given_fates → IsGoodFrom dp starts (finished_by dp b who cs)
+finish-good dp laws starts b who threshold cs given_fates g h m =
     let o = m.parent in
     let os = b.open_ones in
     let full = full_slots b.slots in
@@ -171,7 +170,7 @@ finish-good dp laws b who threshold cs given_fates g h m =
     let shares_after = ap (sum_by (share_of dp)) (sym same) ∙ sum_by-append (share_of dp) (rest ++ stay) new in
     let many = kids.many in
     record {
-      covers = covers-carried dp (reach b) (reach b) (prefixes (frontier b)) (prefixes (after rest os cs fs)) (option-self (reach b)) carries h.covers;
+      covers = from-carried dp starts (reach b) (reach b) (prefixes (frontier b)) (prefixes (after rest os cs fs)) (option-self (reach b)) carries h.covers;
       held = subst (λ l. Each (λ o. IsHeld dp (reach b) o.subproblem.decisions o.subproblem.bound) l) same (Each-append (λ o. IsHeld dp (reach b) o.subproblem.decisions o.subproblem.bound) (rest ++ stay) new
           (each-less (λ o. IsHeld dp (reach b) o.subproblem.decisions o.subproblem.bound) p rest os (each-out (λ o. IsHeld dp (reach b) o.subproblem.decisions o.subproblem.bound) o (rest ++ os) (frontier b) out h.held).1)
           (kids-each (λ c. IsHeld dp (reach b) c.decisions c.bound) cs fs children.held));
@@ -184,4 +183,4 @@ finish-good dp laws b who threshold cs given_fates g h m =
     }
 
 pub finish-keeps : (dp : Dp) → IsLawful dp → FinishKeeps dp
-finish-keeps dp laws b who threshold cs fs m = record { board = λ g. finish-board dp laws b who threshold cs fs g m; good = λ g h. finish-good dp laws b who threshold cs fs g h m }
+finish-keeps dp laws b who threshold cs fs m = record { board = λ g. finish-board dp laws b who threshold cs fs g m; good = λ {starts} g h. finish-good dp laws starts b who threshold cs fs g h m }

@@ -16,6 +16,7 @@ use Rattle.board_laws.specs.Board.{AreSettings, reach_of, value_held}
 use Rattle.board_laws.specs.GoodBoard.{IncumbentHolds, pot_of, share_of}
 use Rattle.board_laws.specs.Laws.{IsFirstGood}
 use Rattle.board_laws.specs.Restoring.{IsListSound}
+use Rattle.board_laws.specs.Starts.{whole_search}
 use Rattle.board_laws.specs.Steps.{root_with, root_subproblem, root_opened, first_incumbent, first_open}
 use Rattle.board_laws.specs.declared.settings.Settings.{Settings}
 use Rattle.board_laws.proofs.Fresh.{Opens, fresh-board, fresh-good}
@@ -43,7 +44,7 @@ root-state dp laws = record { layer = omega arith; test = laws.states.root }
 begins-none : (dp : Dp) (within : ℤ) (best : Option Solution) → IncumbentHolds dp best → Covers dp (reach_of within (value_held best)) [] → Begins dp within best []
 begins-none dp within best incumbent covers = record {
   opens = record { incumbent = incumbent; own = tt; far = tt; above = tt; ordered = tt; different = tt; given = tt };
-  sound = record { covers = covers; held = tt; apart = tt; ends = omega arith; shares = omega arith };
+  sound = record { covers = λ x s begun. covers x s; held = tt; apart = tt; ends = omega arith; shares = omega arith };
 }
 
 begins-whole : (dp : Dp) (within : ℤ) → pos 0 ≤ℤ within → dp.vars ≡ 0 → Begins dp within (Some (record { decisions = []; value = dp.root_value })) []
@@ -78,7 +79,7 @@ begins-root dp within laws some (Some rough) is =
         given = (omega arith, tt);
       };
       sound = record {
-        covers = λ x s. inr (inl (record { by = x; completion = record { solution = s; rest = x; begins = refl }; least = omega (arith, ints) }));
+        covers = λ x s begun. inr (inl (record { by = x; completion = record { solution = s; rest = x; begins = refl }; least = omega (arith, ints) }));
         held = (
           (λ x c.
               let most : gain_of dp 0 dp.root x ≤ℤ rough = subst (λ r. AtMost (gain_of dp 0 dp.root x) r) is (laws.rough.bounds 0 dp.root x (root-state dp laws) (from-root dp x c.solution)) in
@@ -105,5 +106,5 @@ first-is-good dp laws settings are =
     let begins = first-begins dp settings.within are.distance.least laws in
     record {
       board = fresh-board dp settings (first_incumbent dp) (first_open dp) (length (first_open dp)) are begins.opens;
-      good = fresh-good dp settings 0 (first_incumbent dp) (first_open dp) (length (first_open dp)) begins.sound;
+      good = fresh-good dp whole_search settings 0 (first_incumbent dp) (first_open dp) (length (first_open dp)) begins.sound;
     }

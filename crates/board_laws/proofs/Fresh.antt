@@ -2,7 +2,7 @@
 use Rattle.std.proofs.Common.{◌≡◌, ◌≢◌, ℕ, zero, suc, ◌+◌, ◌<◌, ◌≤◌, ℤ, List, [], ◌∷◌, ◌++◌, length, Option, Some, None, refl, sym, ◌∙◌, ap, subst, IsTrue, arith}
 use Rattle.std.specs.List.{sum_by}
 use Rattle.dp_model.specs.Solution.{Solution}
-use Rattle.dp_model.specs.Cover.{Covers, IsHeld}
+use Rattle.dp_model.specs.Cover.{IsHeld}
 use Rattle.dp_model.specs.Dp.{Dp}
 use Rattle.dp_model.specs.Lists.{Each}
 use Rattle.dp_model.specs.Numbers.{IsFar, is_above}
@@ -13,8 +13,9 @@ use Rattle.dp_laws.proofs.Diagrams.Apart.{two-then}
 use Rattle.fringe.specs.Fringe.{AreDifferent}
 use Rattle.fringe.specs.Tickets.{Ticketed, IsEarlier}
 use Rattle.board_laws.specs.Board.{AreSettings, reach_of, value_held, full_slots, prefixes}
-use Rattle.board_laws.specs.GoodBoard.{IncumbentHolds, IsBoard, IsGood, pot_of, share_of}
-use Rattle.board_laws.specs.Restoring.{IsListSound}
+use Rattle.board_laws.specs.GoodBoard.{IncumbentHolds, IsBoard, IsGoodFrom, pot_of, share_of}
+use Rattle.board_laws.specs.Restoring.{IsListSoundFrom}
+use Rattle.board_laws.specs.Starts.{CoversFrom}
 use Rattle.board_laws.specs.Steps.{empty_slots, fresh_board}
 use Rattle.board_laws.specs.declared.settings.Settings.{Settings}
 
@@ -72,8 +73,8 @@ fresh-board dp settings best os next are s =
       cause = λ e. absurd (cc);
     }
 
-pub fresh-good : (dp : Dp) (settings : Settings) (finished : ℕ) (best : Option Solution) (os : List Ticketed) (next : ℕ) → IsListSound dp settings.within finished best os next → IsGood dp (fresh_board settings best os next)
-fresh-good dp settings finished best os next s =
+pub fresh-good : (dp : Dp) (starts : List (List ℕ)) (settings : Settings) (finished : ℕ) (best : Option Solution) (os : List Ticketed) (next : ℕ) → IsListSoundFrom dp starts settings.within finished best os next → IsGoodFrom dp starts (fresh_board settings best os next)
+fresh-good dp starts settings finished best os next s =
     let same = whole os settings in
     let far = reach_of settings.within (value_held best) in
     let empty : length (full_slots (empty_slots settings.workers)) ≡ 0 = ap length (full-none settings.workers) in
@@ -81,7 +82,7 @@ fresh-good dp settings finished best os next s =
     let shares : sum_by (share_of dp) (full_slots (empty_slots settings.workers) ++ os) ≡ sum_by (share_of dp) os = ap (sum_by (share_of dp)) (sym same) in
     let sum = s.ends in let sum_shares = s.shares in
     record {
-      covers = subst (λ (l : List Ticketed). Covers dp far (prefixes l)) same s.covers;
+      covers = subst (λ (l : List Ticketed). CoversFrom dp starts far (prefixes l)) same s.covers;
       held = subst (λ (l : List Ticketed). Each (λ o. IsHeld dp far o.subproblem.decisions o.subproblem.bound) l) same s.held;
       floors = tt;
       apart = subst (λ (l : List Ticketed). EachTwo (λ a o. AreApart a.subproblem o.subproblem) l) same s.apart;

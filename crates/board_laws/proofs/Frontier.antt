@@ -3,19 +3,17 @@ use Rattle.std.proofs.Common.{◌≡◌, ◌≢◌, ℕ, ℤ, List, [], ◌∷�
 use Rattle.std.proofs.lemmas.Int.{ints}
 use Rattle.std.proofs.lemmas.Bool.Decides.{nat_tests}
 use Rattle.std.specs.List.{sum_by}
-use Rattle.dp_model.specs.Cover.{Covers, IsHeld}
+use Rattle.dp_model.specs.Cover.{IsHeld}
 use Rattle.dp_model.specs.Decisions.{begins}
 use Rattle.dp_model.specs.Dp.{Dp}
 use Rattle.dp_model.specs.Lists.{Each, OneOf}
 use Rattle.dp_model.specs.Numbers.{AtMost, is_above}
-use Rattle.dp_model.specs.Prefixes.{IsSolution, IsMatched, value_of}
+use Rattle.dp_model.specs.Prefixes.{IsMatched, value_of}
 use Rattle.dp_model.specs.Subproblem.{Subproblem}
 use Rattle.std.proofs.lemmas.Bool.{and_parts}
 use Rattle.dp_laws.specs.Pairs.{EachTwo}
 use Rattle.fringe.specs.Tickets.{Ticketed}
-use Rattle.board_laws.proofs.Lists.{one-map}
 use Rattle.board_laws.proofs.With.{IsWith, each-out, each-in, one-out_of, one-in, two-out, two-in, sum-with}
-use Rattle.board_laws.specs.Board.{prefixes}
 use Rattle.dp_laws.specs.Children.{AreApart}
 use Rattle.dp_laws.proofs.Reaches.{at-most-then}
 
@@ -46,19 +44,11 @@ tickets-flip a o h e = h (sym e)
 pub apart-flip : (a o : Ticketed) → AreApart a.subproblem o.subproblem → AreApart o.subproblem a.subproblem
 apart-flip a o h = record { first = h.second; second = h.first }
 
--- Cover.
+-- Matches, and bounds that are held.
 
 -- a solution is matched by one of the list
 abbrev pub MatchedBy : Dp → List ℕ → Ticketed → Type 0
 MatchedBy dp x o = IsMatched dp x o.subproblem.decisions
-
--- the list covers with the incumbent's value
-abbrev pub CoversBy : Dp → Option ℤ → List Ticketed → Type 0
-CoversBy dp inc os = (x : List ℕ) → IsSolution dp x → AtMost (value_of dp x) inc ⊎ OneOf (MatchedBy dp x) os
-
-pub covers-by : (dp : Dp) (inc : Option ℤ) (os : List Ticketed) → Covers dp inc (prefixes os) → CoversBy dp inc os
-covers-by dp inc os h x s =
-    elim (h x s) as (λ _. AtMost (value_of dp x) inc ⊎ OneOf (MatchedBy dp x) os) [ inl a ↦ inl a | inr b ↦ inr (one-map (λ (o : Ticketed). o.subproblem.decisions) (IsMatched dp x) os b) ]
 
 -- the bound of an open or checked-out one is held
 abbrev pub HeldBy : Dp → Option ℤ → Ticketed → Type 0

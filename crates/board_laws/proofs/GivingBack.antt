@@ -11,7 +11,7 @@ use Rattle.dp_model.specs.Subproblem.{IsOwn}
 use Rattle.dp_model.proofs.Members.{Each-then}
 use Rattle.fringe.specs.Pushing.{after_push}
 use Rattle.fringe.specs.Tickets.{Ticketed}
-use Rattle.board_laws.proofs.Carrying.{Deep, CarriesBy, carries-from, option-self}
+use Rattle.board_laws.proofs.Carrying.{Deep, CarriesBy, carries-from, from-carried, option-self}
 use Rattle.board_laws.proofs.Finishing.{reaches-low}
 use Rattle.board_laws.proofs.Frontier.{not-above, tickets-flip, apart-flip}
 use Rattle.board_laws.proofs.Lists.{each-back}
@@ -20,8 +20,8 @@ use Rattle.board_laws.proofs.Slots.{emptied, slot-full}
 use Rattle.board_laws.proofs.With.{with-right, each-out, two-out, one-out_of, sum-with, length-with}
 use Rattle.board_laws.specs.Board.{reach, full_slots, prefixes, BoardState, frontier, slot_at}
 use Rattle.dp_laws.specs.Children.{AreApart}
-use Rattle.dp_laws.proofs.Reaches.{covers-carried, floor-carried}
-use Rattle.board_laws.specs.GoodBoard.{pot_of, share_of, HasFloor, IsBoard, IsGood}
+use Rattle.dp_laws.proofs.Reaches.{floor-carried}
+use Rattle.board_laws.specs.GoodBoard.{pot_of, share_of, HasFloor, IsBoard, IsGoodFrom}
 use Rattle.board_laws.specs.Laws.{GiveBackKeeps}
 use Rattle.board_laws.specs.Steps.{given_back_from}
 
@@ -60,9 +60,9 @@ back-board dp b who o new at g p =
       settings = g.settings;
     }
 
-back-good : (dp : Dp) (b : BoardState) (who : ℕ) (o : Ticketed) (new : List Ticketed) → slice_get b.slots who ≡ Some (Some o) → IsTrue (is_some b.cause) → IsGood dp b
-    → IsPushed dp (reach b) b.next_ticket o (full_slots (set b.slots who None)) b.open_ones new → GoesOn dp (reach b) o (full_slots (set b.slots who None)) b.open_ones new → IsGood dp (record b { open_ones = new; slots = set b.slots who None })
-back-good dp b who o new at halted h p goes =
+back-good : (dp : Dp) (starts : List (List ℕ)) (b : BoardState) (who : ℕ) (o : Ticketed) (new : List Ticketed) → slice_get b.slots who ≡ Some (Some o) → IsTrue (is_some b.cause) → IsGoodFrom dp starts b
+    → IsPushed dp (reach b) b.next_ticket o (full_slots (set b.slots who None)) b.open_ones new → GoesOn dp (reach b) o (full_slots (set b.slots who None)) b.open_ones new → IsGoodFrom dp starts (record b { open_ones = new; slots = set b.slots who None })
+back-good dp starts b who o new at halted h p goes =
     let full = full_slots b.slots in
     let rest = full_slots (set b.slots who None) in
     let os = b.open_ones in
@@ -77,7 +77,7 @@ back-good dp b who o new at halted h p goes =
     let ends = p.sum (pot_of dp) in
     let shares = p.sum (share_of dp) in
     record {
-      covers = covers-carried dp (reach b) (reach b) (prefixes (frontier b)) (prefixes (rest ++ new)) (option-self (reach b)) carries h.covers;
+      covers = from-carried dp starts (reach b) (reach b) (prefixes (frontier b)) (prefixes (rest ++ new)) (option-self (reach b)) carries h.covers;
       held = p.each (λ o. IsHeld dp (reach b) o.subproblem.decisions o.subproblem.bound) held.0 held.1;
       floors = Each-then (HasFloor dp (reach b) (frontier b)) (HasFloor dp (reach b) (rest ++ new)) b.entries
           (λ e x. floor-carried dp (reach b) (reach b) (prefixes (frontier b)) (prefixes (rest ++ new)) (option-self (reach b)) carries e.depth e.row e.value x) h.floors;
@@ -110,16 +110,16 @@ give-back-board dp laws b who o at g =
       | false ↦ λ low. back-board dp b who o os at g (push-out dp (reach b) b.next_ticket o rest os g.ordered g.different)
     ] in go (is_above (reach b) o.subproblem.bound) refl
 
-pub give-back-good : (dp : Dp) → IsLawful dp → (b : BoardState) (who : ℕ) (o : Ticketed) → slice_get b.slots who ≡ Some (Some o) → IsTrue (is_some b.cause) → IsBoard dp b → IsGood dp b → IsGood dp (given_back_from b who (Some o))
-give-back-good dp laws b who o at halted g h =
+pub give-back-good : (dp : Dp) → IsLawful dp → (starts : List (List ℕ)) (b : BoardState) (who : ℕ) (o : Ticketed) → slice_get b.slots who ≡ Some (Some o) → IsTrue (is_some b.cause) → IsBoard dp b → IsGoodFrom dp starts b → IsGoodFrom dp starts (given_back_from b who (Some o))
+give-back-good dp laws starts b who o at halted g h =
     let os = b.open_ones in
     let rest = full_slots (set b.slots who None) in
-    let Goal : Bool → Type 0 = λ x. IsGood dp (record b { open_ones = cond x (after_push o os) os; slots = set b.slots who None }) in
+    let Goal : Bool → Type 0 = λ x. IsGoodFrom dp starts (record b { open_ones = cond x (after_push o os) os; slots = set b.slots who None }) in
     let out = with-right o rest (full_slots b.slots) os (emptied b.slots who o at) in
     let held = (each-out (λ o. IsHeld dp (reach b) o.subproblem.decisions o.subproblem.bound) o (rest ++ os) (frontier b) out h.held).0 in
     let go : (x : Bool) → is_above (reach b) o.subproblem.bound ≡ x → Goal x = λ x. elim x as (λ x. is_above (reach b) o.subproblem.bound ≡ x → Goal x) [
-      | true ↦ λ up. (let p = back-pushed dp laws b who o at g up in back-good dp b who o (after_push o os) at halted h p.0 p.1)
-      | false ↦ λ low. back-good dp b who o os at halted h (push-out dp (reach b) b.next_ticket o rest os g.ordered g.different)
+      | true ↦ λ up. (let p = back-pushed dp laws b who o at g up in back-good dp starts b who o (after_push o os) at halted h p.0 p.1)
+      | false ↦ λ low. back-good dp starts b who o os at halted h (push-out dp (reach b) b.next_ticket o rest os g.ordered g.different)
           (out-goes dp (reach b) o rest os (λ k v d. inl (reaches-low dp (reach b) v o.subproblem.decisions o.subproblem.bound d.reaches held (not-above (reach b) o.subproblem.bound low))))
     ] in go (is_above (reach b) o.subproblem.bound) refl
 
@@ -127,12 +127,12 @@ back-slot : (dp : Dp) → IsLawful dp → (b : BoardState) (who : ℕ) (slot : O
 back-slot dp laws b who None at g = g
 back-slot dp laws b who (Some o) at g = give-back-board dp laws b who o (slot-full (slice_get b.slots who) o at) g
 
-back-slot-good : (dp : Dp) → IsLawful dp → (b : BoardState) (who : ℕ) (slot : Option Ticketed) → slot_at b who ≡ slot → IsTrue (is_some b.cause) → IsBoard dp b → IsGood dp b → IsGood dp (given_back_from b who slot)
-back-slot-good dp laws b who None at held g h = h
-back-slot-good dp laws b who (Some o) at held g h = give-back-good dp laws b who o (slot-full (slice_get b.slots who) o at) held g h
+back-slot-good : (dp : Dp) → IsLawful dp → (starts : List (List ℕ)) (b : BoardState) (who : ℕ) (slot : Option Ticketed) → slot_at b who ≡ slot → IsTrue (is_some b.cause) → IsBoard dp b → IsGoodFrom dp starts b → IsGoodFrom dp starts (given_back_from b who slot)
+back-slot-good dp laws starts b who None at held g h = h
+back-slot-good dp laws starts b who (Some o) at held g h = give-back-good dp laws starts b who o (slot-full (slice_get b.slots who) o at) held g h
 
 pub give-back-keeps : (dp : Dp) → IsLawful dp → GiveBackKeeps dp
 give-back-keeps dp laws = record {
   board = λ b who g. back-slot dp laws b who (slot_at b who) refl g;
-  good = λ b who held g h. back-slot-good dp laws b who (slot_at b who) refl held g h;
+  good = λ b who {starts} held g h. back-slot-good dp laws starts b who (slot_at b who) refl held g h;
 }

@@ -37,7 +37,7 @@ halt-keeps dp b cause = record {
     room = g.room;
     cause = no-budget b.cause cause g.cause;
   };
-  good = λ g h. record {
+  good = λ {starts} g h. record {
     covers = h.covers;
     held = h.held;
     floors = h.floors;

@@ -1,5 +1,5 @@
 -- Improve keeps a board, and a good one.
-use Rattle.std.proofs.Common.{◌≡◌, ◌≢◌, ◌<◌, ℤ, ◌≤ℤ◌, Bool, true, false, List, ◌++◌, filter, Option, Some, ◌⊎◌, inl, inr, arith}
+use Rattle.std.proofs.Common.{◌≡◌, ◌≢◌, ℕ, ◌<◌, ℤ, ◌≤ℤ◌, Bool, true, false, List, ◌++◌, filter, Option, Some, ◌⊎◌, inl, inr, arith}
 use Rattle.dp_model.specs.Solution.{Solution}
 use Rattle.dp_model.specs.Cover.{IsHeld}
 use Rattle.dp_model.specs.Dp.{Dp}
@@ -11,14 +11,14 @@ use Rattle.dp_model.proofs.Members.{Each-then}
 use Rattle.dp_laws.proofs.Lists.{two-filter}
 use Rattle.fringe.specs.Fringe.{AreDifferent}
 use Rattle.fringe.specs.Tickets.{Ticketed, IsEarlier}
-use Rattle.board_laws.proofs.Carrying.{reach-rises, Deep, CarriesBy, carries-from}
+use Rattle.board_laws.proofs.Carrying.{reach-rises, Deep, CarriesBy, carries-from, from-carried}
 use Rattle.board_laws.proofs.Finishing.{reaches-low}
 use Rattle.board_laws.proofs.Frontier.{not-above}
 use Rattle.board_laws.proofs.Lists.{each-less, two-less, sum-less, one-left, one-right, one-filter, one-each, one-out, each-back, each-passes}
 use Rattle.board_laws.specs.Board.{reach, reach_of, incumbent_value, full_slots, prefixes, BoardState, frontier}
 use Rattle.dp_laws.specs.Children.{AreApart}
-use Rattle.dp_laws.proofs.Reaches.{at-most-raised, covers-carried, floor-carried}
-use Rattle.board_laws.specs.GoodBoard.{IncumbentHolds, pot_of, share_of, HasFloor, IsBoard, IsGood}
+use Rattle.dp_laws.proofs.Reaches.{at-most-raised, floor-carried}
+use Rattle.board_laws.specs.GoodBoard.{IncumbentHolds, pot_of, share_of, HasFloor, IsBoard, IsGoodFrom}
 use Rattle.board_laws.specs.Laws.{ImproveKeeps}
 use Rattle.board_laws.specs.Steps.{improved}
 use Rattle.dp_laws.proofs.Restricted.Covering.{one-cases}
@@ -70,8 +70,8 @@ improve-board dp b best holds g =
       settings = g.settings;
     }
 
-pub improve-good : (dp : Dp) (b : BoardState) (best : Solution) → is_above (incumbent_value b) best.value ≡ true → IsGood dp b → IsGood dp (improved b best)
-improve-good dp b best up h =
+pub improve-good : (dp : Dp) (starts : List (List ℕ)) (b : BoardState) (best : Solution) → is_above (incumbent_value b) best.value ≡ true → IsGoodFrom dp starts b → IsGoodFrom dp starts (improved b best)
+improve-good dp starts b best up h =
     let more = reach_of b.settings.within (Some best.value) in
     let le = reach-rises b.settings.within (incumbent_value b) best.value up in
     let full = full_slots b.slots in
@@ -83,7 +83,7 @@ improve-good dp b best up h =
     let ends = sum-less (pot_of dp) p full os in
     let shares = sum-less (share_of dp) p full os in
     record {
-      covers = covers-carried dp (reach b) more (prefixes (frontier b)) (prefixes after) le carries h.covers;
+      covers = from-carried dp starts (reach b) more (prefixes (frontier b)) (prefixes after) le carries h.covers;
       held = each-less (λ o. IsHeld dp more o.subproblem.decisions o.subproblem.bound) p full os held;
       floors = Each-then (HasFloor dp (reach b) (frontier b)) (HasFloor dp more after) b.entries (λ e x. floor-carried dp (reach b) more (prefixes (frontier b)) (prefixes after) le carries e.depth e.row e.value x) h.floors;
       apart = two-less (λ a c. AreApart a.subproblem c.subproblem) p full os h.apart;
@@ -93,4 +93,4 @@ improve-good dp b best up h =
     }
 
 pub improve-keeps : (dp : Dp) → ImproveKeeps dp
-improve-keeps dp b best holds up = record { board = improve-board dp b best holds; good = λ g h. improve-good dp b best up h }
+improve-keeps dp b best holds up = record { board = improve-board dp b best holds; good = λ {starts} g h. improve-good dp starts b best up h }

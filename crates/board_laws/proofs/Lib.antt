@@ -23,4 +23,5 @@ pub mod Restoring
 -- what runs keep, and what good boards say
 pub mod Running
 pub mod Reading
+pub mod Starting
 mod Examples

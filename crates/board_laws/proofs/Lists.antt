@@ -3,7 +3,7 @@ use Rattle.std.proofs.Common.{◌≡◌, ℕ, ◌≤◌, List, [], ◌∷◌, �
 use Rattle.std.specs.List.{sum_by}
 use Rattle.std.proofs.lemmas.List.Sums.{sum_by-cons, sum_by-append}
 use Rattle.dp_model.specs.Lists.{Each, OneOf}
-use Rattle.dp_model.proofs.Members.{Each-append, Each-map, Each-then}
+use Rattle.dp_model.proofs.Members.{Each-append, Each-map, Each-then, Has, one-of-has}
 use Rattle.dp_laws.specs.Pairs.{EachTwo}
 use Rattle.dp_laws.proofs.Lists.{two-filter, each-filter}
 use Rattle.dp_laws.proofs.Restricted.Permutations.{two-append}
@@ -61,6 +61,12 @@ pub one-each : {X : Type 0} (P Q : X → Type 0) (xs : List X) → OneOf P xs �
 one-each P Q [] h all = absurd h
 one-each P Q (x ∷ xs) (inl h) all = inl (h, all.0)
 one-each P Q (x ∷ xs) (inr h) all = inr (one-each P Q xs h all.1)
+
+-- where each member is in another list, so is one of them
+pub one-among : {X Y : Type 0} (f : X → Y) (P : Y → Type 0) (xs : List X) (ys : List Y) → Each (λ x. Has (f x) ys) xs → OneOf P (map f xs) → OneOf P ys
+one-among f P [] ys all one = absurd one
+one-among f P (x ∷ xs) ys all (inl here) = one-of-has P ys (f x) here all.0
+one-among f P (x ∷ xs) ys all (inr there) = one-among f P xs ys all.1 there
 
 -- what follows from any member follows
 pub one-out : {X : Type 0} (P : X → Type 0) (A : Type 0) → ((x : X) → P x → A) → (xs : List X) → OneOf P xs → A

@@ -6,16 +6,17 @@ use Rattle.dp_model.specs.Counts.{tree}
 use Rattle.dp_model.specs.Dp.{Dp}
 use Rattle.dp_model.specs.Lists.{Each, OneOf}
 use Rattle.dp_model.specs.Numbers.{AtMost, OptionAtMost}
-use Rattle.dp_model.specs.Prefixes.{IsSolution, value_of}
+use Rattle.dp_model.specs.Prefixes.{IsMatched, IsSolution, value_of}
 use Rattle.dp_model.proofs.Members.{Each-then}
 use Rattle.board_laws.proofs.Counting.{pots-many}
-use Rattle.board_laws.proofs.Frontier.{MatchedBy, HeldBy, covers-by, matched-below}
-use Rattle.board_laws.proofs.Lists.{one-each, one-out}
-use Rattle.board_laws.specs.Board.{BoardState, incumbent_value, value_held, full_slots, frontier, reach, reach_of, is_explored}
+use Rattle.board_laws.proofs.Frontier.{MatchedBy, HeldBy, matched-below}
+use Rattle.board_laws.proofs.Lists.{one-each, one-map, one-out}
+use Rattle.board_laws.specs.Board.{BoardState, incumbent_value, value_held, full_slots, frontier, prefixes, reach, reach_of, is_explored}
 use Rattle.fringe.specs.Bounds.{raised}
 use Rattle.board_laws.specs.Bound.{raised_by, board_bound, IsGreatestBound}
 use Rattle.board_laws.specs.GoodBoard.{IsGood, IncumbentHolds, IsBoard}
-use Rattle.board_laws.specs.Laws.{NoneExceedsTheBound, ExploredIsWithinReach, ExploredIsBest}
+use Rattle.board_laws.specs.Starts.{whole_search}
+use Rattle.board_laws.specs.Laws.{NoneExceedsTheBound, ExploredSettles, ExploredIsWithinReach, ExploredIsBest}
 use Rattle.fringe.specs.Tickets.{Ticketed}
 use Rattle.std.proofs.lemmas.Bool.Decides.{nat_tests}
 use Rattle.dp_model.specs.Solution.{Solution}
@@ -80,12 +81,12 @@ bound-holds dp b g x s =
     let inc = reach b in
     let most = board_bound b in
     let up : (z : ℤ) → AtMost z inc → AtMost z most = raised-keeps (frontier b) inc in
-    elim (covers-by dp inc (frontier b) g.covers x s) as (λ _. AtMost (value_of dp x) most) [
+    elim (g.covers x s (inl refl)) as (λ _. AtMost (value_of dp x) most) [
       | inl a ↦ up (value_of dp x) a
       | inr m ↦ one-out (λ o. (MatchedBy dp x o × HeldBy dp most o) × AtMost o.subproblem.bound most) (AtMost (value_of dp x) most)
           (λ o h. matched-below dp x most o.subproblem.decisions o.subproblem.bound h.0.0 h.0.1 h.1) (frontier b)
           (one-each (λ o. MatchedBy dp x o × HeldBy dp most o) (λ o. AtMost o.subproblem.bound most) (frontier b)
-          (one-each (MatchedBy dp x) (HeldBy dp most) (frontier b) m (Each-then (HeldBy dp inc) (HeldBy dp most) (frontier b) (held-by-more dp inc most up) g.held))
+          (one-each (MatchedBy dp x) (HeldBy dp most) (frontier b) (one-map (λ (o : Ticketed). o.subproblem.decisions) (IsMatched dp x) (frontier b) m) (Each-then (HeldBy dp inc) (HeldBy dp most) (frontier b) (held-by-more dp inc most up) g.held))
           (raised-each (frontier b) inc))
     ]
 
@@ -122,16 +123,20 @@ explored-empty b h =
     let none : length b.open_ones + length (full_slots b.slots) ≡ 0 = grind (arith, nat_tests) in
     no-length (frontier b) (omega arith)
 
-none-of : (dp : Dp) (x : List ℕ) (os : List Ticketed) → os ≡ [] → OneOf (MatchedBy dp x) os → ⊥
-none-of dp x os none one = subst (λ l. OneOf (MatchedBy dp x) l) none one
+none-of : (dp : Dp) (x : List ℕ) (os : List Ticketed) → os ≡ [] → OneOf (IsMatched dp x) (prefixes os) → ⊥
+none-of dp x os none one = subst (λ (l : List Ticketed). OneOf (IsMatched dp x) (prefixes l)) none one
 
--- where nothing is open or out, each feasible solution is at most the reach
-pub explored-within : (dp : Dp) → ExploredIsWithinReach dp
-explored-within dp b g explored x s =
-    elim (covers-by dp (reach b) (frontier b) g.covers x s) as (λ _. AtMost (value_of dp x) (reach b)) [
+-- where nothing is open or out, each feasible solution that begins with a start prefix is at most the reach
+pub explored-settles : (dp : Dp) → ExploredSettles dp
+explored-settles dp starts b g explored x s begun =
+    elim (g.covers x s begun) as (λ _. AtMost (value_of dp x) (reach b)) [
       | inl low ↦ low
       | inr one ↦ absurd (none-of dp x (frontier b) (explored-empty b explored) one)
     ]
+
+-- so is each feasible solution in a whole search
+pub explored-within : (dp : Dp) → ExploredIsWithinReach dp
+explored-within dp b g explored x s = explored-settles dp whole_search b g explored x s (inl refl)
 
 -- without a distance the reach is the incumbent's value
 pub reach-zero : (within : ℤ) (inc : Option ℤ) → within ≡ pos 0 → reach_of within inc ≡ inc

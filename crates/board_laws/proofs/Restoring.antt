@@ -12,16 +12,15 @@ use Rattle.dp_model.specs.Subproblem.{IsOwn}
 use Rattle.dp_model.proofs.Members.{Each-then}
 use Rattle.dp_laws.specs.Children.{AreApart}
 use Rattle.dp_laws.specs.Pairs.{EachTwo}
-use Rattle.dp_laws.proofs.Reaches.{covers-carried}
 use Rattle.fringe.specs.Fringe.{AreDifferent}
 use Rattle.fringe.specs.Pushing.{after_push}
 use Rattle.fringe.specs.Tickets.{Ticketed, IsEarlier}
 use Rattle.board_laws.specs.Board.{reach_of, value_held, prefixes}
 use Rattle.board_laws.specs.GoodBoard.{pot_of, share_of}
 use Rattle.board_laws.specs.Laws.{RestoredBoardsKeep}
-use Rattle.board_laws.specs.Restoring.{IsListSound, MayRestore, pushed_above}
+use Rattle.board_laws.specs.Restoring.{IsListSoundFrom, MayRestore, pushed_above}
 use Rattle.board_laws.specs.Steps.{back_among}
-use Rattle.board_laws.proofs.Carrying.{Deep, CarriesBy, carries-from, option-self}
+use Rattle.board_laws.proofs.Carrying.{Deep, CarriesBy, carries-from, from-carried, option-self}
 use Rattle.board_laws.proofs.Finishing.{reaches-low}
 use Rattle.board_laws.proofs.Fresh.{fresh-board, fresh-good, tickets-differ}
 use Rattle.board_laws.proofs.Frontier.{not-above, tickets-flip, apart-flip}
@@ -121,9 +120,9 @@ pushable dp best os next m = record {
 }
 
 -- what is open of a sound list is a sound list
-still-sound : (dp : Dp) → IsLawful dp → (within : ℤ) (finished : ℕ) (best : Option Solution) (os : List Ticketed) (next : ℕ) → MayRestore dp best os next → IsListSound dp within finished best os next
-    → IsListSound dp within finished best (pushed_above (reach_of within (value_held best)) [] os) next
-still-sound dp laws within finished best os next m s =
+still-sound : (dp : Dp) → IsLawful dp → (starts : List (List ℕ)) (within : ℤ) (finished : ℕ) (best : Option Solution) (os : List Ticketed) (next : ℕ) → MayRestore dp best os next → IsListSoundFrom dp starts within finished best os next
+    → IsListSoundFrom dp starts within finished best (pushed_above (reach_of within (value_held best)) [] os) next
+still-sound dp laws starts within finished best os next m s =
     let reach = reach_of within (value_held best) in
     let new = pushed_above reach [] os in
     let p = pushable dp best os next m in
@@ -136,7 +135,7 @@ still-sound dp laws within finished best os next m s =
     let ends_before = s.ends in
     let shares_before = s.shares in
     record {
-      covers = covers-carried dp reach reach (prefixes os) (prefixes new) (option-self reach) (carries-from dp reach os new by) s.covers;
+      covers = from-carried dp starts reach reach (prefixes os) (prefixes new) (option-self reach) (carries-from dp reach os new by) s.covers;
       held = r.each (λ o. IsHeld dp reach o.subproblem.decisions o.subproblem.bound) held;
       apart = r.two (λ (a o : Ticketed). AreApart a.subproblem o.subproblem) apart-flip (two-all (λ (a o : Ticketed). AreApart a.subproblem o.subproblem) os s.apart);
       ends = omega arith;
@@ -158,5 +157,5 @@ restored-boards-keep dp laws settings best os next are m =
         different = r.different;
         given = r.each (λ o. o.ticket < next) (each-all (λ o. o.ticket < next) os m.given);
       });
-      good = λ finished s. fresh-good dp settings finished best new next (still-sound dp laws settings.within finished best os next m s);
+      good = λ {starts} finished s. fresh-good dp starts settings finished best new next (still-sound dp laws starts settings.within finished best os next m s);
     }

@@ -142,14 +142,14 @@ step-keeps : (dp : Dp) → IsLawful dp → (b : BoardState) (step : Step) → Ma
 step-keeps dp laws b (Take who) may = take-keeps dp b who may
 step-keeps dp laws b (Improve x) may = offered-is (KeepsBoard dp b) dp b x (same-kept dp b) (improve-keeps dp b (record { decisions = x; value = value_of dp x }) (record { solution = may; value = refl }))
 step-keeps dp laws b (Finish who threshold cs) may = finish-keeps dp laws b who threshold cs (fates_on dp b cs) may
-step-keeps dp laws b (GiveBack who) may = (let h = give-back-keeps dp laws in record { board = h.board b who; good = h.good b who may.halted })
+step-keeps dp laws b (GiveBack who) may = (let h = give-back-keeps dp laws in record { board = h.board b who; good = λ {starts}. h.good b who may.halted })
 step-keeps dp laws b (Halt cause) may = halt-keeps dp b cause
 
 pub steps-keep : (dp : Dp) → IsLawful dp → StepsKeep dp
 steps-keep dp laws b step may = record { keeps = step-keeps dp laws b step may; follows = step-follows dp b step; others = step-others dp b step }
 
 keeps-then : (dp : Dp) (a b c : BoardState) → KeepsBoard dp a b → KeepsBoard dp b c → KeepsBoard dp a c
-keeps-then dp a b c h k = record { board = λ g. k.board (h.board g); good = λ g x. k.good (h.board g) (h.good g x) }
+keeps-then dp a b c h k = record { board = λ g. k.board (h.board g); good = λ {starts} g x. k.good (h.board g) (h.good g x) }
 
 pub runs-keep : (dp : Dp) → IsLawful dp → RunsKeep dp
 runs-keep dp laws b [] last run = subst (RunKeeps dp b) run (record { keeps = same-kept dp b; follows = follows-self b })

@@ -13,7 +13,7 @@ use Rattle.dp_laws.proofs.Lists.{each-filter, two-filter}
 use Rattle.fringe.specs.Fringe.{AreDifferent}
 use Rattle.fringe.specs.Tickets.{Ticketed, IsEarlier, without}
 use Rattle.fringe.proofs.Tickets.{without-later}
-use Rattle.board_laws.proofs.Carrying.{Deep, CarriesBy, carries-from, option-self}
+use Rattle.board_laws.proofs.Carrying.{Deep, CarriesBy, carries-from, from-carried, option-self}
 use Rattle.fringe.proofs.Takings.{first_taken-is}
 use Rattle.board_laws.proofs.Frontier.{each-moved, one-moved, two-moved, sum-moved, tickets-flip, apart-flip}
 use Rattle.board_laws.proofs.Lists.{one-each, one-out}
@@ -21,8 +21,8 @@ use Rattle.board_laws.proofs.Slots.{filled, full-few}
 use Rattle.board_laws.proofs.With.{IsWith, with-left, with-right, length-with, with-here, with-there}
 use Rattle.board_laws.specs.Board.{reach, full_slots, prefixes, BoardState, frontier, is_explored}
 use Rattle.dp_laws.specs.Children.{AreApart}
-use Rattle.dp_laws.proofs.Reaches.{covers-carried, floor-carried}
-use Rattle.board_laws.specs.GoodBoard.{pot_of, share_of, HasFloor, IsBoard, IsGood}
+use Rattle.dp_laws.proofs.Reaches.{floor-carried}
+use Rattle.board_laws.specs.GoodBoard.{pot_of, share_of, HasFloor, IsBoard, IsGoodFrom}
 use Rattle.board_laws.specs.Laws.{TakeKeeps, KeepsBoard}
 use Rattle.board_laws.specs.Taking.{checked_out, is_budget_up, take_gives, take_open, take_unless, after_answer}
 use Rattle.board_laws.specs.declared.cause.Cause.{Cause}
@@ -77,8 +77,8 @@ take-board dp b who o at from left near g =
       settings = g.settings;
     }
 
-pub take-good : (dp : Dp) (b : BoardState) (who : ℕ) (o : Ticketed) → slice_get b.slots who ≡ Some None → IsWith o (without o.ticket b.open_ones) b.open_ones → IsGood dp b → IsGood dp (checked_out b who (Some o))
-take-good dp b who o at from h =
+pub take-good : (dp : Dp) (starts : List (List ℕ)) (b : BoardState) (who : ℕ) (o : Ticketed) → slice_get b.slots who ≡ Some None → IsWith o (without o.ticket b.open_ones) b.open_ones → IsGoodFrom dp starts b → IsGoodFrom dp starts (checked_out b who (Some o))
+take-good dp starts b who o at from h =
     let full = full_slots b.slots in
     let full2 = full_slots (set b.slots who (Some o)) in
     let os = b.open_ones in
@@ -93,7 +93,7 @@ take-good dp b who o at from h =
     let ends = sum-moved (pot_of dp) o base (frontier b) after whole to in
     let shares = sum-moved (share_of dp) o base (frontier b) after whole to in
     record {
-      covers = covers-carried dp (reach b) (reach b) (prefixes (frontier b)) (prefixes after) (option-self (reach b)) carries h.covers;
+      covers = from-carried dp starts (reach b) (reach b) (prefixes (frontier b)) (prefixes after) (option-self (reach b)) carries h.covers;
       held = each-moved (λ o. IsHeld dp (reach b) o.subproblem.decisions o.subproblem.bound) o base (frontier b) after whole to h.held;
       floors = Each-then (HasFloor dp (reach b) (frontier b)) (HasFloor dp (reach b) after) b.entries
           (λ e x. floor-carried dp (reach b) (reach b) (prefixes (frontier b)) (prefixes after) (option-self (reach b)) carries e.depth e.row e.value x) h.floors;
@@ -147,7 +147,7 @@ with-without (x ∷ os) o rise (inr h) =
     subst (λ l. IsWith o l (x ∷ os)) (sym rest) (with-there o x (without o.ticket os) os (with-without os o rise.1 h))
 
 pub same-kept : (dp : Dp) (b : BoardState) → KeepsBoard dp b b
-same-kept dp b = record { board = λ g. g; good = λ g h. h }
+same-kept dp b = record { board = λ g. g; good = λ {starts} g h. h }
 
 pub first-out : (os : List Ticketed) (o : Ticketed) → first_taken os ≡ Some o → EachTwo IsEarlier os → IsWith o (without o.ticket os) os
 first-out os o is rise = with-without os o rise (first_taken-is os o (sym is)).one
@@ -160,7 +160,7 @@ out-keeps dp b who empty left (Some o) is =
     let near : b.next_ticket ≤ 2 ^ 64 - 2 ^ 29 = let no = parts.1 in grind (arith, nat_tests) in
     record {
       board = λ g. (let most = g.budget in take-board dp b who o empty (first-out b.open_ones o is g.ordered) (omega arith) near g);
-      good = λ g h. take-good dp b who o empty (first-out b.open_ones o is g.ordered) h;
+      good = λ {starts} g h. take-good dp starts b who o empty (first-out b.open_ones o is g.ordered) h;
     }
 
 answer-keeps : (dp : Dp) (b : BoardState) (who : ℕ) → slice_get b.slots who ≡ Some None → (answer : Taken) → take_gives b ≡ answer → KeepsBoard dp b (after_answer b who answer)

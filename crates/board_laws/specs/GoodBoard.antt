@@ -2,7 +2,7 @@
 use Rattle.std.specs.Prelude.{◌≡◌, ◌≢◌, ℕ, ◌+◌, ◌-◌, ◌*◌, ◌^◌, ◌<◌, ◌≤◌, ℤ, List, length, sum_by, Option, Some, None, IsTrue}
 use Rattle.dp_model.specs.Solution.{Solution, IsSolutionWith}
 use Rattle.dp_model.specs.Counts.{pot, tree}
-use Rattle.dp_model.specs.Cover.{Covers, IsHeld}
+use Rattle.dp_model.specs.Cover.{IsHeld}
 use Rattle.dp_model.specs.Dp.{Dp}
 use Rattle.dp_model.specs.declared.limits.TheConstants.{MOST_WIDTH, MOST_WORKERS}
 use Rattle.dp_model.specs.Gaps.{IsStateOf}
@@ -16,6 +16,7 @@ use Rattle.dominance_table.specs.Dominator.{IsRankOf}
 use Rattle.dominance_table.specs.Entries.{TableEntry}
 use Rattle.board_laws.specs.declared.cause.Cause.TheVariants.{Budget}
 use Rattle.board_laws.specs.Board.{AreSettings, BoardState, reach, full_slots, frontier, prefixes}
+use Rattle.board_laws.specs.Starts.{CoversFrom, whole_search}
 use Rattle.dp_laws.specs.Children.{AreApart}
 use Rattle.dp_laws.specs.Floors.{IsFloor}
 
@@ -70,13 +71,17 @@ pot_of dp o = pot dp o.subproblem.decisions
 abbrev pub share_of : Dp → Ticketed → ℕ
 share_of dp o = pot_of dp o - 1
 
--- what a good board keeps beside: the frontier covers with the reach, every bound is held, every entry has its floor, no prefix of the
--- frontier begins with another, and the counts are bounded by the number of prefixes that there are
-pub record IsGood (dp : Dp) (b : BoardState) : Type 0 where
-  pub covers : Covers dp (reach b) (prefixes (frontier b))
+-- what a good board of a search from some start prefixes keeps beside: the frontier covers from them with the reach, every bound is held,
+-- every entry has its floor, no prefix of the frontier begins with another, and the counts are bounded by the number of prefixes that there are
+pub record IsGoodFrom (dp : Dp) (starts : List (List ℕ)) (b : BoardState) : Type 0 where
+  pub covers : CoversFrom dp starts (reach b) (prefixes (frontier b))
   pub held : Each (λ o. IsHeld dp (reach b) o.subproblem.decisions o.subproblem.bound) (frontier b)
   pub floors : Each (HasFloor dp (reach b) (frontier b)) b.entries
   pub apart : EachTwo (λ a o. AreApart a.subproblem o.subproblem) (frontier b)
   pub ends : b.finished + sum_by (pot_of dp) (frontier b) ≤ tree dp
   pub balanced : b.cause ≡ None → b.finished + length (full_slots b.slots) ≡ b.taken
   pub shares : b.next_ticket + sum_by (share_of dp) (frontier b) ≤ tree dp
+
+-- a good board of a whole search
+abbrev pub IsGood : Dp → BoardState → Type 0
+IsGood dp b = IsGoodFrom dp whole_search b

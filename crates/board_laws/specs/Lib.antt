@@ -10,6 +10,7 @@ pub mod Finishing
 pub mod Bound
 pub mod Runs
 -- what boards keep
+pub mod Starts
 pub mod GoodBoard
 pub mod Restoring
 -- the laws

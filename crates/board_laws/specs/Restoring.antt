@@ -1,7 +1,7 @@
 -- The board that is made anew of an incumbent and of subproblems with tickets.
 use Rattle.std.specs.Prelude.{ℕ, ◌+◌, ◌<◌, ◌≤◌, ℤ, List, [], ◌∷◌, sum_by, Option}
 use Rattle.dp_model.specs.Counts.{tree}
-use Rattle.dp_model.specs.Cover.{Covers, IsHeld}
+use Rattle.dp_model.specs.Cover.{IsHeld}
 use Rattle.dp_model.specs.Dp.{Dp}
 use Rattle.dp_model.specs.Lists.{Each}
 use Rattle.dp_model.specs.Numbers.{IsFar}
@@ -13,6 +13,7 @@ use Rattle.fringe.specs.Tickets.{Ticketed, IsEarlier}
 use Rattle.board_laws.specs.declared.settings.Settings.{Settings}
 use Rattle.board_laws.specs.Board.{BoardState, reach_of, value_held, prefixes}
 use Rattle.board_laws.specs.GoodBoard.{IncumbentHolds, pot_of, share_of}
+use Rattle.board_laws.specs.Starts.{CoversFrom, whole_search}
 use Rattle.board_laws.specs.Steps.{back_among, fresh_board}
 
 -- the open ones after the others are pushed in order by the fringe's rule, each unless its bound is at most the reach
@@ -33,11 +34,15 @@ pub record MayRestore (dp : Dp) (best : Option Solution) (os : List Ticketed) (n
   pub ordered : EachTwo IsEarlier os
   pub given : Each (λ o. o.ticket < next) os
 
--- what makes a restored board a good one: the list covers with the reach, every bound is held, no prefix begins with another, and
--- the subproblems finished so far and the tickets are bounded by the number of prefixes that there are
-pub record IsListSound (dp : Dp) (within : ℤ) (finished : ℕ) (best : Option Solution) (os : List Ticketed) (next : ℕ) : Type 0 where
-  pub covers : Covers dp (reach_of within (value_held best)) (prefixes os)
+-- what makes a restored board a good one of a search from some start prefixes: the list covers from them with the reach, every bound is held, no
+-- prefix begins with another, and the subproblems finished so far and the tickets are bounded by the number of prefixes that there are
+pub record IsListSoundFrom (dp : Dp) (starts : List (List ℕ)) (within : ℤ) (finished : ℕ) (best : Option Solution) (os : List Ticketed) (next : ℕ) : Type 0 where
+  pub covers : CoversFrom dp starts (reach_of within (value_held best)) (prefixes os)
   pub held : Each (λ o. IsHeld dp (reach_of within (value_held best)) o.subproblem.decisions o.subproblem.bound) os
   pub apart : EachTwo (λ a o. AreApart a.subproblem o.subproblem) os
   pub ends : finished + sum_by (pot_of dp) os ≤ tree dp
   pub shares : next + sum_by (share_of dp) os ≤ tree dp
+
+-- the same of a whole search
+abbrev pub IsListSound : Dp → ℤ → ℕ → Option Solution → List Ticketed → ℕ → Type 0
+IsListSound dp within finished best os next = IsListSoundFrom dp whole_search within finished best os next

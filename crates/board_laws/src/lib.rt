@@ -10,6 +10,10 @@
 //! another worker; on a good board no feasible solution exceeds the bound, and where nothing is open or out, each feasible
 //! solution is at most the reach.
 //!
+//! A search may begin with some start prefixes in place of the root. Its board is good from them: it covers the solutions that
+//! begin with one of them. Each step keeps that too, a whole search is the case of the empty prefix, and where nothing is open
+//! or out, each solution that begins with a start prefix is at most the reach.
+//!
 //! ```
 //! // A law: the call does nothing, and its contract is a theorem.
 //! explored_is_best();
@@ -23,6 +27,7 @@ mod improved;
 mod pushes;
 mod runs;
 mod settings;
+mod starts;
 mod steps;
 mod taken;
 
@@ -33,6 +38,7 @@ pub use improved::Improved;
 pub use pushes::{pushes_are_fates, puts_are_entries};
 pub use runs::{runs_keep, steps_keep};
 pub use settings::Settings;
+pub use starts::{explored_settles, parts_keep, starts_cover};
 pub use steps::{
     finish_keeps, first_boards_are_good, give_back_keeps, halt_keeps, improve_keeps,
     restored_boards_keep, take_keeps,

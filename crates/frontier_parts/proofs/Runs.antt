@@ -9,19 +9,19 @@ use Rattle.dp_model.specs.Numbers.{AtMost, add_some}
 use Rattle.dp_model.specs.Prefixes.{IsCompletion, state_of, value_of}
 use Rattle.dp_model.proofs.RowLemmas.{begins-append}
 use Rattle.dp_model.proofs.Members.{Has, one-of-has}
+use Rattle.board_laws.specs.Starts.{CoversFrom}
 use Rattle.bound_cover.specs.Covers.{CoverRow}
 use Rattle.bound_cover.specs.Tests.{is_at_most, is_state_row}
 use Rattle.bound_cover.specs.Verdicts.{covers_root}
 use Rattle.bound_cover.proofs.Claims.{at-most-through}
 use Rattle.frontier_parts.specs.CoversBelow.{IsCoverBelow}
 use Rattle.frontier_parts.specs.Settled.{IsShown, IsSettled}
-use Rattle.frontier_parts.specs.Starts.{CoversFrom}
 
 -- from the empty prefix it is the cover of a whole search
 pub from_root : (dp : Dp) (inc : Option ℤ) (P : List (List ℕ)) → CoversFrom dp ([] ∷ []) inc P → Covers dp inc P
 from_root dp inc P covers x h = covers x h (inl refl)
 
-begun_by : (dp : Dp) (starts : List (List ℕ)) (p x : List ℕ) → Has p starts → IsCompletion dp p x → OneOf (λ (q : List ℕ). IsTrue (begins q x)) starts
+pub begun_by : (dp : Dp) (starts : List (List ℕ)) (p x : List ℕ) → Has p starts → IsCompletion dp p x → OneOf (λ (q : List ℕ). IsTrue (begins q x)) starts
 begun_by dp starts p x has h =
     one-of-has (λ (q : List ℕ). IsTrue (begins q x)) starts p (subst (λ (y : List ℕ). IsTrue (begins p y)) (sym h.begins) (begins-append p h.rest)) has
 

@@ -1,5 +1,5 @@
 pub mod Settled
-pub mod Starts
+pub mod Searches
 pub mod Splitting
 pub mod Dealing
 pub mod Beside

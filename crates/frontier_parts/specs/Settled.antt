@@ -4,6 +4,7 @@ use Rattle.dp_model.specs.Dp.{Dp}
 use Rattle.dp_model.specs.Decisions.{begins}
 use Rattle.dp_model.specs.Lists.{OneOf}
 use Rattle.dp_model.specs.Numbers.{AtMost}
+use Rattle.board_laws.specs.Board.{reach_of}
 use Rattle.bound_cover.specs.Tests.{is_at_most}
 use Rattle.dp_model.specs.Prefixes.{IsSolution, IsCompletion, value_of}
 
@@ -26,6 +27,11 @@ IsShown dp (Some v) = HasValue dp v
 pub record IsSettled (dp : Dp) (inc : Option ℤ) (part : Settled) : Type 0 where
   pub shown : IsShown dp part.best
   pub held : (x : List ℕ) → IsCompletion dp part.prefix x → AtMost (value_of dp x) part.best ⊎ AtMost (value_of dp x) inc
+
+-- the value is shown, and no completion is further above it, or further above the incumbent, than the distance
+pub record IsSettledWithin (dp : Dp) (within : ℤ) (inc : Option ℤ) (part : Settled) : Type 0 where
+  pub shown : IsShown dp part.best
+  pub held : (x : List ℕ) → IsCompletion dp part.prefix x → AtMost (value_of dp x) (reach_of within part.best) ⊎ AtMost (value_of dp x) (reach_of within inc)
 
 -- each feasible solution is at most the incumbent or begins with one of the prefixes
 abbrev pub DealsOut : Dp → Option ℤ → List (List ℕ) → Type 0

@@ -41,8 +41,8 @@ fn turn_of(bounds: &[i64], place: usize) -> usize
     before
 }
 
-/// Whether the place is dealt to this part.
-fn is_dealt(bounds: &[i64], of: usize, index: usize, place: usize) -> bool
+/// Whether the place is dealt to the part with this number, of `of` parts, as `deal` deals out. It compares the bound with each other.
+pub fn is_dealt(bounds: &[i64], of: usize, index: usize, place: usize) -> bool
     requires some { 0 < of }
     requires place { place < length bounds.now }
     ensures { result ≡ is_dealt bounds.now of index place }

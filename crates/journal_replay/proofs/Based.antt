@@ -5,7 +5,7 @@ use Rattle.journal_bytes.specs.Bodies.{RecordView, Improve, Finish, Snapshot}
 use Rattle.journal_bytes.specs.Base.{is_snapshot, have_snapshot, from_base}
 use Rattle.journal_replay.specs.Replay.{Replayed, after_record, after_records}
 use Rattle.journal_replay.specs.Accepting.{MayFollowAll}
-use Rattle.journal_replay.specs.Sound.{IsSoundState, AreSoundFrom, finished_after, finished_after_all}
+use Rattle.journal_replay.specs.Sound.{IsSoundStateOf, StaySound, finished_after, finished_after_all}
 
 pub by-cases : (x : Bool) (Goal : Bool → Type 0) → (x ≡ true → Goal true) → (x ≡ false → Goal false) → Goal x
 by-cases x Goal where_true where_false =
@@ -100,15 +100,15 @@ follow-from dp s t (r ∷ rs) h may = by-cases (have_snapshot rs) (λ b. MayFoll
 
 -- and are sound
 
-sound-anew : (dp : Dp) (within : ℤ) (n m : ℕ) (s t : Replayed) (r : RecordView) (rs : List RecordView) → is_snapshot r ≡ true → IsSoundState dp within m t
-    → AreSoundFrom dp within n s (r ∷ rs) → AreSoundFrom dp within m t (r ∷ rs)
-sound-anew dp within n m s t (Improve value ds) rs h first sound = absurd (cc)
-sound-anew dp within n m s t (Finish ticket cs) rs h first sound = absurd (cc)
-sound-anew dp within n m s t (Snapshot best next os) rs h first sound = (first, sound.1)
+sound-anew : (dp : Dp) (starts : List (List ℕ)) (within : ℤ) (n m : ℕ) (s t : Replayed) (r : RecordView) (rs : List RecordView) → is_snapshot r ≡ true → IsSoundStateOf dp starts within m t
+    → StaySound dp starts within n s (r ∷ rs) → StaySound dp starts within m t (r ∷ rs)
+sound-anew dp starts within n m s t (Improve value ds) rs h first sound = absurd (cc)
+sound-anew dp starts within n m s t (Finish ticket cs) rs h first sound = absurd (cc)
+sound-anew dp starts within n m s t (Snapshot best next os) rs h first sound = (first, sound.1)
 
-pub sound-from : (dp : Dp) (within : ℤ) (n m : ℕ) (s t : Replayed) (rs : List RecordView) → have_snapshot rs ≡ true → IsSoundState dp within m t
-    → AreSoundFrom dp within n s rs → AreSoundFrom dp within m t (from_base rs)
-sound-from dp within n m s t [] h first sound = absurd (cc)
-sound-from dp within n m s t (r ∷ rs) h first sound = by-cases (have_snapshot rs) (λ b. AreSoundFrom dp within m t (cond b (from_base rs) (r ∷ rs)))
-    (λ more. sound-from dp within (finished_after n r) m (after_record dp s r) t rs more first sound.1)
-    (λ none. sound-anew dp within n m s t r rs (first-of (is_snapshot r) (have_snapshot rs) h none) first sound)
+pub sound-from : (dp : Dp) (starts : List (List ℕ)) (within : ℤ) (n m : ℕ) (s t : Replayed) (rs : List RecordView) → have_snapshot rs ≡ true → IsSoundStateOf dp starts within m t
+    → StaySound dp starts within n s rs → StaySound dp starts within m t (from_base rs)
+sound-from dp starts within n m s t [] h first sound = absurd (cc)
+sound-from dp starts within n m s t (r ∷ rs) h first sound = by-cases (have_snapshot rs) (λ b. StaySound dp starts within m t (cond b (from_base rs) (r ∷ rs)))
+    (λ more. sound-from dp starts within (finished_after n r) m (after_record dp s r) t rs more first sound.1)
+    (λ none. sound-anew dp starts within n m s t r rs (first-of (is_snapshot r) (have_snapshot rs) h none) first sound)

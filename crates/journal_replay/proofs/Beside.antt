@@ -12,10 +12,11 @@ use Rattle.fringe.specs.Tickets.{Ticketed, IsEarlier, by_ticket, without}
 use Rattle.fringe.proofs.Tickets.{each-by_ticket}
 use Rattle.dp_laws.specs.Pairs.{EachTwo}
 use Rattle.dp_laws.specs.Children.{AreApart}
-use Rattle.dp_model.specs.Cover.{Covers, IsHeld}
+use Rattle.dp_model.specs.Cover.{IsHeld}
 use Rattle.board_laws.specs.Board.{full_slots, prefixes, reach_of, value_held}
 use Rattle.board_laws.specs.GoodBoard.{pot_of, share_of}
 use Rattle.board_laws.specs.Restoring.{pushed_above}
+use Rattle.board_laws.specs.Starts.{CoversFrom, whole_search}
 use Rattle.board_laws.specs.Steps.{back_among, empty_slots, first_open, first_incumbent}
 use Rattle.board_laws.proofs.First.{first-is-good}
 use Rattle.board_laws.proofs.Fresh.{full-none}
@@ -86,7 +87,7 @@ first-boards-follow dp laws settings are =
       sound = record {
         incumbent = may.incumbent;
         list = record {
-          covers = subst (λ l. Covers dp far (prefixes (l ++ os))) none good.covers;
+          covers = subst (λ l. CoversFrom dp whole_search far (prefixes (l ++ os))) none good.covers;
           held = subst (λ l. Each (λ o. IsHeld dp far o.subproblem.decisions o.subproblem.bound) (l ++ os)) none good.held;
           apart = subst (λ l. EachTwo (λ (a o : Ticketed). AreApart a.subproblem o.subproblem) (l ++ os)) none good.apart;
           ends = ends;

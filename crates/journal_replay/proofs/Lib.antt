@@ -18,4 +18,5 @@ mod Finishing
 mod Sounding
 pub mod Steps
 pub mod Snapshots
+pub mod Parted
 pub mod Joined

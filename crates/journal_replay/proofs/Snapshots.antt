@@ -16,13 +16,13 @@ use Rattle.fringe.specs.Tickets.{Ticketed, HasTickets, by_ticket}
 use Rattle.fringe.proofs.Orders.{permutation-by_ticket}
 use Rattle.fringe.proofs.Tickets.{tickets-by_ticket, two-by_ticket}
 use Rattle.board_laws.specs.Board.{BoardState, frontier, reach}
-use Rattle.board_laws.specs.GoodBoard.{IsBoard, IsGood, pot_of, share_of}
+use Rattle.board_laws.specs.GoodBoard.{IsBoard, IsGoodFrom, pot_of, share_of}
 use Rattle.board_laws.proofs.Frontier.{apart-flip}
 use Rattle.board_laws.proofs.Lists.{each-both}
 use Rattle.board.specs.Frontier.{in_order, frontier_of}
 use Rattle.journal_replay.specs.Replay.{Replayed, MayRestoreFrom, best_of, listed_at, listed_of, restarted}
 use Rattle.journal_replay.specs.Following.{IsReplayOf, incumbent_recorded, listed_recorded}
-use Rattle.journal_replay.specs.Sound.{IsSoundState}
+use Rattle.journal_replay.specs.Sound.{IsSoundStateOf}
 use Rattle.journal_replay.specs.Laws.{SnapshotsAreRecorded}
 use Rattle.journal_replay.proofs.Sounding.{covers-listed}
 use Rattle.journal_replay.proofs.Tickets.{has-at}
@@ -53,14 +53,14 @@ sum-in_order f os = sum_by-IsPermutation f os (in_order os) (moved-in_order os)
 
 -- what a snapshot says is read back
 
-best-again : (best : Option Solution) → option_map best_of (option_map incumbent_recorded best) ≡ best
+pub best-again : (best : Option Solution) → option_map best_of (option_map incumbent_recorded best) ≡ best
 best-again None = refl
 best-again (Some x) = refl
 
 one-again : (dp : Dp) (o : Ticketed) → IsOwn dp o.subproblem → listed_of dp (listed_recorded o) ≡ o
 one-again dp o own = ap₂ (λ row worth. record { ticket = o.ticket; subproblem = record { decisions = o.subproblem.decisions; row = row; value = worth; bound = o.subproblem.bound } }) (sym own.row) (sym own.value)
 
-all-again : (dp : Dp) (os : List Ticketed) → Each (λ o. IsOwn dp o.subproblem) os → map (listed_of dp) (map listed_recorded os) ≡ os
+pub all-again : (dp : Dp) (os : List Ticketed) → Each (λ o. IsOwn dp o.subproblem) os → map (listed_of dp) (map listed_recorded os) ≡ os
 all-again dp [] own = refl
 all-again dp (o ∷ os) own = ap₂ (λ x xs. x ∷ xs) (one-again dp o own.0) (all-again dp os own.1)
 
@@ -73,7 +73,7 @@ module _ (dp : Dp) (b : BoardState) (g : IsBoard dp b) where
   restarted-is = ap₂ (λ best os. record { incumbent = best; listed = os; next_ticket = b.next_ticket })
       (best-again b.incumbent) (all-again dp (frontier_of b) (each-in_order (λ o. IsOwn dp o.subproblem) (frontier b) g.own))
 
-  restores-at : MayRestoreFrom dp (state_at b)
+  pub restores-at : MayRestoreFrom dp (state_at b)
   restores-at = record {
     incumbent = g.incumbent;
     own = each-in_order (λ o. IsOwn dp o.subproblem) (frontier b) g.own;
@@ -91,11 +91,11 @@ module _ (dp : Dp) (b : BoardState) (g : IsBoard dp b) where
     restores = restores-at;
   }
 
-  sound-at : IsGood dp b → IsSoundState dp b.settings.within 0 (state_at b)
-  sound-at good = record {
+  pub sound-at : (starts : List (List ℕ)) → IsGoodFrom dp starts b → IsSoundStateOf dp starts b.settings.within 0 (state_at b)
+  sound-at starts good = record {
     incumbent = g.incumbent;
     list = record {
-      covers = covers-listed dp b.settings.within (state_at b) b refl beside-at good;
+      covers = covers-listed dp starts b.settings.within (state_at b) b refl beside-at good;
       held = each-in_order (λ o. IsHeld dp (reach b) o.subproblem.decisions o.subproblem.bound) (frontier b) good.held;
       apart = two-in_order (λ (a o : Ticketed). AreApart a.subproblem o.subproblem) apart-flip (frontier b) good.apart;
       ends = (let sum = sum-in_order (pot_of dp) (frontier b) in let few = good.ends in omega arith);
@@ -119,5 +119,5 @@ snapshots-recorded dp s b g beside =
             (each-both (λ o. IsOwn dp o.subproblem) (λ o. listed_at o.ticket s.listed ≡ Some o) (frontier_of b) own there));
       };
       beside = subst (λ t. IsReplayOf dp t b) is (beside-at dp b g);
-      sound = λ good. subst (IsSoundState dp b.settings.within 0) is (sound-at dp b g good);
+      sound = λ {starts} good. subst (IsSoundStateOf dp starts b.settings.within 0) is (sound-at dp b g starts good);
     }

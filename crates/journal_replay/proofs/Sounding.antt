@@ -1,6 +1,6 @@
 -- On a good board the record of a step keeps what was made of the search sound.
 use Rattle.std.proofs.Common.{◌≡◌, ℕ, ◌+◌, ℤ, ◌≤ℤ◌, nat_eq, Bool, true, not, List, [], ◌∷◌, Option, Some, ◌⊎◌, inl, inr, refl, sym, ◌∙◌, ap, subst, arith}
-use Rattle.dp_model.specs.Cover.{Covers, IsHeld}
+use Rattle.dp_model.specs.Cover.{IsHeld}
 use Rattle.dp_model.specs.Dp.{Dp}
 use Rattle.dp_model.specs.Laws.{IsLawful}
 use Rattle.dp_model.specs.Lists.{Each, OneOf}
@@ -8,7 +8,7 @@ use Rattle.dp_model.specs.Numbers.{AtMost, OptionAtMost, IsFar, is_above}
 use Rattle.dp_model.specs.Prefixes.{IsMatched, value_of}
 use Rattle.dp_model.specs.Solution.{Solution}
 use Rattle.dp_model.specs.Subproblem.{Subproblem, IsOwn, IsChild}
-use Rattle.dp_model.proofs.Members.{Has, Each-then, one-of-has}
+use Rattle.dp_model.proofs.Members.{Has, Has-map, Each-then}
 use Rattle.dp_laws.specs.Children.{AreApart}
 use Rattle.dp_laws.specs.Pairs.{EachTwo}
 use Rattle.dp_laws.proofs.Lists.{each-filter}
@@ -17,59 +17,55 @@ use Rattle.fringe.specs.Tickets.{Ticketed}
 use Rattle.board_laws.specs.Board.{BoardState, reach, reach_of, value_held, frontier, prefixes}
 use Rattle.board_laws.specs.Fates.{fates_on}
 use Rattle.board_laws.specs.Finishing.{MayFinish}
-use Rattle.board_laws.specs.GoodBoard.{IncumbentHolds, IsBoard, IsGood, pot_of, share_of}
+use Rattle.board_laws.specs.GoodBoard.{IncumbentHolds, IsBoard, IsGoodFrom, pot_of, share_of}
+use Rattle.board_laws.specs.Starts.{CoversFrom}
 use Rattle.board_laws.specs.Steps.{finished_by, improved}
 use Rattle.board_laws.specs.declared.fate.Fate.{Fate}
 use Rattle.board_laws.proofs.Carrying.{reach-rises}
 use Rattle.board_laws.proofs.Counting.{children-below, pots-split}
 use Rattle.board_laws.proofs.Fates.{kids-each, kids-two}
 use Rattle.board_laws.proofs.FinishingBoard.{finish-keeps}
-use Rattle.board_laws.proofs.Frontier.{MatchedBy, covers-by, apart-flip, apart-child}
-use Rattle.board_laws.proofs.Lists.{one-mapped}
+use Rattle.board_laws.proofs.Frontier.{apart-flip, apart-child}
+use Rattle.board_laws.proofs.Lists.{one-among}
 use Rattle.board_laws.proofs.Taking.{with-without}
 use Rattle.board_laws.proofs.With.{each-out, two-out, sum-with}
 use Rattle.journal_replay.specs.Replay.{Replayed, listed_at, taken_off, with_children}
-use Rattle.journal_replay.specs.Sound.{IsSoundState}
+use Rattle.journal_replay.specs.Sound.{IsSoundStateOf}
 use Rattle.journal_replay.specs.Following.{IsReplayOf, recorded_children}
 use Rattle.journal_replay.proofs.Added.{kids_listed, added}
 use Rattle.journal_replay.proofs.Finishing.{finish-parts, finish-beside}
 use Rattle.journal_replay.proofs.Tickets.{at-has}
 
--- what is matched by one of a list is matched by one of a longer list
-matched-more : (dp : Dp) (x : List ℕ) (os ls : List Ticketed) → Each (λ o. Has o ls) os → OneOf (MatchedBy dp x) os → OneOf (MatchedBy dp x) ls
-matched-more dp x [] ls all one = absurd one
-matched-more dp x (o ∷ os) ls all (inl here) = one-of-has (MatchedBy dp x) ls o here all.0
-matched-more dp x (o ∷ os) ls all (inr there) = matched-more dp x os ls all.1 there
-
-covers-more : (dp : Dp) (far : Option ℤ) (os ls : List Ticketed) → Each (λ o. Has o ls) os → Covers dp far (prefixes os) → Covers dp far (prefixes ls)
-covers-more dp far os ls all h x s =
-    elim (covers-by dp far os h x s) as (λ _. AtMost (value_of dp x) far ⊎ OneOf (IsMatched dp x) (prefixes ls)) [
+covers-more : (dp : Dp) (starts : List (List ℕ)) (far : Option ℤ) (os ls : List Ticketed) → Each (λ o. Has o ls) os → CoversFrom dp starts far (prefixes os) → CoversFrom dp starts far (prefixes ls)
+covers-more dp starts far os ls all h x s begun =
+    let among = Each-then (λ (o : Ticketed). Has o ls) (λ o. Has o.subproblem.decisions (prefixes ls)) os (λ o k. Has-map (λ (q : Ticketed). q.subproblem.decisions) ls o k) all in
+    elim (h x s begun) as (λ _. AtMost (value_of dp x) far ⊎ OneOf (IsMatched dp x) (prefixes ls)) [
       | inl a ↦ inl a
-      | inr one ↦ inr (one-mapped (λ (o : Ticketed). o.subproblem.decisions) (IsMatched dp x) ls (matched-more dp x os ls all one))
+      | inr one ↦ inr (one-among (λ (o : Ticketed). o.subproblem.decisions) (IsMatched dp x) os (prefixes ls) among one)
     ]
 
 -- a good board's frontier covers, and so does what is listed beside it
-pub covers-listed : (dp : Dp) (within : ℤ) (s : Replayed) (b : BoardState) → b.settings.within ≡ within → IsReplayOf dp s b → IsGood dp b → Covers dp (reach_of within (value_held s.incumbent)) (prefixes s.listed)
-covers-listed dp within s b is beside h =
+pub covers-listed : (dp : Dp) (starts : List (List ℕ)) (within : ℤ) (s : Replayed) (b : BoardState) → b.settings.within ≡ within → IsReplayOf dp s b → IsGoodFrom dp starts b → CoversFrom dp starts (reach_of within (value_held s.incumbent)) (prefixes s.listed)
+covers-listed dp starts within s b is beside h =
     let same : reach b ≡ reach_of within (value_held s.incumbent) = ap (λ w. reach_of w (value_held b.incumbent)) is ∙ ap (λ best. reach_of within (value_held best)) beside.incumbent in
-    subst (λ far. Covers dp far (prefixes s.listed)) same
-    (covers-more dp (reach b) (frontier b) s.listed (Each-then (λ o. listed_at o.ticket s.listed ≡ Some o) (λ o. Has o s.listed) (frontier b) (λ o x. (at-has o.ticket s.listed o x).0) beside.listed) h.covers)
+    subst (λ far. CoversFrom dp starts far (prefixes s.listed)) same
+    (covers-more dp starts (reach b) (frontier b) s.listed (Each-then (λ o. listed_at o.ticket s.listed ≡ Some o) (λ o. Has o s.listed) (frontier b) (λ o x. (at-has o.ticket s.listed o x).0) beside.listed) h.covers)
 
 held-raised : (dp : Dp) (far more : Option ℤ) → OptionAtMost far more → (o : Ticketed) → IsHeld dp far o.subproblem.decisions o.subproblem.bound → IsHeld dp more o.subproblem.decisions o.subproblem.bound
 held-raised dp far more le o h x c =
     elim (h x c) as (λ _. (value_of dp x ≤ℤ o.subproblem.bound) ⊎ AtMost (value_of dp x) more) [ inl a ↦ inl a | inr b ↦ inr (at-most-raised (value_of dp x) far more le b) ]
 
 -- after a better solution
-pub improve-sound : (dp : Dp) (n : ℕ) (s : Replayed) (b : BoardState) (best : Solution) → IncumbentHolds dp (Some best) → is_above (value_held s.incumbent) best.value ≡ true → IsGood dp (improved b best)
-    → IsReplayOf dp (record s { incumbent = Some best }) (improved b best) → IsSoundState dp b.settings.within n s → IsSoundState dp b.settings.within n (record s { incumbent = Some best })
-improve-sound dp n s b best holds up good beside h =
+pub improve-sound : (dp : Dp) (starts : List (List ℕ)) (n : ℕ) (s : Replayed) (b : BoardState) (best : Solution) → IncumbentHolds dp (Some best) → is_above (value_held s.incumbent) best.value ≡ true → IsGoodFrom dp starts (improved b best)
+    → IsReplayOf dp (record s { incumbent = Some best }) (improved b best) → IsSoundStateOf dp starts b.settings.within n s → IsSoundStateOf dp starts b.settings.within n (record s { incumbent = Some best })
+improve-sound dp starts n s b best holds up good beside h =
     let within = b.settings.within in
     let far = reach_of within (value_held s.incumbent) in
     let more = reach_of within (Some best.value) in
     record {
       incumbent = holds;
       list = record {
-        covers = covers-listed dp within (record s { incumbent = Some best }) (improved b best) refl beside good;
+        covers = covers-listed dp starts within (record s { incumbent = Some best }) (improved b best) refl beside good;
         held = Each-then (λ o. IsHeld dp far o.subproblem.decisions o.subproblem.bound) (λ o. IsHeld dp more o.subproblem.decisions o.subproblem.bound) s.listed
             (held-raised dp far more (reach-rises within (value_held s.incumbent) best.value up)) h.list.held;
         apart = h.list.apart;
@@ -79,10 +75,10 @@ improve-sound dp n s b best holds up good beside h =
     }
 
 -- after a finished subproblem
-pub finish-sound : (dp : Dp) → IsLawful dp → (n : ℕ) (s : Replayed) (b : BoardState) (who : ℕ) (threshold : Option ℤ) (cs : List Subproblem) (fs : List Fate) → IsBoard dp b → IsGood dp b → IsReplayOf dp s b
-    → (m : MayFinish dp b who threshold cs fs) → IsSoundState dp b.settings.within n s
-    → IsSoundState dp b.settings.within (n + 1) (with_children dp (taken_off m.parent.ticket s) (recorded_children cs (fates_on dp b cs)))
-finish-sound dp laws n s b who threshold cs fs g good beside m h =
+pub finish-sound : (dp : Dp) → IsLawful dp → (starts : List (List ℕ)) (n : ℕ) (s : Replayed) (b : BoardState) (who : ℕ) (threshold : Option ℤ) (cs : List Subproblem) (fs : List Fate) → IsBoard dp b → IsGoodFrom dp starts b → IsReplayOf dp s b
+    → (m : MayFinish dp b who threshold cs fs) → IsSoundStateOf dp starts b.settings.within n s
+    → IsSoundStateOf dp starts b.settings.within (n + 1) (with_children dp (taken_off m.parent.ticket s) (recorded_children cs (fates_on dp b cs)))
+finish-sound dp laws starts n s b who threshold cs fs g good beside m h =
     let o = m.parent in
     let within = b.settings.within in
     let given = fates_on dp b cs in
@@ -118,7 +114,7 @@ finish-sound dp laws n s b who threshold cs fs g good beside m h =
     record {
       incumbent = subst (λ best. IncumbentHolds dp best) (sym add.incumbent) h.incumbent;
       list = record {
-        covers = covers-listed dp within new (finished_by dp b who cs) refl after ((finish-keeps dp laws b who threshold cs fs m).good g good);
+        covers = covers-listed dp starts within new (finished_by dp b who cs) refl after ((finish-keeps dp laws b who threshold cs fs m).good g good);
         held = subst (λ r. Each (λ (y : Ticketed). IsHeld dp r y.subproblem.decisions y.subproblem.bound) new.listed) new_far held;
         apart = add.two (λ (a c : Ticketed). AreApart a.subproblem c.subproblem) apart_out.1 apart_new apart_across;
         ends = (let old = h.list.ends in omega arith);

@@ -16,7 +16,7 @@ use Rattle.fringe.specs.Tickets.{Ticketed, IsEarlier, without}
 use Rattle.board_laws.specs.Board.{BoardState, full_slots, frontier, incumbent_value, reach, reach_of, slot_at, value_held}
 use Rattle.board_laws.specs.Fates.{fates_on}
 use Rattle.board_laws.specs.Finishing.{MayFinish}
-use Rattle.board_laws.specs.GoodBoard.{IsBoard, IsGood}
+use Rattle.board_laws.specs.GoodBoard.{IsBoard, IsGoodFrom}
 use Rattle.board_laws.specs.Runs.Step.{Take, Improve as StepImprove, Finish as StepFinish, GiveBack, Halt}
 use Rattle.board_laws.specs.Runs.{offered}
 use Rattle.board_laws.specs.Steps.{back_among, improved, finished_by, given_back_from}
@@ -34,7 +34,7 @@ use Rattle.journal_bytes.specs.Bodies.{RecordView, Improve, Finish}
 use Rattle.journal_replay.specs.Replay.{Replayed, listed_at, after_record}
 use Rattle.journal_replay.specs.Accepting.{MayFollow}
 use Rattle.journal_replay.specs.Following.{IsReplayOf, after_recorded, recorded_children, record_of_step}
-use Rattle.journal_replay.specs.Sound.{IsSoundState, finished_after}
+use Rattle.journal_replay.specs.Sound.{IsSoundStateOf, finished_after}
 use Rattle.journal_replay.specs.Laws.{StepsAreRecorded}
 use Rattle.journal_replay.proofs.Beside.{each-back-among}
 use Rattle.journal_replay.proofs.Finishing.{finish-may, finish-beside}
@@ -102,10 +102,10 @@ pub record IsRecorded (dp : Dp) (s : Replayed) (b later : BoardState) (one : Opt
   pub may : IfSome one (MayFollow dp s)
   pub plain : IfSome one (λ r. is_snapshot r ≡ false)
   pub beside : IsReplayOf dp (after_recorded dp s one) later
-  pub sound : (n : ℕ) → IsGood dp b → IsSoundState dp b.settings.within n s → IfSome one (λ r. IsSoundState dp b.settings.within (finished_after n r) (after_record dp s r))
+  pub sound : {starts : List (List ℕ)} → (n : ℕ) → IsGoodFrom dp starts b → IsSoundStateOf dp starts b.settings.within n s → IfSome one (λ r. IsSoundStateOf dp starts b.settings.within (finished_after n r) (after_record dp s r))
 
 none-recorded : (dp : Dp) (s : Replayed) (b later : BoardState) → IsReplayOf dp s later → IsRecorded dp s b later None
-none-recorded dp s b later h = record { may = tt; plain = tt; beside = h; sound = λ n good sound. tt }
+none-recorded dp s b later h = record { may = tt; plain = tt; beside = h; sound = λ {starts} n good sound. tt }
 
 better-recorded : (dp : Dp) (s : Replayed) (b : BoardState) (x : List ℕ) → IsBoard dp b → IsReplayOf dp s b → IsSolution dp x → is_above (incumbent_value b) (value_of dp x) ≡ true
     → IsRecorded dp s b (improved b (record { decisions = x; value = value_of dp x })) (Some (Improve (value_of dp x) x))
@@ -117,7 +117,7 @@ better-recorded dp s b x g h may up =
       may = record { solution = record { solution = may; value = refl }; better = up_here };
       plain = refl;
       beside = beside;
-      sound = λ n good sound. improve-sound dp n s b best (record { solution = may; value = refl }) up_here
+      sound = λ {starts} n good sound. improve-sound dp starts n s b best (record { solution = may; value = refl }) up_here
           ((improve-keeps dp b best (record { solution = may; value = refl }) up).good g good) beside sound;
     }
 
@@ -137,13 +137,13 @@ finish-recorded dp laws s b who threshold cs g h m =
       may = finish-may dp s b who threshold cs fs g h m;
       plain = refl;
       beside = finish-beside dp s b who threshold cs fs g h m;
-      sound = λ n good sound. finish-sound dp laws n s b who threshold cs fs g good h m sound;
+      sound = λ {starts} n good sound. finish-sound dp laws starts n s b who threshold cs fs g good h m sound;
     } in
     subst (λ slot. IsRecorded dp s b (finished_by dp b who cs) (option_map (λ (o : Ticketed). Finish o.ticket (recorded_children cs fs)) slot)) (sym m.full) one
 
 pub steps-recorded : (dp : Dp) → IsLawful dp → StepsAreRecorded dp
-steps-recorded dp laws s b (Take who) g h may = record { may = tt; plain = tt; beside = take-beside dp s b who h g.ordered may (take_gives b); sound = λ n good sound. tt }
-steps-recorded dp laws s b (StepImprove x) g h may = (let r = offer-recorded dp s b x g h may in record { may = r.may; plain = r.plain; beside = r.beside; sound = r.sound })
-steps-recorded dp laws s b (StepFinish who threshold cs) g h may = (let r = finish-recorded dp laws s b who threshold cs g h may in record { may = r.may; plain = r.plain; beside = r.beside; sound = r.sound })
-steps-recorded dp laws s b (GiveBack who) g h may = record { may = tt; plain = tt; beside = back-beside dp s b who h (slot_at b who) refl; sound = λ n good sound. tt }
-steps-recorded dp laws s b (Halt cause) g h may = record { may = tt; plain = tt; beside = beside-less dp s b _ h refl refl (λ P x. x); sound = λ n good sound. tt }
+steps-recorded dp laws s b (Take who) g h may = record { may = tt; plain = tt; beside = take-beside dp s b who h g.ordered may (take_gives b); sound = λ {starts} n good sound. tt }
+steps-recorded dp laws s b (StepImprove x) g h may = (let r = offer-recorded dp s b x g h may in record { may = r.may; plain = r.plain; beside = r.beside; sound = λ {starts} n good sound. r.sound n good sound })
+steps-recorded dp laws s b (StepFinish who threshold cs) g h may = (let r = finish-recorded dp laws s b who threshold cs g h may in record { may = r.may; plain = r.plain; beside = r.beside; sound = λ {starts} n good sound. r.sound n good sound })
+steps-recorded dp laws s b (GiveBack who) g h may = record { may = tt; plain = tt; beside = back-beside dp s b who h (slot_at b who) refl; sound = λ {starts} n good sound. tt }
+steps-recorded dp laws s b (Halt cause) g h may = record { may = tt; plain = tt; beside = beside-less dp s b _ h refl refl (λ P x. x); sound = λ {starts} n good sound. tt }

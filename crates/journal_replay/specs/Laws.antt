@@ -4,23 +4,23 @@ use Rattle.dp_model.specs.Dp.{Dp}
 use Rattle.dp_model.specs.Numbers.{OptionAtMost}
 use Rattle.board_laws.specs.declared.settings.Settings.{Settings}
 use Rattle.board_laws.specs.Board.{AreSettings, BoardState, value_held}
-use Rattle.board_laws.specs.GoodBoard.{IsBoard, IsGood}
+use Rattle.board_laws.specs.GoodBoard.{IsBoard, IsGoodFrom}
 use Rattle.board_laws.specs.Runs.{Step, May, after}
 use Rattle.board_laws.specs.Steps.{first_board}
 use Rattle.journal_bytes.specs.Base.{is_snapshot}
 use Rattle.journal_bytes.specs.Bodies.{RecordView}
 use Rattle.journal_replay.specs.Replay.{Replayed, replay_start, after_record, after_records, replay_of, MayRestoreFrom, restored_from}
 use Rattle.journal_replay.specs.Accepting.{MayFollow, MayFollowAll, AreAccepted}
-use Rattle.journal_replay.specs.Sound.{IsSoundState, AreSoundFrom, AreSound, finished_after, finished_after_all}
+use Rattle.journal_replay.specs.Sound.{IsSoundState, IsSoundStateOf, StaySound, AreSoundOf, finished_after, finished_after_all}
 use Rattle.journal_replay.specs.Following.{IsReplayOf, TellsState, MayGoOnAll, record_of_step, after_recorded, snapshot_record}
 
 -- a search may be restored from accepted records
 abbrev pub AcceptedRestore : Dp → Type 0
 AcceptedRestore dp = (rs : List RecordView) → AreAccepted dp rs → MayRestoreFrom dp (replay_of dp rs)
 
--- accepted and sound records are restored to a good board
+-- accepted and sound records are restored to a good board, from the same start prefixes
 abbrev pub SoundRestoreGood : Dp → Type 0
-SoundRestoreGood dp = (settings : Settings) (rs : List RecordView) → AreSettings settings → AreAccepted dp rs → AreSound dp settings.within rs → IsGood dp (restored_from settings (replay_of dp rs))
+SoundRestoreGood dp = (starts : List (List ℕ)) (settings : Settings) (rs : List RecordView) → AreSettings settings → AreAccepted dp rs → AreSoundOf dp starts settings.within rs → IsGoodFrom dp starts (restored_from settings (replay_of dp rs))
 
 -- the first board stands beside no records, which are sound
 pub record FirstBoardFollows (dp : Dp) (settings : Settings) : Type 0 where
@@ -41,8 +41,8 @@ pub record StepIsRecorded (dp : Dp) (s : Replayed) (b : BoardState) (step : Step
   pub may : IfSome (record_of_step dp b step) (MayFollow dp s)
   pub plain : IfSome (record_of_step dp b step) (λ r. is_snapshot r ≡ false)
   pub beside : IsReplayOf dp (after_recorded dp s (record_of_step dp b step)) (after dp b step)
-  pub sound : (n : ℕ) → IsGood dp b → IsSoundState dp b.settings.within n s →
-      IfSome (record_of_step dp b step) (λ r. IsSoundState dp b.settings.within (finished_after n r) (after_record dp s r))
+  pub sound : {starts : List (List ℕ)} → (n : ℕ) → IsGoodFrom dp starts b → IsSoundStateOf dp starts b.settings.within n s →
+      IfSome (record_of_step dp b step) (λ r. IsSoundStateOf dp starts b.settings.within (finished_after n r) (after_record dp s r))
 
 -- after an allowed step and its record a board stands beside its records again
 abbrev pub StepsAreRecorded : Dp → Type 0
@@ -54,7 +54,7 @@ pub record SnapshotIsRecorded (dp : Dp) (s : Replayed) (b : BoardState) : Type 0
   pub may : MayFollow dp s (snapshot_record b)
   pub tells : TellsState dp s (snapshot_record b)
   pub beside : IsReplayOf dp (after_record dp s (snapshot_record b)) b
-  pub sound : IsGood dp b → IsSoundState dp b.settings.within 0 (after_record dp s (snapshot_record b))
+  pub sound : {starts : List (List ℕ)} → IsGoodFrom dp starts b → IsSoundStateOf dp starts b.settings.within 0 (after_record dp s (snapshot_record b))
 
 -- after its snapshot a board stands beside its records as before
 abbrev pub SnapshotsAreRecorded : Dp → Type 0
@@ -71,10 +71,10 @@ pub record AreJoined (dp : Dp) (s : Replayed) (rs more : List RecordView) : Type
   pub accepted : MayFollowAll dp s rs → MayFollowAll dp (after_records dp s rs) more → MayFollowAll dp s (rs ++ more)
   pub accepted_front : MayFollowAll dp s (rs ++ more) → MayFollowAll dp s rs
   pub accepted_back : MayFollowAll dp s (rs ++ more) → MayFollowAll dp (after_records dp s rs) more
-  pub last : (within : ℤ) (n : ℕ) → AreSoundFrom dp within n s rs → IsSoundState dp within (finished_after_all n rs) (after_records dp s rs)
-  pub sound : (within : ℤ) (n : ℕ) → AreSoundFrom dp within n s rs → AreSoundFrom dp within (finished_after_all n rs) (after_records dp s rs) more
-      → AreSoundFrom dp within n s (rs ++ more)
-  pub sound_front : (within : ℤ) (n : ℕ) → AreSoundFrom dp within n s (rs ++ more) → AreSoundFrom dp within n s rs
+  pub last : (starts : List (List ℕ)) (within : ℤ) (n : ℕ) → StaySound dp starts within n s rs → IsSoundStateOf dp starts within (finished_after_all n rs) (after_records dp s rs)
+  pub sound : (starts : List (List ℕ)) (within : ℤ) (n : ℕ) → StaySound dp starts within n s rs → StaySound dp starts within (finished_after_all n rs) (after_records dp s rs) more
+      → StaySound dp starts within n s (rs ++ more)
+  pub sound_front : (starts : List (List ℕ)) (within : ℤ) (n : ℕ) → StaySound dp starts within n s (rs ++ more) → StaySound dp starts within n s rs
 
 -- records behind records are replayed one after the other
 abbrev pub RecordsJoin : Dp → Type 0
@@ -86,8 +86,8 @@ pub record AreBehind (dp : Dp) (old new : List RecordView) : Type 0 where
   pub after : replay_of dp (old ++ new) ≡ after_records dp (replay_of dp old) new
   pub since : finished_after_all 0 (old ++ new) ≡ finished_after_all (finished_after_all 0 old) new
   pub accepted : AreAccepted dp old → MayFollowAll dp (replay_of dp old) new → AreAccepted dp (old ++ new)
-  pub last : (within : ℤ) → AreSound dp within old → IsSoundState dp within (finished_after_all 0 old) (replay_of dp old)
-  pub sound : (within : ℤ) → AreSound dp within old → AreSoundFrom dp within (finished_after_all 0 old) (replay_of dp old) new → AreSound dp within (old ++ new)
+  pub last : (starts : List (List ℕ)) (within : ℤ) → AreSoundOf dp starts within old → IsSoundStateOf dp starts within (finished_after_all 0 old) (replay_of dp old)
+  pub sound : (starts : List (List ℕ)) (within : ℤ) → AreSoundOf dp starts within old → StaySound dp starts within (finished_after_all 0 old) (replay_of dp old) new → AreSoundOf dp starts within (old ++ new)
 
 -- a journal to which records are added is replayed on
 abbrev pub JournalsGrow : Dp → Type 0

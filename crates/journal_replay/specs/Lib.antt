@@ -7,5 +7,7 @@ pub mod Places
 pub mod Sound
 -- the board beside its records
 pub mod Following
+-- parts of a snapshot
+pub mod Parts
 -- the laws
 pub mod Laws

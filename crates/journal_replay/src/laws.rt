@@ -2,6 +2,7 @@
 
 ghost use Rattle.dp_model.specs.Dp.{Dp};
 ghost use Rattle.dp_model.specs.Laws.{IsLawful};
+ghost use Rattle.journal_replay.specs.Parts.{PartsAreRecorded};
 ghost use Rattle.journal_replay.specs.Laws.{AcceptedRestore, FirstBoardsFollow, JournalsGrow, RecordsDoNotWorsen, RecordsJoin, RestoredBoardsFollow, SnapshotsAreRecorded, SoundRestoreGood, StepsAreRecorded};
 
 /// A board may be restored from what accepted records make of a search.
@@ -9,7 +10,7 @@ pub fn accepted_records_restore()
     ensures { (dp : Dp) → IsLawful dp → AcceptedRestore dp }
 {}
 
-/// Accepted and sound records are restored to a good board.
+/// Accepted and sound records are restored to a good board, from the start prefixes from which they are sound.
 pub fn sound_records_restore_good()
     ensures { (dp : Dp) → IsLawful dp → SoundRestoreGood dp }
 {}
@@ -34,6 +35,11 @@ pub fn steps_are_recorded()
 /// the records before it were.
 pub fn snapshots_are_recorded()
     ensures { (dp : Dp) → SnapshotsAreRecorded dp }
+{}
+
+/// A search may begin with a part of a board's snapshot, and where the board is good, the record is sound from the prefixes that it lists.
+pub fn parts_are_recorded()
+    ensures { (dp : Dp) → IsLawful dp → PartsAreRecorded dp }
 {}
 
 /// No record that a search adds itself worsens the incumbent.

@@ -8,6 +8,9 @@
 //! whatever is out or open is listed. Each step that is allowed keeps it so, with the one record that tells of the step; on a
 //! good board the records stay sound, and sound records are restored to a good board.
 //!
+//! A search may begin with a part of a board's snapshot. It is one from the prefixes that the part lists, and where the board is good, the
+//! part is sound from them.
+//!
 //! ```
 //! let board = replay(alloc, &records, model, settings)?;
 //! ```
@@ -24,8 +27,8 @@ mod verdict;
 mod walking;
 
 pub use laws::{
-    accepted_records_restore, first_boards_follow, journals_grow, records_do_not_worsen,
-    records_join, restored_boards_follow, snapshots_are_recorded, sound_records_restore_good,
-    steps_are_recorded,
+    accepted_records_restore, first_boards_follow, journals_grow, parts_are_recorded,
+    records_do_not_worsen, records_join, restored_boards_follow, snapshots_are_recorded,
+    sound_records_restore_good, steps_are_recorded,
 };
 pub use replaying::replay;

@@ -12,7 +12,7 @@ use Rattle.board_laws.specs.declared.taken.Taken.{Taken}
 use Rattle.board_laws.specs.declared.taken.Taken.TheVariants.{Sub, WaitForOthers, Finished, Halted}
 use Rattle.board_laws.specs.Board.{BoardState, incumbent_value, value_held, slot_at}
 use Rattle.board_laws.specs.Fates.{fates_on}
-use Rattle.board_laws.specs.GoodBoard.{IsBoard, IsGood}
+use Rattle.board_laws.specs.GoodBoard.{IsBoard, IsGoodFrom}
 use Rattle.board_laws.specs.Laws.{StepKeeps}
 use Rattle.board_laws.specs.Runs.Step.{Take, Improve, Finish, GiveBack, Halt}
 use Rattle.board_laws.specs.Runs.{Step, May, after, offered}
@@ -20,6 +20,7 @@ use Rattle.board_laws.specs.Steps.{first_board, given_back_from}
 use Rattle.board_laws.specs.Taking.{take_gives, checked_out, after_answer}
 use Rattle.board_laws.proofs.First.{first-is-good}
 use Rattle.board_laws.proofs.Running.{steps-keep, offered-is}
+use Rattle.board_laws.proofs.Starting.{starts-cover}
 use Rattle.journal_bytes.specs.Bodies.{RecordView}
 use Rattle.journal_bytes.specs.Base.{is_snapshot}
 use Rattle.journal_bytes.specs.Bodies.RecordView.{Improve as RecordImprove, Finish as RecordFinish, Snapshot as RecordSnapshot}
@@ -27,7 +28,7 @@ use Rattle.journal_replay.specs.Accepting.{MayFollow, MayFollowAll, AreAccepted}
 use Rattle.journal_replay.specs.Following.{IsReplayOf, TellsState, MayGoOnAll, record_of_step, snapshot_record, after_recorded, recorded_children}
 use Rattle.journal_replay.specs.Laws.{StepIsRecorded, SnapshotIsRecorded}
 use Rattle.journal_replay.specs.Replay.{Replayed, replay_start, after_record, after_records, replay_of}
-use Rattle.journal_replay.specs.Sound.{IsSoundState, AreSound, finished_after, finished_after_all}
+use Rattle.journal_replay.specs.Sound.{IsSoundStateOf, AreSoundOf, finished_after, finished_after_all}
 use Rattle.journal_replay.proofs.Beside.{first-boards-follow, restored-boards-follow}
 use Rattle.journal_replay.proofs.Joined.{journals-grow, records-join, not-worse, sound-restore-good}
 use Rattle.journal_replay.proofs.Restored.{accepted-restore}
@@ -96,16 +97,16 @@ goes-on-more dp s (q ∷ rs) r all may tells = (all.0, goes-on-more dp (after_re
 
 module _ (dp : Dp) (within : ℤ) (old new : List RecordView) (added : AreAdded dp within old new) where
   -- after all of them the search is sound
-  sound-here : AreSound dp within old → IsSoundState dp within (finished_after_all 0 (old ++ new)) (replay_of dp (old ++ new))
-  sound-here sound =
+  sound-here : (starts : List (List ℕ)) → AreSoundOf dp starts within old → IsSoundStateOf dp starts within (finished_after_all 0 (old ++ new)) (replay_of dp (old ++ new))
+  sound-here starts sound =
       let grown = journals-grow dp old new in
       let join = records-join dp (replay_of dp old) new [] in
-      subst (λ n. IsSoundState dp within n (replay_of dp (old ++ new))) (sym grown.since)
-      (subst (IsSoundState dp within (finished_after_all (finished_after_all 0 old) new)) (sym grown.after) (join.last within (finished_after_all 0 old) (added.sound sound)))
+      subst (λ n. IsSoundStateOf dp starts within n (replay_of dp (old ++ new))) (sym grown.since)
+      (subst (IsSoundStateOf dp starts within (finished_after_all (finished_after_all 0 old) new)) (sym grown.after) (join.last starts within (finished_after_all 0 old) (added.sound starts sound)))
 
   -- a record that may follow, and that tells what is there, may stand behind them where what is sound stays so
   added-more : (r : RecordView) → MayFollow dp (replay_of dp (old ++ new)) r → TellsState dp (replay_of dp (old ++ new)) r
-      → (AreSound dp within old → IsSoundState dp within (finished_after (finished_after_all 0 (old ++ new)) r) (after_record dp (replay_of dp (old ++ new)) r)) → AreAdded dp within old (new ++ r ∷ [])
+      → ((starts : List (List ℕ)) → AreSoundOf dp starts within old → IsSoundStateOf dp starts within (finished_after (finished_after_all 0 (old ++ new)) r) (after_record dp (replay_of dp (old ++ new)) r)) → AreAdded dp within old (new ++ r ∷ [])
   added-more r may tells sound =
       let s = replay_of dp old in
       let n = finished_after_all 0 old in
@@ -114,11 +115,11 @@ module _ (dp : Dp) (within : ℤ) (old new : List RecordView) (added : AreAdded 
       record {
         accepted = added.accepted;
         goes_on = goes-on-more dp s new r added.goes_on (subst (λ t. MayFollow dp t r) grown.after may) (subst (λ t. TellsState dp t r) grown.after tells);
-        sound = λ old_sound.
-            let all = added.sound old_sound in
-            let there = subst (λ m. IsSoundState dp within (finished_after m r) (after_record dp (after_records dp s new) r)) grown.since
-            (subst (λ t. IsSoundState dp within (finished_after (finished_after_all 0 (old ++ new)) r) (after_record dp t r)) grown.after (sound old_sound)) in
-            join.sound within n all (join.last within n all, there);
+        sound = λ starts old_sound.
+            let all = added.sound starts old_sound in
+            let there = subst (λ m. IsSoundStateOf dp starts within (finished_after m r) (after_record dp (after_records dp s new) r)) grown.since
+            (subst (λ t. IsSoundStateOf dp starts within (finished_after (finished_after_all 0 (old ++ new)) r) (after_record dp t r)) grown.after (sound starts old_sound)) in
+            join.sound starts within n all (join.last starts within n all, there);
       }
 
 replay-more : (dp : Dp) (old new : List RecordView) (r : RecordView) (b : BoardState) → IsReplayOf dp (after_record dp (replay_of dp (old ++ new)) r) b → IsReplayOf dp (replay_of dp (old ++ (new ++ r ∷ []))) b
@@ -143,7 +144,7 @@ fronts-added dp within old front others added =
     let goes = goes-on-front dp s front others added.goes_on in
     record {
       accepted = grown.accepted added.accepted (may-follow-all dp s front goes);
-      sound = λ sound. grown.sound within sound ((records-join dp s front others).sound_front within (finished_after_all 0 old) (added.sound sound));
+      sound = λ starts sound. grown.sound starts within sound ((records-join dp s front others).sound_front starts within (finished_after_all 0 old) (added.sound starts sound));
       better = subst (λ t. OptionAtMost (value_held s.incumbent) (value_held t.incumbent)) (sym grown.after) (not-worse dp s front goes);
     }
 
@@ -155,7 +156,7 @@ module _ (dp : Dp) (old new : List RecordView) (b : BoardState) (k : KeepUp dp o
 
   -- a snapshot of the board may stand behind the others
   pub added-snapshot : AreAdded dp b.settings.within old (new ++ snapshot_record b ∷ [])
-  added-snapshot = added-more dp b.settings.within old new k.added (snapshot_record b) snapped.may snapped.tells (λ sound. snapped.sound (k.good sound))
+  added-snapshot = added-more dp b.settings.within old new k.added (snapshot_record b) snapped.may snapped.tells (λ starts sound. snapped.sound (k.good {starts = starts} sound))
 
   -- and with it the records keep up with the board as it is
   pub with-snapshot : KeepUp dp old (new ++ snapshot_record b ∷ []) b
@@ -164,7 +165,7 @@ module _ (dp : Dp) (old new : List RecordView) (b : BoardState) (k : KeepUp dp o
     replay = replay-more dp old new (snapshot_record b) b snapped.beside;
     finished = finishes-more new (snapshot_record b) ∙ (none-more (finish_records new) ∙ k.finished);
     board = k.board;
-    good = k.good;
+    good = λ {starts} sound. k.good {starts = starts} sound;
   }
 
 plain-tells : (dp : Dp) (s : Replayed) (r : RecordView) → is_snapshot r ≡ false → TellsState dp s r
@@ -181,8 +182,8 @@ module _ (dp : Dp) (laws : IsLawful dp) (old new : List RecordView) (b : BoardSt
   kept : StepKeeps dp b step
   kept = steps-keep dp laws b step may
 
-  good-after : AreSound dp (after dp b step).settings.within old → IsGood dp (after dp b step)
-  good-after sound = kept.keeps.good k.board (k.good (subst (λ s. AreSound dp s.within old) kept.follows.settings sound))
+  good-after : (starts : List (List ℕ)) → AreSoundOf dp starts (after dp b step).settings.within old → IsGoodFrom dp starts (after dp b step)
+  good-after starts sound = kept.keeps.good k.board (k.good {starts = starts} (subst (λ s. AreSoundOf dp starts s.within old) kept.follows.settings sound))
 
   -- the record of a step that is allowed may stand behind the others
   pub added-record : (r : RecordView) → record_of_step dp b step ≡ Some r → AreAdded dp b.settings.within old (new ++ r ∷ [])
@@ -190,7 +191,7 @@ module _ (dp : Dp) (laws : IsLawful dp) (old new : List RecordView) (b : BoardSt
       let s = replay_of dp (old ++ new) in
       let n = finished_after_all 0 (old ++ new) in
       added-more dp b.settings.within old new k.added r (subst (λ o. IfSome o (MayFollow dp s)) is recorded.may) (plain-tells dp s r (subst (λ o. IfSome o (λ q. is_snapshot q ≡ false)) is recorded.plain))
-      (λ sound. subst (λ o. IfSome o (λ q. IsSoundState dp b.settings.within (finished_after n q) (after_record dp s q))) is (recorded.sound n (k.good sound) (sound-here dp b.settings.within old new k.added sound)))
+      (λ starts sound. subst (λ o. IfSome o (λ q. IsSoundStateOf dp starts b.settings.within (finished_after n q) (after_record dp s q))) is (recorded.sound n (k.good {starts = starts} sound) (sound-here dp b.settings.within old new k.added starts sound)))
 
   -- with it the records keep up with the board after the step
   pub with-record : (r : RecordView) → record_of_step dp b step ≡ Some r → KeepUp dp old (new ++ r ∷ []) (after dp b step)
@@ -202,7 +203,7 @@ module _ (dp : Dp) (laws : IsLawful dp) (old new : List RecordView) (b : BoardSt
         replay = replay-more dp old new r (after dp b step) beside;
         finished = finishes-more new r ∙ (ap (λ n. n + finishes r) k.finished ∙ record-finishes dp b step r is);
         board = kept.keeps.board k.board;
-        good = good-after;
+        good = λ {starts} sound. good-after starts sound;
       }
 
   -- a step without a record leaves the records as they are
@@ -212,7 +213,7 @@ module _ (dp : Dp) (laws : IsLawful dp) (old new : List RecordView) (b : BoardSt
     replay = subst (λ o. IsReplayOf dp (after_recorded dp (replay_of dp (old ++ new)) o) (after dp b step)) is recorded.beside;
     finished = k.finished ∙ sym (none-finishes dp b step may is);
     board = kept.keeps.board k.board;
-    good = good-after;
+    good = λ {starts} sound. good-after starts sound;
   }
 
 -- ---- at the making
@@ -223,20 +224,20 @@ no-new-records dp laws records b board made = ⊎_elim
     (λ restored.
     let nil = append-nil records in
     record {
-      added = record { accepted = restored.0; goes_on = tt; sound = λ sound. (journals-grow dp records []).last b.settings.within sound };
+      added = record { accepted = restored.0; goes_on = tt; sound = λ starts sound. (journals-grow dp records []).last starts b.settings.within sound };
       replay = subst (λ rs. IsReplayOf dp (replay_of dp rs) b) (sym nil) (subst (IsReplayOf dp (replay_of dp records)) (sym restored.1)
           (restored-boards-follow dp b.settings (replay_of dp records) (accepted-restore dp laws records restored.0)));
       finished = sym (ap (λ (x : BoardState). x.finished) restored.1);
       board = board;
-      good = λ sound. subst (IsGood dp) (sym restored.1) (sound-restore-good dp laws b.settings records board.settings restored.0 sound);
+      good = λ {starts} sound. subst (IsGoodFrom dp starts) (sym restored.1) (sound-restore-good dp laws {starts = starts} b.settings records board.settings restored.0 sound);
     })
     made
   where
     begun : b ≡ first_board dp b.settings → KeepUp dp [] [] b
     begun is = let first = first-boards-follow dp laws b.settings board.settings in record {
-      added = record { accepted = tt; goes_on = tt; sound = λ sound. sound };
+      added = record { accepted = tt; goes_on = tt; sound = λ starts sound. sound };
       replay = subst (IsReplayOf dp (replay_start dp)) (sym is) first.beside;
       finished = sym (ap (λ (x : BoardState). x.finished) is);
       board = board;
-      good = λ sound. subst (IsGood dp) (sym is) (first-is-good dp laws b.settings board.settings).good;
+      good = λ {starts} sound. subst (IsGoodFrom dp starts) (sym is) ((starts-cover dp).each starts (first_board dp b.settings) (first-is-good dp laws b.settings board.settings).good);
     }
